@@ -1,5 +1,5 @@
 -- The bodies of every program over a class table pass, or one of them is refused.
-use Rattle.std.proofs.Common.{◌≡◌, ◌↔◌, ◌⊎◌, ◌+◌, ◌++◌, inl, inr, ℕ, Bool, true, false, IsTrue, List, [], ◌∷◌, map, codes, Option, Some, None, Result, Ok, Err, refl}
+use Rattle.std.proofs.Common.{◌↔◌, ◌⊎◌, ◌+◌, ◌++◌, inl, inr, ℕ, Bool, true, false, IsTrue, List, [], ◌∷◌, map, codes, Option, None, Result, Ok, Err, refl}
 use Rattle.std.proofs.lemmas.Bool.{false≢true}
 use Rattle.dpj_base.specs.declared.refusal.Refusal.{Refusal}
 use Rattle.dpj_base.specs.declared.ty.Super.{Super}

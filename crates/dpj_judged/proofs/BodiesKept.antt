@@ -1,5 +1,5 @@
 -- Programs whose bodies pass keep to what every statement of an accepted body keeps to.
-use Rattle.std.proofs.Common.{◌≡◌, ◌&&◌, ◌++◌, ℕ, Bool, true, false, cond, List, [], ◌∷◌, map, Option, Some, None, option_map, Result, Ok, Err, refl, sym, subst, ◌∙◌}
+use Rattle.std.proofs.Common.{◌≡◌, ◌&&◌, ◌++◌, ℕ, Bool, true, false, cond, List, ◌∷◌, map, Option, Some, None, option_map, Result, Ok, Err, refl, subst}
 use Rattle.dpj_base.specs.declared.refusal.Kind.{Kind}
 use Rattle.dpj_base.specs.declared.refusal.Kind.TheVariants as kind
 use Rattle.dpj_base.specs.declared.refusal.Refusal.{Refusal}
@@ -17,7 +17,7 @@ use Rattle.dpj_exprs.specs.declared.env.Env.{Env}
 use Rattle.dpj_exprs.specs.Env.{table_of}
 use Rattle.dpj_check.specs.Checking.{InBlock}
 use Rattle.dpj_check.specs.Completes.{all_complete}
-use Rattle.dpj_check.specs.Deciding.{has_value, method_fault}
+use Rattle.dpj_check.specs.Deciding.{has_value}
 use Rattle.dpj_check.specs.Keeping.{method_around, MethodKeeps, MemberKeeps, MembersKeep, ClassesKeep}
 use Rattle.dpj_check.specs.Methods.{body_begun, summary_of, typed_body, is_method, method_told, after_ok, reported, method_judged, behind_bodies, bodies_of, PlainBodies, MethodChecking, of_method, MemberChecking, no_method, a_method, MembersChecking, ClassesChecking}
 use Rattle.dpj_check.specs.Simple.{has_room}

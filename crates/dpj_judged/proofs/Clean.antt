@@ -1,5 +1,5 @@
 -- A statement passes only where no fault was noted of its node.
-use Rattle.std.proofs.Common.{◌≡◌, ◌&&◌, ℕ, Bool, true, false, not, cond, is_some, List, [], ◌∷◌, Option, Some, None, refl, sym, subst, ◌∙◌}
+use Rattle.std.proofs.Common.{◌≡◌, ℕ, Bool, true, false, cond, is_some, List, [], ◌∷◌, Option, Some, None, refl, sym, subst, ◌∙◌}
 use Rattle.dpj_base.specs.declared.place.Place.{Place}
 use Rattle.dpj_base.specs.declared.refusal.Kind.{Kind}
 use Rattle.dpj_base.specs.declared.refusal.Kind.TheVariants as kind
@@ -8,9 +8,8 @@ use Rattle.dpj_tree.specs.declared.region.Named.{Named}
 use Rattle.dpj_exprs.specs.declared.env.Env.{Env}
 use Rattle.dpj_exprs.specs.Env.{local_of}
 use Rattle.dpj_check.specs.declared.node.Node.{Node}
-use Rattle.dpj_check.specs.Checking.{variable_noted, parts_noted}
 use Rattle.dpj_check.specs.Noting.{with_fault, with_found, with_fault_if, fault_of, without_faults, node_at}
-use Rattle.dpj_check.specs.Simple.{has_room, with_room, declaration_noted, is_region_name, region_declared, region_noted, regions_noted}
+use Rattle.dpj_check.specs.Simple.{has_room, declaration_noted, is_region_name, region_declared, region_noted, regions_noted}
 use Rattle.dpj_check.specs.Walks.{Walk, Verdict, passes, refused, judged, behind}
 use Rattle.dpj_check.proofs.Noting.{noted_told}
 

@@ -1,5 +1,5 @@
 -- What passes keeps to what every statement of an accepted body keeps to.
-use Rattle.std.proofs.Common.{◌≡◌, ◌↔◌, ◌&&◌, ◌||◌, ℕ, Bool, true, false, not, IsTrue, List, [], ◌∷◌, Option, Some, None, refl, sym, ◌∙◌, subst}
+use Rattle.std.proofs.Common.{◌≡◌, ◌&&◌, ◌||◌, ℕ, Bool, true, false, not, IsTrue, List, ◌∷◌, Option, Some, None, refl, sym, ◌∙◌, subst}
 use Rattle.std.proofs.lemmas.Bool.{false≢true, not-false, or_left, or_right}
 use Rattle.dpj_base.specs.declared.effect.Effect.{Effect}
 use Rattle.dpj_base.specs.declared.place.Place.{Place}
@@ -10,7 +10,7 @@ use Rattle.dpj_base.specs.Types.{PlainType}
 use Rattle.dpj_tree.specs.declared.region.Named.{Named}
 use Rattle.dpj_tree.specs.declared.region.TypeTree.{TypeTree}
 use Rattle.dpj_tree.specs.Nd.{holds_nd, form_holds_nd, some_holds_nd}
-use Rattle.dpj_tree.specs.Plain.{PlainExpr, PlainStmt, statement, StmtForm, PlainStmts, no_stmts, more_stmts}
+use Rattle.dpj_tree.specs.Plain.{PlainExpr, PlainStmt, statement, StmtForm, PlainStmts, more_stmts}
 use Rattle.dpj_tree.specs.Plain.{StmtForm as form}
 use Rattle.dpj_typed.specs.Plain.{TypedExpr, Source, TypedStmt, TypedBranch}
 use Rattle.dpj_locals.specs.declared.branch.Touched.{Touched}
@@ -29,7 +29,7 @@ use Rattle.dpj_check.specs.Gathering.{taken_in, handed_on}
 use Rattle.dpj_check.specs.Keeping.{inside, MayFollow, Keeps, FormKeeps, AllKeep, BranchesKeep}
 use Rattle.dpj_check.specs.Noting.{with_found, with_fault_if, fault_of, node_at, settled_node}
 use Rattle.dpj_check.specs.Simple.{declaration_noted, part_declared, target_fault, may_print, regions_noted, regions_declared, Declaring, AssigningLocal, AssigningPlace, Performing, Returning, Printing}
-use Rattle.dpj_check.specs.Walks.{Walk, Verdict, passes, refused, apart_from, judged, behind, left_scope}
+use Rattle.dpj_check.specs.Walks.{Walk, Verdict, passes, apart_from, judged, behind, left_scope}
 use Rattle.dpj_judged.proofs.Clean.{IfPasses, passed, not_passed, at_end, IsClean, weaker, at_verdict, at_node, at_behind, found_clean, if_clean, declaration_clean, regions_clean, first_clean}
 use Rattle.dpj_judged.proofs.Growing.{Grows, grows, target_grows, write_grows}
 

@@ -1,7 +1,5 @@
 -- Statements that hold no other have a verdict where they stand.
-use Rattle.std.proofs.Common.{◌≡◌, ◌∙◌, ◌↔◌, ℕ, Bool, true, false, not, IsTrue, List, [], ◌∷◌, Contains, Option, Some, None, Result, Ok, Err, refl, sym, ap, subst, arith}
-use Rattle.std.specs.Option.{option_map_or}
-use Rattle.dpj_base.specs.declared.place.Place.{Place}
+use Rattle.std.proofs.Common.{◌≡◌, ◌∙◌, ℕ, Bool, true, false, List, Option, Some, None, refl, ap}
 use Rattle.dpj_base.specs.declared.refusal.Kind.TheVariants as kind
 use Rattle.dpj_base.specs.declared.refusal.Refusal.{Refusal}
 use Rattle.dpj_base.specs.declared.ty.Super.{Super}
@@ -15,7 +13,6 @@ use Rattle.dpj_tree.specs.declared.region.Named.{Named}
 use Rattle.dpj_tree.specs.declared.region.TypeTree.{TypeTree}
 use Rattle.dpj_tree.specs.Plain.{PlainExpr}
 use Rattle.dpj_typed.specs.Plain.{TypedExpr, TypedStmt}
-use Rattle.dpj_exprs.specs.declared.env.Env.{Env}
 use Rattle.dpj_exprs.specs.declared.env.LocalRow.{LocalRow}
 use Rattle.dpj_exprs.specs.declared.found.Found.{Found}
 use Rattle.dpj_exprs.specs.Answer.{gives}
@@ -27,7 +24,7 @@ use Rattle.dpj_exprs.specs.Typing.{Typing}
 use Rattle.dpj_check.specs.declared.node.Around.{Around}
 use Rattle.dpj_check.specs.declared.node.Node.{Node}
 use Rattle.dpj_check.specs.Deciding.{Returned}
-use Rattle.dpj_check.specs.Simple.{declared_type, declared_told, FitIs, Declaring, AssigningLocal, AssigningPlace, Performing, Returning, Printing}
+use Rattle.dpj_check.specs.Simple.{declared_type, declared_told, Declaring, AssigningLocal, AssigningPlace, Performing, Returning, Printing}
 use Rattle.dpj_check.specs.Walks.{Walk, Verdict, refused}
 use Rattle.dpj_check.proofs.Noting.{noted_told}
 use Rattle.dpj_judged.proofs.Decided.{Decided, tested}

@@ -1,8 +1,7 @@
 -- Each statement has a verdict where it stands: where its parts have one, it has.
-use Rattle.std.proofs.Common.{◌≡◌, ◌↔◌, ◌<◌, ◌&&◌, ℕ, Bool, true, false, not, IsTrue, List, [], ◌∷◌, Contains, length, Option, Some, None, refl, sym, subst, arith}
+use Rattle.std.proofs.Common.{◌≡◌, ◌↔◌, ◌&&◌, ℕ, Bool, true, false, not, IsTrue, List, [], ◌∷◌, Contains, length, Option, Some, None, refl, sym, subst, arith}
 use Rattle.std.proofs.lemmas.Bool.{false≢true}
 use Rattle.dpj_base.specs.declared.effect.Effect.{Effect}
-use Rattle.dpj_base.specs.declared.place.Place.{Place}
 use Rattle.dpj_base.specs.declared.refusal.Kind.{Kind}
 use Rattle.dpj_base.specs.declared.refusal.Kind.TheVariants as kind
 use Rattle.dpj_base.specs.declared.refusal.Refusal.{Refusal}
@@ -31,10 +30,10 @@ use Rattle.dpj_check.specs.Checking.{TouchedBy, ClashIs, AssignsIs, cut_type, cu
 use Rattle.dpj_check.specs.Completes.{completes}
 use Rattle.dpj_check.specs.Deciding.{AssignsOuter}
 use Rattle.dpj_check.specs.Keeping.{inside}
-use Rattle.dpj_check.specs.Meeting.{declared_atomic, Apart, BranchesApart}
+use Rattle.dpj_check.specs.Meeting.{declared_atomic, BranchesApart}
 use Rattle.dpj_check.specs.Noting.{node_at, with_fault_if, fault_of}
 use Rattle.dpj_check.specs.Simple.{node_of}
-use Rattle.dpj_check.specs.Walks.{Walk, Verdict, passes, refused, apart_from, left_scope}
+use Rattle.dpj_check.specs.Walks.{Walk, Verdict, passes, refused, apart_from}
 use Rattle.dpj_judged.proofs.Decided.{Decided, fails, holds, tested, both, below, refuted, all_pairs}
 use Rattle.dpj_judged.proofs.Expressions as expression
 use Rattle.dpj_judged.proofs.Leaves.{of_plain, plain_again, declaring_judged, local_assigned, place_assigned, performing_judged, returning_judged, printing_judged}

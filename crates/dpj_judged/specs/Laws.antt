@@ -1,5 +1,5 @@
 -- The laws of judged programs, as statements.
-use Rattle.std.specs.Prelude.{◌⊎◌, List, Result, Ok, Err}
+use Rattle.std.specs.Prelude.{◌⊎◌, List, Ok, Err}
 use Rattle.dpj_base.specs.declared.refusal.Refusal.{Refusal}
 use Rattle.dpj_tree.specs.declared.class.Program.{Program}
 use Rattle.dpj_tree.specs.Plain.{PlainExpr}
