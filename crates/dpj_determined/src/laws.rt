@@ -30,7 +30,7 @@ pub fn law_reduction()
 
 /// In every legal run of a well-typed program whose root has ended each deterministic construct's branches can stand directly after its
 /// fork, one after another, inside nd constructs too; blocks then don't wait for each other for effects on local regions alone.
-pub fn law_inside()
+pub fn law_moved()
     ensures { RunsAreMoved }
 {
     law_runs();
