@@ -46,6 +46,7 @@ pub mod Small
 pub mod Sound
 pub mod Statements
 pub mod Tasks
+pub mod There
 pub mod Typed
 pub mod Types
 pub mod Uses
