@@ -1,12 +1,13 @@
 /* Makes one allocation, read or write of a program fail: the one of the number in FAIL_ALLOC, FAIL_READ or FAIL_WRITE, from 1.
-   It is loaded in front of the C library (LD_PRELOAD). The counts come out in the file named by FAIL_COUNTS. */
+   It is loaded in front of the C library (LD_PRELOAD). The counts stand in the file named by FAIL_COUNTS, as three numbers of 64 bits, also where the
+   program ends without a word to its library. */
 #define _GNU_SOURCE
 #include <errno.h>
 #include <fcntl.h>
 #include <stdatomic.h>
-#include <stdio.h>
 #include <stdlib.h>
 #include <string.h>
+#include <sys/mman.h>
 #include <sys/syscall.h>
 #include <unistd.h>
 
@@ -15,7 +16,9 @@ extern void *__libc_calloc(size_t, size_t);
 extern void *__libc_realloc(void *, size_t);
 extern void *__libc_memalign(size_t, size_t);
 
-static atomic_long allocs, reads, writes;
+/* Allocations, reads and writes so far. */
+static atomic_long here[3];
+static atomic_long *counts = here;
 static long fail_alloc = -1, fail_read = -1, fail_write = -1;
 
 static long number(const char *name) {
@@ -28,18 +31,17 @@ __attribute__((constructor)) static void start(void) {
     fail_alloc = number("FAIL_ALLOC");
     fail_read = number("FAIL_READ");
     fail_write = number("FAIL_WRITE");
-    allocs = reads = writes = 0;
-}
-
-__attribute__((destructor)) static void stop(void) {
-    const char *file = getenv("FAIL_COUNTS");
-    if (!file)
+    memset(here, 0, sizeof here);
+    const char *name = getenv("FAIL_COUNTS");
+    if (!name)
         return;
-    char text[96];
-    int len = snprintf(text, sizeof text, "%ld %ld %ld\n", (long)allocs, (long)reads, (long)writes);
-    int out = open(file, O_WRONLY | O_CREAT | O_TRUNC, 0600);
-    syscall(SYS_write, out, text, (size_t)len);
-    close(out);
+    int file = open(name, O_RDWR | O_CREAT | O_TRUNC, 0600);
+    if (file < 0 || ftruncate(file, sizeof here) != 0)
+        abort();
+    void *shared = mmap(NULL, sizeof here, PROT_READ | PROT_WRITE, MAP_SHARED, file, 0);
+    if (shared == MAP_FAILED)
+        abort();
+    counts = shared;
 }
 
 static int fails(atomic_long *count, long at, int error) {
@@ -50,32 +52,32 @@ static int fails(atomic_long *count, long at, int error) {
 }
 
 void *malloc(size_t size) {
-    return fails(&allocs, fail_alloc, ENOMEM) ? NULL : __libc_malloc(size);
+    return fails(&counts[0], fail_alloc, ENOMEM) ? NULL : __libc_malloc(size);
 }
 
 void *calloc(size_t many, size_t size) {
-    return fails(&allocs, fail_alloc, ENOMEM) ? NULL : __libc_calloc(many, size);
+    return fails(&counts[0], fail_alloc, ENOMEM) ? NULL : __libc_calloc(many, size);
 }
 
 void *realloc(void *old, size_t size) {
-    return fails(&allocs, fail_alloc, ENOMEM) ? NULL : __libc_realloc(old, size);
+    return fails(&counts[0], fail_alloc, ENOMEM) ? NULL : __libc_realloc(old, size);
 }
 
 void *aligned_alloc(size_t align, size_t size) {
-    return fails(&allocs, fail_alloc, ENOMEM) ? NULL : __libc_memalign(align, size);
+    return fails(&counts[0], fail_alloc, ENOMEM) ? NULL : __libc_memalign(align, size);
 }
 
 int posix_memalign(void **to, size_t align, size_t size) {
-    if (fails(&allocs, fail_alloc, ENOMEM))
+    if (fails(&counts[0], fail_alloc, ENOMEM))
         return ENOMEM;
     *to = __libc_memalign(align, size);
     return *to ? 0 : ENOMEM;
 }
 
 ssize_t read(int file, void *to, size_t most) {
-    return fails(&reads, fail_read, EIO) ? -1 : syscall(SYS_read, file, to, most);
+    return fails(&counts[1], fail_read, EIO) ? -1 : syscall(SYS_read, file, to, most);
 }
 
 ssize_t write(int file, const void *from, size_t most) {
-    return fails(&writes, fail_write, EIO) ? -1 : syscall(SYS_write, file, from, most);
+    return fails(&counts[2], fail_write, EIO) ? -1 : syscall(SYS_write, file, from, most);
 }

@@ -11,6 +11,7 @@ import argparse
 import concurrent.futures
 import os
 import pathlib
+import struct
 import subprocess
 import sys
 import tempfile
@@ -32,10 +33,12 @@ class Main {
     cobegin { this.left = all[0]; { this.right = all[1]; print(this.right); } }
     foreach_nd (int i in 0, n) { atomic { this.sum = this.sum + i; } }
     region r;
-    Cell<r> one = new Cell<r>(7);
+    int[]<r> own = new int[1]<r>;
+    own[0] = 1;
+    Cell<A> one = new Cell<A>(7);
     print("sum");
     print(this.sum);
-    return one.read() + this.left;
+    return one.read() + this.left + own[0];
   }
 }
 """
@@ -68,7 +71,7 @@ class Job:
         self.program, self.library, self.words, self.source = program, library, words.split(), source
         counts = pathlib.Path(folder) / "counts"
         self.whole = self.answer(FAIL_COUNTS=str(counts))
-        self.allocations, self.reads, self.writes = map(int, counts.read_text().split())
+        self.allocations, self.reads, self.writes = struct.unpack("lll", counts.read_bytes())
 
     def answer(self, **fails):
         given = {**os.environ, "LD_PRELOAD": str(self.library), **fails}
@@ -107,6 +110,8 @@ def campaign(program, every):
         with concurrent.futures.ThreadPoolExecutor(os.cpu_count()) as pool:
             for words, source in JOBS:
                 job = Job(program, library, words, trace if source is None else source, folder)
+                if not job.allocations:
+                    sys.exit(f"{words}: no allocation is seen, so none can be made to fail")
                 tries = list(job.tries(every))
                 wrong = [line for lines in pool.map(lambda fails: job.differs(*fails), tries) for line in lines]
                 print(f"{words}: {job.allocations} allocations, {job.reads} reads, {job.writes} writes; {len(tries)} failed in turn, {len(wrong)} answers wrong", flush=True)

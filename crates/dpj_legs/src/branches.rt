@@ -30,15 +30,11 @@ impl Frame {
     }
 }
 
-/// The same items.
+/// The same items, with room for no more.
 fn copied<T: Copy + Drop>(alloc: Global, items: &[T]) -> Result<Items<T>, NoMemory>
     ensures { IfOk result (λ copies. copies ≡ items.now) }
 {
-    let mut copies = Items::new(alloc);
-    for item in items {
-        copies.push(*item)?;
-    }
-    Ok(copies)
+    Ok(Items::from_vec(Vec::from_slice(alloc, items)?))
 }
 
 impl Task {

@@ -792,14 +792,20 @@ module _ (P : Program) (D : Disciplined P) (R : Run) (e : Event) (l : Faithful P
   step_in_place : AfterForks (e ∷ R) H
   step_in_place = record { kept = step_kept; after_its_fork = step_after; in_turn = step_turn }
 
+pub nothing_placed : AfterForks [] (move [])
+nothing_placed = record {
+  kept = λ X Y x y hx hy k. absurd (upto_none hy);
+  after_its_fork = λ q k d X Z x z hx. absurd (upto_none hx);
+  in_turn = λ q k a b d X Y x y hx. absurd (upto_none hx);
+}
+
+pub placed_next : (P : Program) → Disciplined P → (R : Run) (e : Event) → Faithful P (e ∷ R) → Rebuilt P R (move R) → AfterForks R (move R)
+    → AfterForks (e ∷ R) (move (e ∷ R))
+placed_next P D R e l g rec = subst (AfterForks (e ∷ R)) (sym (rearranged_step construct_spot e R)) (step_in_place P D R e l (move R) g rec)
+
 module _ (P : Program) (D : Disciplined P) (known : Known P) where
   pub after_forks : (R : Run) → Valid P R → LevelsGuarded P.rule R → AfterForks R (move R)
-  after_forks [] l f = record {
-    kept = λ X Y x y hx hy k. absurd (upto_none hy);
-    after_its_fork = λ q k d X Z x z hx. absurd (upto_none hx);
-    in_turn = λ q k a b d X Y x y hx. absurd (upto_none hx);
-  }
+  after_forks [] l f = nothing_placed
   after_forks (e ∷ R) l f =
       let less = levels_upto (later now) f in
-      subst (AfterForks (e ∷ R)) (sym (rearranged_step construct_spot e R))
-      (step_in_place P D R e (faithful_of P (e ∷ R) l) (move R) (moved P D known R l.1 less) (after_forks R l.1 less))
+      placed_next P D R e (faithful_of P (e ∷ R) l) (moved P D known R l.1 less) (after_forks R l.1 less)

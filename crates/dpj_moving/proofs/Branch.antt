@@ -2,7 +2,7 @@
 use Rattle.std.proofs.Common.{eq-eqb, ◌≡◌, ℕ, ◌<◌, ◌≤◌, ◌⊎◌, inl, inr, true, false, true≢false, List, [], ◌∷◌, ◌++◌, length, refl, sym, ap, ◌∙◌, subst, arith}
 use Rattle.std.proofs.Common.{append_assoc}
 use Rattle.std.proofs.lemmas.Bool.{and_from, cases_lt, cond-true, cond-false}
-use Rattle.dpj_runs.specs.Actions.{Action, Begin, Do, Enter, Program, Task}
+use Rattle.dpj_runs.specs.Actions.{Action, Begin, Do, Enter, Program, Rule, Task}
 use Rattle.dpj_runs.specs.Blocks.{In_block, Out_of, hold}
 use Rattle.dpj_runs.specs.Meaning.{Disciplined, Known}
 use Rattle.dpj_runs.specs.Objects.{Effect, Path}
@@ -40,7 +40,7 @@ near_begin u q x p a = go (bools (is_under x.path (u ∷ q)))
     go (no h) = cond-false _ _ _ h ∙ and_from _ _ (test_same x.path q p) (ap (begins_branch u.1) a ∙ eq-eqb u.1 u.1 refl)
 
 module _ (P : Program) (D : Disciplined P) (known : Known P) (R G0 : Run) (e : Event) (u : ℕ × ℕ) (q : Path) (l : Valid P (e ∷ R)) (g : Rebuilt P R G0)
-    (ck : LevelsGuarded P.rule (e ∷ R)) (spot : inner R e.path ≡ Branch_of u q) where
+    (spot : inner R e.path ≡ Branch_of u q) where
   lf : Faithful P (e ∷ R)
   lf = faithful_of P (e ∷ R) l
 
@@ -94,201 +94,40 @@ module _ (P : Program) (D : Disciplined P) (known : Known P) (R G0 : Run) (e : E
       let r = upto_length f.stands in
       absurd (omega arith)
 
-  -- no event after the latest of the branch conflicts with this one
-  clash : {y : Event} {Y : Run} {t : Task} → Upto (y ∷ Y) G0 → (Under o y.path → ⊥) → Begun P Y e.path t → Conflict y e → ⊥
-  clash {y} {Y} {t = t0} hy ne begun cf = go (order_of P D lf (later yr.stands) now (left_plain cf) (right_plain cf))
+  -- an event after the latest of the branch that conflicts with this one is unordered with it
+  pub unordered_clash : {y : Event} {Y : Run} {t : Task} → Upto (y ∷ Y) G0 → (Under o y.path → ⊥) → Begun P Y e.path t → Conflict y e
+      → Found R y.path y (mine Y y.path) × Unordered y.path e.path
+  unordered_clash {y} {Y} hy ne begun cf = (yr, go (order_of P D lf (later yr.stands) now (left_plain cf) (right_plain cf)))
     where
       yr : Found R y.path y (mine Y y.path)
       yr = there P lf.1 g hy
 
-      valid_y : Valid P (y ∷ Y)
-      valid_y = valid_upto P hy g.valid
-
-      legal_y : Faithful P (y ∷ Y)
-      legal_y = faithful_of P (y ∷ Y) valid_y
-
-      grows : Grows Y R
-      grows = grows_upto (upto_tail hy) (grown g)
-
-      guarded : Levelled P.rule yr.before y R e → ⊥
-      guarded gs = by_place (split s.below i2.opener e_under.below q u (sym s.path ∙ e_under.is))
-        where
-          i1 : InBlock yr.before y.path
-          i1 = gs.former
-
-          i2 : InBlock R e.path
-          i2 = gs.latter
-
-          s : Stands P D R e.path i2.opener i2.effects
-          s = stands P D i2.opener i2.effects lf i2.stands
-
-          stands_y : standing Y y.path ≡ Inside i1.opener i1.effects
-          stands_y = same_standing P lf.1 g hy yr ∙ i1.stands
-
-          t : Stands P D Y y.path i1.opener i1.effects
-          t = stands P D i1.opener i1.effects legal_y stands_y
-
-          -- the construct stands inside the block: the blocks do not overlap
-          meet : EntryAt Y i1.opener i1.effects → EntryAt Y i2.opener i2.effects → above Y i2.opener ≡ Outside → ⊥
-          meet a c out = by_order (which a.stands c.stands)
-            where
-              by_order : Which a.event a.before c.event c.before → ⊥
-              by_order (same_one x v) = gs.differ (sym a.path ∙ ap (λ z. z.path) x ∙ c.path)
-              by_order (before x) = (let b = gs.barred in never_both P Y i1.opener i2.opener i1.effects i2.effects valid_y.1 t.outside out a c x b.0)
-              by_order (after x) = (let b = gs.barred in never_both P Y i2.opener i1.opener i2.effects i1.effects valid_y.1 out t.outside c a x b.1)
-
-          by_own : Under i2.opener q → Joined_by (above R e.path) e.path (hold (mine R e.path)) i2.opener i2.effects → ⊥
-          by_own h (own n k p hh) =
-              let c : q ≡ (h.below ++ e_under.below) ++ u ∷ q =
-              h.is ∙ ap (λ r. h.below ++ r) (sym p ∙ e_under.is) ∙ sym (append_assoc h.below e_under.below (u ∷ q)) in
-              not_below_self q (h.below ++ e_under.below) u c
-          by_own h (from_above k) =
-              let a : Adopted Y e.path i2.opener i2.effects = adopted Y e.path i2.opener i2.effects (above_same P legal_y.1 grows e.path begun ∙ k) in
-              let held : hold (mine Y i2.opener) ≡ In_block a.depth i2.effects =
-              waits_in P D a.below i2.opener a.fork lf a.path legal_y.1 grows begun ∙ a.held in
-              meet (entry_at Y i1.opener t.depth i1.effects t.held) (entry_at Y i2.opener a.depth i2.effects held) a.outside
-
-          by_place : Split i2.opener q u → ⊥
-          by_place (lies_in h) = by_own h (joined_cases (above R e.path) e.path (hold (mine R e.path)) i2.opener i2.effects i2.stands)
-          by_place (lies_over ys h) =
-              let k : inner R i2.opener ≡ Branch_of u q = inner_between R s.below i2.opener u q (subst (λ r. inner R r ≡ Branch_of u q) s.path spot)
-              (record { below = ys; is = h }) in
-              let v = inner_under yr.before i1.opener u q (gs.level ∙ k) in
-              ne (under_more o i1.opener y.path t.below v t.path)
-
-      go : Related y.path (count yr.before y.path) e.path (count R e.path) → ⊥
-      go (one a b) = ne (subst (λ r. Under o r) (sym a) e_under)
-      go (first b) = never_before (count R e.path) hy ne begun (subst (λ k. Before y.path k e.path (count R e.path)) (ap length yr.mine_is) b)
-      go (second b) = let x = upto_length (respects_passing P D lf now (later yr.stands) (plain_passes P D y.act (left_plain cf)) b) in let p =
-          upto_length yr.stands in absurd (omega arith)
-      go (neither x) = guarded (ck.accesses R yr.before e y now yr.stands x cf)
-
-  -- nor does an entry there
-  enter_over : {y : Event} {Y : Run} {t : Task} (E F : List Effect) → Upto (y ∷ Y) G0 → (Under o y.path → ⊥) → Begun P Y e.path t → y.act ≡ Do (Enter F)
-      → e.act ≡ Do (Enter E) → standing Y y.path ≡ Outside → standing R e.path ≡ Outside → P.rule E F ≡ true
-  enter_over {y} {Y} E F hy ne begun ya ea sy se = go (order_of P D lf (later yr.stands) now (plain_enter y.act F ya) (plain_enter e.act E ea))
-    where
-      yr : Found R y.path y (mine Y y.path)
-      yr = there P lf.1 g hy
-
-      go : Related y.path (count yr.before y.path) e.path (count R e.path) → P.rule E F ≡ true
+      go : Related y.path (count yr.before y.path) e.path (count R e.path) → Unordered y.path e.path
       go (one a b) = absurd (ne (subst (λ r. Under o r) (sym a) e_under))
       go (first b) = absurd (never_before (count R e.path) hy ne begun (subst (λ k. Before y.path k e.path (count R e.path)) (ap length yr.mine_is) b))
-      go (second b) = let x = upto_length (respects_passing P D lf now (later yr.stands) (enters_pass y.act F ya) b) in let p =
+      go (second b) = let x = upto_length (respects_passing P D lf now (later yr.stands) (plain_passes P D y.act (left_plain cf)) b) in let p =
           upto_length yr.stands in absurd (omega arith)
-      go (neither x) =
-          let c = ck.entries R yr.before e y F E now yr.stands x ya ea (sym (same_standing P lf.1 g hy yr) ∙ sy) se
-          (λ k. ne (inner_under yr.before y.path u q (k ∙ spot))) in
-          c.1
+      go (neither x) = x
 
-  -- where it may enter in the run it may enter after the latest of the branch
-  enter_here : {Z : Run} {t : Task} (E : List Effect) → Upto Z G0 → Begun P Z e.path t → ((r : Path) → Under o r → mine Z r ≡ mine R r)
-      → e.act ≡ Do (Enter E) → CanEnter P.rule R e.path E → CanEnter P.rule Z e.path E
-  enter_here {Z} {t = t0} E hz begun full ea ce = record { clear = λ w r F h. at w r F (opener_of Z r F h) }
+  -- where both are guarded on one level, the block of this event was entered around the construct
+  pub opener_over : {y : Event} {Y : Run} {rule : Rule} → Faithful P (y ∷ Y) → (Under o y.path → ⊥) → (gs : Levelled rule Y y R e) → Under gs.latter.opener q
+  opener_over {y} {Y} ly ne gs = by_place (split s.below gs.latter.opener e_under.below q u (sym s.path ∙ e_under.is))
     where
-      legal_z : Faithful P Z
-      legal_z = faithful_upto P hz lg
+      s : Stands P D R e.path gs.latter.opener gs.latter.effects
+      s = stands P D gs.latter.opener gs.latter.effects lf (let i = gs.latter in i.stands)
 
-      grows : Grows Z R
-      grows = grows_upto hz (grown g)
+      t : Stands P D Y y.path gs.former.opener gs.former.effects
+      t = stands P D gs.former.opener gs.former.effects ly (let i = gs.former in i.stands)
 
-      at : standing Z e.path ≡ Outside → (r : Path) (F : List Effect) → Opener Z r F → P.rule F E ≡ true
-      at w r F h = by_count (cases_lt (count Z r) (count R r))
-        where
-          br : (t : Task) × Begun P Z r t
-          br = begun_held P Z r h.depth F legal_z h.held
+      by_place : Split gs.latter.opener q u → Under gs.latter.opener q
+      by_place (lies_in h) = h
+      by_place (lies_over ys h) =
+          let k : inner R gs.latter.opener ≡ Branch_of u q =
+          inner_between R s.below gs.latter.opener u q (subst (λ r. inner R r ≡ Branch_of u q) s.path spot) (record { below = ys; is = h }) in
+          let v = inner_under Y gs.former.opener u q (gs.level ∙ k) in
+          absurd (ne (under_more o gs.former.opener y.path t.below v t.path))
 
-          up_r : above Z r ≡ above R r
-          up_r = above_same P legal_z grows r br.1
-
-          out_z : above Z e.path ≡ Outside
-          out_z = outside_above _ _ _ w
-
-          out_e : standing R e.path ≡ Outside
-          out_e = ap (λ a. joined_by a e.path (hold (mine R e.path))) (sym (above_same P legal_z grows e.path begun))
-              ∙ ap (λ m. joined_by (above Z e.path) e.path (hold m)) (sym (full e.path e_under)) ∙ w
-
-          more : count Z r < count R r → P.rule F E ≡ true
-          more n = by_event (numbered G0 r (count Z r) (subst (λ m. count Z r < length m) (sym (g.same r)) n))
-            where
-              by_event : (y : Event) × (Y : Run) × Upto (y ∷ Y) G0 × (y.path ≡ r) × (count Y r ≡ count Z r) → P.rule F E ≡ true
-              by_event v = by_place (place r e.path)
-                where
-                  y : Event
-                  y = v.0
-
-                  Y : Run
-                  Y = v.1
-
-                  hy : Upto (y ∷ Y) G0
-                  hy = v.2
-
-                  yp : y.path ≡ r
-                  yp = v.3
-
-                  not_o : Under o r → ⊥
-                  not_o k = let c = ap length (full r k) in absurd (omega arith)
-
-                  ne : Under o y.path → ⊥
-                  ne k = not_o (subst (λ p. Under o p) yp k)
-
-                  z_in_y : Upto Z Y
-                  z_in_y = go (upto_two hz (upto_tail hy))
-                    where
-                      go : Upto Z Y ⊎ Upto Y Z → Upto Z Y
-                      go (inl k) = k
-                      go (inr k) = up (upto_two hy hz)
-                        where
-                          up : Upto (y ∷ Y) Z ⊎ Upto Z (y ∷ Y) → Upto Z Y
-                          up (inl j) = let a = number_of r j yp in let b = v.4 in absurd (omega arith)
-                          up (inr j) = upto_less j (λ k. (let a = number_of {x = y} {X = Y} {Y = y ∷ Y} r now yp in let b = v.4 in
-                              let c = ap (λ S. count S r) k in absurd (omega arith)))
-
-                  begun_y : Begun P Y e.path t0
-                  begun_y = begun_upto z_in_y begun
-
-                  a : EntryAt Z r F
-                  a = entry_at Z r h.depth F h.held
-
-                  ar : Found R r a.event (mine a.before r)
-                  ar = found_in r grows a.stands a.path
-
-                  apass : Passes a.event.act
-                  apass = enters_pass a.event.act F a.act
-
-                  out_a : standing ar.before r ≡ Outside
-                  out_a =
-                      let al = follows_at P ar.stands lf.1 in
-                      let up = above_same P (faithful_upto P (upto_tail ar.stands) lf.1) (record { each = λ p. mine_upto p (upto_tail ar.stands) }) r
-                      (subst (λ p. Begun P ar.before p al.task) a.path al.begun) in
-                      stands_outside ar.before r (up ∙ sym up_r ∙ h.outside) (ap hold ar.mine_is ∙ a.outside)
-
-                  by_place : Place r e.path → P.rule F E ≡ true
-                  by_place (equal k) = absurd (not_o (subst (λ p. Under o p) (sym k) e_under))
-                  by_place (under xs x k) = absurd (not_o (under_more o e.path r (xs ++ x ∷ []) e_under (k ∙ sym (append_assoc xs (x ∷ []) e.path))))
-                  by_place (over xs x k) =
-                      let c = waits_in P D xs r x lf k legal_z grows begun in
-                      let d = above_out Z xs r x (subst (λ p. above Z p ≡ Outside) k out_z) in
-                      absurd (let z : Out_of ≡ In_block h.depth F = sym d ∙ sym c ∙ h.held in cc)
-                  by_place (left_of xs ys s x z k m n) = absurd (never_before (count R e.path) hy ne begun_y (across xs ys s x z (yp ∙ k) m n))
-                  by_place (right_of xs ys s x z k m n) =
-                      let c = upto_length (respects_passing P D lf now (later ar.stands) apass (across ys xs s z x m (a.path ∙ k) n)) in
-                      let d = upto_length ar.stands in
-                      absurd (omega arith)
-                  by_place (beside b) =
-                      let c = ck.entries R ar.before e a.event F E now ar.stands (subst (λ p. Unordered p e.path) (sym a.path) b) a.act ea
-                      (subst (λ p. standing ar.before p ≡ Outside) (sym a.path) out_a) out_e
-                      (λ k. not_o (subst (λ p. Under o p) a.path (inner_under ar.before a.event.path u q (k ∙ spot)))) in
-                      c.0
-
-          by_count : (count Z r < count R r) ⊎ (count R r ≤ count Z r) → P.rule F E ≡ true
-          by_count (inl n) = more n
-          by_count (inr n) =
-              let c = upto_length (grows.each r) in
-              let m = upto_same (grows.each r) (omega arith) in
-              ce.clear out_e r F (opener_stands R r F h.depth (sym up_r ∙ h.outside) (ap hold (sym m) ∙ h.held))
-
-  begun_below : (x : Event) (G : Run) (t : Task) → near (Branch_of u q) x ≡ false → Begun P (x ∷ G) e.path t → Begun P G e.path t
+  pub begun_below : (x : Event) (G : Run) (t : Task) → near (Branch_of u q) x ≡ false → Begun P (x ∷ G) e.path t → Begun P G e.path t
   begun_below x G t n (root a b) = root a b
   begun_below x G t n (branch q' u' F f ts B j a b c d i m b1 c1 e1 d1) = at e_under.below e_under.is
     where
@@ -318,12 +157,192 @@ module _ (P : Program) (D : Disciplined P) (known : Known P) (R G0 : Run) (e : E
           (λ fx fg jg. not_near (near_under u q x (record { below = xs; is = ap (λ w. w.path) (sym fx) ∙ c ∙ qq })))
           (λ jx. not_near (near_under u q x (record { below = xs; is = ap (λ w. w.path) (sym jx) ∙ c1 ∙ qq })))
 
-  pub branch_side : Side P D known R G0 e (Branch_of u q) (u ∷ q)
-  branch_side = record {
-    here = e_under;
-    test = λ x v. near_under u q x v;
-    down = λ x G t hx n full b. (t, begun_below x G t n b);
-    clashes = λ hy ne full b cf. clash hy ne b cf;
-    enters_over = λ E F hy ne full b ya ea sy se. enter_over E F hy ne b ya ea sy se;
-    enters_here = λ E hz b full ea ce. enter_here E hz b full ea ce;
-  }
+  module _ (ck : LevelsGuarded P.rule (e ∷ R)) where
+    -- no event after the latest of the branch conflicts with this one
+    clash : {y : Event} {Y : Run} {t : Task} → Upto (y ∷ Y) G0 → (Under o y.path → ⊥) → Begun P Y e.path t → Conflict y e → ⊥
+    clash {y} {Y} {t = t0} hy ne begun cf = guarded (ck.accesses R yr.before e y now yr.stands both.1 cf)
+      where
+        both : Found R y.path y (mine Y y.path) × Unordered y.path e.path
+        both = unordered_clash hy ne begun cf
+
+        yr : Found R y.path y (mine Y y.path)
+        yr = both.0
+
+        valid_y : Valid P (y ∷ Y)
+        valid_y = valid_upto P hy g.valid
+
+        legal_y : Faithful P (y ∷ Y)
+        legal_y = faithful_of P (y ∷ Y) valid_y
+
+        grows : Grows Y R
+        grows = grows_upto (upto_tail hy) (grown g)
+
+        guarded : Levelled P.rule yr.before y R e → ⊥
+        guarded gs = by_own (opener_over (faithful_upto P yr.stands lf.1) ne gs) (joined_cases (above R e.path) e.path (hold (mine R e.path)) i2.opener i2.effects i2.stands)
+          where
+            i1 : InBlock yr.before y.path
+            i1 = gs.former
+
+            i2 : InBlock R e.path
+            i2 = gs.latter
+
+            stands_y : standing Y y.path ≡ Inside i1.opener i1.effects
+            stands_y = same_standing P lf.1 g hy yr ∙ i1.stands
+
+            t : Stands P D Y y.path i1.opener i1.effects
+            t = stands P D i1.opener i1.effects legal_y stands_y
+
+            -- the construct stands inside the block: the blocks do not overlap
+            meet : EntryAt Y i1.opener i1.effects → EntryAt Y i2.opener i2.effects → above Y i2.opener ≡ Outside → ⊥
+            meet a c out = by_order (which a.stands c.stands)
+              where
+                by_order : Which a.event a.before c.event c.before → ⊥
+                by_order (same_one x v) = gs.differ (sym a.path ∙ ap (λ z. z.path) x ∙ c.path)
+                by_order (before x) = (let b = gs.barred in never_both P Y i1.opener i2.opener i1.effects i2.effects valid_y.1 t.outside out a c x b.0)
+                by_order (after x) = (let b = gs.barred in never_both P Y i2.opener i1.opener i2.effects i1.effects valid_y.1 out t.outside c a x b.1)
+
+            by_own : Under i2.opener q → Joined_by (above R e.path) e.path (hold (mine R e.path)) i2.opener i2.effects → ⊥
+            by_own h (own n k p hh) =
+                let c : q ≡ (h.below ++ e_under.below) ++ u ∷ q =
+                h.is ∙ ap (λ r. h.below ++ r) (sym p ∙ e_under.is) ∙ sym (append_assoc h.below e_under.below (u ∷ q)) in
+                not_below_self q (h.below ++ e_under.below) u c
+            by_own h (from_above k) =
+                let a : Adopted Y e.path i2.opener i2.effects = adopted Y e.path i2.opener i2.effects (above_same P legal_y.1 grows e.path begun ∙ k) in
+                let held : hold (mine Y i2.opener) ≡ In_block a.depth i2.effects =
+                waits_in P D a.below i2.opener a.fork lf a.path legal_y.1 grows begun ∙ a.held in
+                meet (entry_at Y i1.opener t.depth i1.effects t.held) (entry_at Y i2.opener a.depth i2.effects held) a.outside
+
+    -- nor does an entry there
+    enter_over : {y : Event} {Y : Run} {t : Task} (E F : List Effect) → Upto (y ∷ Y) G0 → (Under o y.path → ⊥) → Begun P Y e.path t → y.act ≡ Do (Enter F)
+        → e.act ≡ Do (Enter E) → standing Y y.path ≡ Outside → standing R e.path ≡ Outside → P.rule E F ≡ true
+    enter_over {y} {Y} E F hy ne begun ya ea sy se = go (order_of P D lf (later yr.stands) now (plain_enter y.act F ya) (plain_enter e.act E ea))
+      where
+        yr : Found R y.path y (mine Y y.path)
+        yr = there P lf.1 g hy
+
+        go : Related y.path (count yr.before y.path) e.path (count R e.path) → P.rule E F ≡ true
+        go (one a b) = absurd (ne (subst (λ r. Under o r) (sym a) e_under))
+        go (first b) = absurd (never_before (count R e.path) hy ne begun (subst (λ k. Before y.path k e.path (count R e.path)) (ap length yr.mine_is) b))
+        go (second b) = let x = upto_length (respects_passing P D lf now (later yr.stands) (enters_pass y.act F ya) b) in let p =
+            upto_length yr.stands in absurd (omega arith)
+        go (neither x) =
+            let c = ck.entries R yr.before e y F E now yr.stands x ya ea (sym (same_standing P lf.1 g hy yr) ∙ sy) se
+            (λ k. ne (inner_under yr.before y.path u q (k ∙ spot))) in
+            c.1
+
+    -- where it may enter in the run it may enter after the latest of the branch
+    enter_here : {Z : Run} {t : Task} (E : List Effect) → Upto Z G0 → Begun P Z e.path t → ((r : Path) → Under o r → mine Z r ≡ mine R r)
+        → e.act ≡ Do (Enter E) → CanEnter P.rule R e.path E → CanEnter P.rule Z e.path E
+    enter_here {Z} {t = t0} E hz begun full ea ce = record { clear = λ w r F h. at w r F (opener_of Z r F h) }
+      where
+        legal_z : Faithful P Z
+        legal_z = faithful_upto P hz lg
+
+        grows : Grows Z R
+        grows = grows_upto hz (grown g)
+
+        at : standing Z e.path ≡ Outside → (r : Path) (F : List Effect) → Opener Z r F → P.rule F E ≡ true
+        at w r F h = by_count (cases_lt (count Z r) (count R r))
+          where
+            br : (t : Task) × Begun P Z r t
+            br = begun_held P Z r h.depth F legal_z h.held
+
+            up_r : above Z r ≡ above R r
+            up_r = above_same P legal_z grows r br.1
+
+            out_z : above Z e.path ≡ Outside
+            out_z = outside_above _ _ _ w
+
+            out_e : standing R e.path ≡ Outside
+            out_e = ap (λ a. joined_by a e.path (hold (mine R e.path))) (sym (above_same P legal_z grows e.path begun))
+                ∙ ap (λ m. joined_by (above Z e.path) e.path (hold m)) (sym (full e.path e_under)) ∙ w
+
+            more : count Z r < count R r → P.rule F E ≡ true
+            more n = by_event (numbered G0 r (count Z r) (subst (λ m. count Z r < length m) (sym (g.same r)) n))
+              where
+                by_event : (y : Event) × (Y : Run) × Upto (y ∷ Y) G0 × (y.path ≡ r) × (count Y r ≡ count Z r) → P.rule F E ≡ true
+                by_event v = by_place (place r e.path)
+                  where
+                    y : Event
+                    y = v.0
+
+                    Y : Run
+                    Y = v.1
+
+                    hy : Upto (y ∷ Y) G0
+                    hy = v.2
+
+                    yp : y.path ≡ r
+                    yp = v.3
+
+                    not_o : Under o r → ⊥
+                    not_o k = let c = ap length (full r k) in absurd (omega arith)
+
+                    ne : Under o y.path → ⊥
+                    ne k = not_o (subst (λ p. Under o p) yp k)
+
+                    z_in_y : Upto Z Y
+                    z_in_y = go (upto_two hz (upto_tail hy))
+                      where
+                        go : Upto Z Y ⊎ Upto Y Z → Upto Z Y
+                        go (inl k) = k
+                        go (inr k) = up (upto_two hy hz)
+                          where
+                            up : Upto (y ∷ Y) Z ⊎ Upto Z (y ∷ Y) → Upto Z Y
+                            up (inl j) = let a = number_of r j yp in let b = v.4 in absurd (omega arith)
+                            up (inr j) = upto_less j (λ k. (let a = number_of {x = y} {X = Y} {Y = y ∷ Y} r now yp in let b = v.4 in
+                                let c = ap (λ S. count S r) k in absurd (omega arith)))
+
+                    begun_y : Begun P Y e.path t0
+                    begun_y = begun_upto z_in_y begun
+
+                    a : EntryAt Z r F
+                    a = entry_at Z r h.depth F h.held
+
+                    ar : Found R r a.event (mine a.before r)
+                    ar = found_in r grows a.stands a.path
+
+                    apass : Passes a.event.act
+                    apass = enters_pass a.event.act F a.act
+
+                    out_a : standing ar.before r ≡ Outside
+                    out_a =
+                        let al = follows_at P ar.stands lf.1 in
+                        let up = above_same P (faithful_upto P (upto_tail ar.stands) lf.1) (record { each = λ p. mine_upto p (upto_tail ar.stands) }) r
+                        (subst (λ p. Begun P ar.before p al.task) a.path al.begun) in
+                        stands_outside ar.before r (up ∙ sym up_r ∙ h.outside) (ap hold ar.mine_is ∙ a.outside)
+
+                    by_place : Place r e.path → P.rule F E ≡ true
+                    by_place (equal k) = absurd (not_o (subst (λ p. Under o p) (sym k) e_under))
+                    by_place (under xs x k) = absurd (not_o (under_more o e.path r (xs ++ x ∷ []) e_under (k ∙ sym (append_assoc xs (x ∷ []) e.path))))
+                    by_place (over xs x k) =
+                        let c = waits_in P D xs r x lf k legal_z grows begun in
+                        let d = above_out Z xs r x (subst (λ p. above Z p ≡ Outside) k out_z) in
+                        absurd (let z : Out_of ≡ In_block h.depth F = sym d ∙ sym c ∙ h.held in cc)
+                    by_place (left_of xs ys s x z k m n) = absurd (never_before (count R e.path) hy ne begun_y (across xs ys s x z (yp ∙ k) m n))
+                    by_place (right_of xs ys s x z k m n) =
+                        let c = upto_length (respects_passing P D lf now (later ar.stands) apass (across ys xs s z x m (a.path ∙ k) n)) in
+                        let d = upto_length ar.stands in
+                        absurd (omega arith)
+                    by_place (beside b) =
+                        let c = ck.entries R ar.before e a.event F E now ar.stands (subst (λ p. Unordered p e.path) (sym a.path) b) a.act ea
+                        (subst (λ p. standing ar.before p ≡ Outside) (sym a.path) out_a) out_e
+                        (λ k. not_o (subst (λ p. Under o p) a.path (inner_under ar.before a.event.path u q (k ∙ spot)))) in
+                        c.0
+
+            by_count : (count Z r < count R r) ⊎ (count R r ≤ count Z r) → P.rule F E ≡ true
+            by_count (inl n) = more n
+            by_count (inr n) =
+                let c = upto_length (grows.each r) in
+                let m = upto_same (grows.each r) (omega arith) in
+                ce.clear out_e r F (opener_stands R r F h.depth (sym up_r ∙ h.outside) (ap hold (sym m) ∙ h.held))
+
+    pub branch_side : Side P D known R G0 e (Branch_of u q) (u ∷ q)
+    branch_side = record {
+      here = e_under;
+      test = λ x v. near_under u q x v;
+      down = λ x G t hx n full b. (t, begun_below x G t n b);
+      clashes = λ hy ne full b cf. clash hy ne b cf;
+      enters_over = λ E F hy ne full b ya ea sy se. enter_over E F hy ne b ya ea sy se;
+      enters_here = λ E hz b full ea ce. enter_here E hz b full ea ce;
+    }

@@ -10,6 +10,9 @@ pub mod Shifts
 pub mod AfterForks
 pub mod AtEntries
 pub mod Rules
+pub mod Left
+pub mod Loose
+pub mod Ended
 pub mod Theorems
 pub mod Tests
 pub mod Samples

@@ -78,18 +78,26 @@ module _ (P : Program) (D : Disciplined P) (known : Known P) where
     enters_here = λ E hz bg full ea ce. absurd (let z : Begin b ≡ Do (Enter E) = sym act ∙ ea in cc);
   }
 
-  pub moved : (R : Run) → Valid P R → LevelsGuarded P.rule R → Rebuilt P R (move R)
-  moved [] l f = subst (Rebuilt P []) (sym (rearranged_nil construct_spot)) (rebuilt_nil P)
-  moved (e ∷ R) l f = subst (Rebuilt P (e ∷ R)) (sym (rearranged_step construct_spot e R))
-      (go (moved R l.1 (levels_upto (later now) f)) (construct_spot R e) refl)
+  -- the next event, where what belongs in a branch may come there
+  pub moved_next : (R : Run) (e : Event) → Valid P (e ∷ R) → Rebuilt P R (move R)
+      → ((u : ℕ × ℕ) (q : Path) → inner R e.path ≡ Branch_of u q → Side P D known R (move R) e (Branch_of u q) (u ∷ q)) → Rebuilt P (e ∷ R) (move (e ∷ R))
+  moved_next R e l g side = subst (Rebuilt P (e ∷ R)) (sym (rearranged_step construct_spot e R)) (go (construct_spot R e) refl)
     where
-      after_all : Rebuilt P R (move R) → (q : Path) → Other R e.path e.act q → Rebuilt P (e ∷ R) (put_after (All_of q) e (move R))
-      after_all g q (free k) = subst (λ r. Rebuilt P (e ∷ R) (put_after (All_of r) e (move R))) (sym k)
+      after_all : (q : Path) → Other R e.path e.act q → Rebuilt P (e ∷ R) (put_after (All_of q) e (move R))
+      after_all q (free k) = subst (λ r. Rebuilt P (e ∷ R) (put_after (All_of r) e (move R))) (sym k)
           (rebuilt_in P D known R (move R) e (All_of []) [] l g (top_side P D known R (move R) e))
-      after_all g q (begin b a k d) = subst (λ r. Rebuilt P (e ∷ R) (put_after (All_of r) e (move R))) (sym k)
+      after_all q (begin b a k d) = subst (λ r. Rebuilt P (e ∷ R) (put_after (All_of r) e (move R))) (sym k)
           (rebuilt_in P D known R (move R) e (All_of e.path) e.path l g (begin_side R (move R) e b g a d))
 
-      go : Rebuilt P R (move R) → (s : Spot) → construct_spot R e ≡ s → Rebuilt P (e ∷ R) (put_after s e (move R))
-      go g (Branch_of u q) k = rebuilt_in P D known R (move R) e (Branch_of u q) (u ∷ q) l g
-          (branch_side P D known R (move R) e u q l g f (spot_inner R e.path e.act u q k))
-      go g (All_of q) k = after_all g q (spot_other R e.path e.act q k)
+      go : (s : Spot) → construct_spot R e ≡ s → Rebuilt P (e ∷ R) (put_after s e (move R))
+      go (Branch_of u q) k = rebuilt_in P D known R (move R) e (Branch_of u q) (u ∷ q) l g (side u q (spot_inner R e.path e.act u q k))
+      go (All_of q) k = after_all q (spot_other R e.path e.act q k)
+
+  pub nothing_moved : Rebuilt P [] (move [])
+  nothing_moved = subst (Rebuilt P []) (sym (rearranged_nil construct_spot)) (rebuilt_nil P)
+
+  pub moved : (R : Run) → Valid P R → LevelsGuarded P.rule R → Rebuilt P R (move R)
+  moved [] l f = nothing_moved
+  moved (e ∷ R) l f =
+      let g = moved R l.1 (levels_upto (later now) f) in
+      moved_next R e l g (λ u q k. branch_side P D known R (move R) e u q l g k f)

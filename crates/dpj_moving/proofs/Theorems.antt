@@ -10,7 +10,7 @@ use Rattle.dpj_runs.specs.Schedules.{Limits, Within}
 use Rattle.dpj_runs.specs.Standing.{Valid}
 use Rattle.dpj_moving.specs.Gathered.{gather}
 use Rattle.dpj_moving.specs.Guarded.{LevelsGuarded}
-use Rattle.dpj_moving.specs.Laws.{Gathering, IsMoved, Moving, MovingBy, MovingInside, Rearranges, StillOpen}
+use Rattle.dpj_moving.specs.Laws.{Gathering, IsMoved, Moving, MovingBy, MovingEnded, MovingInside, Rearranges, StillOpen}
 use Rattle.dpj_moving.specs.Moved.{move}
 use Rattle.dpj_moving.specs.Guarded.{LevelsGuarded}
 use Rattle.dpj_runs.proofs.Written.{legal_faithful, valid_from, legal_from}
@@ -24,6 +24,8 @@ use Rattle.dpj_moving.proofs.AtEntries.{at_entries, together}
 use Rattle.dpj_moving.proofs.Move.{moved}
 use Rattle.dpj_moving.proofs.AfterForks.{after_forks}
 use Rattle.dpj_moving.proofs.Rules.{valid_rule, disciplined_rule}
+use Rattle.dpj_moving.proofs.Loose.{loosely}
+use Rattle.dpj_moving.proofs.Ended.{by_weaker}
 
 same_ended : {R G : Run} → ((p : Path) → mine G p ≡ mine R p) → (p : Path) (x : Ending) → Ended R p x → Ended G p x
 same_ended {R} {G} m p x h = ended_in (subst (λ es. Upto (mine R p) es) (sym (m p)) now) h
@@ -86,3 +88,10 @@ moving_by P weak w D known R l f = is_moved (with_rule weak P) (disciplined_rule
 
 pub moving_inside : MovingInside
 moving_inside P w D known R l f = moving_by P (leaving_locals P.rule) w D known R l f
+
+pub moving_ended : MovingEnded
+moving_ended P weak w D known R x l ended f lets =
+    let v = valid_from P R l in
+    let m = loosely P D known R v f in
+    let g = by_weaker P D weak w R (move R) v (x, ended) lets m.rebuilt m.placed in
+    record { rearranges = rearranges (with_rule weak P) (disciplined_rule P weak D) R (move R) g; after_forks = m.placed }

@@ -71,7 +71,7 @@ split [] o xs r u e = lies_over xs e
 split (z ∷ zs) o [] r u e = let t : r ≡ zs ++ o = cc in lies_in (record { below = zs; is = t })
 split (z ∷ zs) o (x ∷ xs) r u e = let t : zs ++ o ≡ xs ++ u ∷ r = cc in split zs o xs r u t
 
-nil_append : (p : Path) → p ≡ p ++ []
+pub nil_append : (p : Path) → p ≡ p ++ []
 nil_append [] = refl
 nil_append (x ∷ p) = ap (λ l. x ∷ l) (nil_append p)
 

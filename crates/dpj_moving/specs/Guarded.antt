@@ -1,11 +1,11 @@
 -- What gathering and moving ask of a run, and a check of its program gives.
-use Rattle.std.specs.Prelude.{◌≡◌, true, false, List, ◌∷◌}
+use Rattle.std.specs.Prelude.{◌≡◌, suc, true, false, List, ◌∷◌}
 use Rattle.dpj_runs.specs.Objects.{Path, Effect}
 use Rattle.dpj_runs.specs.Actions.{Do, Enter, Rule}
-use Rattle.dpj_runs.specs.Runs.{Event, Run, Upto}
-use Rattle.dpj_runs.specs.Standing.{Outside, Inside, standing}
+use Rattle.dpj_runs.specs.Runs.{Event, Run, Upto, mine}
+use Rattle.dpj_runs.specs.Standing.{Outside, Inside, standing, first_of}
 use Rattle.dpj_runs.specs.Order.{Unordered, Conflict}
-use Rattle.dpj_moving.specs.Moved.{inner}
+use Rattle.dpj_moving.specs.Moved.{inner, is_det}
 
 pub record InBlock (R : Run) (p : Path) : Type 0 where
   pub opener : Path
@@ -45,3 +45,21 @@ pub record LevelsGuarded (rule : Rule) (R : Run) : Type 0 where
   pub entries : (Y X : Run) (y x : Event) (E F : List Effect) → Upto (y ∷ Y) R → Upto (x ∷ X) Y → Unordered x.path y.path
       → x.act ≡ Do (Enter E) → y.act ≡ Do (Enter F) → standing X x.path ≡ Outside → standing Y y.path ≡ Outside
       → (inner X x.path ≡ inner Y y.path → ⊥) → LetBy rule E F
+
+-- of conflicts alone: the unordered ones are guarded on one level
+pub record AccessesLevelled (rule : Rule) (R : Run) : Type 0 where
+  pub each : (Y X : Run) (y x : Event) → Upto (y ∷ Y) R → Upto (x ∷ X) Y → Unordered x.path y.path → Conflict x y → Levelled rule X x Y y
+
+-- two tasks part at the fork of an nd construct
+abbrev pub PartAtNd : (R : Run) (p q : Path) → Unordered p q → Type 0
+PartAtNd R p q n = is_det (first_of (suc n.u.0) (mine R n.above)) ≡ false
+
+-- and of blocks alone: those on two levels whose tasks part at an nd construct never wait for each other
+pub record EntriesLet (rule : Rule) (R : Run) : Type 0 where
+  pub each : (Y X : Run) (y x : Event) (E F : List Effect) → Upto (y ∷ Y) R → Upto (x ∷ X) Y → (n : Unordered x.path y.path) → PartAtNd R x.path y.path n
+      → x.act ≡ Do (Enter E) → y.act ≡ Do (Enter F) → standing X x.path ≡ Outside → standing Y y.path ≡ Outside
+      → (inner X x.path ≡ inner Y y.path → ⊥) → LetBy rule E F
+
+-- the rule by which blocks never wait
+abbrev pub anything : Rule
+anything F E = true

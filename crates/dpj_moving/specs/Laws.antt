@@ -1,5 +1,5 @@
 -- The laws of gathering and moving, as statements.
-use Rattle.std.specs.Prelude.{ℕ, ◌≡◌, true, List, ◌∷◌}
+use Rattle.std.specs.Prelude.{ℕ, ◌≡◌, true, List, [], ◌∷◌}
 use Rattle.dpj_runs.specs.Objects.{Path, Effect}
 use Rattle.dpj_runs.specs.Actions.{Ending, Program, Rule, Task}
 use Rattle.dpj_runs.specs.Runs.{Begun, Event, Faithful, Run, mine, total, Ended}
@@ -10,7 +10,7 @@ use Rattle.dpj_runs.specs.Meaning.{Disciplined, InTurn, Known}
 use Rattle.dpj_runs.specs.Schedules.{Limits, Within}
 use Rattle.dpj_moving.specs.Gathered.{gather, AtEntries, Together}
 use Rattle.dpj_moving.specs.Moved.{move, AfterForks}
-use Rattle.dpj_moving.specs.Guarded.{ConflictsGuarded, LevelsGuarded}
+use Rattle.dpj_moving.specs.Guarded.{AccessesLevelled, ConflictsGuarded, EntriesLet, LevelsGuarded, anything}
 
 -- G is a legal run of the program with the events of R: each task makes the same ones, with the same answers, so it is to do the
 -- same next; any weight of events sums up to the same; it comes out as R does; and a further event that is over a limit after
@@ -69,3 +69,10 @@ MovingBy = (P : Program) (weak : Rule) → Weaker weak P.rule → Disciplined P 
 abbrev pub MovingInside : Type 0
 MovingInside = (P : Program) → Weaker (leaving_locals P.rule) P.rule → Disciplined P → Known (with_rule (leaving_locals P.rule) P)
     → (R : Run) → Legal P R → LevelsGuarded (leaving_locals P.rule) R → IsMoved (with_rule (leaving_locals P.rule) P) R
+
+-- a run whose root has ended is moved to one that is legal by a weaker rule, where its conflicts are guarded on one level by its own rule, and
+-- the weaker one lets blocks on two levels by whose tasks part at an nd construct. Of blocks of a deterministic construct nothing is
+-- asked: in the moved run its branches come one after the other
+abbrev pub MovingEnded : Type 0
+MovingEnded = (P : Program) (weak : Rule) → Weaker weak P.rule → Disciplined P → Known (with_rule anything P) → (R : Run) (x : Ending) → Legal P R
+    → Ended R [] x → AccessesLevelled P.rule R → EntriesLet weak R → IsMoved (with_rule weak P) R

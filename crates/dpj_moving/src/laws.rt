@@ -1,6 +1,6 @@
 //! The laws of gathering and moving, each the clause of a function that does nothing.
 
-ghost use Rattle.dpj_moving.specs.Laws.{Gathering, OneGathered, StillOpen, Moving, OneMoved, MovingBy, MovingInside};
+ghost use Rattle.dpj_moving.specs.Laws.{Gathering, OneGathered, StillOpen, Moving, OneMoved, MovingBy, MovingEnded, MovingInside};
 ghost use Rattle.dpj_moving.specs.Samples.{BothApply, GatheringNeedsGuarded, GatheringNeedsKnown, MovingNeedsWeaker};
 
 /// Where unordered conflicts are guarded by blocks, each block's events can be gathered at its entry.
@@ -16,6 +16,7 @@ pub fn law_moving()
     ensures one { OneMoved }
     ensures by_weaker { MovingBy }
     ensures inside { MovingInside }
+    ensures ended { MovingEnded }
 {}
 
 /// The laws say something of some runs, and what they ask is needed.

@@ -13,12 +13,14 @@
 #![tactic(auto)]
 
 mod end;
+mod kept;
 mod live;
 mod scope;
 mod task;
 mod tree;
 
 pub use end::{Joined, TaskEnd};
+pub use kept::Kept;
 pub use scope::Scope;
 pub use task::{Origin, State, Task};
 pub use tree::TaskTree;

@@ -6,6 +6,7 @@ ghost use Rattle.dpj_tasks.specs.Scope.{with_branch, with_end};
 ghost use Rattle.dpj_tasks.specs.Tree.{CanBegin, CanJoin, origin_of, printed_task, ready, IsLastBelow, IsGreatestReady, NoneReady, changed, forked_task, with_scope, joined_task, ends_in};
 
 use crate::end::{Joined, TaskEnd};
+use crate::kept::Kept;
 use crate::scope::Scope;
 use crate::task::{Origin, State, Task};
 use dpj_base::NoMemory;
@@ -16,7 +17,7 @@ use std::marker::Model;
 /// The live tasks. A contract sees a finite map from their numbers.
 #[derive(Drop)]
 pub struct Live {
-    tasks: BTreeMap<u32, Task>,
+    tasks: BTreeMap<u32, Kept<Task>>,
     alloc: Global,
 }
 
@@ -46,7 +47,10 @@ impl Live {
     pub fn get(&self, number: u32) -> Option<&Task>
         ensures { option_copied result ≡ get self.now number }
     {
-        self.tasks.get(&number)
+        match self.tasks.get(&number) {
+            Some(task) => Some(task.get()),
+            None => None,
+        }
     }
 
     /// Where a live task came from: None for the root.
@@ -66,7 +70,7 @@ impl Live {
         ensures absent { IfNone result ((q : ℕ) → q < bound → get self.now q ≡ None) }
     {
         let (number, task) = self.tasks.range(..bound).next_back()?;
-        Some((*number, task.state.is_ready()))
+        Some((*number, task.get().state.is_ready()))
     }
 
     /// The greatest number below a bound of a task that can go on.
@@ -87,7 +91,7 @@ impl Live {
         ensures ok { OnOk result (self.new ≡ insert self.old number task) }
         ensures err { OnErr result (self.new ≡ self.old) }
     {
-        let _ = self.tasks.insert(number, task)?;
+        let _ = self.tasks.insert(number, Kept::new(self.alloc, task)?)?;
         Ok(())
     }
 
@@ -95,7 +99,10 @@ impl Live {
         ensures task { result ≡ get self.old number }
         ensures removed { self.new ≡ remove self.old number }
     {
-        self.tasks.remove(&number)
+        let Some(task) = self.tasks.remove(&number) else {
+            return None;
+        };
+        Some(task.into_inner())
     }
 
     /// Opens a scope of a task.
@@ -105,6 +112,7 @@ impl Live {
         let Some(task) = self.tasks.get_mut(&number) else {
             return;
         };
+        let task = task.get_mut();
         task.forks = task.forks.saturating_add(1);
         task.state = State::Forked(Scope::open(self.alloc, count));
     }
@@ -118,17 +126,19 @@ impl Live {
         let Some(task) = self.tasks.get_mut(&number) else {
             unreachable!()
         };
+        let task = task.get_mut();
         task.state.begin()?;
         Ok(())
     }
 
     /// Notes in the open scope of a task how a branch ended.
-    pub fn end(&mut self, number: u32, branch: u32, how: TaskEnd)
+    pub fn end(&mut self, number: u32, branch: u32, how: Kept<TaskEnd>)
         ensures { self.new ≡ changed self.old number (with_scope (λ scope. with_end scope branch how)) }
     {
         let Some(task) = self.tasks.get_mut(&number) else {
             return;
         };
+        let task = task.get_mut();
         task.state.end(branch, how);
     }
 
@@ -142,6 +152,7 @@ impl Live {
         let Some(task) = self.tasks.get_mut(&number) else {
             unreachable!()
         };
+        let task = task.get_mut();
         let joined = task.join(self.alloc)?;
         Ok(joined)
     }
@@ -154,6 +165,7 @@ impl Live {
         let Some(task) = self.tasks.get_mut(&number) else {
             return Ok(());
         };
+        let task = task.get_mut();
         task.out.extend(bytes)?;
         Ok(())
     }

@@ -3,6 +3,7 @@ ghost use Rattle.std.specs.Option.{option_copied};
 ghost use Rattle.dpj_tasks.specs.Tree.{fresh, next_origin};
 
 use crate::end::{Joined, TaskEnd};
+use crate::kept::Kept;
 use crate::live::Live;
 use crate::task::{Origin, State, Task};
 use dpj_base::{Bytes, Items, NoMemory, Path, PathStep, Place, Trap};
@@ -150,24 +151,34 @@ impl TaskTree {
         Ok(number)
     }
 
-    /// Ends a task, which is forgotten. Its end stays with the scope of its parent, or with the tree for the root. It
-    /// takes no memory.
-    pub fn end(&mut self, task: u32, trap: Option<(Trap, Place)>, slots: Items<SlotValue>)
+    /// Ends a task, which is forgotten. Its end stays with the scope of its parent, or with the tree for the root.
+    pub fn end(
+        &mut self,
+        task: u32,
+        trap: Option<(Trap, Place)>,
+        slots: Items<SlotValue>,
+    ) -> Result<(), NoMemory>
         requires { Runs self.old.tasks task }
-        ensures { self.new ≡ without_task self.old task trap slots }
+        ensures ok { OnOk result (self.new ≡ without_task self.old task trap slots) }
+        ensures err { OnErr result (self.new ≡ self.old) }
     {
+        let room = Kept::new(
+            self.alloc,
+            TaskEnd {
+                out: Bytes::new(self.alloc),
+                trap,
+                slots,
+            },
+        )?;
         let Some(ended) = self.tasks.remove(task) else {
             unreachable!()
         };
-        let how = TaskEnd {
-            out: ended.out,
-            trap,
-            slots,
-        };
+        let how = with_output(room, ended.out);
         match ended.origin {
-            None => self.root_end = Some(how),
+            None => self.root_end = Some(how.into_inner()),
             Some(origin) => self.tasks.end(origin.parent, origin.step.branch, how),
         }
+        Ok(())
     }
 
     /// Puts bytes behind what a task has printed.
@@ -216,6 +227,15 @@ fn fresh(alloc: Global, origin: Option<Origin>) -> Task
         out: Bytes::new(alloc),
         state: State::Running,
     }
+}
+
+/// An end with this output.
+fn with_output(end: Kept<TaskEnd>, out: Bytes) -> Kept<TaskEnd>
+    ensures { result ≡ record { out = out; trap = end.trap; slots = end.slots } }
+{
+    let mut end = end;
+    end.get_mut().out = out;
+    end
 }
 
 /// Where the next branch of a task comes from.

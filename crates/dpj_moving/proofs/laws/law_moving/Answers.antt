@@ -1,4 +1,4 @@
-use Rattle.dpj_moving.proofs.Theorems.{moving, moving_by, moving_inside}
+use Rattle.dpj_moving.proofs.Theorems.{moving, moving_by, moving_ended, moving_inside}
 use Rattle.dpj_moving.proofs.OneMoved.{one_moved}
 use Rattle.dpj_moving.proofs.laws.law_moving.Goals as goal
 
@@ -8,4 +8,5 @@ returns c = record {
   one = λ P D T R G H l lg lh m n i j. one_moved P D T R l G H lg lh m n i j;
   by_weaker = moving_by;
   inside = moving_inside;
+  ended = moving_ended;
 }

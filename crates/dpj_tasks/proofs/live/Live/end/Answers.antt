@@ -15,5 +15,6 @@ pub returns : goal.returns
 returns c =
     written c.self.inside.tasks c.get_mut.follows.lender c.args.number _ c.in-Some.task.now (with_scope
     (λ scope. with_end scope c.args.branch c.args.how)) c.in-Some.ensures.value c.get_mut.follows.holds
-    (ap (λ state. record { origin = c.in-Some.task.now.origin; forks = c.in-Some.task.now.forks; out = c.in-Some.task.now.out; state = state }) c.end.ensures)
+    (ap (λ state. record { origin = c.get_mut-task.result.now.origin; forks = c.get_mut-task.result.now.forks; out = c.get_mut-task.result.now.out; state = state }) c.end.ensures
+    ∙ ap (with_scope (λ scope. with_end scope c.args.branch c.args.how)) c.get_mut-task.ensures.value)
     ∙ ap (λ (tasks : Tasks). changed tasks c.args.number (with_scope (λ scope. with_end scope c.args.branch c.args.how))) c.self.view_is

@@ -15,6 +15,7 @@ pub returns : goal.returns
 returns c =
     written c.self.inside.tasks c.get_mut.follows.lender c.args.number _ c.in-Some.task.now
     (forked_task c.args.count) c.in-Some.ensures.value c.get_mut.follows.holds
-    (ap (λ forks. record { origin = c.in-Some.task.now.origin; forks = forks; out = c.in-Some.task.now.out; state = Forked c.open.result }) c.saturating_add-task.ensures
-    ∙ ap (λ scope. record { origin = c.in-Some.task.now.origin; forks = next c.in-Some.task.now.forks; out = c.in-Some.task.now.out; state = Forked scope }) c.open.ensures)
+    (ap (λ forks. record { origin = c.get_mut-task.result.now.origin; forks = forks; out = c.get_mut-task.result.now.out; state = Forked c.open.result }) c.saturating_add-task.ensures
+    ∙ ap (λ scope. record { origin = c.get_mut-task.result.now.origin; forks = next c.get_mut-task.result.now.forks; out = c.get_mut-task.result.now.out; state = Forked scope }) c.open.ensures
+    ∙ ap (forked_task c.args.count) c.get_mut-task.ensures.value)
     ∙ ap (λ (tasks : Tasks). changed tasks c.args.number (forked_task c.args.count)) c.self.view_is

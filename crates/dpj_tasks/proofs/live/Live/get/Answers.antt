@@ -1,9 +1,15 @@
 -- A look-up in the map.
-use Rattle.std.proofs.Common.{sym, ap, ◌∙◌}
+use Rattle.std.proofs.Common.{sym, ap, ◌∙◌, Some}
 use Rattle.std.specs.FinMap.{get}
 use Rattle.dpj_tasks.specs.Tree.{Tasks}
 use Rattle.dpj_tasks.proofs.Maps.{get_seen}
 use Rattle.dpj_tasks.proofs.live.Live.get.Goals as goal
 
-pub returns : goal.returns
-returns c = c.get.ensures.value ∙ sym (get_seen c.self.inside.tasks c.args.number) ∙ ap (λ (tasks : Tasks). get tasks c.args.number) c.self.view_is
+pub returns-in-Some : goal.returns-in-Some
+returns-in-Some c =
+    ap Some c.get-in-Some.ensures ∙ c.in-Some.ensures.value ∙ sym (get_seen c.self.inside.tasks c.args.number)
+    ∙ ap (λ (tasks : Tasks). get tasks c.args.number) c.self.view_is
+
+pub returns-in-None : goal.returns-in-None
+returns-in-None c =
+    c.in-None.ensures.value ∙ sym (get_seen c.self.inside.tasks c.args.number) ∙ ap (λ (tasks : Tasks). get tasks c.args.number) c.self.view_is

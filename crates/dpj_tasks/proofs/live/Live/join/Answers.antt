@@ -1,5 +1,5 @@
 -- A scope joined in the map.
-use Rattle.std.proofs.Common.{ap, ◌∙◌, sym, subst}
+use Rattle.std.proofs.Common.{ap, ◌∙◌, sym, subst, Some}
 use Rattle.std.specs.FinMap.{get}
 use Rattle.dpj_tasks.specs.Join.{JoinsTo}
 use Rattle.dpj_tasks.specs.Tree.{Tasks, changed, joined_task, ends_in}
@@ -12,18 +12,18 @@ unreachable-requires c = of_none c.self.inside.tasks c.args.number c.args.self.n
 pub returns-clause-joined : goal.returns-clause-joined
 returns-clause-joined c =
     written c.self.inside.tasks c.get_mut.follows.lender c.args.number _ c.in-Some.task.now (joined_task) c.in-Some.ensures.value c.get_mut.follows.holds
-    c.in_ok-joined.ensures.joined
+    (c.in_ok-joined.ensures.joined ∙ ap joined_task c.get_mut-task.ensures.value)
     ∙ ap (λ (tasks : Tasks). changed tasks c.args.number (joined_task)) c.self.view_is
 
 pub returns-clause-ok : goal.returns-clause-ok
 returns-clause-ok c =
     subst (λ o. JoinsTo (ends_in o) c.in_ok-joined.joined)
-    (c.in-Some.ensures.value ∙ sym (get_seen c.self.inside.tasks c.args.number)
+    (ap Some c.get_mut-task.ensures.value ∙ c.in-Some.ensures.value ∙ sym (get_seen c.self.inside.tasks c.args.number)
     ∙ ap (λ (tasks : Tasks). get tasks c.args.number) c.self.view_is) c.in_ok-joined.ensures.ok
 
 pub returns-in_err-joined-clause-err : goal.returns-in_err-joined-clause-err
 returns-in_err-joined-clause-err c =
     on_err c.from_residual.result _
     (written_same c.self.inside.tasks c.get_mut.follows.lender c.args.number _ c.in-Some.task.now c.in-Some.ensures.value c.get_mut.follows.holds
-    c.in_err-joined.ensures.err
+    (c.in_err-joined.ensures.err ∙ c.get_mut-task.ensures.value)
     ∙ c.self.view_is)

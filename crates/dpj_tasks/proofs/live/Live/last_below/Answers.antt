@@ -1,7 +1,7 @@
 -- The last of the range below the bound.
 use Rattle.std.proofs.Common.{◌≡◌, ◌<◌, ℕ, None, sym, ap, subst, ◌∙◌}
 use Rattle.std.specs.FinMap.{get}
-use Rattle.dpj_tasks.specs.Tree.{Tasks, IsLastBelow, ready}
+use Rattle.dpj_tasks.specs.Tree.{Tasks, IsLastBelow, ready, state_ready}
 use Rattle.dpj_tasks.proofs.Ranges.{last_in, last_is, none_in, if_none}
 use Rattle.dpj_tasks.proofs.live.Live.last_below.Goals as goal
 
@@ -19,7 +19,7 @@ returns-clause-last c =
 
 pub returns-clause-ready : goal.returns-clause-ready
 returns-clause-ready c =
-    c.is_ready.ensures
+    c.is_ready.ensures ∙ ap (λ task. state_ready task.state) c.get.ensures
     ∙ ap ready (sym (last_is c.self.inside.tasks c.args.bound c.range.result c.next_back.new.self c.in_ok-number.number.now c.in_ok-number.task.now
     (c.range.ensures.in_range tt) c.in_ok-number.ensures.steps))
     ∙ ap (λ (tasks : Tasks). ready (get tasks c.in_ok-number.number.now)) c.self.view_is

@@ -14,12 +14,13 @@ pub returns-clause-ok : goal.returns-clause-ok
 returns-clause-ok c =
     written c.self.inside.tasks c.get_mut.follows.lender c.args.number _ c.in-Some.task.now
     (printed_task c.args.bytes.now) c.in-Some.ensures.value c.get_mut.follows.holds
-    (ap (λ out. record { origin = c.in-Some.task.now.origin; forks = c.in-Some.task.now.forks; out = out; state = c.in-Some.task.now.state }) c.in_ok-extend.ensures.ok)
+    (ap (λ out. record { origin = c.get_mut-task.result.now.origin; forks = c.get_mut-task.result.now.forks; out = out; state = c.get_mut-task.result.now.state }) c.in_ok-extend.ensures.ok
+    ∙ ap (printed_task c.args.bytes.now) c.get_mut-task.ensures.value)
     ∙ ap (λ (tasks : Tasks). changed tasks c.args.number (printed_task c.args.bytes.now)) c.self.view_is
 
 pub returns-in_err-extend-clause-err : goal.returns-in_err-extend-clause-err
 returns-in_err-extend-clause-err c =
     on_err c.from_residual.result _
     (written_same c.self.inside.tasks c.get_mut.follows.lender c.args.number _ c.in-Some.task.now c.in-Some.ensures.value c.get_mut.follows.holds
-    (ap (λ out. record { origin = c.in-Some.task.now.origin; forks = c.in-Some.task.now.forks; out = out; state = c.in-Some.task.now.state }) c.in_err-extend.ensures.err)
+    (ap (λ out. record { origin = c.get_mut-task.result.now.origin; forks = c.get_mut-task.result.now.forks; out = out; state = c.get_mut-task.result.now.state }) c.in_err-extend.ensures.err ∙ c.get_mut-task.ensures.value)
     ∙ c.self.view_is)

@@ -10,10 +10,15 @@ invariant_of-self c =
     subst (λ tasks. IsNumbered tasks c.self.inside.begun) (sym c.remove.ensures.removed)
     (numbered_removed c.self.inside.tasks c.self.inside.begun c.args.task c.self.invariant)
 
+pub invariant_of-self-in-None-2 : goal.invariant_of-self-in-None-2
+invariant_of-self-in-None-2 c =
+    subst (λ tasks. IsNumbered tasks c.self.inside.begun) (sym c.remove.ensures.removed)
+    (numbered_removed c.self.inside.tasks c.self.inside.begun c.args.task c.self.invariant)
+
 pub invariant_of-self-in-Some-origin : goal.invariant_of-self-in-Some-origin
 invariant_of-self-in-Some-origin c =
     subst (λ tasks. IsNumbered tasks c.self.inside.begun) (sym c.end.ensures)
     (numbered_changed c.remove.new.self c.self.inside.begun c.in-Some-origin.origin.parent
-    (with_scope (λ scope. with_end scope c.in-Some-origin.origin.step.branch (record { out = c.in-Some.ended.out; trap = c.args.trap; slots = c.args.slots }))) (λ t. refl)
+    (with_scope (λ scope. with_end scope c.in-Some-origin.origin.step.branch c.with_output-how.result)) (λ t. refl)
     (subst (λ tasks. IsNumbered tasks c.self.inside.begun) (sym c.remove.ensures.removed)
     (numbered_removed c.self.inside.tasks c.self.inside.begun c.args.task c.self.invariant)))
