@@ -108,4 +108,5 @@ module _ (keeps : KeepsPromise) (verdict : OneVerdict) (one : OnePassing) (words
         is = tells.run_recorded ∙ ap (λ (a : Answered). a.recorded) told.is;
         reported = verdict_told (told_of asked text told.made.record.machine.schedule told.made.outcome) (ap (λ (a : Answered). a.verdict) told.is);
         reduced = told.reduced;
+        inside = told.inside;
       }

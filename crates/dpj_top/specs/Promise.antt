@@ -7,6 +7,7 @@ use Rattle.dpj_base.specs.declared.place.Place.{Place}
 use Rattle.dpj_typed.specs.Plain.{PlainProgram}
 use Rattle.dpj_typed.specs.WellTyped.{WellTyped}
 use Rattle.dpj_history.specs.declared.record.Record.{Record}
+use Rattle.dpj_promise.specs.Inside.{ComesOutElidedInside}
 use Rattle.dpj_promise.specs.Promise.{elision}
 use Rattle.dpj_promise.specs.Reduced.{ComesOutReduced}
 use Rattle.dpj_run.specs.declared.recorded.Recorded.{Recorded}
@@ -37,19 +38,21 @@ pub record TellsElision (job : Job) (text : List ℕ) (typed : PlainProgram) (an
   pub schedule : List ℕ
   pub is : answered.verdict ≡ told_of job text schedule (elision_for job typed)
 
--- the recorded run is one of the source, in which values have their types and tasks keep to their effects, whose unordered events that conflict lie in atomic blocks, and gathered by blocks it
--- comes out as the verdict says
+-- the recorded run is one of the source, in which values have their types and tasks keep to their effects, whose unordered events that conflict lie in atomic blocks; gathered by blocks it
+-- comes out as the verdict says, and so it does with its deterministic constructs in sequence, where it isn't over a limit
 pub record TellsReduced (job : Job) (text : List ℕ) (typed : PlainProgram) (answered : Answered) : Type 0 where
   pub well_typed : WellTyped typed
   pub made : Recorded
   pub is : answered ≡ record { verdict = told_of job text made.record.machine.schedule made.outcome; recorded = Some made.record }
   pub reduced : ComesOutReduced typed well_typed made.record.machine made.outcome
+  pub inside : ComesOutElidedInside typed made.record.machine made.outcome
 
--- a run that has followed a schedule is reduced, and without nd constructs it comes out as the elision
+-- a run that has followed a schedule is reduced, inside nd constructs too, and without them it comes out as the elision
 pub record FollowsReduced (typed : PlainProgram) (limits : Limits) (argument : ℤ) (schedule : List ℕ) (made : Recorded) : Type 0 where
   pub well_typed : WellTyped typed
   pub by_schedule : made.record.machine.schedule ≡ schedule
   pub reduced : ComesOutReduced typed well_typed made.record.machine made.outcome
+  pub inside : ComesOutElidedInside typed made.record.machine made.outcome
   pub elided : typed.uses_nd ≡ false → made.outcome ≡ elision typed limits argument
 
 -- a run in the job's mode and an elision come out
@@ -90,6 +93,7 @@ pub record ReportsReduced (job : Job) (text : List ℕ) (typed : PlainProgram) (
   pub is : recorded ≡ Some made.record
   pub reported : IsReported (told_of job text made.record.machine.schedule made.outcome) before after status
   pub reduced : ComesOutReduced typed well_typed made.record.machine made.outcome
+  pub inside : ComesOutElidedInside typed made.record.machine made.outcome
 
 -- a run, or an elision, is asked of a program without nd constructs
 abbrev pub AsksElision : Job → PlainProgram → Type 0

@@ -51,7 +51,8 @@ pub fn dpj<R: Threads + Wait + Sync, S: Source, K: Sink, G: Gate + Sync>(
     // The promise: a run of an accepted program without nd constructs is told by its sequential elision, whatever the workers did.
     ensures promised { TellsOfVerdict result.status
         → OwesElision (map string_bytes words.now) (S.left source.old) (K.held sink.old) (K.held sink.new) result.status }
-    // With nd constructs or without, the recorded run is one of the source that can be gathered, and it is what is told.
+    // With nd constructs or without, the recorded run is one of the source that can be gathered, and whose deterministic constructs can be
+    // put in sequence; and it is what is told.
     ensures reduced { TellsOfVerdict result.status
         → OwesReduction (map string_bytes words.now) (S.left source.old) (K.held sink.old) (K.held sink.new) result.status result.recorded }
     // So is a run that a replay has made, which is told by its outcome: without nd constructs that is the elision.
