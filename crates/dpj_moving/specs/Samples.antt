@@ -48,7 +48,7 @@ abbrev pub MovingEndedApplies : Type 0
 MovingEndedApplies = (P : Program) × Disciplined P × Known (with_rule anything P) × (R : Run) × Legal P R × ((x : Ending) × Ended R [] x)
     × AccessesLevelled P.rule R × EntriesLet P.rule R × (LevelsGuarded P.rule R → ⊥) × (move R ≡ R → ⊥)
 
--- one whose root has not ended may not be legal then
+-- where the root has not ended, the moved run may not be legal
 abbrev pub MovingNeedsEnded : Type 0
 MovingNeedsEnded = (P : Program) × Disciplined P × Known (with_rule anything P) × (R : Run) × Legal P R × AccessesLevelled P.rule R × EntriesLet P.rule R
     × (Legal P (move R) → ⊥)
