@@ -1,7 +1,9 @@
 ghost use Rattle.std.specs.Prelude.{◌≡◌, map, IfOk};
 ghost use Rattle.dpj_headers.specs.Headers.{regions_of};
+ghost use Rattle.dpj_typed.specs.Names.{named_region, names_of};
 ghost use Rattle.dpj_typed.specs.Plain.{plain_program};
 ghost use Rattle.dpj_assembly.specs.Assembled.{plain_body, program_of};
+ghost use Rattle.dpj_assembly.specs.Named.{names_in, region_named};
 
 use crate::body::MemberBody;
 use crate::classes::classes;
@@ -21,7 +23,8 @@ pub fn program(
     uses_nd: bool,
     bodies: Items<MemberBody>,
 ) -> Result<Program, NoMemory>
-    ensures { IfOk result (λ made. plain_program made ≡ program_of table.now names.now uses_nd (map plain_body bodies)) }
+    ensures made { IfOk result (λ made. plain_program made ≡ program_of table.now names.now uses_nd (map plain_body bodies)) }
+    ensures named { IfOk result (λ made. names_of made ≡ names_in table.now names.now (map plain_body bodies)) }
 {
     let main_class = main_class(table).unwrap_or(0);
     let main_member = main_method(table, names).unwrap_or(0);
@@ -42,7 +45,8 @@ fn region_names(
     names: &[Bytes],
     rows: &[RegionRow],
 ) -> Result<Items<RegionName>, NoMemory>
-    ensures { IfOk result (λ made. map (λ name. name.atomic) made ≡ map (λ row. row.is_atomic) rows.now) }
+    ensures atomic { IfOk result (λ made. map (λ name. name.atomic) made ≡ map (λ row. row.is_atomic) rows.now) }
+    ensures named { IfOk result (λ made. map named_region made ≡ map (region_named names.now) rows.now) }
 {
     let mut made = Items::new(alloc);
     for row in rows {

@@ -1,11 +1,14 @@
 ghost use Rattle.std.specs.Prelude.{◌≡◌, ◌<◌, ℕ, map, length, option_map, slice_index_or, [], IfOk};
 ghost use Rattle.dpj_headers.specs.Headers.{class_count};
 ghost use Rattle.dpj_headers.specs.Inheriting.{of_each_class};
+ghost use Rattle.dpj_headers.specs.Numbers.{as_number};
+ghost use Rattle.dpj_typed.specs.Names.{named_class};
 ghost use Rattle.dpj_typed.specs.Plain.{plain_class, plain_parent};
 ghost use Rattle.dpj_typed.specs.Plain.{plain_field as typed_field};
 ghost use Rattle.dpj_classes.specs.Rows.{plain_field};
 ghost use Rattle.dpj_classes.specs.Table.{headers_of, constructor_of};
 ghost use Rattle.dpj_assembly.specs.Assembled.{field_of, class_of, parent_at, class_from};
+ghost use Rattle.dpj_assembly.specs.Named.{class_named};
 
 use crate::texts::{copies, params, text};
 use dpj_base::{Bytes, Items, NoMemory, Plain};
@@ -16,7 +19,8 @@ use std::alloc::Global;
 
 /// All classes, in the order of the text.
 pub fn classes(alloc: Global, names: &[Bytes], table: &Table) -> Result<Items<Class>, NoMemory>
-    ensures { IfOk result (λ made. map plain_class made ≡ of_each_class (headers_of table.now) (class_of table.now)) }
+    ensures made { IfOk result (λ made. map plain_class made ≡ of_each_class (headers_of table.now) (class_of table.now)) }
+    ensures named { IfOk result (λ made. map named_class made ≡ of_each_class (headers_of table.now) (λ at. class_named table.now names.now (as_number at))) }
 {
     let fields = all_fields(alloc, table)?;
     let rows = all_rows(alloc, table)?;
@@ -38,7 +42,8 @@ fn class(
     fields: Items<Field>,
     rows: Items<MemberId>,
 ) -> Result<Class, NoMemory>
-    ensures { IfOk result (λ made. plain_class made ≡ class_from table.now number (map typed_field fields) (map (λ row. row.number) rows)) }
+    ensures made { IfOk result (λ made. plain_class made ≡ class_from table.now number (map typed_field fields) (map (λ row. row.number) rows)) }
+    ensures named { IfOk result (λ made. named_class made ≡ class_named table.now names.now number) }
 {
     let given = copies(alloc, table.given(number))?;
     let parent = parent(alloc, table, number)?;

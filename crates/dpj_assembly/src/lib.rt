@@ -2,7 +2,7 @@
 //!
 //! `assemble` gives exactly the program that `specs/Assembled.antt` says: each class with all its fields by slot and
 //! the members in all its rows, over its own region parameters; each member with its signature and its body; the region
-//! names; and where a run begins. It knows nothing of the rules that make a program an accepted one.
+//! names; and where a run begins. The names that it keeps are those that `specs/Named.antt` says. It knows nothing of the rules that make a program an accepted one.
 #![tactic(auto)]
 
 mod assemble;

@@ -1,6 +1,8 @@
 ghost use Rattle.std.specs.Prelude.{◌≡◌, map, IfOk};
+ghost use Rattle.dpj_typed.specs.Names.{named_member};
 ghost use Rattle.dpj_typed.specs.Plain.{plain_member};
 ghost use Rattle.dpj_assembly.specs.Assembled.{PlainBody, plain_body, member_of, members_of};
+ghost use Rattle.dpj_assembly.specs.Named.{member_named, members_named};
 
 use crate::body::MemberBody;
 use crate::texts::{copies, params, text};
@@ -16,7 +18,8 @@ pub fn members(
     rows: &[MethodRow],
     bodies: Items<MemberBody>,
 ) -> Result<Items<Member>, NoMemory>
-    ensures { IfOk result (λ made. map plain_member made ≡ members_of rows.now (map plain_body bodies)) }
+    ensures made { IfOk result (λ made. map plain_member made ≡ members_of rows.now (map plain_body bodies)) }
+    ensures named { IfOk result (λ made. map named_member made ≡ members_named names.now rows.now (map plain_body bodies)) }
 {
     let mut made = Items::new(alloc);
     let mut left = rows;
@@ -37,7 +40,8 @@ fn member(
     row: &MethodRow,
     body: MemberBody,
 ) -> Result<Member, NoMemory>
-    ensures { IfOk result (λ made. plain_member made ≡ member_of row.now (plain_body body)) }
+    ensures made { IfOk result (λ made. plain_member made ≡ member_of row.now (plain_body body)) }
+    ensures named { IfOk result (λ made. named_member made ≡ member_named names.now row.now) }
 {
     Ok(Member {
         class: ClassId { number: row.owner },

@@ -1,4 +1,5 @@
-ghost use Rattle.std.specs.Prelude.{◌≡◌, map, [], slice_index_or, IfOk};
+ghost use Rattle.std.specs.Prelude.{◌≡◌, map, IfOk};
+ghost use Rattle.dpj_assembly.specs.Named.{params_named, text_of};
 
 use dpj_base::{Bytes, Items, NoMemory, Plain};
 use dpj_headers::ParamRow;
@@ -7,7 +8,7 @@ use std::alloc::Global;
 
 /// The text of a name.
 pub fn text(alloc: Global, names: &[Bytes], name: u32) -> Result<Bytes, NoMemory>
-    ensures { IfOk result (λ text. text ≡ slice_index_or names.now name []) }
+    ensures { IfOk result (λ text. text ≡ text_of names.now name) }
 {
     match names.get(name as usize) {
         None => Ok(Bytes::new(alloc)),
@@ -21,7 +22,8 @@ pub fn params(
     names: &[Bytes],
     rows: &[ParamRow],
 ) -> Result<Items<RegionParam>, NoMemory>
-    ensures { IfOk result (λ made. map (λ param. param.atomic) made ≡ map (λ row. row.atomic) rows.now) }
+    ensures atomic { IfOk result (λ made. map (λ param. param.atomic) made ≡ map (λ row. row.atomic) rows.now) }
+    ensures named { IfOk result (λ made. map (λ param. param.text) made ≡ params_named names.now rows.now) }
 {
     let mut made = Items::new(alloc);
     for row in rows {

@@ -5,3 +5,4 @@ pub mod Statements
 pub mod Generating
 pub mod Members
 pub mod ClassCodes
+pub mod Titling

@@ -1,4 +1,5 @@
-ghost use Rattle.std.specs.Prelude.{◌≡◌, ◌<◌, OnOk, IfOk, [], map, length};
+ghost use Rattle.std.specs.Option.{option_copied};
+ghost use Rattle.std.specs.Prelude.{◌≡◌, ◌<◌, ◌∷◌, OnOk, IfOk, [], map, length};
 ghost use Rattle.dpj_typed.specs.Plain.{plain_member, plain_stmt, stmts_of};
 ghost use Rattle.dpj_typed.specs.Statements.{completes, all_complete};
 ghost use Rattle.dpj_code.specs.Plain.{plain_body, plain_title, lines_of};
@@ -6,6 +7,7 @@ ghost use Rattle.dpj_gen.specs.Scheme.{closes};
 ghost use Rattle.dpj_gen.specs.Whole.{branch_piece_of, place_of, member_piece, member_output};
 ghost use Rattle.dpj_compile.specs.Emitted.{emitted_of, Emits, plain_line};
 ghost use Rattle.dpj_compile.specs.Bodies.{Finished, BranchDone, body_from};
+ghost use Rattle.dpj_compile.specs.Titles.{Follow, HasPlaces, member_title, name_of};
 
 use crate::emitter::Emitter;
 use crate::line::Line;
@@ -31,6 +33,7 @@ pub fn member<'p>(
     requires { (emitted_of out.old).piece.lines ≡ [] }
     ensures lines { OnOk result ((emitted_of out.new).piece.lines ≡ []) }
     ensures made { OnOk result (Finished (emitted_of out.old) bodies.old (λ k. member_output k (plain_member member.now)) (emitted_of out.new) bodies.new) }
+    ensures titled { OnOk result (Follow bodies.old bodies.new (member_title (name_of (option_copied owner.entry)) member.now.name ∷ [])) }
 {
     out.begin_member(bodies.len())?;
     member_lines(alloc, out, member)?;
@@ -54,7 +57,8 @@ fn branch<'p>(
 ) -> Result<(), NoMemory>
     requires lines { (emitted_of out.old).piece.lines ≡ [] }
     requires there { at < length (emitted_of out.old).piece.branches }
-    ensures { OnOk result (BranchDone (emitted_of out.old) bodies.old (plain_member member.now) at (emitted_of out.new) bodies.new) }
+    ensures made { OnOk result (BranchDone (emitted_of out.old) bodies.old (plain_member member.now) at (emitted_of out.new) bodies.new) }
+    ensures titled { OnOk result (Follow bodies.old bodies.new []) }
 {
     let pending = &out.branches.as_slice()[at];
     let title = Title::Branch(pending.site, pending.number);
@@ -104,7 +108,9 @@ fn branch_lines<'p>(
 
 /// A body of these lines, in frames like those of the member.
 fn body(alloc: Global, lines: &Items<Line>, title: Title, member: &Member) -> Result<Body, NoMemory>
-    ensures { IfOk result (λ made. plain_body made ≡ body_from (plain_title title) (map plain_line lines.now) (plain_member member.now)) }
+    ensures made { IfOk result (λ made. plain_body made ≡ body_from (plain_title title) (map plain_line lines.now) (plain_member member.now)) }
+    ensures titled { IfOk result (λ made. made.title ≡ title) }
+    ensures placed { IfOk result HasPlaces }
 {
     let (instrs, places) = split(alloc, lines)?;
     Ok(Body {
@@ -118,7 +124,8 @@ fn body(alloc: Global, lines: &Items<Line>, title: Title, member: &Member) -> Re
 
 /// The instructions of lines, and their places.
 fn split(alloc: Global, lines: &Items<Line>) -> Result<(Items<Instr>, Items<Place>), NoMemory>
-    ensures { IfOk result (λ made. lines_of made.0 made.1 ≡ map plain_line lines.now) }
+    ensures lines { IfOk result (λ made. lines_of made.0 made.1 ≡ map plain_line lines.now) }
+    ensures even { IfOk result (λ made. length made.0 ≡ length made.1) }
 {
     let mut instrs = Items::new(alloc);
     let mut places = Items::new(alloc);

@@ -1,7 +1,7 @@
 //! The compiler: from a typed program to its code.
 //!
 //! `compile` gives exactly the code that the scheme of `dpj_gen` says, and with it all that the laws of `dpj_gen` say of that
-//! code: each task that runs it does what the program means.
+//! code: each task that runs it does what the program means. Each body has the title that a listing shows (`specs/Titles.antt`).
 //!
 //! Code is emitted in one pass: the lines of a body one after another, a jump forward as soon as its target is known. The
 //! branches of parallel constructs wait in a queue until the body around them is done. Statements and expressions are

@@ -1,7 +1,7 @@
-ghost use Rattle.std.specs.Prelude.{◌≡◌, ◌∷◌, ◌++◌, IfOk};
+ghost use Rattle.std.specs.Prelude.{◌≡◌, IfOk};
 ghost use Rattle.std.specs.Option.{option_copied};
 ghost use Rattle.dpj_code.specs.declared.code.Title.TheVariants as title;
-ghost use Rattle.dpj_compile.specs.Titles.{class_name};
+ghost use Rattle.dpj_compile.specs.Titles.{member_title, name_of};
 
 use dpj_base::{Bytes, NoMemory, Plain};
 use dpj_code::Title;
@@ -14,7 +14,7 @@ pub fn member_title(
     owner: Option<&Class>,
     member: &Member,
 ) -> Result<Title, NoMemory>
-    ensures { IfOk result (λ made. made ≡ title.Member (class_name (option_copied owner.entry) ++ 46 ∷ member.now.name)) }
+    ensures { IfOk result (λ made. made ≡ title.Member (member_title (name_of (option_copied owner.entry)) member.now.name)) }
 {
     let mut text = match owner {
         None => Bytes::new(alloc),

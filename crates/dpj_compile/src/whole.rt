@@ -1,9 +1,12 @@
-ghost use Rattle.std.specs.Prelude.{◌≡◌, IfOk, OnOk, map};
+ghost use Rattle.std.specs.List.{All};
+ghost use Rattle.std.specs.Prelude.{◌≡◌, IfOk, OnOk, map, slice_get};
+ghost use Rattle.dpj_typed.specs.Names.{names_of};
 ghost use Rattle.dpj_typed.specs.Plain.{plain_program, plain_member};
 ghost use Rattle.dpj_code.specs.Plain.{plain_code};
 ghost use Rattle.dpj_gen.specs.Whole.{compiled, first, member_numbers, members_output};
 ghost use Rattle.dpj_compile.specs.Emitted.{emitted_of};
 ghost use Rattle.dpj_compile.specs.Bodies.{IsNew, output_of};
+ghost use Rattle.dpj_compile.specs.Titles.{Follow, HasPlaces, member_title, name_of, titles_of};
 
 use crate::bodies::member;
 use crate::classes::{classes, number_of};
@@ -15,7 +18,9 @@ use std::alloc::Global;
 
 /// Compiles a typed program to the code that the scheme of `dpj_gen` says.
 pub fn compile(alloc: Global, program: &Program) -> Result<Code, NoMemory>
-    ensures { IfOk result (λ code. plain_code code ≡ compiled (plain_program program.now)) }
+    ensures code { IfOk result (λ code. plain_code code ≡ compiled (plain_program program.now)) }
+    ensures titles { IfOk result (λ code. map (λ body. body.title) code.bodies ≡ titles_of (plain_program program.now) (names_of program.now)) }
+    ensures placed { IfOk result (λ code. All HasPlaces code.bodies) }
 {
     let mut out = Emitter::new(alloc);
     let mut bodies = Items::new(alloc);
@@ -49,6 +54,7 @@ fn members<'p>(
     requires { IsNew (emitted_of out.old) bodies.old }
     ensures numbers { IfOk result (λ numbers. numbers ≡ member_numbers first (map plain_member all.now)) }
     ensures output { OnOk result (output_of (emitted_of out.new) bodies.new ≡ members_output first (map plain_member all.now)) }
+    ensures titled { OnOk result (Follow bodies.old bodies.new (map (λ m. member_title (name_of (slice_get classes.now m.class.number)) m.name) all.now)) }
 {
     let mut numbers = Items::new(alloc);
     for m in all.as_slice() {

@@ -7,9 +7,9 @@ use Rattle.dpj_elided.specs.Laws.{ComesOutAsElided, IsElided}
 use Rattle.dpj_meaning.specs.Actions.{Ending as EndingOf}
 use Rattle.dpj_meaning.specs.Elision.{elided}
 use Rattle.dpj_meaning.specs.Outcomes.{Came as CameIn}
-use Rattle.dpj_moving.specs.Laws.{IsGathered}
-use Rattle.dpj_runs.specs.Actions.{Ending}
-use Rattle.dpj_runs.specs.Blocks.{Legal}
+use Rattle.dpj_moving.specs.Laws.{IsGathered, IsMoved}
+use Rattle.dpj_runs.specs.Actions.{Ending, Program}
+use Rattle.dpj_runs.specs.Blocks.{Legal, leaving_locals, with_rule}
 use Rattle.dpj_runs.specs.Order.{Outcome}
 use Rattle.dpj_runs.specs.Runs.{Ended, Run, cells_of, steps_of}
 use Rattle.dpj_runs.specs.Schedules.{Finished, Limits}
@@ -34,3 +34,13 @@ NoRunCostsMore = (P : PlainProgram) → WellTyped P → P.uses_nd ≡ false → 
 -- each legal run of any program can be gathered: each atomic block's events together at its entry, all else in its order
 abbrev pub RunsAreGathered : Type 0
 RunsAreGathered = (P : PlainProgram) → WellTyped P → (arg : ℤ) → FitsSigned w32 arg → (R : Run) → Legal (stepped P arg) R → IsGathered (stepped P arg) R
+
+-- the program with blocks that don't wait for each other for effects on local regions alone
+abbrev pub stepped_inside : PlainProgram → ℤ → Program
+stepped_inside P arg = with_rule (leaving_locals (stepped P arg).rule) (stepped P arg)
+
+-- of each legal run of any program whose root has ended all deterministic constructs can be moved at once, inside nd constructs too: each one's
+-- branches directly after its fork, one after another, and all else in its order
+abbrev pub RunsAreMoved : Type 0
+RunsAreMoved = (P : PlainProgram) → WellTyped P → (arg : ℤ) → FitsSigned w32 arg → (R : Run) (x : Ending) → Legal (stepped P arg) R → Ended R [] x
+    → IsMoved (stepped_inside P arg) R

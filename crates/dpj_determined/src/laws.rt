@@ -1,9 +1,9 @@
 //! The laws of whole runs of well-typed programs, each the clause of a function that does nothing but name others.
 
-ghost use Rattle.dpj_determined.specs.Laws.{NoRunCostsMore, RunsAreGathered, RunsComeOutAsElided, SchedulesComeOutAsElided};
+ghost use Rattle.dpj_determined.specs.Laws.{NoRunCostsMore, RunsAreGathered, RunsAreMoved, RunsComeOutAsElided, SchedulesComeOutAsElided};
 
 use dpj_elided::laws::{law_determinism, law_names};
-use dpj_moving::laws::law_gathering;
+use dpj_moving::laws::{law_gathering, law_moving};
 use dpj_sound::laws::law_runs;
 use dpj_steps::laws::law_steps;
 
@@ -26,4 +26,14 @@ pub fn law_reduction()
     law_steps();
     law_names();
     law_gathering();
+}
+
+/// In every legal run of a well-typed program whose root has ended each deterministic construct's branches can stand directly after its
+/// fork, one after another, inside nd constructs too; blocks then don't wait for each other for effects on local regions alone.
+pub fn law_moved()
+    ensures { RunsAreMoved }
+{
+    law_runs();
+    law_steps();
+    law_moving();
 }

@@ -11,3 +11,5 @@ pub mod Growing
 pub mod Strength
 pub mod Passing
 pub mod Covering
+pub mod Telling
+pub mod Alone

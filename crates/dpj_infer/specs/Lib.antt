@@ -5,3 +5,5 @@ pub mod Firm
 pub mod Asked
 pub mod Passes
 pub mod Covered
+pub mod Lines
+pub mod Once

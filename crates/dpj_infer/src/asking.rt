@@ -13,7 +13,7 @@ use crate::kept::Kept;
 use crate::own::Own;
 use crate::scope::Scope;
 use crate::stmts::block;
-use crate::walk::{Keeping, Walk, item_kept};
+use crate::walk::{Keeping, Walk, summary_kept};
 use dpj_base::{Access, Effect, Items, NoMemory, Plain, Rpl};
 use dpj_regions::{includes, subst};
 use dpj_typed::{Class, ClassId, Member, MemberId, Program};
@@ -84,15 +84,9 @@ pub fn kept_of(
 ) -> Result<Items<Effect>, NoMemory>
     ensures { IfOk result (λ all. all ≡ all_kept kept.now (plain_program program.now) number.number) }
 {
-    let mut all = Items::new(alloc);
     let (Some(member), Some(kept)) = (member_at(program, number), kept.get(number.number as usize))
     else {
-        return Ok(all);
+        return Ok(Items::new(alloc));
     };
-    for (item, kept) in member.summary.as_slice().iter().zip(kept.as_slice()) {
-        if let Some(effect) = item_kept(alloc, *kept, item)? {
-            all.push(effect)?;
-        }
-    }
-    Ok(all)
+    summary_kept(alloc, kept, &member.summary)
 }

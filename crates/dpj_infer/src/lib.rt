@@ -8,8 +8,10 @@
 //! So what lies in the written summaries lies in what is kept of them (`specs/Covered.antt`).
 //!
 //! The summaries are found by asking members until none rises, each again only where one has risen that its body calls or that
-//! overrides it (`settling`); passes over all members see that no more is asked for (`inferring`). The lines that `lines` writes
-//! aren't pinned.
+//! overrides it (`settling`); passes over all members see that no more is asked for (`inferring`).
+//!
+//! `lines` writes exactly the lines that `specs/Lines.antt` says of the summaries that are left, and a program has one such summary
+//! for each member (`laws::law_one_inferred`).
 #![tactic(auto)]
 
 mod asking;
@@ -18,6 +20,7 @@ mod classes;
 mod exprs;
 mod inferring;
 mod kept;
+pub mod laws;
 mod leaving;
 mod own;
 mod scope;

@@ -1,12 +1,21 @@
-use crate::classes::class_at;
+ghost use Rattle.std.specs.Prelude.{◌≡◌, ◌++◌, codes, map, slice_index_or, IfOk, OnOk};
+ghost use Rattle.std.specs.Fmt.{signed_decimal};
+ghost use Rattle.dpj_typed.specs.Names.{named_member, names_of};
+ghost use Rattle.dpj_typed.specs.Plain.{plain_program, plain_member};
+ghost use Rattle.dpj_infer.specs.Kept.{program_kept, summary_kept};
+ghost use Rattle.dpj_infer.specs.Lines.{class_name, class_params, elem_text, head_text, item_text, items_of, line_of, lines_of, listed, mark_text, params_of, path_text, region_text, summary_text};
+
 use crate::kept::Kept;
-use crate::walk::{Keeping, item_kept};
+use crate::walk::{Keeping, summary_kept};
 use dpj_base::{Access, Bytes, Effect, Elem, Head, Index, Items, NoMemory, Plain, Rpl};
-use dpj_typed::{Member, Program};
+use dpj_effects::EffectSet;
+use dpj_typed::{Member, Program, RegionParam};
 use std::alloc::Global;
 
 /// A line for each method and constructor, in the order of the text: its class and name, and what is kept of its summary.
-pub fn lines(alloc: Global, program: &Program, kept: &Keeping) -> Result<Bytes, NoMemory> {
+pub fn lines(alloc: Global, program: &Program, kept: &Keeping) -> Result<Bytes, NoMemory>
+    ensures { IfOk result (λ text. text ≡ lines_of (program_kept kept.now (plain_program program.now)) (names_of program.now)) }
+{
     let mut out = Bytes::new(alloc);
     for (member, kept) in program.members.as_slice().iter().zip(kept.as_slice()) {
         line(alloc, program, member, kept, &mut out)?;
@@ -20,62 +29,86 @@ fn line(
     member: &Member,
     kept: &Items<Kept>,
     out: &mut Bytes,
-) -> Result<(), NoMemory> {
-    if let Some(class) = class_at(program, member.class.number) {
-        out.extend(class.name.as_slice())?;
-    }
+) -> Result<(), NoMemory>
+    ensures { let left = record (plain_member member.now) { summary = summary_kept kept.now member.now.summary } in OnOk result (out.new ≡ out.old ++ line_of (names_of program.now) left (named_member member.now)) }
+{
+    out.extend(class_name(program, member.class.number))?;
     out.extend(b".")?;
     out.extend(member.name.as_slice())?;
-    let reads = items_of(alloc, Access::Read, member, kept)?;
-    let writes = items_of(alloc, Access::Write, member, kept)?;
-    if reads.is_empty() && writes.is_empty() {
-        out.extend(b" pure")?;
-    }
-    list(alloc, program, member, b" reads ", &reads, out)?;
-    list(alloc, program, member, b" writes ", &writes, out)?;
+    let items = summary_kept(alloc, kept, &member.summary)?;
+    summary(alloc, program, member, &items, out)?;
     out.extend(b"\n")
 }
 
-/// The kept items of one access, in their written order, each once.
-fn items_of(
+/// What a member of this name reads and writes.
+fn summary(
     alloc: Global,
-    access: Access,
+    program: &Program,
     member: &Member,
-    kept: &Items<Kept>,
-) -> Result<Items<Effect>, NoMemory> {
-    let mut all = Items::new(alloc);
-    for (item, kept) in member.summary.as_slice().iter().zip(kept.as_slice()) {
-        match item_kept(alloc, *kept, item)? {
-            Some(effect) if effect.access == access && !has(&all, &effect) => all.push(effect)?,
-            _ => {}
+    items: &Items<Effect>,
+    out: &mut Bytes,
+) -> Result<(), NoMemory>
+    ensures { let names = names_of program.now in OnOk result (out.new ≡ out.old ++ summary_text names (params_of names member.now.class.number (named_member member.now)) items.now) }
+{
+    if items.is_empty() {
+        return out.extend(b" pure");
+    }
+    let reads = items_of(alloc, Access::Read, items)?;
+    let writes = items_of(alloc, Access::Write, items)?;
+    list(alloc, program, member, b" reads ", &reads, out)?;
+    list(alloc, program, member, b" writes ", &writes, out)
+}
+
+/// The items of one access, in their order, each once.
+fn items_of(alloc: Global, access: Access, items: &Items<Effect>) -> Result<EffectSet, NoMemory>
+    ensures { IfOk result (λ all. all ≡ items_of access items.now) }
+{
+    let mut all = EffectSet::new(alloc);
+    for item in items.as_slice() {
+        if item.access == access {
+            all.add(item.copy(alloc)?)?;
         }
     }
     Ok(all)
 }
 
-fn has(all: &Items<Effect>, effect: &Effect) -> bool {
-    all.as_slice().iter().any(|other| other.same(effect))
-}
-
-/// The items of one access behind its word, where there are any.
+/// Items behind their word, where there are any.
 fn list(
     alloc: Global,
     program: &Program,
     member: &Member,
     word: &[u8],
-    items: &Items<Effect>,
+    items: &EffectSet,
     out: &mut Bytes,
-) -> Result<(), NoMemory> {
+) -> Result<(), NoMemory>
+    ensures { let names = names_of program.now in OnOk result (out.new ≡ out.old ++ listed word.now (map (item_text names (params_of names member.now.class.number (named_member member.now))) items.now)) }
+{
     let mut between = word;
     for item in items.as_slice() {
         out.extend(between)?;
-        if item.atomic {
-            out.extend(b"atomic ")?;
-        }
-        path(alloc, program, member, &item.rpl, out)?;
+        tell_item(alloc, program, member, item, out)?;
         between = b", ";
     }
     Ok(())
+}
+
+fn tell_item(
+    alloc: Global,
+    program: &Program,
+    member: &Member,
+    item: &Effect,
+    out: &mut Bytes,
+) -> Result<(), NoMemory>
+    ensures { let names = names_of program.now in OnOk result (out.new ≡ out.old ++ item_text names (params_of names member.now.class.number (named_member member.now)) item.now) }
+{
+    out.extend(mark(item.atomic))?;
+    path(alloc, program, member, &item.rpl, out)
+}
+
+fn mark(atomic: bool) -> &'static [u8]
+    ensures { result.now ≡ mark_text atomic }
+{
+    if atomic { b"atomic " } else { b"" }
 }
 
 fn path(
@@ -84,11 +117,10 @@ fn path(
     member: &Member,
     rpl: &Rpl,
     out: &mut Bytes,
-) -> Result<(), NoMemory> {
-    match rpl.head {
-        Head::Root => out.extend(b"Root")?,
-        Head::Param(number) => out.extend(param_name(program, member, number as usize))?,
-    }
+) -> Result<(), NoMemory>
+    ensures { let names = names_of program.now in OnOk result (out.new ≡ out.old ++ path_text names (params_of names member.now.class.number (named_member member.now)) rpl.now) }
+{
+    out.extend(head(program, member, rpl.head))?;
     for elem in rpl.elems.as_slice() {
         out.extend(b":")?;
         element(alloc, program, *elem, out)?;
@@ -96,23 +128,50 @@ fn path(
     Ok(())
 }
 
-/// The name of a region parameter: those of the class come first, and then the method's own.
-fn param_name<'a>(program: &'a Program, member: &'a Member, number: usize) -> &'a [u8] {
-    let of_class = match class_at(program, member.class.number) {
-        Some(class) => class.params.as_slice(),
-        None => &[],
-    };
-    let param = match of_class.get(number) {
-        Some(param) => Some(param),
-        None => member.params.get(number.saturating_sub(of_class.len())),
-    };
-    match param {
-        Some(param) => param.text.as_slice(),
-        None => b"?",
+fn head<'a>(program: &'a Program, member: &'a Member, head: Head) -> &'a [u8]
+    ensures { let names = names_of program.now in result.now ≡ head_text (params_of names member.now.class.number (named_member member.now)) head }
+{
+    match head {
+        Head::Root => b"Root",
+        Head::Param(number) => param_name(program, member, number as usize),
     }
 }
 
-fn element(alloc: Global, program: &Program, elem: Elem, out: &mut Bytes) -> Result<(), NoMemory> {
+/// The name of a region parameter: those of the class come first, and then the method's own.
+fn param_name<'a>(program: &'a Program, member: &'a Member, number: usize) -> &'a [u8]
+    ensures { let names = names_of program.now in result.now ≡ slice_index_or (params_of names member.now.class.number (named_member member.now)) number (codes "?") }
+{
+    let of_class = class_params(program, member.class.number);
+    match of_class.get(number) {
+        Some(param) => param.text.as_slice(),
+        None => match member.params.get(number - of_class.len()) {
+            Some(param) => param.text.as_slice(),
+            None => b"?",
+        },
+    }
+}
+
+fn class_params(program: &Program, class: u32) -> &[RegionParam]
+    ensures { map (λ param. param.text) result.now ≡ class_params (names_of program.now) class }
+{
+    match program.classes.get(class as usize) {
+        Some(class) => class.params.as_slice(),
+        None => &[],
+    }
+}
+
+fn class_name(program: &Program, class: u32) -> &[u8]
+    ensures { result.now ≡ class_name (names_of program.now) class }
+{
+    match program.classes.get(class as usize) {
+        Some(class) => class.name.as_slice(),
+        None => b"",
+    }
+}
+
+fn element(alloc: Global, program: &Program, elem: Elem, out: &mut Bytes) -> Result<(), NoMemory>
+    ensures { OnOk result (out.new ≡ out.old ++ elem_text (names_of program.now) elem) }
+{
     match elem {
         Elem::Name(number) => name(program, number, out),
         Elem::At(Index::Literal(value)) => index(alloc, value, out),
@@ -122,19 +181,20 @@ fn element(alloc: Global, program: &Program, elem: Elem, out: &mut Bytes) -> Res
 }
 
 /// A region name, with the class that declares it.
-fn name(program: &Program, number: u32, out: &mut Bytes) -> Result<(), NoMemory> {
+fn name(program: &Program, number: u32, out: &mut Bytes) -> Result<(), NoMemory>
+    ensures { OnOk result (out.new ≡ out.old ++ region_text (names_of program.now) number) }
+{
     let Some(region) = program.region_names.get(number as usize) else {
         return Ok(());
     };
-    if let Some(class) = class_at(program, region.class.number) {
-        out.extend(class.name.as_slice())?;
-    }
+    out.extend(class_name(program, region.class.number))?;
     out.extend(b".")?;
     out.extend(region.text.as_slice())
 }
 
 /// An index that is a number.
-fn index(alloc: Global, value: i32, out: &mut Bytes) -> Result<(), NoMemory> {
-    out.extend(format!(in alloc; "[{value}]")?.as_bytes())?;
-    Ok(())
+fn index(alloc: Global, value: i32, out: &mut Bytes) -> Result<(), NoMemory>
+    ensures { OnOk result (out.new ≡ out.old ++ (codes "[" ++ signed_decimal value ++ codes "]")) }
+{
+    out.extend(format!(in alloc; "[{value}]")?.as_bytes())
 }

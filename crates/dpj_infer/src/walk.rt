@@ -42,6 +42,23 @@ pub fn item_kept(alloc: Global, kept: Kept, item: &Effect) -> Result<Option<Effe
     }))
 }
 
+/// The summary that is left of these items.
+pub fn summary_kept(
+    alloc: Global,
+    kept: &Items<Kept>,
+    items: &Items<Effect>,
+) -> Result<Items<Effect>, NoMemory>
+    ensures { IfOk result (λ all. all ≡ summary_kept kept.now items.now) }
+{
+    let mut all = Items::new(alloc);
+    for (item, kept) in items.as_slice().iter().zip(kept.as_slice()) {
+        if let Some(effect) = item_kept(alloc, *kept, item)? {
+            all.push(effect)?;
+        }
+    }
+    Ok(all)
+}
+
 /// Adds what a call of the member in a row does, by what is kept of its summary.
 #[tactic(auto, using(crate::proofs::Reading::joined))]
 pub fn add_call(

@@ -1,9 +1,8 @@
 -- Subtyping is decided.
-use Rattle.std.proofs.Common.{◌≡◌, ◌↔◌, ◌<◌, ℕ, Bool, true, false, IsTrue, List, [], ◌∷◌, length, refl}
-use Rattle.dpj_base.specs.declared.region.Rpl.{Rpl}
+use Rattle.std.proofs.Common.{◌<◌, List, length}
 use Rattle.dpj_base.specs.declared.ty.Super.{Super}
 use Rattle.dpj_base.specs.Regions.{within}
-use Rattle.dpj_base.specs.Types.{PlainType, below_class, SameType, ArrayWithin, Subtype, Ordered}
+use Rattle.dpj_base.specs.Types.{PlainType, below_class, SameType, Subtype, Ordered}
 use Rattle.dpj_base.specs.Types.PlainType.{int, boolean, void, null, class, array}
 use Rattle.dpj_types.specs.Same.{same_type}
 use Rattle.dpj_types.proofs.Equal.{same_type-is, same_type-from}

@@ -1,5 +1,5 @@
 -- Where an nd construct was reached before an expression, one is reached after it.
-use Rattle.std.proofs.Common.{◌≡◌, ◌||◌, ◌&&◌, ℕ, Bool, true, false, cond, IsTrue, List, Option, Some, None, Result, Ok, Err, refl, subst}
+use Rattle.std.proofs.Common.{◌≡◌, ◌&&◌, ℕ, Bool, true, false, cond, IsTrue, List, Option, Some, None, Result, Ok, Err, subst}
 use Rattle.std.proofs.lemmas.Bool.{or_left}
 use Rattle.dpj_base.specs.declared.place.Place.{Place}
 use Rattle.dpj_base.specs.declared.refusal.Refusal.{Refusal}
@@ -18,7 +18,6 @@ use Rattle.dpj_tree.specs.Plain.{PlainExpr, PlainExprs}
 use Rattle.dpj_typed.specs.Plain.{TypedExpr, type_of}
 use Rattle.dpj_typed.specs.Plain.{ExprForm as form}
 use Rattle.dpj_exprs.specs.declared.env.Env.{Env}
-use Rattle.dpj_exprs.specs.declared.env.LocalRow.{LocalRow}
 use Rattle.dpj_exprs.specs.declared.found.Found.{Found}
 use Rattle.dpj_exprs.specs.Answer.{Answer, gives, refused, read}
 use Rattle.dpj_exprs.specs.Elements.{index_of, element_through, element_read, read_element, part_element, part_read, read_part}
@@ -50,10 +49,6 @@ IfAims (misses q) P = Unit {0}
 behind : (f g : Found) (a : Answer) → Grows f g → IfGives a (Grows g) → IfGives a (Grows f)
 behind f g (gives t h) before after = λ n. after (before n)
 behind f g (refused q) before after = tt
-
-all_behind : (f g : Found) (a : AllAnswer) → Grows f g → IfAllGive a (Grows g) → IfAllGive a (Grows f)
-all_behind f g (all_give types h) before after = λ n. after (before n)
-all_behind f g (one_refused q) before after = tt
 
 aim_behind : (f g : Found) (a : TargetAnswer) → Grows f g → IfAims a (Grows g) → IfAims a (Grows f)
 aim_behind f g (aims aim h) before after = λ n. after (before n)

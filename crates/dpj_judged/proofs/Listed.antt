@@ -95,7 +95,10 @@ pub record IsListed (test : ℕ → Bool) (xs : List ℕ) : Type 0 where
   pub once : IsStrictlySortedBy nat_cmp xs
 
 pub listed : (test : ℕ → Bool) → Bounded test → (xs : List ℕ) × IsListed test xs
-listed test b = (passing test 0 b.0, record {
-  all = λ x. (λ t. passing_has test 0 b.0 x (omega arith) (let lt = b.1 x t in omega (arith, lt)) t, λ c. (passing_only test 0 b.0 x c).1);
-  once = passing_sorted test 0 b.0;
-})
+listed test b = (
+  passing test 0 b.0,
+  record {
+    all = λ x. (λ t. passing_has test 0 b.0 x (omega arith) (let lt = b.1 x t in omega (arith, lt)) t, λ c. (passing_only test 0 b.0 x c).1);
+    once = passing_sorted test 0 b.0;
+  },
+)

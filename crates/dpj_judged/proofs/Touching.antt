@@ -1,5 +1,5 @@
 -- Which outer locals a statement reads and assigns, as lists; and whether branches clash over them.
-use Rattle.std.proofs.Common.{◌≡◌, ◌↔◌, ℕ, ◌<◌, Bool, true, false, not, IsTrue, List, [], ◌∷◌, Contains, Option, Some, None, ◌&&◌, ◌||◌, ◌==◌, refl}
+use Rattle.std.proofs.Common.{ℕ, not, List, [], ◌∷◌, Option, Some, None, ◌==◌}
 use Rattle.std.specs.List.{list_any}
 use Rattle.dpj_base.specs.Pairs.{NoPair}
 use Rattle.dpj_tree.specs.declared.region.BaseTree.{BaseTree}
@@ -9,12 +9,11 @@ use Rattle.dpj_tree.specs.declared.region.ElemTree.TheVariants as elem
 use Rattle.dpj_tree.specs.declared.region.Named.{Named}
 use Rattle.dpj_tree.specs.declared.region.RplTree.{RplTree}
 use Rattle.dpj_tree.specs.declared.region.Suffix.{Suffix}
-use Rattle.dpj_tree.specs.declared.region.TypeTree.{TypeTree}
 use Rattle.dpj_tree.specs.Plain.{PlainExpr, expression, ExprForm, int, boolean, null, this, local, field, element, call, create, create_array, unary, binary, PlainExprs, no_exprs, more_exprs, PlainStmt, statement, StmtForm, PlainStmts, no_stmts, more_stmts}
 use Rattle.dpj_tree.specs.Plain.{StmtForm as form}
 use Rattle.dpj_locals.specs.declared.branch.Touched.{Touched}
 use Rattle.dpj_locals.specs.Clash.{Uses, Disturbs, Clash}
-use Rattle.dpj_locals.specs.Touches.{elem_reads, path_reads, optional_path_reads, is_outer, suffixes_read, base_reads, written_reads, made_reads, type_reads, expr_reads, form_reads, exprs_read, declares, stmt_reads, stmt_form_reads, stmts_read, branches_read, stmt_assigns, stmt_form_assigns, stmts_assign, branches_assign}
+use Rattle.dpj_locals.specs.Touches.{elem_reads, path_reads, optional_path_reads, is_outer, suffixes_read, base_reads, written_reads, made_reads, expr_reads, form_reads, exprs_read, declares, stmt_reads, stmt_form_reads, stmts_read, branches_read, stmt_assigns, stmt_form_assigns, stmts_assign, branches_assign}
 use Rattle.dpj_judged.proofs.Decided.{Decided, either, refuted, all_pairs, some_of, member_decided}
 use Rattle.dpj_judged.proofs.Listed.{Bounded, never, one_name, one_of, second_of, some_one, IsListed, listed}
 

@@ -1,5 +1,5 @@
 -- A call and the creation of an object have an answer, whatever their parts gave.
-use Rattle.std.proofs.Common.{◌≡◌, ◌↔◌, ℕ, ◌++◌, Bool, true, false, IsTrue, List, [], ◌∷◌, map, Option, Some, None, Result, Ok, Err, refl}
+use Rattle.std.proofs.Common.{◌≡◌, ℕ, ◌++◌, Bool, true, false, List, [], ◌∷◌, map, Option, Some, None, Result, Ok, Err, refl}
 use Rattle.std.specs.List.{list_all}
 use Rattle.dpj_base.specs.declared.place.Place.{Place}
 use Rattle.dpj_base.specs.declared.refusal.Kind.TheVariants as kind
@@ -8,7 +8,6 @@ use Rattle.dpj_base.specs.declared.region.Rpl.{Rpl}
 use Rattle.dpj_base.specs.declared.ty.Super.{Super}
 use Rattle.dpj_base.specs.declared.ty.Ty.{Ty}
 use Rattle.dpj_base.specs.Types.{PlainType, plain_type, type_with}
-use Rattle.dpj_base.specs.Types.{PlainType as ty}
 use Rattle.dpj_headers.specs.declared.faults.Faults.{Faults}
 use Rattle.dpj_headers.specs.Faults.{told, all_noted}
 use Rattle.dpj_headers.specs.Headers.{class_of}

@@ -1,5 +1,5 @@
 -- The text of compiled code.
-use Rattle.std.specs.Prelude.{ℕ, suc, ◌-◌, true, false, List, [], ◌∷◌, ◌++◌, length, replicate, codes}
+use Rattle.std.specs.Prelude.{ℕ, suc, ◌-◌, true, false, List, [], ◌∷◌, ◌++◌, map, length, replicate, codes}
 use Rattle.std.specs.Fmt.{decimal, signed_decimal}
 use Rattle.std.specs.List.{flat_map}
 use Rattle.dpj_code.specs.declared.code.Body.{Body}
@@ -8,6 +8,7 @@ use Rattle.dpj_code.specs.declared.code.Title.{Title}
 use Rattle.dpj_code.specs.declared.code.Title.TheVariants as title
 use Rattle.dpj_code.specs.declared.instr.Instr.{Instr}
 use Rattle.dpj_code.specs.declared.instr.Instr.TheVariants as i
+use Rattle.dpj_code.specs.Plain.{PlainBody, PlainCode}
 
 abbrev pub instr_name : Instr → List ℕ
 instr_name (i.Int n) = codes "int"
@@ -109,3 +110,13 @@ body_text body = title_line body.title ++ instr_lines 0 body.instrs
 -- all bodies, in their order
 abbrev pub listing_of : Code → List ℕ
 listing_of code = flat_map body_text code.bodies
+
+-- bodies, of which these are the titles
+abbrev pub titled_text : List Title → List PlainBody → List ℕ
+titled_text [] bodies = []
+titled_text (title ∷ titles) [] = []
+titled_text (title ∷ titles) (body ∷ bodies) = title_line title ++ instr_lines 0 (map (λ line. line.instr) body.lines) ++ titled_text titles bodies
+
+-- the listing of plain code, of whose bodies these are the titles
+abbrev pub plain_listing : List Title → PlainCode → List ℕ
+plain_listing titles code = titled_text titles code.bodies

@@ -5,11 +5,13 @@
 //! by their numbers.
 //!
 //! What it promises: `listing` gives exactly the bytes of that text, as `specs/Listing.antt` says it, or runs out of memory.
+//! The text depends on the code's plain form and the titles of its bodies alone (`laws::law_plain`).
 //! Its time and memory grow with the code alone.
 #![tactic(auto)]
 
 mod bodies;
 mod instr;
+pub mod laws;
 mod line;
 #[cfg(test)]
 mod trials;

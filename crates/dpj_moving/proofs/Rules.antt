@@ -4,15 +4,15 @@ use Rattle.dpj_runs.specs.Actions.{Action, Answer, Begin, Do, End, Enter, Exit, 
 use Rattle.dpj_runs.specs.Blocks.{with_rule}
 use Rattle.dpj_runs.specs.Meaning.{Disciplined}
 use Rattle.dpj_runs.specs.Objects.{Path}
-use Rattle.dpj_runs.specs.Runs.{Begun, Event, Follows, Right, Run, branch, reply, root}
+use Rattle.dpj_runs.specs.Runs.{Begun, Event, Faithful, Follows, Right, Run, branch, reply, root}
 use Rattle.dpj_runs.specs.Standing.{Admitted, Valid}
 use Rattle.dpj_moving.specs.Laws.{Weaker}
 
-begun_rule : (P : Program) (rule : Rule) {R : Run} {p : Path} {t : Task} → Begun P R p t → Begun (with_rule rule P) R p t
+pub begun_rule : (P : Program) (rule : Rule) {R : Run} {p : Path} {t : Task} → Begun P R p t → Begun (with_rule rule P) R p t
 begun_rule P rule (root a b) = root a b
 begun_rule P rule (branch q u F f ts B g a b c d e s h i j m) = branch q u F f ts B g a b c d e s h i j m
 
-reply_rule : (P : Program) (rule : Rule) (R : Run) (p : Path) (o : Own) → reply (with_rule rule P) R p o ≡ reply P R p o
+pub reply_rule : (P : Program) (rule : Rule) (R : Run) (p : Path) (o : Own) → reply (with_rule rule P) R p o ≡ reply P R p o
 reply_rule P rule R p Rest = refl
 reply_rule P rule R p (Read n i) = refl
 reply_rule P rule R p (Write n i v) = refl
@@ -36,6 +36,11 @@ follows_rule P rule R e f = record {
   asks = f.asks;
   right = right_rule P rule R e.path e.act e.ans f.right;
 }
+
+-- blocks aside, runs are the same by each rule
+pub faithful_rule : (P : Program) (rule : Rule) (R : Run) → Faithful P R → Faithful (with_rule rule P) R
+faithful_rule P rule [] l = tt
+faithful_rule P rule (e ∷ R) l = (follows_rule P rule R e l.0, faithful_rule P rule R l.1)
 
 pub valid_rule : (P : Program) (weak : Rule) → Weaker weak P.rule → (R : Run) → Valid P R → Valid (with_rule weak P) R
 valid_rule P weak w [] l = tt

@@ -3,3 +3,4 @@ pub mod Greedy
 pub mod Reducing
 pub mod Few
 pub mod Going
+pub mod Inside

@@ -1,9 +1,11 @@
 //! The laws of a machine's runs, each the clause of a function that does nothing but name others.
 
+ghost use Rattle.dpj_determined.specs.Laws.{RunsAreMoved};
+ghost use Rattle.dpj_promise.specs.Inside.{MachinesElideInside};
 ghost use Rattle.dpj_promise.specs.Promise.{GreedyMachinesElide, MachinesAreNotStuck, MachinesComeOutAsElided, MachinesGoOn};
 ghost use Rattle.dpj_promise.specs.Reduced.{MachinesAreReduced};
 
-use dpj_determined::laws::{law_reduction, law_well_typed};
+use dpj_determined::laws::{law_moved, law_reduction, law_well_typed};
 use dpj_elided::laws::{law_greatest, law_names};
 use dpj_going::laws::law_going;
 use dpj_recorded::laws::{law_lively, law_recorded};
@@ -38,6 +40,17 @@ pub fn law_reduced()
     law_recorded();
     law_runs();
     law_reduction();
+}
+
+/// A run of a well-typed program, nd constructs or not, whose root has ended can be moved so that each deterministic construct's branches
+/// stand directly after its fork, one after another; so can the run that a machine's schedule records, with the same outcome. Blocks then
+/// don't wait for each other for effects on local regions alone.
+pub fn law_inside()
+    ensures runs { RunsAreMoved }
+    ensures machines { MachinesElideInside }
+{
+    law_recorded();
+    law_moved();
 }
 
 /// A machine on the code of a well-typed program is never stuck: until its run has come out it has a ready task, whose next event can

@@ -350,6 +350,7 @@ module _ (P : PlainProgram) (Q : Program) {N : ℕ} {R : Run} {e : Event} (l : F
   own_step d en st grown held Rest act m leaves then r = same_step d en st grown held Rest act m then refl (let k : Some Went ≡ Some e.ans = r in cc) tt (no_write Rest act (λ x j v q. cc))
   own_step d en st grown held (Print bytes) act m leaves then r =
       same_step d en st grown held (Print bytes) act m then refl (let k : Some Went ≡ Some e.ans = r in cc) tt (no_write (Print bytes) act (λ x j v q. cc))
-  own_step d en st grown held (Enter E) act m leaves then r = same_step d en st grown held (Enter E) act m then refl (let k : Some Went ≡ Some e.ans = r in cc) tt (no_write (Enter E) act (λ x j v q. cc))
+  own_step d en st grown held (Enter E) act m leaves then r = same_step d en st grown held (Enter E) act m then refl (let k : Some Went ≡ Some e.ans = r in cc)
+      (record { state = st; may = m; grown = grown; held = held }) (no_write (Enter E) act (λ x j v q. cc))
   own_step d en st grown held Exit act m leaves then r =
       same_step d en st grown held Exit act m then refl (let k : Some Went ≡ Some e.ans = r in cc) (λ out. leaves_open st.entries leaves (sym held ∙ out)) (no_write Exit act (λ x j v q. cc))

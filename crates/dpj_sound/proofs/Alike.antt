@@ -22,6 +22,8 @@ use Rattle.dpj_sound.specs.Settings.{Setting, region_in, env_of, local_code, beh
 use Rattle.dpj_sound.specs.Shapes.{Shapes, SameIn, FitsIn}
 use Rattle.dpj_sound.specs.Frames.{LocalFits}
 use Rattle.dpj_sound.specs.Scopes.{InScope, PathInScope, TypeInScope, LocalInScope}
+use Rattle.dpj_sound.specs.Accesses.{Includes}
+use Rattle.dpj_sound.proofs.Including.{includes_same}
 use Rattle.dpj_sound.proofs.Closed.{put_agree}
 use Rattle.dpj_sound.proofs.Types.{match_same, fits_same}
 
@@ -65,6 +67,10 @@ alike_on L depth env other g a s = record { head = head_alike env other g.region
 pub alike_matches : (L : Scope) (depth : ℕ) (env other : Env) → EnvAlike L depth env other → (a : Rpl) → PathInScope L depth a → (r : List Elem) →
     Matches env a r → Matches other a r
 alike_matches L depth env other g a s r m = (matches_by_what_occurs env other a (alike_on L depth env other g a s) r).0 m
+
+pub alike_includes : (L : Scope) (depth : ℕ) (env other : Env) → EnvAlike L depth env other → (a : Rpl) → PathInScope L depth a → (r : List Elem) →
+    Includes env a r → Includes other a r
+alike_includes L depth env other g a s r m = includes_same env other a a r (put_agree env other a (alike_on L depth env other g a s)) m
 
 pub alike_holds : (L : Scope) (env other : Env) → EnvAlike L 0 env other → (c : Constraint) → PathInScope L 0 c.left → PathInScope L 0 c.right →
     Holds env c → Holds other c

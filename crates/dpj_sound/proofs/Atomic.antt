@@ -1,5 +1,5 @@
 -- What atomic paths match ends by an atomic name, and so do the regions that atomic parameters stand for.
-use Rattle.std.proofs.Common.{◌≡◌, ◌<◌, ◌≤◌, ⊎_elim, ◌⊎◌, inl, inr, ℕ, zero, suc, ◌+◌, ◌-◌, Bool, true, false, ◌&&◌, ◌||◌, List, [], ◌∷◌, ◌++◌, length, refl, sym, ap, ◌∙◌, subst, arith, Some, slice_get, slice_index_or}
+use Rattle.std.proofs.Common.{◌≡◌, ◌<◌, ◌≤◌, ⊎_elim, ◌⊎◌, inl, inr, ℕ, zero, suc, ◌+◌, ◌-◌, Bool, true, false, ◌&&◌, ◌||◌, List, [], ◌∷◌, ◌++◌, map, length, refl, sym, ap, ◌∙◌, subst, arith, Some, slice_get, slice_index_or}
 use Rattle.std.proofs.lemmas.List.{get_or_append_left, get_or-append-add}
 use Rattle.std.proofs.lemmas.Bool.{and_parts, and_from, or_left, or_right, false≢true, cases_lt}
 use Rattle.std.proofs.lemmas.Option.{slice_get-get_or}
@@ -9,9 +9,12 @@ use Rattle.dpj_base.specs.declared.region.Head.{Head}
 use Rattle.dpj_base.specs.declared.region.Head.TheVariants.{Root, Param}
 use Rattle.dpj_base.specs.declared.region.Rpl.{Rpl}
 use Rattle.dpj_base.specs.Branches.{Atomic, is_atomic_name, all_index, ends_atomic, atomic_head, atomic_path}
-use Rattle.dpj_base.specs.Matching.{Env, Fits, FitsAll, Matches, head_region}
-use Rattle.dpj_base.specs.Regions.{argument}
+use Rattle.dpj_base.specs.Matching.{Env, put_elem, Fits, FitsAll, Matches, head_region}
+use Rattle.dpj_base.specs.Regions.{is_index, elem_within, argument}
 use Rattle.dpj_runs.specs.Objects.{Region}
+use Rattle.dpj_regions.proofs.Inclusion.{Covers, one, stop, skip, none, elem_within-cases}
+use Rattle.dpj_sound.specs.Accesses.{Includes}
+use Rattle.dpj_sound.proofs.Including.{covers_of}
 use Rattle.dpj_sound.specs.Settings.{elems_of, region_in, EndAtomic}
 use Rattle.dpj_sound.specs.Shapes.{AllMatch}
 
@@ -87,6 +90,60 @@ matches_ends atomic env i a r h m = subst (λ z. ends_atomic atomic.names z ≡ 
     (λ e. ends_behind atomic.names (head_region env a.head) m.0 (fits_ends atomic.names env a.elems m.0 e m.2))
     (λ e. (let p = and_parts (all_index a.elems) _ e in
     ends_before atomic.names (head_region env a.head) m.0 (head_ends atomic env i a.head p.1) (fits_index env a.elems m.0 p.0 m.2)))
+    (or_cases (ends_atomic atomic.names a.elems) (all_index a.elems && atomic_head atomic.params a.head) h))
+
+-- what lies in a path that ends so ends so
+
+index_covers : {b a : List Elem} → Covers b a → all_index b ≡ true → all_index a ≡ true
+index_covers none h = refl
+index_covers (one {y = y} {x = x} {b = b} w s c) h =
+    let p = and_parts (is_index y) (all_index b) h in
+    and_from _ _ (⊎_elim (λ e. ap is_index e ∙ p.0) (λ q. q.1) (elem_within-cases x y w)) (index_covers c p.1)
+index_covers (stop c) h = absurd (false≢true h)
+index_covers (skip l c) h = absurd (false≢true h)
+
+name_covers : (names : List Bool) (x y : Elem) → elem_within x y ≡ true → is_atomic_name names y ≡ true → is_atomic_name names x ≡ true
+name_covers names x y w h = ⊎_elim (λ e. ap (is_atomic_name names) e ∙ h)
+    (λ q. absurd (false≢true (sym (ap (is_atomic_name names) q.0) ∙ h))) (elem_within-cases x y w)
+
+ends_covers : (names : List Bool) {b a : List Elem} → Covers b a → ends_atomic names b ≡ true → ends_atomic names a ≡ true
+ends_covers names none h = absurd (false≢true h)
+ends_covers names (one {y = y} {x = x} {b = b} {a = a} w s c) h = ⊎_elim
+    (λ e. (let p = and_parts (is_atomic_name names y) (all_index b) e in
+    or_left _ (ends_atomic names a) (and_from _ _ (name_covers names x y w p.0) (index_covers c p.1))))
+    (λ e. or_right (is_atomic_name names x && all_index a) _ (ends_covers names c e)) (or_cases (is_atomic_name names y && all_index b) (ends_atomic names b) h)
+ends_covers names (stop c) h = ends_covers names c h
+ends_covers names (skip {x = x} {a = a} l c) h = or_right (is_atomic_name names x && all_index a) _ (ends_covers names c h)
+
+index_put : (env : Env) (a : List Elem) → all_index a ≡ true → all_index (map (put_elem env) a) ≡ true
+index_put env [] h = refl
+index_put env (At i ∷ a) h = index_put env a h
+index_put env (Any ∷ a) h = index_put env a h
+index_put env (Name n ∷ a) h = absurd (false≢true h)
+index_put env (Star ∷ a) h = absurd (false≢true h)
+index_put env (Local r n ∷ a) h = absurd (false≢true h)
+
+name_put : (names : List Bool) (env : Env) (x : Elem) → is_atomic_name names x ≡ true → is_atomic_name names (put_elem env x) ≡ true
+name_put names env (Name n) h = h
+name_put names env (At i) h = absurd (false≢true h)
+name_put names env Any h = absurd (false≢true h)
+name_put names env Star h = absurd (false≢true h)
+name_put names env (Local r n) h = absurd (false≢true h)
+
+ends_put : (names : List Bool) (env : Env) (a : List Elem) → ends_atomic names a ≡ true → ends_atomic names (map (put_elem env) a) ≡ true
+ends_put names env [] h = absurd (false≢true h)
+ends_put names env (x ∷ a) h = ⊎_elim
+    (λ e. (let p = and_parts (is_atomic_name names x) (all_index a) e in or_left _ _ (and_from _ _ (name_put names env x p.0) (index_put env a p.1))))
+    (λ e. or_right (is_atomic_name names (put_elem env x) && all_index (map (put_elem env) a)) _ (ends_put names env a e))
+    (or_cases (is_atomic_name names x && all_index a) (ends_atomic names a) h)
+
+pub includes_ends : (atomic : Atomic) (env : Env) → EnvAtomic atomic env → (a : Rpl) (r : List Elem) → atomic_path atomic a ≡ true → Includes env a r →
+    ends_atomic atomic.names r ≡ true
+unfolding atomic_path
+includes_ends atomic env i a r h m = ends_covers atomic.names (covers_of env a r m) (⊎_elim
+    (λ e. ends_behind atomic.names (head_region env a.head) (map (put_elem env) a.elems) (ends_put atomic.names env a.elems e))
+    (λ e. (let p = and_parts (all_index a.elems) _ e in
+    ends_before atomic.names (head_region env a.head) (map (put_elem env) a.elems) (head_ends atomic env i a.head p.1) (index_put env a.elems p.0)))
     (or_cases (ends_atomic atomic.names a.elems) (all_index a.elems && atomic_head atomic.params a.head) h))
 
 -- regions that arguments match

@@ -1,17 +1,13 @@
 -- Inside an atomic block: its scope, its frames, and that what its body does lies in the effects with which it was entered.
-use Rattle.std.proofs.Common.{◌≡◌, ◌<◌, ◌≤◌, inl, inr, ℕ, zero, suc, true, List, [], ◌∷◌, ◌++◌, map, length, refl, sym, subst, arith, slice_index_or}
+use Rattle.std.proofs.Common.{◌≡◌, ◌<◌, ◌≤◌, inl, inr, ℕ, zero, suc, true, List, [], ◌∷◌, map, length, refl, sym, ap, ◌∙◌, subst, arith, slice_index_or}
 use Rattle.std.specs.Prelude.{All, Contains}
 use Rattle.std.proofs.lemmas.List.Elements.{All-head, All-tail}
-use Rattle.std.proofs.lemmas.Bool.{and_parts, or_right, false≢true}
+use Rattle.std.proofs.lemmas.Bool.{or_right, false≢true}
 use Rattle.dpj_base.specs.declared.effect.Effect.{Effect}
-use Rattle.dpj_base.specs.declared.elems.Elem.{Elem}
-use Rattle.dpj_base.specs.declared.elems.Elem.TheVariants.{Name, At, Any, Star, Local}
-use Rattle.dpj_base.specs.declared.elems.Index.TheVariants.{Literal, Variable, Renamed, Own}
-use Rattle.dpj_base.specs.declared.region.Head.{Head}
-use Rattle.dpj_base.specs.declared.region.Head.TheVariants.{Root, Param}
-use Rattle.dpj_base.specs.declared.region.Rpl.{Rpl}
 use Rattle.dpj_base.specs.Effects.{is_write}
-use Rattle.dpj_base.specs.Matching.{is_plain, all_plain, Env, put_elem, put_in, head_region, Fits, FitsAll, Matches}
+use Rattle.dpj_base.specs.Matching.{put_in}
+use Rattle.dpj_base.specs.Regions.{within}
+use Rattle.dpj_regions.proofs.Inclusion.{within-refl}
 use Rattle.dpj_typed.specs.Effects.{Own as EffectOwn, does, uses, effect_of, as_effects, marked, after_block}
 use Rattle.dpj_typed.specs.Plain.{PlainProgram}
 use Rattle.dpj_typed.specs.Scope.{Scope, in_atomic_block}
@@ -22,10 +18,10 @@ use Rattle.dpj_runs.specs.Objects.{Effect as RunEffect}
 use Rattle.dpj_steps.specs.Steps.{named_by}
 use Rattle.dpj_sound.specs.Settings.{Setting, env_of}
 use Rattle.dpj_sound.specs.Shapes.{Grows}
-use Rattle.dpj_sound.specs.Accesses.{Access, Speaks, Covers, LiesIn, as_path, run_env, LiesInEntry, Bounds, Within}
+use Rattle.dpj_sound.specs.Accesses.{Access, at_root, Speaks, Covers, LiesIn, as_path, LiesInEntry, Bounds, Allowed, Within, entered, MayEnterWith}
 use Rattle.dpj_sound.specs.Frames.{Frame, State, FrameFits}
 use Rattle.dpj_sound.specs.Scopes.{PathInScope, GoodScope}
-use Rattle.dpj_sound.proofs.Types.{fits_append}
+use Rattle.dpj_sound.proofs.Including.{put_root}
 use Rattle.dpj_sound.proofs.Frames.{concrete_put, old_later, local_later}
 
 pub good_block : (L : Scope) → GoodScope L → GoodScope (in_atomic_block L)
@@ -80,63 +76,22 @@ frame_unblock L ff = record {
   each = ff.each;
 }
 
--- a path with a setting put in matches what the path matches
-
-fits_put : (env : Env) (x : Elem) (r : List Elem) → Fits env x r → Fits run_env (put_elem env x) r
-fits_put env (Name n) r f = f
-fits_put env (At i) r f = f
-fits_put env Any r f = f
-fits_put env Star r f = f
-fits_put env (Local a c) r f = f
-
-all_put : (env : Env) (a r : List Elem) → FitsAll env a r → FitsAll run_env (map (put_elem env) a) r
-all_put env [] r f = f
-all_put env (x ∷ a) r f = (f.0, f.1, f.2, fits_put env x f.0 f.3, all_put env a f.1 f.4)
-
-plain_self : (x : Elem) → is_plain x ≡ true → Fits run_env x (x ∷ [])
-plain_self (Name n) h = refl
-plain_self (At (Literal k)) h = refl
-plain_self (At (Variable v)) h = absurd (false≢true h)
-plain_self (At (Renamed v)) h = absurd (false≢true h)
-plain_self (At (Own d)) h = absurd (false≢true h)
-plain_self Any h = absurd (false≢true h)
-plain_self Star h = absurd (false≢true h)
-plain_self (Local a c) h = absurd (false≢true h)
-
-plain_selves : (r : List Elem) → all_plain r ≡ true → FitsAll run_env r r
-plain_selves [] h = refl
-plain_selves (x ∷ r) h = let p = and_parts (is_plain x) _ h in (x ∷ [], r, refl, plain_self x p.0, plain_selves r p.1)
-
-head_plain : (env : Env) → ((p : ℕ) → all_plain (env.region p) ≡ true) → (h : Head) → all_plain (head_region env h) ≡ true
-head_plain env r Root = refl
-head_plain env r (Param p) = r p
-
-put_matches : (env : Env) → ((p : ℕ) → all_plain (env.region p) ≡ true) → (a : Rpl) (r : List Elem) → Matches env a r → Matches run_env (record { head = Root; elems = (put_in env a).elems }) r
-unfolding Matches put_in
-put_matches env plain a r m = (
-  r,
-  refl,
-  subst (FitsAll run_env (head_region env a.head ++ map (put_elem env) a.elems)) (sym m.1)
-      (fits_append run_env (head_region env a.head) (map (put_elem env) a.elems) (head_region env a.head) m.0
-      (plain_selves (head_region env a.head) (head_plain env plain a.head)) (all_put env a.elems m.0 m.2)),
-)
-
 module _ (P : PlainProgram) (b : Bounds) (L : Scope) (g : Setting) (st : State) (f : Frame) (ff : FrameFits P b.path st g L f) where
+  -- what an effect does as the block is entered has the effect's path
+  entry_path : (e : Effect) → PathInScope L 0 e.rpl → put_in (env_of g) e.rpl ≡ as_path (concrete (named_by b.path) (around f) e.rpl)
+  entry_path e s = put_root (env_of g) e.rpl ∙ ap at_root (sym (concrete_put P b.path st g L f ff b.path e.rpl s))
+
   -- an effect of the entry speaks of what the effect speaks of
   entry_speaks : (e : Effect) (a : Access) → PathInScope L 0 e.rpl → Speaks g e a →
-      Matches run_env (as_path (concrete (named_by b.path) (around f) e.rpl)) a.region × (a.write ≡ true → is_write e.access ≡ true)
-  entry_speaks e a s h = (
-    subst (λ z. Matches run_env (record { head = Root; elems = z }) a.region) (sym (concrete_put P b.path st g L f ff b.path e.rpl s))
-        (put_matches (env_of g) ff.plain e.rpl a.region h.matches),
-    h.writes,
-  )
+      (within (at_root a.region) (as_path (concrete (named_by b.path) (around f) e.rpl)) ≡ true) × (a.write ≡ true → is_write e.access ≡ true)
+  entry_speaks e a s h = (subst (λ z. within (at_root a.region) z ≡ true) (entry_path e s) h.includes, h.writes)
 
   entry_at : (entry : List Effect) (e : Effect) (a : Access) → PathInScope L 0 e.rpl → Speaks g e a → (k : ℕ) → k < length entry →
       slice_index_or entry k e ≡ e →
       LiesInEntry (map (concrete_effect (named_by b.path) (around f)) entry) a
   entry_at [] e a s h k l q = absurd (omega (arith, l))
   entry_at (x ∷ entry) e a s h zero l q =
-      inl (subst (λ (z : Effect). Matches run_env (as_path (concrete (named_by b.path) (around f) z.rpl)) a.region ×
+      inl (subst (λ (z : Effect). (within (at_root a.region) (as_path (concrete (named_by b.path) (around f) z.rpl)) ≡ true) ×
       (a.write ≡ true → is_write z.access ≡ true)) (sym q) (entry_speaks e a s h))
   entry_at (x ∷ entry) e a s h (suc k) l q = inr (entry_at entry e a s h k (omega (arith, l)) q)
 
@@ -155,7 +110,7 @@ module _ (P : PlainProgram) (b : Bounds) (L : Scope) (g : Setting) (st : State) 
   ]
 
   mark_covers : (o : EffectOwn) (a : Access) → a.guarded ≡ true → Covers g o a → Covers g (marked true o) a
-  mark_covers (does e) a u c = record { matches = c.matches; writes = c.writes; guarded = λ z. u }
+  mark_covers (does e) a u c = record { includes = c.includes; writes = c.writes; guarded = λ z. u }
   mark_covers (uses k e) a u c = c
 
   lies_marked : (E : List EffectOwn) (a : Access) → a.guarded ≡ true → LiesIn g E a → LiesIn g (after_block E) a
@@ -171,3 +126,36 @@ module _ (P : PlainProgram) (b : Bounds) (L : Scope) (g : Setting) (st : State) 
       let h = lies_marked E a u l in
       let allowed = w a (λ z. u) h in
       record { effects = allowed.effects; blocks = (inl (lies_entry entry a (after_block E) (λ e z. (se e).1 z) s h), allowed.blocks) }
+
+  -- and the effects with which it is entered are allowed
+  abbrev at_entry : Effect → Access
+  at_entry e = entered (concrete_effect (named_by b.path) (around f) e)
+
+  entry_spoken : (e : Effect) → PathInScope L 0 e.rpl → Speaks g e (at_entry e)
+  entry_spoken e s = record {
+    includes = subst (λ z. within (as_path (concrete (named_by b.path) (around f) e.rpl)) z ≡ true) (sym (entry_path e s))
+        (within-refl (as_path (concrete (named_by b.path) (around f) e.rpl)));
+    writes = λ w. w;
+    guarded = λ m. refl;
+  }
+
+  entry_covers : (o : EffectOwn) → PathInScope L 0 (effect_of o).rpl → Covers g o (at_entry (effect_of o))
+  entry_covers (does e) s = entry_spoken e s
+  entry_covers (uses k e) s = (entry_spoken e s, λ c. absurd (false≢true c))
+
+  entry_lies : (E : List EffectOwn) → All (λ o. PathInScope L 0 (effect_of o).rpl) E → (k : ℕ) (e d : Effect) → k < length (as_effects E) →
+      slice_index_or (as_effects E) k d ≡ e → LiesIn g E (at_entry e)
+  entry_lies [] s k e d l q = absurd (omega (arith, l))
+  entry_lies (o ∷ E) s zero e d l q = inl (subst (λ z. Covers g o (at_entry z)) q (entry_covers o (All-head (λ o. PathInScope L 0 (effect_of o).rpl) o E s)))
+  entry_lies (o ∷ E) s (suc k) e d l q = inr (entry_lies E (All-tail (λ o. PathInScope L 0 (effect_of o).rpl) o E s) k e d (omega (arith, l)) q)
+
+  each_entered : (entries : List (List RunEffect)) (F : List Effect) → ((e : Effect) → Contains F e → Allowed b entries (at_entry e)) →
+      MayEnterWith b entries (map (concrete_effect (named_by b.path) (around f)) F)
+  each_entered entries [] h = tt
+  each_entered entries (e ∷ F) h = (h e (0, omega arith, refl), each_entered entries F (λ d c. h d (suc c.0, (let l = c.1 in omega (arith, l)), c.2)))
+
+  pub may_enter : (entry : List Effect) (E : List EffectOwn) (entries : List (List RunEffect)) → SameEffects entry (as_effects (after_block E)) →
+      All (λ o. PathInScope L 0 (effect_of o).rpl) (after_block E) → Within b entries g (after_block E) →
+      MayEnterWith b entries (map (concrete_effect (named_by b.path) (around f)) entry)
+  may_enter entry E entries se s w = each_entered entries entry
+      (λ e c. (let z = (se e).0 c in w (at_entry e) (λ x. refl) (entry_lies (after_block E) s z.0 e e z.1 z.2)))

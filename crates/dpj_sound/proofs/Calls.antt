@@ -33,7 +33,7 @@ use Rattle.dpj_sound.specs.Work.{Result, Prog, InOrder}
 use Rattle.dpj_sound.specs.Laws.{Deeper, Leaves, DeeperInOrder}
 use Rattle.dpj_sound.proofs.Codes.{setting_env, unmade_one}
 use Rattle.dpj_sound.proofs.Types.{NoOwn, Stands, fits_same, fits_grows, fits_with_up, fits_with_down}
-use Rattle.dpj_sound.proofs.Classes.{all_get, stands_args, good_is, env_alone}
+use Rattle.dpj_sound.proofs.Classes.{all_get, stands_args, good_is}
 use Rattle.dpj_sound.proofs.Chains.{is_below_it, regions_are, above_match}
 use Rattle.dpj_sound.proofs.Effects.{body_lies, lies_up}
 use Rattle.dpj_sound.proofs.Entering.{given_holds, scope, entered_fits}
@@ -161,7 +161,7 @@ module _ (P : PlainProgram) (wt : WellTyped P) (b : Bounds) (L : Scope) (g : Set
 
         given' : All (Holds (class_env (row.at.regions ++ map (put P wt b L g u f ff) regions))) row.at.member.given
         given' = row.stands.given (given_holds N L.given (env_of g) (class_env (A0.regions ++ map (put P wt b L g u f ff) regions))
-            (owned ++ regions) env (env_alone L.given (env_of g) env) st m.given sig.given ga.hold)
+            (owned ++ regions) env st m.given sig.given ga.hold)
 
         own_atomic : EndAtomic P.region_names row.at.member.params (map (put P wt b L g u f ff) regions)
         own_atomic = subst (λ z. EndAtomic P.region_names z (map (put P wt b L g u f ff) regions)) (sym row.stands.params)

@@ -67,7 +67,7 @@ module _ (P : PlainProgram) (Q : Program) where
   own_grows k S T es g (Look n) h = tt
   own_grows k S T es g (New t c) h = tt
   own_grows k S T es g (Print bytes) h = tt
-  own_grows k S T es g (Enter E) h = tt
+  own_grows k S T es g (Enter E) h = record { state = h.state; may = h.may; grown = grows_grows h.grown g; held = h.held }
   own_grows k S T es g Exit h = h
 
   pub event_later : (k : Kept) (B C : ℕ → ℕ → Kept) (S T : Shapes) (Y : Run) (p : Path) → Grows S T → ((i : ℕ) → C (count Y p) i ≡ B (count Y p) i) → (a : Action) →

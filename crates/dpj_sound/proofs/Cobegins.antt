@@ -1,5 +1,5 @@
 -- Branches of a `cobegin`: their scopes and frames, that they are in order at their fork, and the locals after their join.
-use Rattle.std.proofs.Common.{◌≡◌, ◌≢◌, ◌<◌, ◌-◌, ⊎_elim, ℕ, zero, suc, ◌+◌, Bool, true, false, cond, ◌==◌, ◌||◌, List, [], ◌∷◌, ◌++◌, length, refl, sym, ap, ◌∙◌, subst, arith, Option, Some, None, slice_get, slice_set, slice_index_or}
+use Rattle.std.proofs.Common.{◌≡◌, ◌≢◌, ◌<◌, ◌-◌, ⊎_elim, ℕ, zero, suc, ◌+◌, Bool, true, false, cond, ◌==◌, ◌||◌, ◌&&◌, List, [], ◌∷◌, ◌++◌, length, refl, sym, ap, ◌∙◌, subst, arith, Option, Some, None, slice_get, slice_set, slice_index_or}
 use Rattle.std.specs.Prelude.{All, Contains, option_map}
 use Rattle.std.specs.List.{list_any}
 use Rattle.std.proofs.lemmas.List.Elements.{All-head, All-tail, All-append}
@@ -8,7 +8,7 @@ use Rattle.dpj_base.specs.Branches.{ends_atomic}
 use Rattle.dpj_base.specs.Types.{PlainType, int}
 use Rattle.dpj_typed.specs.declared.stmt.Forking.{Forking}
 use Rattle.dpj_typed.specs.declared.stmt.Forking.TheVariants.{Deterministic, Nondeterministic}
-use Rattle.dpj_typed.specs.Effects.{Own as EffectOwn}
+use Rattle.dpj_typed.specs.Effects.{Own as EffectOwn, after_branches}
 use Rattle.dpj_typed.specs.Plain.{PlainProgram, TypedBranches, no_branches, more_branches}
 use Rattle.dpj_typed.specs.Scope.{Scope, variable, frozen, constant, part, reserved, read_alone, seen_in_branch, in_branch}
 use Rattle.dpj_typed.specs.Scope.{Local as ScopeLocal}
@@ -19,15 +19,16 @@ use Rattle.dpj_runs.specs.Actions.{Task}
 use Rattle.dpj_runs.specs.Objects.{Path, Value}
 use Rattle.dpj_sound.specs.Settings.{Setting, env_of}
 use Rattle.dpj_sound.specs.Shapes.{FitsIn}
-use Rattle.dpj_sound.specs.Accesses.{Bounds, Within}
-use Rattle.dpj_sound.specs.Branches.{MayMeet, Quiet, BranchFits, Forks}
+use Rattle.dpj_sound.specs.Accesses.{Access, unguarded, at_root, LiesIn, Bounds, Within}
+use Rattle.dpj_sound.specs.Branches.{MayMeet, Quiet, Separate, BranchFits, Forks}
 use Rattle.dpj_sound.specs.Frames.{Frame, State, LocalFits, FrameFits}
 use Rattle.dpj_sound.specs.Scopes.{LocalInScope, GoodScope}
-use Rattle.dpj_sound.proofs.Forks.{seen_constant, seen_local, seen_part, alone_in, alone_placed, alone_fits, frame_below}
+use Rattle.dpj_disjoint.proofs.Envs.{apart_swap}
+use Rattle.dpj_sound.proofs.Forks.{seen_constant, seen_local, seen_part, alone_in, alone_placed, alone_fits, frame_below, HasNoMark, lies_branches, lies_unguarded, outside_alone}
 use Rattle.dpj_sound.proofs.Frames.{frame_env, lies_left, lies_right}
 use Rattle.dpj_sound.proofs.Locals.{frame_store}
 use Rattle.dpj_sound.proofs.Placed.{LocalPlaced, PlacedScope, placed_wider}
-use Rattle.dpj_sound.proofs.Quiet.{branches_quiet_of}
+use Rattle.dpj_sound.proofs.Quiet.{branches_quiet_of, branches_separate_of}
 use Rattle.dpj_sound.proofs.Wider.{Wider, wider_path, wider_local}
 
 -- in one of three ways a local is seen from a branch
@@ -191,7 +192,7 @@ module _ (P : PlainProgram) (b : Bounds) (st : State) (L : Scope) (good : GoodSc
 
   quiet_back : (forking : Forking) (E F : List EffectOwn) → Quiet P forking g E g F → Quiet P forking g F g E
   quiet_back forking E F h a c m x y =
-      back forking (h c a (record { object = sym m.object; index = sym m.index; region = sym m.region; write = either a.write c.write m.write }) y x)
+      back forking (h c a (record { cells = (m.cells.1, m.cells.0); object = sym m.object; index = sym m.index; region = sym m.region; write = either a.write c.write m.write }) y x)
     where
       either : (x y : Bool) → (x || y) ≡ true → (y || x) ≡ true
       either true y h = or_right y true refl
@@ -201,6 +202,21 @@ module _ (P : PlainProgram) (b : Bounds) (st : State) (L : Scope) (good : GoodSc
       back Deterministic k = k
       back Nondeterministic k = (k.1, k.0, subst (λ z. ends_atomic P.region_names z ≡ true) (sym m.region) k.2)
 
+  separate_back : (E F : List EffectOwn) → Separate g E g F → Separate g F g E
+  separate_back E F h a c w u x y = apart_swap [] (at_root c.region) (at_root a.region) (h c a (or_back a.write c.write ∙ w) (and_back a.guarded c.guarded ∙ u) y x)
+    where
+      or_back : (x y : Bool) → (y || x) ≡ (x || y)
+      or_back true true = refl
+      or_back true false = refl
+      or_back false true = refl
+      or_back false false = refl
+
+      and_back : (x y : Bool) → (y && x) ≡ (x && y)
+      and_back true true = refl
+      and_back true false = refl
+      and_back false true = refl
+      and_back false false = refl
+
   scope_variable : (others : List ℕ) (bs : TypedBranches) (i x : ℕ) (t : PlainType) → (scope_at L others bs i).local x ≡ Some (variable t) → L.local x ≡ Some (variable t)
   scope_variable others no_branches i x t e = e
   scope_variable others (more_branches copies s bs) zero x t e = seen_variable L copies (others ++ all_copies bs) x t e
@@ -208,17 +224,20 @@ module _ (P : PlainProgram) (b : Bounds) (st : State) (L : Scope) (good : GoodSc
 
   -- what is a variable for a branch is one outside, of the same values
   pub cobegin_forks : (forking : Forking) {bs : TypedBranches} {Es : List (List EffectOwn)} → BranchesPass P L [] bs Es → NoClash P forking L Es →
-      Within b st.entries g (joined Es) →
+      All HasNoMark (joined Es) → Within b st.entries g (after_branches forking (joined Es)) →
       (forks : Forks P b st forking (tasks_of bs f)) × ((i : ℕ) → forks.setting i ≡ g)
       × ((i x : ℕ) (t : PlainType) → (forks.scope i).local x ≡ Some (variable t) → L.local x ≡ Some (variable t))
-  cobegin_forks forking {bs} {Es} p nc w = (
+  cobegin_forks forking {bs} {Es} p nc plain w = (
     record {
       scope = scope_at L [] bs;
       setting = λ i. g;
       effects = λ i. slice_index_or Es i [];
       branch = λ i t e. (let k : 0 + i ≡ i = omega arith in subst (λ y. BranchFits P b st y t (scope_at L [] bs i) g (slice_index_or Es i [])) k
-          (branch_at p (λ k d l. absurd (omega (arith, l))) w 0 i t e));
-      apart = apart;
+          (branch_at p (λ k d l. absurd (omega (arith, l))) (λ a gu l. w a gu (lies_branches forking g (joined Es) a l)) 0 i t e));
+      quiet = apart;
+      unmarked = λ kind out i t e a l. w (unguarded a) (outside_alone out)
+          (subst (λ z. LiesIn g (after_branches z (joined Es)) (unguarded a)) (sym kind) (lies_unguarded g (joined Es) a plain (lies_one Es i a l)));
+      separate = λ kind i j ne l m. separate kind i j ne l m;
     },
     λ i. refl,
     scope_variable [] bs,
@@ -226,6 +245,20 @@ module _ (P : PlainProgram) (b : Bounds) (st : State) (L : Scope) (good : GoodSc
     where
       one : (i j : ℕ) → i < j → j < length (tasks_of bs f) → Quiet P forking g (slice_index_or Es i []) g (slice_index_or Es j [])
       one i j l m = branches_quiet_of P forking L g (frame_env ff) ff.atomic (slice_index_or Es i []) (slice_index_or Es j []) (nc i j [] l (subst (λ n. j < n) (tasks_length p) m))
+
+      lies_one : (Es : List (List EffectOwn)) (i : ℕ) (a : Access) → LiesIn g (slice_index_or Es i []) a → LiesIn g (joined Es) a
+      lies_one [] i a l = absurd l
+      lies_one (E ∷ Es) zero a l = lies_left g E (joined Es) a l
+      lies_one (E ∷ Es) (suc i) a l = lies_right g E (joined Es) a (lies_one Es i a l)
+
+      one_separate : forking ≡ Nondeterministic → (i j : ℕ) → i < j → j < length (tasks_of bs f) → Separate g (slice_index_or Es i []) g (slice_index_or Es j [])
+      one_separate kind i j l m =
+          branches_separate_of P forking L g (frame_env ff) ff.atomic (slice_index_or Es i []) (slice_index_or Es j []) (nc i j [] l (subst (λ n. j < n) (tasks_length p) m)) kind
+
+      separate : forking ≡ Nondeterministic → (i j : ℕ) → i ≢ j → i < length (tasks_of bs f) → j < length (tasks_of bs f) →
+          Separate g (slice_index_or Es i []) g (slice_index_or Es j [])
+      separate kind i j ne l m = ⊎_elim (λ h. absurd (ne h))
+          (λ r. ⊎_elim (λ h. one_separate kind i j h m) (λ h. separate_back (slice_index_or Es j []) (slice_index_or Es i []) (one_separate kind j i h l)) r) (cases_order i j)
 
       apart : (i j : ℕ) → i ≢ j → i < length (tasks_of bs f) → j < length (tasks_of bs f) → Quiet P forking g (slice_index_or Es i []) g (slice_index_or Es j [])
       apart i j ne l m = ⊎_elim (λ h. absurd (ne h)) (λ r. ⊎_elim (λ h. one i j h m) (λ h. quiet_back forking (slice_index_or Es j []) (slice_index_or Es i []) (one j i h l)) r) (cases_order i j)

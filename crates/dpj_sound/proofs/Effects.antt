@@ -11,11 +11,11 @@ use Rattle.dpj_base.specs.Effects.{is_write, covers_access, covers_effect, some_
 use Rattle.dpj_base.specs.Matching.{IsEnv}
 use Rattle.dpj_base.specs.Regions.{within, fully_specified, argument}
 use Rattle.dpj_typed.specs.Effects.{Own, does, uses, effect_with, effect_of, as_effects, summary_with}
-use Rattle.dpj_regions.proofs.Fitting.{matches_more}
 use Rattle.dpj_sound.specs.Settings.{Setting, env_of}
 use Rattle.dpj_sound.specs.Accesses.{Access, Speaks, Covers, LiesIn}
 use Rattle.dpj_sound.proofs.Closed.{ClosedPath}
-use Rattle.dpj_sound.proofs.Types.{Stands, path_up, path_down}
+use Rattle.dpj_sound.proofs.Including.{includes_more, includes_up, includes_down}
+use Rattle.dpj_sound.proofs.Types.{Stands}
 
 write_covers : (x y : EffectAccess) → covers_access x y ≡ true → is_write y ≡ true → is_write x ≡ true
 write_covers Write y h w = refl
@@ -43,7 +43,7 @@ module _ (g : Setting) (v : IsEnv [] (env_of g)) (a : Access) where
   speaks_covers e f h s =
       let p = cover_parts e f h in
       record {
-        matches = matches_more [] (env_of g) v f.rpl e.rpl p.path a.region s.matches;
+        includes = includes_more [] (env_of g) v f.rpl e.rpl p.path a.region s.includes;
         writes = λ w. write_covers e.access f.access p.access (s.writes w);
         guarded = λ m. s.guarded (mark_covers e.atomic f.atomic p.mark m);
       }
@@ -77,8 +77,8 @@ pub lies_up : (n : ℕ) (g inner : Setting) (args : List Rpl) → Stands n 0 (en
 lies_up n g inner args s a [] c l = absurd l
 lies_up n g inner args s a (e ∷ es) c l = elim l [
   | inl h ↦ inl (record {
-    matches = path_up n 0 (env_of g) (env_of inner) args s e.rpl
-        (All-head (λ (e : Effect). ClosedPath n 0 e.rpl) e es c) a.region h.matches;
+    includes = includes_up n (env_of g) (env_of inner) args s e.rpl
+        (All-head (λ (e : Effect). ClosedPath n 0 e.rpl) e es c) a.region h.includes;
     writes = h.writes;
     guarded = h.guarded;
   })
@@ -91,8 +91,8 @@ pub lies_down : (n : ℕ) (g inner : Setting) (args : List Rpl) → Stands n 0 (
 lies_down n g inner args s full a [] c l = absurd l
 lies_down n g inner args s full a (e ∷ es) c l = elim l [
   | inl h ↦ inl (record {
-    matches = path_down n 0 (env_of g) (env_of inner) args s e.rpl (All-head (λ (e : Effect). ClosedPath n 0 e.rpl) e es c)
-        (λ p _. full p) a.region h.matches;
+    includes = includes_down n (env_of g) (env_of inner) args s full e.rpl (All-head (λ (e : Effect). ClosedPath n 0 e.rpl) e es c)
+        a.region h.includes;
     writes = h.writes;
     guarded = h.guarded;
   })

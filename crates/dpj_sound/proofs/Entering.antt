@@ -1,8 +1,8 @@
 -- A member that is entered at an object begins in a frame that fits, and does what its caller's types and effects say.
-use Rattle.std.proofs.Common.{◌≡◌, ◌<◌, inl, inr, ℕ, zero, suc, true, List, [], ◌∷◌, ◌++◌, map, length, refl, sym, ap, ◌∙◌, subst, arith, Option, Some, None, IsTrue, slice_get, slice_index_or, append_assoc}
+use Rattle.std.proofs.Common.{◌≡◌, ◌<◌, inl, inr, ℕ, zero, suc, true, List, [], ◌∷◌, ◌++◌, length, refl, sym, ap, ◌∙◌, subst, arith, Option, Some, None, IsTrue, slice_get, slice_index_or}
 use Rattle.std.specs.Prelude.{All, option_map}
 use Rattle.std.specs.List.{AllZip}
-use Rattle.std.proofs.lemmas.List.{map-append, get_or_append_left}
+use Rattle.std.proofs.lemmas.List.{get_or_append_left}
 use Rattle.std.proofs.lemmas.List.Elements.{All-head, All-tail, All-cons, All-append}
 use Rattle.std.proofs.lemmas.Bool.{false≢true}
 use Rattle.std.proofs.lemmas.Option.{slice_get_within}
@@ -11,13 +11,11 @@ use Rattle.dpj_base.specs.declared.elems.Elem.{Elem}
 use Rattle.dpj_base.specs.declared.elems.Elem.TheVariants.{At, Any, Star, Local}
 use Rattle.dpj_base.specs.declared.elems.Elem.TheVariants as elem
 use Rattle.dpj_base.specs.declared.elems.Index.TheVariants.{Literal, Variable, Renamed, Own}
-use Rattle.dpj_base.specs.declared.region.Head.{Head}
-use Rattle.dpj_base.specs.declared.region.Head.TheVariants.{Root, Param}
+use Rattle.dpj_base.specs.declared.region.Head.TheVariants.{Param}
 use Rattle.dpj_base.specs.declared.region.Rpl.{Rpl}
 use Rattle.dpj_base.specs.Apart.{apart}
-use Rattle.dpj_base.specs.Matching.{Env, IsEnv, Holds, put_elem, put_in}
-use Rattle.dpj_base.specs.Matching.{head_region as env_region}
-use Rattle.dpj_base.specs.Regions.{within, covers_elems, fully_specified, argument, put_at, substituted}
+use Rattle.dpj_base.specs.Matching.{Env, IsEnv, Holds, put_in}
+use Rattle.dpj_base.specs.Regions.{within, fully_specified, substituted}
 use Rattle.dpj_base.specs.Types.{PlainType, int, boolean, void, null, class, array}
 use Rattle.dpj_typed.specs.Plain.{PlainProgram, PlainClass, PlainMember}
 use Rattle.dpj_typed.specs.Scope.{Scope, variable, frozen, constant, part, member_at}
@@ -28,9 +26,8 @@ use Rattle.dpj_typed.specs.WellTyped.{WellTyped}
 use Rattle.dpj_meaning.specs.Counts.{padded}
 use Rattle.dpj_meaning.specs.Expressions.{entered}
 use Rattle.dpj_meaning.specs.Regions.{unmade_from}
-use Rattle.dpj_regions.proofs.Inclusion.{Covers-from, Covers-to, Covers-append, Covers-refl, within-refl}
 use Rattle.dpj_regions.proofs.Putting.{specified_matches_one}
-use Rattle.dpj_disjoint.proofs.Envs.{matches-within, stays_apart}
+use Rattle.dpj_disjoint.proofs.Envs.{stays_apart}
 use Rattle.dpj_runs.specs.Objects.{Path, Value, Null, Object, Region}
 use Rattle.dpj_runs.specs.Objects.{Name as ObjectName}
 use Rattle.dpj_steps.specs.Steps.{named_by}
@@ -39,8 +36,9 @@ use Rattle.dpj_sound.specs.Shapes.{object, Is, AllMatch, GoodObject, Instance, F
 use Rattle.dpj_sound.specs.Frames.{State, LocalFits, FrameFits}
 use Rattle.dpj_sound.specs.Scopes.{InScope, PathInScope, TypeInScope, LocalInScope, GoodScope}
 use Rattle.dpj_sound.proofs.Atomic.{both_atomic}
-use Rattle.dpj_sound.proofs.Closed.{ClosedPath, closed_put, closed_holds, closed_path}
+use Rattle.dpj_sound.proofs.Closed.{ClosedPath, closed_holds, closed_path}
 use Rattle.dpj_sound.proofs.Codes.{unmade_one}
+use Rattle.dpj_sound.proofs.Including.{includes_own, includes_up, put_root}
 use Rattle.dpj_sound.proofs.Types.{Stands}
 use Rattle.dpj_sound.proofs.Classes.{all_get}
 use Rattle.dpj_sound.proofs.InScope.{good_type, good_path}
@@ -48,42 +46,21 @@ use Rattle.dpj_sound.proofs.Members.{Shown, class_params, plain_both}
 
 -- what stands for a path lies in the path with arguments put in
 
-root_put : (env inner : Env) (a : List Elem) → (n : ℕ) (h : Head) → ClosedPath n 0 (record { head = h; elems = a }) → put_in inner (record { head = Root; elems = a }) ≡ put_in env (record { head = Root; elems = a })
-root_put env inner a n h c =
-    closed_put 0 0 inner env (record { region = λ p l. absurd (omega (arith, l)); own = λ d l. absurd (omega (arith, l)) }) (record { head = Root; elems = a })
-    (record { head = λ p e. (let q : Root ≡ Param p = e in absurd (cc)); elems = c.elems })
-
-within_at : (n : ℕ) (env inner : Env) (args : List Rpl) → IsEnv [] env → Stands n 0 env inner args → (h : Head) (a : List Elem) → ClosedPath n 0 (record { head = h; elems = a }) →
-    within (put_in inner (record { head = h; elems = a })) (put_in env (put_at h a args)) ≡ true
-unfolding within put_in
-within_at n env inner args v s Root a c = subst (λ z. within z (put_in env (record { head = Root; elems = a })) ≡ true)
-    (sym (root_put env inner a n Root c)) (within-refl (put_in env (record { head = Root; elems = a })))
-within_at n env inner args v s (Param p) a c =
-    let arg = argument args p in
-    let w = matches-within [] env v arg (inner.region p) (s.match p (c.head p refl)) in
-    let both = Covers-to (Covers-append (Covers-from (put_in env arg).elems (inner.region p) w) (Covers-refl (map (put_elem env) a))) in
-    let e : map (put_elem inner) a ≡ map (put_elem env) a = ap (λ (z : Rpl). z.elems) (root_put env inner a n (Param p) c) in
-    let k : (put_in env arg).elems ++ map (put_elem env) a ≡ env_region env arg.head ++ map (put_elem env) (arg.elems ++ a) =
-    append_assoc (env_region env arg.head) (map (put_elem env) arg.elems) (map (put_elem env) a) ∙ ap (λ z. env_region env arg.head ++ z)
-    (sym (map-append (put_elem env) arg.elems a)) in
-    subst (λ z. covers_elems z (inner.region p ++ map (put_elem inner) a) ≡ true) k
-    (subst (λ z. covers_elems ((put_in env arg).elems ++ map (put_elem env) a) (inner.region p ++ z) ≡ true) (sym e) both)
-
-pub within_put : (n : ℕ) (env inner : Env) (args : List Rpl) → IsEnv [] env → Stands n 0 env inner args → (a : Rpl) → ClosedPath n 0 a →
+pub within_put : (n : ℕ) (env inner : Env) (args : List Rpl) → Stands n 0 env inner args → (a : Rpl) → ClosedPath n 0 a →
     within (put_in inner a) (put_in env (substituted args a)) ≡ true
-unfolding substituted
-within_put n env inner args v s a c = within_at n env inner args v s a.head a.elems c
+within_put n env inner args s a c = subst (λ z. within z (put_in env (substituted args a)) ≡ true) (sym (put_root inner a))
+    (includes_up n env inner args s a c (put_in inner a).elems (includes_own inner a))
 
 -- constraints that hold with arguments put in hold of the regions that these match
-pub given_holds : (n : ℕ) (given : List Constraint) (env inner : Env) (args : List Rpl) → IsEnv given env → IsEnv [] env → Stands n 0 env inner args →
+pub given_holds : (n : ℕ) (given : List Constraint) (env inner : Env) (args : List Rpl) → IsEnv given env → Stands n 0 env inner args →
     (cs : List Constraint) →
     All (λ (c : Constraint). ClosedPath n 0 c.left × ClosedPath n 0 c.right) cs → All (λ (c : Constraint). IsTrue
     (apart given (substituted args c.left) (substituted args c.right))) cs → All (Holds inner) cs
-given_holds n given env inner args v v0 s cs cl h = λ k c l.
+given_holds n given env inner args v s cs cl h = λ k c l.
     (let z = cl k c l in
     let x = slice_index_or cs k c in
     stays_apart given env v (substituted args x.left) (substituted args x.right) (put_in inner x.left) (put_in inner x.right) (h k c l)
-    (within_put n env inner args v0 s x.left z.0) (within_put n env inner args v0 s x.right z.1))
+    (within_put n env inner args s x.left z.0) (within_put n env inner args s x.right z.1))
 
 -- the slots of a frame
 

@@ -37,6 +37,7 @@ use Rattle.dpj_sound.specs.Scopes.{PathInScope}
 use Rattle.dpj_sound.specs.Work.{Result, Prog, Touches, Reaches, access_of, ReadFits, InOrder}
 use Rattle.dpj_sound.proofs.Closed.{closed_path, closed_type}
 use Rattle.dpj_sound.proofs.Types.{fits_same, same_sym, fits_with_up, path_up}
+use Rattle.dpj_sound.proofs.Including.{includes_matched}
 use Rattle.dpj_sound.proofs.Indices.{IsIndexElem, fits_at_up, region_at_up}
 use Rattle.dpj_sound.proofs.Classes.{good_is, field_good, field_is, stands_args}
 use Rattle.dpj_sound.proofs.InScope.{paths_alone}
@@ -45,7 +46,7 @@ use Rattle.dpj_sound.proofs.Work.{since_after}
 
 -- an effect that is no mark of a block speaks of a read
 pub speaks_read : (g : Setting) (rpl : Rpl) (a : Access) → a.write ≡ false → Matches (env_of g) rpl a.region → Speaks g (reads rpl) a
-speaks_read g rpl a w m = record { matches = m; writes = λ e. absurd (false≢true (sym w ∙ e)); guarded = λ e. absurd (false≢true e) }
+speaks_read g rpl a w m = record { includes = includes_matched (env_of g) rpl a.region m; writes = λ e. absurd (false≢true (sym w ∙ e)); guarded = λ e. absurd (false≢true e) }
 
 module _ (P : PlainProgram) (b : Bounds) where
   pub order_unless : (R : State → Result → Type 0) (st : State) (at : Place) (A : Name → Type 0) (k : Name → Prog) →

@@ -43,7 +43,7 @@ use Rattle.dpj_sound.proofs.Parts.{free_itself}
 use Rattle.dpj_sound.proofs.PartForks.{good_parts, parts_forks}
 use Rattle.dpj_sound.proofs.Uses.{stmts_use}
 use Rattle.dpj_sound.proofs.Cobegins.{cobegin_forks, copied_fits}
-use Rattle.dpj_sound.proofs.Forks.{foreach_forks, copied_none, lies_branches}
+use Rattle.dpj_sound.proofs.Forks.{HasNoMark, foreach_forks, copied_none}
 
 -- after statements that began in this state: locals that fit, where they can complete; or a value that a `return` gives
 abbrev pub Left : PlainProgram → Bounds → Scope → Setting → Bool → State → State → Result → Type 0
@@ -58,16 +58,16 @@ left_since P b L g c d st h u (Returns v) s i y = (since_since s y.0, y.1)
 -- forks and what is after their joins
 module _ (P : PlainProgram) (b : Bounds) where
   pub cobegin_order : (dp : Option Deeper) (L : Scope) → GoodScope L → (g : Setting) (st : State) (f : Frame) → FrameFits P b.path st g L f → (at : Place) (forking : Forking) → {bs : TypedBranches} {Es : List (List EffectOwn)} → BranchesPass P L [] bs Es → NoClash P forking L Es →
-      Within b st.entries g (after_branches forking (joined Es)) →
+      All HasNoMark (joined Es) → Within b st.entries g (after_branches forking (joined Es)) →
       InOrder P b (Left P b L g true st) st (of_stmt (named_by b.path) P dp (statement at (form.cobegin forking bs)) f)
   unfolding InOrder
-  cobegin_order None L good g st f ff at forking p nc w = tt
-  cobegin_order (Some deeper) L good g st f ff at forking {bs} {Es} p nc w =
+  cobegin_order None L good g st f ff at forking p nc plain w = tt
+  cobegin_order (Some deeper) L good g st f ff at forking {bs} {Es} p nc plain w =
       (cobegin.0, λ x h s z. after x h s z)
     where
       cobegin : (forks : Forks P b st forking (tasks_of bs f)) × ((i : ℕ) → forks.setting i ≡ g)
           × ((i x : ℕ) (t : PlainType) → (forks.scope i).local x ≡ Some (variable t) → L.local x ≡ Some (variable t))
-      cobegin = cobegin_forks P b st L good g f ff forking p nc (λ a gu l. w a gu (lies_branches forking g (joined Es) a l))
+      cobegin = cobegin_forks P b st L good g f ff forking p nc plain w
 
       after : (x : Brought) (h : State) → Since st h → Brings P b st forking (tasks_of bs f) cobegin.0 h x →
           InOrder P b (Left P b L g true st) h (joined_after (all_copied bs) f x)
@@ -81,12 +81,12 @@ module _ (P : PlainProgram) (b : Bounds) where
 
   pub foreach_order : (dp : Option Deeper) (L : Scope) → GoodScope L → (g : Setting) (st : State) (f : Frame) → FrameFits P b.path st g L f → (at : Place) (forking : Forking) → {x : ℕ} {s : TypedStmt} {G : List EffectOwn} → IsFree L x → AllPass P (with_local x (constant int) (in_loop_branch L)) (more_stmts s no_stmts) G →
       iterations_clash L.given (atomic_for forking P L) x (as_effects G) ≡ false → All (λ o. PathInScope (with_local x (constant int) (in_loop_branch L)) 0 (effect_of o).rpl) G →
-      Within b st.entries g (outside_variable x (after_branches forking G)) → (start count : ℤ) → FitsSigned w32 count →
+      All HasNoMark G → Within b st.entries g (outside_variable x (after_branches forking G)) → (start count : ℤ) → FitsSigned w32 count →
       InOrder P b (Left P b L g true st) st (forks dp at forking None x s start count f)
   unfolding InOrder
-  foreach_order None L good g st f ff at forking free p ic i w start count small = tt
-  foreach_order (Some deeper) L good g st f ff at forking {x} {s} free p ic i w start count small = (
-    foreach_forks P b st L good g f ff forking free p ic i w start (how_many count) (few_iterations count small),
+  foreach_order None L good g st f ff at forking free p ic i plain w start count small = tt
+  foreach_order (Some deeper) L good g st f ff at forking {x} {s} free p ic i plain w start count small = (
+    foreach_forks P b st L good g f ff forking free p ic i plain w start (how_many count) (few_iterations count small),
     λ y h s1 z. after y h s1,
   )
     where

@@ -2,7 +2,7 @@
 use Rattle.std.proofs.Common.{◌≡◌, ◌<◌, ◌≤◌, ◌-◌, ◌^◌, inl, inr, ℕ, ℤ, zero, suc, ◌+◌, pos, Bool, true, false, List, [], ◌∷◌, map, length, refl, sym, ap, ◌∙◌, subst, arith, Option, Some, None, slice_get, slice_index_or}
 use Rattle.std.specs.Prelude.{All, option_map}
 use Rattle.std.specs.Int.{w32, int_wrapping_add}
-use Rattle.std.proofs.lemmas.Bool.{and_from}
+use Rattle.std.proofs.lemmas.Bool.{and_from, false≢true}
 use Rattle.std.proofs.lemmas.List.Elements.{All-head, All-tail, All-map}
 use Rattle.dpj_base.specs.declared.effect.Constraint.{Constraint}
 use Rattle.dpj_base.specs.declared.elems.Elem.{Elem}
@@ -24,7 +24,7 @@ use Rattle.dpj_meaning.specs.Statements.{branch_of, iterations, numbered_frame}
 use Rattle.dpj_runs.specs.Actions.{Task}
 use Rattle.dpj_runs.specs.Objects.{Path, LocalRegion, Made, Unmade, Value, Int}
 use Rattle.dpj_sound.specs.Settings.{Setting, with_number}
-use Rattle.dpj_sound.specs.Accesses.{Access, Covers, LiesIn, Bounds, Within}
+use Rattle.dpj_sound.specs.Accesses.{Access, unguarded, Covers, LiesIn, Bounds, Within}
 use Rattle.dpj_sound.specs.Branches.{BranchFits, Forks}
 use Rattle.dpj_sound.specs.Frames.{Frame, State, IsOld, LocalFits, FrameFits}
 use Rattle.dpj_sound.specs.Shapes.{Shapes}
@@ -33,7 +33,7 @@ use Rattle.dpj_sound.proofs.Frames.{frame_env}
 use Rattle.dpj_sound.proofs.Locals.{frame_declare, good_declare, lies_general}
 use Rattle.dpj_sound.proofs.Ints.{add_fits}
 use Rattle.dpj_sound.proofs.Numbers.{number_one}
-use Rattle.dpj_sound.proofs.Quiet.{iterations_quiet_of}
+use Rattle.dpj_sound.proofs.Quiet.{iterations_quiet_of, iterations_separate_of}
 use Rattle.dpj_sound.proofs.Placed.{LocalPlaced, PlacedScope, placed_wider}
 use Rattle.dpj_sound.proofs.Wider.{Wider, wider_path, wider_local}
 
@@ -201,12 +201,36 @@ none_copied L c s = and_from (no_copies c.left.elems) _ (all_no_copies L c.left.
 
 -- after a construct what its branches do is said without marks, or as they have it
 unmarked : (g : Setting) (o : EffectOwn) (a : Access) → Covers g o a → Covers g (marked false o) a
-unmarked g (does e) a c = record { matches = c.matches; writes = c.writes; guarded = λ z. absurd (let h : false ≡ true = z in cc) }
+unmarked g (does e) a c = record { includes = c.includes; writes = c.writes; guarded = λ z. absurd (false≢true z) }
 unmarked g (uses k e) a c = c
 
 lies_unmarked : (g : Setting) (E : List EffectOwn) (a : Access) → LiesIn g E a → LiesIn g (map (marked false) E) a
 lies_unmarked g [] a h = h
 lies_unmarked g (o ∷ E) a h = elim h [ inl c ↦ inl (unmarked g o a c) | inr r ↦ inr (lies_unmarked g E a r) ]
+
+-- an effect through a part has no mark
+abbrev pub HasNoMark : EffectOwn → Type 0
+HasNoMark (does e) = Unit {0}
+HasNoMark (uses k e) = e.atomic ≡ false
+
+-- so without marks they speak of accesses outside blocks too
+covers_unguarded : (g : Setting) (o : EffectOwn) (a : Access) → HasNoMark o → Covers g o a → Covers g (marked false o) (unguarded a)
+covers_unguarded g (does e) a n c = record { includes = c.includes; writes = c.writes; guarded = λ z. absurd (false≢true z) }
+covers_unguarded g (uses k e) a n c = (
+  record { includes = c.0.includes; writes = c.0.writes; guarded = λ z. absurd (false≢true (sym n ∙ z)) },
+  λ x. (let t = c.1 x in record { array = t.array; index = t.index; from_first = t.from_first; below_last = t.below_last; place = t.place }),
+)
+
+pub lies_unguarded : (g : Setting) (E : List EffectOwn) (a : Access) → All HasNoMark E → LiesIn g E a → LiesIn g (after_branches Deterministic E) (unguarded a)
+lies_unguarded g [] a n h = h
+lies_unguarded g (o ∷ E) a n h = elim h [
+  | inl c ↦ inl (covers_unguarded g o a (All-head HasNoMark o E n) c)
+  | inr r ↦ inr (lies_unguarded g E a (All-tail HasNoMark o E n) r)
+]
+
+-- what is said of marks outside blocks alone
+pub outside_alone : {c d : Bool} → c ≡ false → c ≡ true → d ≡ true
+outside_alone n t = absurd (false≢true (sym n ∙ t))
 
 pub lies_branches : (forking : Forking) (g : Setting) (E : List EffectOwn) (a : Access) → LiesIn g E a → LiesIn g (after_branches forking E) a
 lies_branches Deterministic g E a h = lies_unmarked g E a h
@@ -224,9 +248,9 @@ module _ (P : PlainProgram) (b : Bounds) (st : State) (L : Scope) (good : GoodSc
   -- iterations are in order at their fork
   pub foreach_forks : (forking : Forking) {x : ℕ} {s : TypedStmt} {G : List EffectOwn} → IsFree L x → AllPass P (with_local x (constant int) (in_loop_branch L)) (more_stmts s no_stmts) G →
       iterations_clash L.given (atomic_for forking P L) x (as_effects G) ≡ false → All (λ o. PathInScope (with_local x (constant int) (in_loop_branch L)) 0 (effect_of o).rpl) G →
-      Within b st.entries g (outside_variable x (after_branches forking G)) → (start : ℤ) (n : ℕ) → n ≤ 2 ^ 32 →
+      All HasNoMark G → Within b st.entries g (outside_variable x (after_branches forking G)) → (start : ℤ) (n : ℕ) → n ≤ 2 ^ 32 →
       Forks P b st forking (iterations None x s f start 0 n)
-  foreach_forks forking {x} {s} {G} free p clash in_scope w start n few = record {
+  foreach_forks forking {x} {s} {G} free p clash in_scope plain w start n few = record {
     scope = λ i. with_local x (constant int) (in_loop_branch L);
     setting = λ i. with_number x (number_at i) g;
     effects = λ i. G;
@@ -240,9 +264,16 @@ module _ (P : PlainProgram) (b : Bounds) (st : State) (L : Scope) (good : GoodSc
           within = λ a gu l. w a gu (lies_general g x (number_at i) (with_local x (constant int) (in_loop_branch L)) (after_branches forking G) a
               (branches_scope forking) (lies_branches forking (with_number x (number_at i) g) G a l));
         });
-    apart = λ i j ne l m. iterations_quiet_of P forking L (with_local x (constant int) (in_loop_branch L)) g x (number_at i) (number_at j)
+    quiet = λ i j ne l m. iterations_quiet_of P forking L (with_local x (constant int) (in_loop_branch L)) g x (number_at i) (number_at j)
         (frame_env (iteration_frame x start i (0, 0) free)) ff.atomic (λ k d l. none_copied L (slice_index_or L.given k d) (good.given k d l)) G in_scope clash
         (λ e. ne (number_one start i j (small i l) (small j m) e));
+    unmarked = λ kind out i t e a l. w (unguarded a) (outside_alone out)
+        (subst (λ z. LiesIn g (outside_variable x (after_branches z G)) (unguarded a)) (sym kind)
+        (lies_general g x (number_at i) (with_local x (constant int) (in_loop_branch L)) (after_branches Deterministic G) (unguarded a) (branches_scope Deterministic)
+        (lies_unguarded (with_number x (number_at i) g) G a plain l)));
+    separate = λ kind i j ne l m. iterations_separate_of P forking L (with_local x (constant int) (in_loop_branch L)) g x (number_at i) (number_at j)
+        (frame_env (iteration_frame x start i (0, 0) free)) ff.atomic (λ k d l. none_copied L (slice_index_or L.given k d) (good.given k d l)) G in_scope clash
+        (λ e. ne (number_one start i j (small i l) (small j m) e)) kind;
   }
     where
       number_at : ℕ → ℤ

@@ -45,6 +45,7 @@ pub one_place : {P : PlainProgram} {b c : Bounds} {S : Shapes} {es fs : Run} {n 
 one_place {P = P} {n = n} {i = i} h k e =
     let s = same_some (h.grown n h.reaches.cell.shape h.reaches.cell.is) (k.grown n k.reaches.cell.shape k.reaches.cell.is) in
     record {
+      cells = (refl, refl);
       object = refl;
       index = refl;
       region = one_cell (subst (λ z. CellAt P z i h.reaches.cell.env h.reaches.cell.ty h.reaches.cell.rpl) s h.reaches.cell.cell) k.reaches.cell.cell
@@ -91,30 +92,34 @@ module _ (P : PlainProgram) (arg : ℤ) {N : ℕ} {R : Run} (l : Faithful (stepp
         is = o.is ∙ ap (λ (p : Path). Local (local_code (Made p o.count)).0 (local_code (Made p o.count)).1 ∷ o.rest) (sym (append_assoc o.below ((count f.before q, u.1) ∷ []) b.path));
       }
 
-  fork_of_event : (xs q : Path) (u : ℕ × ℕ) {Y : Run} {y : Event} → Upto (y ∷ Y) R → y.path ≡ xs ++ u ∷ q → ForkAt R q u
+  pub fork_of_event : (xs q : Path) (u : ℕ × ℕ) {Y : Run} {y : Event} → Upto (y ∷ Y) R → y.path ≡ xs ++ u ∷ q → ForkAt R q u
   fork_of_event xs q u h e = fork_upto (upto_tail h) (fork_above Q (stepped_disciplined P arg) xs q u l h e)
 
-  -- so it lies in what each branch above may do
-  lies_above : (xs q : Path) (u : ℕ × ℕ) {Y : Run} {y : Event} → Upto (y ∷ Y) R → y.path ≡ xs ++ u ∷ q → (a : Access) → Lies (s.keeping (xs ++ u ∷ q)).bounds a → Lies (s.keeping (u ∷ q)).bounds a
-  lies_above [] q u h e a k = k
-  lies_above (v ∷ xs) q u h e a k =
-      let f = fork_of_event [] (xs ++ u ∷ q) v h e in
-      lies_above xs q u f.stands f.path a (one_up (xs ++ u ∷ q) v f a k)
+  -- so it lies in what each task above may do
+  pub lies_up : (xs p : Path) {Y : Run} {y : Event} → Upto (y ∷ Y) R → y.path ≡ xs ++ p → (a : Access) → Lies (s.keeping (xs ++ p)).bounds a → Lies (s.keeping p).bounds a
+  lies_up [] p h e a k = k
+  lies_up (v ∷ xs) p h e a k =
+      let f = fork_of_event [] (xs ++ p) v h e in
+      lies_up xs p f.stands f.path a (one_up (xs ++ p) v f a k)
 
   -- a task that has made an event has its name
   pub path_of : (q : Path) {Y : Run} {y : Event} → Upto (y ∷ Y) R → y.path ≡ q → (s.keeping q).bounds.path ≡ q
   path_of q h e = (let a = follows_at Q h l in (s.tasks q a.task (subst (λ p. Begun Q R p a.task) e (begun_upto (upto_tail h) a.begun))).path)
 
   -- two accesses that meet do so as the fork of their branches lets them, and in no region that a task of these branches has made
-  pub record Met (p q : Path) (a c : Access) : Type 0 where
-    pub tasks : Branches
+  pub record Met (tasks : Branches) (p q : Path) (a c : Access) : Type 0 where
     pub calm : P.uses_nd ≡ false → tasks.kind ≡ Deterministic
     pub may : MayMeet P tasks.kind a c
     pub first_own : InOwnRegion p a.region → ⊥
     pub second_own : InOwnRegion q c.region → ⊥
 
-  pub met : {X Y : Run} {x y : Event} → Upto (x ∷ X) R → Upto (y ∷ Y) R → (n : Unordered x.path y.path) → (a c : Access) → Lies (s.keeping x.path).bounds a → Lies (s.keeping y.path).bounds c → Meet a c → Met (n.u ∷ n.above) (n.v ∷ n.above) a c
-  met {x = x} {y = y} hx hy n a c la lc m = both up_a.effects up_c.effects
+  -- what a task may do, or a local region of its own
+  abbrev pub LiesAt : Path → Access → Type 0
+  LiesAt p a = LiesIn (s.keeping p).bounds.setting (s.keeping p).bounds.effects a ⊎ InOwnRegion (s.keeping p).bounds.path a.region
+
+  pub met_at : {X Y : Run} {x y : Event} → (hx : Upto (x ∷ X) R) → Upto (y ∷ Y) R → (n : Unordered x.path y.path) → (a c : Access) → LiesAt (n.u ∷ n.above) a → LiesAt (n.v ∷ n.above) c → Meet a c →
+      Met (fork_of_event n.below_p n.above n.u hx n.p_is).tasks (n.u ∷ n.above) (n.v ∷ n.above) a c
+  met_at {x = x} {y = y} hx hy n a c la lc m = both up_a up_c
     where
       f : ForkAt R n.above n.u
       f = fork_of_event n.below_p n.above n.u hx n.p_is
@@ -143,20 +148,19 @@ module _ (P : PlainProgram) (arg : ℤ) {N : ℕ} {R : Run} (l : Faithful (stepp
       path_at : (w : ℕ × ℕ) → w.0 ≡ count f.before n.above → w ∷ n.above ≡ (count f.before n.above, w.1) ∷ b.path
       path_at w e = (let p = sym own_path in λ i. (e i, w.1) ∷ p i)
 
-      up_a : Lies (branch_kept (s.keeping n.above).bounds ok.state ok.forks (count f.before n.above) n.u.1).bounds a
-      up_a = subst (λ (k : Kept). Lies k.bounds a) (ap (λ z. s.keeping ((z, n.u.1) ∷ n.above)) (sym f.number) ∙ ok.kept n.u.1)
-          (lies_above n.below_p n.above n.u hx n.p_is a (subst (λ p. Lies (s.keeping p).bounds a) n.p_is la))
+      up_a : LiesIn (ok.forks.setting n.u.1) (ok.forks.effects n.u.1) a ⊎ InOwnRegion ((count f.before n.above, n.u.1) ∷ b.path) a.region
+      up_a = subst (λ (k : Kept). LiesIn k.bounds.setting k.bounds.effects a ⊎ InOwnRegion k.bounds.path a.region)
+          (ap (λ z. s.keeping ((z, n.u.1) ∷ n.above)) (sym f.number) ∙ ok.kept n.u.1) la
 
-      up_c : Lies (branch_kept (s.keeping n.above).bounds ok.state ok.forks (count f.before n.above) n.v.1).bounds c
-      up_c = subst (λ (k : Kept). Lies k.bounds c) (ap (λ z. s.keeping ((z, n.v.1) ∷ n.above)) (sym (f.number ∙ n.one_fork)) ∙ ok.kept n.v.1)
-          (lies_above n.below_q n.above n.v hy n.q_is c (subst (λ p. Lies (s.keeping p).bounds c) n.q_is lc))
+      up_c : LiesIn (ok.forks.setting n.v.1) (ok.forks.effects n.v.1) c ⊎ InOwnRegion ((count f.before n.above, n.v.1) ∷ b.path) c.region
+      up_c = subst (λ (k : Kept). LiesIn k.bounds.setting k.bounds.effects c ⊎ InOwnRegion k.bounds.path c.region)
+          (ap (λ z. s.keeping ((z, n.v.1) ∷ n.above)) (sym (f.number ∙ n.one_fork)) ∙ ok.kept n.v.1) lc
 
       both : LiesIn (ok.forks.setting n.u.1) (ok.forks.effects n.u.1) a ⊎ InOwnRegion ((count f.before n.above, n.u.1) ∷ b.path) a.region →
-          LiesIn (ok.forks.setting n.v.1) (ok.forks.effects n.v.1) c ⊎ InOwnRegion ((count f.before n.above, n.v.1) ∷ b.path) c.region → Met (n.u ∷ n.above) (n.v ∷ n.above) a c
+          LiesIn (ok.forks.setting n.v.1) (ok.forks.effects n.v.1) c ⊎ InOwnRegion ((count f.before n.above, n.v.1) ∷ b.path) c.region → Met (fork_of_event n.below_p n.above n.u hx n.p_is).tasks (n.u ∷ n.above) (n.v ∷ n.above) a c
       both (inl i) (inl j) = record {
-        tasks = f.tasks;
         calm = λ none. ok.calm.0 (inl none);
-        may = ok.forks.apart n.u.1 n.v.1 n.apart (slice_get_within f.tasks.tasks n.u.1 f.task f.is_there) (slice_get_within f.tasks.tasks n.v.1 g.task there) a c m i j;
+        may = ok.forks.quiet n.u.1 n.v.1 n.apart (slice_get_within f.tasks.tasks n.u.1 f.task f.is_there) (slice_get_within f.tasks.tasks n.v.1 g.task there) a c m i j;
         first_own = λ o. (let ff = (ok.forks.branch n.v.1 g.task there).fits 0 in
             own_not_spoken b.path (count f.before n.above, n.u.1) 0 n.v.1 (ok.forks.setting n.v.1) ff.plain ff.old (ok.forks.effects n.v.1) c
             (subst (InOwnRegion ((count f.before n.above, n.u.1) ∷ b.path)) m.region (subst (λ p. InOwnRegion p a.region) (path_at n.u (sym f.number)) o)) j);
@@ -174,6 +178,12 @@ module _ (P : PlainProgram) (arg : ℤ) {N : ℕ} {R : Run} (l : Faithful (stepp
           (subst (InOwnRegion ((count f.before n.above, n.u.1) ∷ b.path)) m.region i) j)
       both (inr i) (inr j) = absurd (own_differ b.path (count f.before n.above, n.u.1) (count f.before n.above, n.v.1) c.region n.apart
           (subst (InOwnRegion ((count f.before n.above, n.u.1) ∷ b.path)) m.region i) j)
+
+  pub met : {X Y : Run} {x y : Event} → (hx : Upto (x ∷ X) R) → Upto (y ∷ Y) R → (n : Unordered x.path y.path) → (a c : Access) → Lies (s.keeping x.path).bounds a → Lies (s.keeping y.path).bounds c → Meet a c →
+      Met (fork_of_event n.below_p n.above n.u hx n.p_is).tasks (n.u ∷ n.above) (n.v ∷ n.above) a c
+  met {x = x} {y = y} hx hy n a c la lc m = met_at hx hy n a c
+      (lies_up n.below_p (n.u ∷ n.above) hx n.p_is a (subst (λ p. Lies (s.keeping p).bounds a) n.p_is la)).effects
+      (lies_up n.below_q (n.v ∷ n.above) hy n.q_is c (subst (λ p. Lies (s.keeping p).bounds c) n.q_is lc)).effects m
 
   read_ok : {X : Run} {x : Event} → Upto (x ∷ X) R → (c : Cell) → Reads c x → Accessed P (s.keeping x.path).bounds s.shapes (mine X x.path) c.object (pos c.slot) false
   read_ok {X} {x} h c r = subst (λ z. EventOk P Q (s.keeping x.path) (branches_of P Q s.keeping x.path) s.shapes X x.path z) r.act (s.events x X h)
@@ -195,7 +205,8 @@ module _ (P : PlainProgram) (arg : ℤ) {N : ℕ} {R : Run} (l : Faithful (stepp
   clash_of hx hy (write_read c w r) = record { cell = c; left = true; right = false; first = write_ok hx c w; second = read_ok hy c r; write = refl }
   clash_of hx hy (write_write c v w) = record { cell = c; left = true; right = true; first = write_ok hx c v; second = write_ok hy c w; write = refl }
 
-  pub clash_met : {X Y : Run} {x y : Event} → Upto (x ∷ X) R → Upto (y ∷ Y) R → (n : Unordered x.path y.path) → (k : Clash X x Y y) → Met (n.u ∷ n.above) (n.v ∷ n.above) (access k.first) (access k.second)
+  pub clash_met : {X Y : Run} {x y : Event} → (hx : Upto (x ∷ X) R) → Upto (y ∷ Y) R → (n : Unordered x.path y.path) → (k : Clash X x Y y) →
+      Met (fork_of_event n.below_p n.above n.u hx n.p_is).tasks (n.u ∷ n.above) (n.v ∷ n.above) (access k.first) (access k.second)
   clash_met hx hy n k = met hx hy n (access k.first) (access k.second) (access_lies k.first) (access_lies k.second) (one_place k.first k.second k.write)
 
 -- so no legal run of a program without nd constructs has unordered conflicts

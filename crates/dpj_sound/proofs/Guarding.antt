@@ -6,7 +6,7 @@ use Rattle.dpj_typed.specs.declared.stmt.Forking.{Forking}
 use Rattle.dpj_typed.specs.declared.stmt.Forking.TheVariants.{Deterministic, Nondeterministic}
 use Rattle.dpj_typed.specs.Plain.{PlainProgram}
 use Rattle.dpj_moving.specs.Guarded.{InBlock, Barred, Guarded}
-use Rattle.dpj_runs.specs.Actions.{Program, Task, Enter}
+use Rattle.dpj_runs.specs.Actions.{Branches, Program, Task, Enter}
 use Rattle.dpj_runs.specs.Blocks.{Hold, Out_of, In_block, own_hold, hold}
 use Rattle.dpj_runs.specs.Objects.{Path, Name, Made, Effect}
 use Rattle.dpj_runs.specs.Order.{Unordered, Conflict}
@@ -44,7 +44,7 @@ outermost p E (F ∷ Es) a h =
     record { inner = suc r.inner; effects = r.effects; is = ap (own_hold (Enter E)) r.is; lies = r.lies }
 
 -- a region of a task is one of each task above
-own_further : (below p : Path) (a : Access) → InOwnRegion (below ++ p) a.region → InOwnRegion p a.region
+pub own_further : (below p : Path) (a : Access) → InOwnRegion (below ++ p) a.region → InOwnRegion p a.region
 own_further below p a o = record {
   below = o.below ++ below;
   count = o.count;
@@ -57,33 +57,33 @@ module _ (P : PlainProgram) (arg : ℤ) {N : ℕ} {R : Run} (l : Faithful (stepp
   Q = stepped P arg
 
   -- what a task was begun in, by its fork
-  above_fork : (q : Path) (u : ℕ × ℕ) (f : ForkAt R q u) → above R (u ∷ q) ≡ joined_by (above R q) q (hold_of (fork_sound P arg l s q u f).state.entries)
+  pub above_fork : (q : Path) (u : ℕ × ℕ) (f : ForkAt R q u) → above R (u ∷ q) ≡ joined_by (above R q) q (hold_of (fork_sound P arg l s q u f).state.entries)
   above_fork q u f =
       let m : first_of u.0 (mine R q) ≡ mine f.before q = subst (λ n. first_of n (mine R q) ≡ mine f.before q) f.number (first_is (upto_tail (mine_at q f.stands f.path))) in
       above_step R u q ∙ ap (λ es. joined_by (above R q) q (hold es)) m ∙ ap (joined_by (above R q) q) (fork_sound P arg l s q u f).held
 
-  record Parent (q : Path) (u : ℕ × ℕ) : Type 0 where
-    fork : ForkAt R q u
-    task : Task
-    begun : Begun Q R q task
+  pub record Parent (q : Path) (u : ℕ × ℕ) : Type 0 where
+    pub fork : ForkAt R q u
+    pub task : Task
+    pub begun : Begun Q R q task
 
-  parent : (q : Path) (u : ℕ × ℕ) (t : Task) → Begun Q R (u ∷ q) t → Parent q u
+  pub parent : (q : Path) (u : ℕ × ℕ) (t : Task) → Begun Q R (u ∷ q) t → Parent q u
   parent q u t b =
       let f = own_fork Q (stepped_disciplined P arg) (u ∷ q) q u b refl in
       let a = follows_at Q f.stands l in
       record { fork = f; task = a.task; begun = subst (λ p. Begun Q R p a.task) f.path (begun_upto (upto_tail f.stands) a.begun) }
 
   -- what a branch keeps to
-  kept_is : (q : Path) (u : ℕ × ℕ) (f : ForkAt R q u) →
+  pub kept_is : (q : Path) (u : ℕ × ℕ) (f : ForkAt R q u) →
       s.keeping (u ∷ q) ≡ branch_kept (s.keeping q).bounds (fork_sound P arg l s q u f).state (fork_sound P arg l s q u f).forks (count f.before q) u.1
   kept_is q u f = ap (λ n. s.keeping ((n, u.1) ∷ q)) (sym f.number) ∙ (fork_sound P arg l s q u f).kept u.1
 
-  none_entered : (Es : List (List Effect)) → is_entered Es ≡ false → hold_of Es ≡ Out_of
+  pub none_entered : (Es : List (List Effect)) → is_entered Es ≡ false → hold_of Es ≡ Out_of
   none_entered [] h = refl
   none_entered (E ∷ Es) h = absurd (false≢true (sym h))
 
   -- a task that began inside no block
-  outside_at : (p : Path) (t : Task) → Begun Q R p t → (s.keeping p).bounds.inside ≡ false → above R p ≡ Outside
+  pub outside_at : (p : Path) (t : Task) → Begun Q R p t → (s.keeping p).bounds.inside ≡ false → above R p ≡ Outside
   outside_at [] t b h = above_nil R
   outside_at (u ∷ q) t b h =
       let k = parent q u t b in
@@ -171,7 +171,7 @@ module _ (P : PlainProgram) (arg : ℤ) {N : ℕ} {R : Run} (l : Faithful (stepp
   inside_below (w ∷ xs) q o E h = above_step R w (xs ++ q) ∙ ap (λ z. joined_by z (xs ++ q) (hold (first_of w.0 (mine R (xs ++ q))))) (inside_below xs q o E h)
 
   -- and below one that wasn't, their blocks are opened there
-  opened_below : (xs q : Path) (h : Hold) (o : Path) (E : List Effect) → above R q ≡ Outside → joined_by (above R (xs ++ q)) (xs ++ q) h ≡ Inside o E → (ys : Path) × (o ≡ ys ++ q)
+  pub opened_below : (xs q : Path) (h : Hold) (o : Path) (E : List Effect) → above R q ≡ Outside → joined_by (above R (xs ++ q)) (xs ++ q) h ≡ Inside o E → (ys : Path) × (o ≡ ys ++ q)
   opened_below [] q h o E out e = by (joined_cases (above R q) q h o E e)
     where
       by : Joined_by (above R q) q h o E → (ys : Path) × (o ≡ ys ++ q)
@@ -188,9 +188,9 @@ module _ (P : PlainProgram) (arg : ℤ) {N : ℕ} {R : Run} (l : Faithful (stepp
   one_level : (q : Path) (u v : ℕ × ℕ) → u.0 ≡ v.0 → above R (u ∷ q) ≡ above R (v ∷ q)
   one_level q u v e = above_step R u q ∙ ap (λ n. joined_by (above R q) q (hold (first_of n (mine R q)))) e ∙ sym (above_step R v q)
 
-  guarded_pair : {X Y : Run} {x y : Event} → Upto (x ∷ X) R → Upto (y ∷ Y) R → (n : Unordered x.path y.path) → (k : Clash P arg l s X x Y y) → Met P arg l s (n.u ∷ n.above) (n.v ∷ n.above) (access k.first) (access k.second) →
+  guarded_pair : {X Y : Run} {x y : Event} → Upto (x ∷ X) R → Upto (y ∷ Y) R → (n : Unordered x.path y.path) → {ts : Branches} (k : Clash P arg l s X x Y y) → Met P arg l s ts (n.u ∷ n.above) (n.v ∷ n.above) (access k.first) (access k.second) →
       (access k.first).guarded ≡ true → (access k.second).guarded ≡ true → Guarded lets X x Y y
-  guarded_pair {X} {Y} {x} {y} hx hy n k m ga gc = record {
+  guarded_pair {X} {Y} {x} {y} hx hy n {ts} k m ga gc = record {
     former = a.block;
     latter = c.block;
     barred = λ differ. level (above R (n.u ∷ n.above)) refl differ;
@@ -230,9 +230,9 @@ module _ (P : PlainProgram) (arg : ℤ) {N : ℕ} {R : Run} (l : Faithful (stepp
           either true d h = or_right d true refl
           either false d h = or_left d false h
 
-  by_kind : {X Y : Run} {x y : Event} → Upto (x ∷ X) R → Upto (y ∷ Y) R → (n : Unordered x.path y.path) → (k : Clash P arg l s X x Y y) → Met P arg l s (n.u ∷ n.above) (n.v ∷ n.above) (access k.first) (access k.second) →
+  by_kind : {X Y : Run} {x y : Event} → Upto (x ∷ X) R → Upto (y ∷ Y) R → (n : Unordered x.path y.path) → {ts : Branches} (k : Clash P arg l s X x Y y) → Met P arg l s ts (n.u ∷ n.above) (n.v ∷ n.above) (access k.first) (access k.second) →
       Guarded lets X x Y y
-  by_kind {X} {Y} {x} {y} hx hy n k m = go m.tasks.kind m.may
+  by_kind {X} {Y} {x} {y} hx hy n {ts} k m = go ts.kind m.may
     where
       go : (f : Forking) → MayMeet P f (access k.first) (access k.second) → Guarded lets X x Y y
       go Deterministic h = absurd h

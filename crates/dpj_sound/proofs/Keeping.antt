@@ -29,4 +29,6 @@ runs_keep_to P wt arg small R l =
           record { state = ok.state; reaches = ok.reaches; grown = ok.grown });
       writes = λ y Y n i v u act. (let ok = subst (λ c. EventOk P Q (s.keeping y.path) (branches_of P Q s.keeping y.path) s.shapes Y y.path c) act (s.events y Y u) in
           record { state = ok.state; reaches = ok.reaches; grown = ok.grown });
+      entries = λ y Y E u act. (let ok = subst (λ c. EventOk P Q (s.keeping y.path) (branches_of P Q s.keeping y.path) s.shapes Y y.path c) act (s.events y Y u) in
+          record { state = ok.state; may = ok.may; grown = ok.grown });
     }

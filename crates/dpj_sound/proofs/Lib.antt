@@ -23,9 +23,11 @@ pub mod Free
 pub mod Guarding
 pub mod InEffects
 pub mod InScope
+pub mod Including
 pub mod Indices
 pub mod Ints
 pub mod Keeping
+pub mod Levels
 pub mod Locals
 pub mod Making
 pub mod Meeting
@@ -44,6 +46,7 @@ pub mod Small
 pub mod Sound
 pub mod Statements
 pub mod Tasks
+pub mod There
 pub mod Typed
 pub mod Types
 pub mod Uses

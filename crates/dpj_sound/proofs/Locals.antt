@@ -4,14 +4,8 @@ use Rattle.std.specs.Prelude.{All}
 use Rattle.std.proofs.lemmas.List.{length-set}
 use Rattle.std.proofs.lemmas.List.Elements.{All-head, All-tail}
 use Rattle.std.proofs.lemmas.Bool.{cases_Bool, eqb-true, eq-eqb, eqb-false, cond-true, cond-false, false_from_ne_true}
-use Rattle.dpj_base.specs.declared.elems.Elem.{Elem}
-use Rattle.dpj_base.specs.declared.elems.Elem.TheVariants.{Name, At, Any, Star, Local}
-use Rattle.dpj_base.specs.declared.elems.Index.TheVariants.{Literal, Variable, Renamed, Own}
-use Rattle.dpj_base.specs.declared.region.Head.{Head}
-use Rattle.dpj_base.specs.declared.region.Head.TheVariants.{Root, Param}
 use Rattle.dpj_base.specs.declared.region.Rpl.{Rpl}
 use Rattle.dpj_base.specs.declared.effect.Effect.{Effect}
-use Rattle.dpj_base.specs.Matching.{put_elem, head_region, Matches, with_index}
 use Rattle.dpj_base.specs.Regions.{generalised}
 use Rattle.dpj_base.specs.Types.{PlainType, int}
 use Rattle.dpj_typed.specs.Effects.{Own as EffectOwn, does, uses, effect_of, mapped, outside_variable}
@@ -21,14 +15,13 @@ use Rattle.dpj_typed.specs.Scope.{Local as ScopeLocal}
 use Rattle.dpj_typed.specs.Statements.{declared_as, IsFree}
 use Rattle.dpj_meaning.specs.Counts.{number, slot_value}
 use Rattle.dpj_meaning.specs.Statements.{with_value}
-use Rattle.dpj_regions.proofs.Reading.{matches_by_what_occurs}
-use Rattle.dpj_regions.proofs.Putting.{general_matches_more}
 use Rattle.dpj_runs.specs.Objects.{Path, Value}
 use Rattle.dpj_sound.specs.Settings.{with_number, Setting, env_of}
 use Rattle.dpj_sound.specs.Shapes.{Shapes, FitsIn}
 use Rattle.dpj_sound.specs.Accesses.{Access, Speaks, Covers, LiesIn}
 use Rattle.dpj_sound.specs.Frames.{Frame, State, LocalFits, FrameFits}
-use Rattle.dpj_sound.specs.Scopes.{InScope, PathInScope, TypeInScope, LocalInScope, GoodScope}
+use Rattle.dpj_sound.specs.Scopes.{PathInScope, TypeInScope, LocalInScope, GoodScope}
+use Rattle.dpj_sound.proofs.Including.{includes_general}
 use Rattle.dpj_sound.proofs.Wider.{Wider, wider_path, wider_type, wider_local}
 use Rattle.dpj_sound.proofs.Alike.{Alike, setting_back, setting_alike, alike_holds, fits_alike, local_alike, set_other, set_same, local_kept}
 
@@ -210,30 +203,8 @@ frame_leave P p st g L good f x l k n ff = record {
 
 -- what effects speak of where the variable has its number they speak of outside, where it may be any
 
-put_number : (g : Setting) (x : ℕ) (k : ℤ) (L : Scope) (D : ℕ) (y : Elem) → InScope L D y →
-    put_elem (env_of (with_number x k g)) y ≡ put_elem (with_index (env_of g) x k) y
-put_number g x k L D (Name m) s = refl
-put_number g x k L D (At (Literal j)) s = refl
-put_number g x k L D (At (Variable y)) s = refl
-put_number g x k L D (At (Renamed y)) s = absurd s
-put_number g x k L D (At (Own d)) s = refl
-put_number g x k L D Any s = refl
-put_number g x k L D Star s = refl
-put_number g x k L D (Local r m) s = refl
-
-head_number : (g : Setting) (x : ℕ) (k : ℤ) (h : Head) → head_region (env_of (with_number x k g)) h ≡ head_region (with_index (env_of g) x k) h
-head_number g x k Root = refl
-head_number g x k (Param p) = refl
-
-general_matches : (g : Setting) (x : ℕ) (k : ℤ) (L : Scope) (a : Rpl) → PathInScope L 0 a → (r : List Elem) → Matches (env_of (with_number x k g)) a r →
-    Matches (env_of g) (generalised x a) r
-general_matches g x k L a s r m =
-    general_matches_more (env_of g) a x k r
-    ((matches_by_what_occurs (env_of (with_number x k g)) (with_index (env_of g) x k) a
-    (record { head = head_number g x k a.head; elems = λ j d l. put_number g x k L 0 _ (s j d l) }) r).0 m)
-
 speaks_general : (g : Setting) (x : ℕ) (k : ℤ) (L : Scope) (e : Effect) (a : Access) → PathInScope L 0 e.rpl → Speaks (with_number x k g) e a → Speaks g (record e { rpl = generalised x e.rpl }) a
-speaks_general g x k L e a s h = record { matches = general_matches g x k L e.rpl s a.region h.matches; writes = h.writes; guarded = h.guarded }
+speaks_general g x k L e a s h = record { includes = includes_general g x k L e.rpl s a.region h.includes; writes = h.writes; guarded = h.guarded }
 
 covers_general : (g : Setting) (x : ℕ) (k : ℤ) (L : Scope) (o : EffectOwn) (a : Access) → PathInScope L 0 (effect_of o).rpl → Covers (with_number x k g) o a →
     Covers g (mapped (λ e. record e { rpl = generalised x e.rpl }) o) a

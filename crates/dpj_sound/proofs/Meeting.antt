@@ -1,20 +1,22 @@
 -- Accesses of two branches of one fork meet only as the fork lets them: what a task does lies in the effects of each branch above it,
 -- or in a local region of its own.
-use Rattle.std.proofs.Common.{◌≡◌, ◌≢◌, ◌<◌, ◌⊎◌, inl, inr, ℕ, zero, suc, true, List, [], ◌∷◌, ◌++◌, length, refl, sym, ap, ◌∙◌, subst, arith, length-append}
+use Rattle.std.proofs.Common.{◌≡◌, ◌≢◌, ◌<◌, ◌⊎◌, inl, inr, ℕ, zero, suc, true, List, [], ◌∷◌, ◌++◌, map, length, refl, sym, ap, ◌∙◌, subst, arith, length-append}
 use Rattle.std.proofs.lemmas.Bool.{and_parts, false≢true}
 use Rattle.dpj_base.specs.declared.elems.Elem.{Elem}
 use Rattle.dpj_base.specs.declared.elems.Elem.TheVariants.{Name, At, Any, Star, Local}
 use Rattle.dpj_base.specs.declared.region.Head.{Head}
 use Rattle.dpj_base.specs.declared.region.Head.TheVariants.{Root, Param}
 use Rattle.dpj_base.specs.declared.region.Rpl.{Rpl}
-use Rattle.dpj_base.specs.declared.elems.Index.TheVariants.{Literal}
-use Rattle.dpj_base.specs.Matching.{number_of, is_plain, all_plain, Fits, FitsAll, Matches, head_region}
+use Rattle.dpj_base.specs.Matching.{is_plain, all_plain, put_elem, head_region}
+use Rattle.dpj_base.specs.Regions.{is_local, elem_within}
+use Rattle.dpj_regions.proofs.Inclusion.{Covers, none, one, stop, skip}
 use Rattle.dpj_typed.specs.Effects.{Own as EffectOwn, does, uses}
 use Rattle.dpj_runs.specs.Objects.{Path, LocalRegion, Made}
 use Rattle.dpj_sound.specs.Settings.{Setting, env_of, local_code, local_in, ArePlain}
-use Rattle.dpj_sound.specs.Accesses.{Access, LiesIn, InOwnRegion}
+use Rattle.dpj_sound.specs.Accesses.{Access, Includes, LiesIn, InOwnRegion}
 use Rattle.dpj_sound.specs.Frames.{IsOld}
 use Rattle.dpj_sound.proofs.Codes.{code_one, even_code}
+use Rattle.dpj_sound.proofs.Including.{covers_of, local_within}
 
 -- a region that begins with a local region
 abbrev pub begins : LocalRegion → List Elem → List Elem
@@ -26,8 +28,20 @@ same_begin l m r q e =
     let b : (local_code l).1 ≡ (local_code m).1 = cc in
     code_one l m (λ i. (a i, b i))
 
-no_local : (y : Elem) (p : List Elem) (l : LocalRegion) → all_plain (y ∷ p) ≡ true → y ≡ Local (local_code l).0 (local_code l).1 → ⊥
-no_local y p l h e = false≢true (and_parts (is_plain (Local (local_code l).0 (local_code l).1)) (all_plain p) (subst (λ z. all_plain (z ∷ p) ≡ true) e h)).0
+-- where a name or a number is to stand first
+plain_not_local : (a b : ℕ) (y : Elem) → is_plain y ≡ true → elem_within (Local a b) y ≡ true → ⊥
+plain_not_local a b (Name n) h w = false≢true w
+plain_not_local a b (At i) h w = false≢true w
+plain_not_local a b Any h w = false≢true h
+plain_not_local a b Star h w = false≢true h
+plain_not_local a b (Local c d) h w = false≢true h
+
+plain_first : (y : Elem) (l : LocalRegion) (b r rest : List Elem) → is_plain y ≡ true → r ≡ begins l rest → Covers (y ∷ b) r → ⊥
+plain_first y l b r rest h e (one {x = z} w s c) =
+    let v : z ≡ Local (local_code l).0 (local_code l).1 = cc in
+    plain_not_local (local_code l).0 (local_code l).1 y h (subst (λ t. elem_within t y ≡ true) v w)
+plain_first y l b r rest h e (stop c) = false≢true h
+plain_first y l b r rest h e (skip n c) = false≢true h
 
 local_is : (made : ℕ → LocalRegion) (a b : ℕ) (q : Path) (k : ℕ) → local_in made a b ≡ local_code (Made q k) → (r : ℕ) × (made r ≡ Made q k)
 local_is made a zero q k e = (a, code_one (made a) (Made q k) e)
@@ -37,42 +51,51 @@ module _ (g : Setting) (plain : ArePlain g.regions) (q : Path) (k : ℕ) where
   abbrev InScopeOf : Type 0
   InScopeOf = (r : ℕ) × (g.made r ≡ Made q k)
 
-  fits_local : (xs r rest : List Elem) → r ≡ begins (Made q k) rest → FitsAll (env_of g) xs r → InScopeOf
-  fits_local [] r rest e f = absurd (let z : begins (Made q k) rest ≡ [] = sym e ∙ f in cc)
-  fits_local (x ∷ xs) r rest e f = piece (λ e t. fits_local xs f.1 rest e t) x f.0 f.3 (sym f.2 ∙ e) f.4
-    where
-      piece : (f.1 ≡ begins (Made q k) rest → FitsAll (env_of g) xs f.1 → InScopeOf) → (x : Elem) (p : List Elem) → Fits (env_of g) x p → p ++ f.1 ≡ begins (Made q k) rest → FitsAll (env_of g) xs f.1 → InScopeOf
-      piece rec (Name n) p h e t = absurd (let z : Name n ∷ f.1 ≡ begins (Made q k) rest = ap (λ y. y ++ f.1) (sym h) ∙ e in cc)
-      piece rec (At i) p h e t = absurd (let z : At (Literal (number_of (env_of g) i)) ∷ f.1 ≡ begins (Made q k) rest = ap (λ y. y ++ f.1) (sym h) ∙ e in cc)
-      piece rec Any p h e t = absurd (let z : At (Literal h.0) ∷ f.1 ≡ begins (Made q k) rest = ap (λ y. y ++ f.1) (sym h.1) ∙ e in cc)
-      piece rec Star [] h e t = rec e t
-      piece rec Star (y ∷ p) h e t = absurd (no_local y p (Made q k) h (let z : y ≡ Local (local_code (Made q k)).0 (local_code (Made q k)).1 = cc in z))
-      piece rec (Local a b) p h e t =
-          let z : Local (local_in g.made a b).0 (local_in g.made a b).1 ∷ f.1 ≡ begins (Made q k) rest = ap (λ y. y ++ f.1) (sym h) ∙ e in
-          let c : (local_in g.made a b).0 ≡ (local_code (Made q k)).0 = cc in
-          let d : (local_in g.made a b).1 ≡ (local_code (Made q k)).1 = cc in
-          local_is g.made a b q k (λ i. (c i, d i))
+  elem_local : (x : Elem) → elem_within (Local (local_code (Made q k)).0 (local_code (Made q k)).1) (put_elem (env_of g) x) ≡ true → InScopeOf
+  elem_local (Name n) h = absurd (false≢true h)
+  elem_local (At i) h = absurd (false≢true h)
+  elem_local Any h = absurd (false≢true h)
+  elem_local Star h = absurd (false≢true h)
+  elem_local (Local a b) h =
+      let z : Local (local_code (Made q k)).0 (local_code (Made q k)).1 ≡ Local (local_in g.made a b).0 (local_in g.made a b).1 =
+      local_within (Local (local_code (Made q k)).0 (local_code (Made q k)).1) (Local (local_in g.made a b).0 (local_in g.made a b).1) refl h in
+      let c : (local_in g.made a b).0 ≡ (local_code (Made q k)).0 = cc in
+      let d : (local_in g.made a b).1 ≡ (local_code (Made q k)).1 = cc in
+      local_is g.made a b q k (λ i. (c i, d i))
 
-  -- only a path that names it matches a region that begins with it
-  matches_local : (a : Rpl) (r rest : List Elem) → r ≡ begins (Made q k) rest → Matches (env_of g) a r → InScopeOf
-  unfolding Matches
-  matches_local a r rest e m = go (head_region (env_of g) a.head) (headed a.head) (sym m.1 ∙ e)
+  covers_local : (xs bs r rest : List Elem) → bs ≡ map (put_elem (env_of g)) xs → r ≡ begins (Made q k) rest → Covers bs r → InScopeOf
+  covers_local [] bs r rest b e none = absurd (let z : [] ≡ begins (Made q k) rest = e in cc)
+  covers_local (x ∷ xs) bs r rest b e none = absurd (let z : [] ≡ put_elem (env_of g) x ∷ map (put_elem (env_of g)) xs = b in cc)
+  covers_local [] bs r rest b e (one w s c) = absurd (cc)
+  covers_local (x ∷ xs) bs r rest b e (one {y = y} {x = z} w s c) =
+      let u : y ≡ put_elem (env_of g) x = cc in
+      let v : z ≡ Local (local_code (Made q k)).0 (local_code (Made q k)).1 = cc in
+      elem_local x (subst (λ t. elem_within t (put_elem (env_of g) x) ≡ true) v (subst (λ t. elem_within z t ≡ true) u w))
+  covers_local [] bs r rest b e (stop c) = absurd (cc)
+  covers_local (x ∷ xs) bs r rest b e (stop {b = bs'} c) = covers_local xs bs' r rest (cc) e c
+  covers_local xs bs r rest b e (skip {x = z} l c) =
+      let v : z ≡ Local (local_code (Made q k)).0 (local_code (Made q k)).1 = cc in
+      absurd (false≢true (sym l ∙ ap is_local v))
+
+  -- only a path that names it includes a region that begins with it
+  includes_local : (a : Rpl) (r rest : List Elem) → r ≡ begins (Made q k) rest → Includes (env_of g) a r → InScopeOf
+  includes_local a r rest e m = go (head_region (env_of g) a.head) (headed a.head) (covers_of (env_of g) a r m)
     where
       headed : (h : Head) → all_plain (head_region (env_of g) h) ≡ true
       headed Root = refl
       headed (Param p) = plain p
 
-      go : (h : List Elem) → all_plain h ≡ true → h ++ m.0 ≡ begins (Made q k) rest → InScopeOf
-      go [] hp e = fits_local a.elems m.0 rest e m.2
-      go (y ∷ h) hp e = absurd (no_local y h (Made q k) hp (let z : y ≡ Local (local_code (Made q k)).0 (local_code (Made q k)).1 = cc in z))
+      go : (h : List Elem) → all_plain h ≡ true → Covers (h ++ map (put_elem (env_of g)) a.elems) r → InScopeOf
+      go [] hp c = covers_local a.elems _ r rest refl e c
+      go (y ∷ h) hp c = absurd (plain_first y (Made q k) (h ++ map (put_elem (env_of g)) a.elems) r rest (and_parts (is_plain y) (all_plain h) hp).0 e c)
 
   pub lies_local : (E : List EffectOwn) (c : Access) (rest : List Elem) → c.region ≡ begins (Made q k) rest → LiesIn g E c → InScopeOf
   lies_local [] c rest e h = absurd h
-  lies_local (does x ∷ E) c rest e h = elim h [ inl s ↦ matches_local x.rpl c.region rest e s.matches | inr t ↦ lies_local E c rest e t ]
-  lies_local (uses j x ∷ E) c rest e h = elim h [ inl s ↦ matches_local x.rpl c.region rest e s.0.matches | inr t ↦ lies_local E c rest e t ]
+  lies_local (does x ∷ E) c rest e h = elim h [ inl s ↦ includes_local x.rpl c.region rest e s.includes | inr t ↦ lies_local E c rest e t ]
+  lies_local (uses j x ∷ E) c rest e h = elim h [ inl s ↦ includes_local x.rpl c.region rest e s.0.includes | inr t ↦ lies_local E c rest e t ]
 
 -- two paths through two branches
-tails_differ : (xs ys z : Path) (u v : ℕ × ℕ) → xs ++ u ∷ z ≡ ys ++ v ∷ z → u ≡ v
+pub tails_differ : (xs ys z : Path) (u v : ℕ × ℕ) → xs ++ u ∷ z ≡ ys ++ v ∷ z → u ≡ v
 tails_differ [] [] z u v e = cc
 tails_differ [] (y ∷ ys) z u v e = let n = ap length e in let m = length-append ys (v ∷ z) in absurd (omega (arith, n, m))
 tails_differ (x ∷ xs) [] z u v e = let n = ap length e in let m = length-append xs (u ∷ z) in absurd (omega (arith, n, m))

@@ -9,9 +9,10 @@ use Rattle.std.proofs.lemmas.Bool.{eqb-true, eq-eqb, cond-true, cond-false, or_l
 use Rattle.dpj_base.specs.declared.effect.Effect.{Effect}
 use Rattle.dpj_base.specs.declared.region.Rpl.{Rpl}
 use Rattle.dpj_base.specs.Branches.{lists_clash, iterations_clash}
-use Rattle.dpj_base.specs.Matching.{Env, IsEnv, Matches}
+use Rattle.dpj_base.specs.Matching.{Env, IsEnv}
 use Rattle.dpj_base.specs.Types.{PlainType, int, array, has_index, mentions_index}
-use Rattle.dpj_typed.specs.declared.stmt.Forking.TheVariants.{Deterministic}
+use Rattle.dpj_typed.specs.declared.stmt.Forking.{Forking}
+use Rattle.dpj_typed.specs.declared.stmt.Forking.TheVariants.{Deterministic, Nondeterministic}
 use Rattle.dpj_typed.specs.Effects.{Own as EffectOwn, does, uses, effect_of, as_effects, is_through, through_part, besides_part, handed_on, own_after, after_parts, after_branches, outside_variable, marked}
 use Rattle.dpj_typed.specs.Plain.{PlainProgram, Source, of_array, of_part, TypedStmt, more_stmts, no_stmts}
 use Rattle.dpj_typed.specs.Scope.{Scope, part, in_loop_branch}
@@ -21,12 +22,12 @@ use Rattle.dpj_meaning.specs.Statements.{branch_of, iterations, numbered_frame, 
 use Rattle.dpj_runs.specs.Objects.{Value, Int}
 use Rattle.dpj_sound.specs.Settings.{Places, Setting, env_of, with_number}
 use Rattle.dpj_sound.specs.Shapes.{FitsIn}
-use Rattle.dpj_sound.specs.Accesses.{Access, Speaks, Through, Covers, LiesIn, Bounds, Within}
+use Rattle.dpj_sound.specs.Accesses.{Access, unguarded, Includes, Speaks, Through, Covers, LiesIn, Bounds, Within}
 use Rattle.dpj_sound.specs.Branches.{Meet, Quiet, BranchFits, Forks}
 use Rattle.dpj_sound.specs.Frames.{Frame, State, FrameFits}
 use Rattle.dpj_sound.specs.Scopes.{PathInScope, TypeInScope, GoodScope}
-use Rattle.dpj_sound.proofs.Alike.{setting_back, setting_alike, alike_matches, set_other, set_same}
-use Rattle.dpj_sound.proofs.Forks.{good_loop, loop_wider, frame_loop, frame_below, begin_of, iteration_at, iterations_length, lies_branches, none_copied}
+use Rattle.dpj_sound.proofs.Alike.{setting_back, setting_alike, alike_includes, set_other, set_same}
+use Rattle.dpj_sound.proofs.Forks.{good_loop, loop_wider, frame_loop, frame_below, begin_of, iteration_at, iterations_length, HasNoMark, lies_branches, lies_unguarded, outside_alone, none_copied}
 use Rattle.dpj_sound.proofs.Frames.{frame_env}
 use Rattle.dpj_sound.proofs.InScope.{out_path}
 use Rattle.dpj_sound.proofs.Locals.{frame_outside, number_alike, lies_general}
@@ -35,11 +36,11 @@ use Rattle.dpj_sound.proofs.Numbers.{number_one}
 use Rattle.dpj_sound.proofs.Parts.{with_places, good_part, frame_part}
 use Rattle.dpj_sound.proofs.Places.{taken, part_fits, in_whole, parts_apart}
 use Rattle.dpj_sound.proofs.Quiet.{Reaches, lists_quiet, reached_same, iterations_quiet}
-use Rattle.dpj_sound.proofs.Uses.{UsesPart, own_part, free_in_branch}
+use Rattle.dpj_sound.proofs.Uses.{UsesPart, without_marks, own_part, free_in_branch}
 use Rattle.dpj_sound.proofs.Wider.{wider_type}
 
 meet_back : {a c : Access} → Meet a c → Meet c a
-meet_back {a} {c} m = record { object = sym m.object; index = sym m.index; region = sym m.region; write = either a.write c.write m.write }
+meet_back {a} {c} m = record { cells = (m.cells.1, m.cells.0); object = sym m.object; index = sym m.index; region = sym m.region; write = either a.write c.write m.write }
   where
     either : (x y : Bool) → (x || y) ≡ true → (y || x) ≡ true
     either true y h = or_right y true refl
@@ -55,6 +56,10 @@ filter_all Q p (x ∷ xs) h = kept (filter_all Q p xs (All-tail Q x xs h)) (p x)
 
 -- an access that effects speak of inside is through the branch's own part, or these effects speak of it where the part is left aside
 module _ (k : ℕ) (g : Setting) (n : ℤ) (pl : Places) (a : Access) where
+  -- what is said of cells alone
+  abbrev OfCell : Type 0 → Type 0
+  OfCell C = a.of_cell ≡ true → C
+
   besides : EffectOwn → Bool
   besides o = not (is_through k o)
 
@@ -67,28 +72,28 @@ module _ (k : ℕ) (g : Setting) (n : ℤ) (pl : Places) (a : Access) where
 
   -- paths mean the same with the part and without
   speaks_same : (e : Effect) → Speaks (with_number (k + 4) n (with_places k pl g)) e a → Speaks (with_number (k + 4) n g) e a
-  speaks_same e s = record { matches = s.matches; writes = s.writes; guarded = s.guarded }
+  speaks_same e s = record { includes = s.includes; writes = s.writes; guarded = s.guarded }
 
   abbrev Split : List EffectOwn → Type 0
   Split E = LiesIn (with_number (k + 4) n g) (filter (λ o. not (is_through k o)) E) a
-      ⊎ (Reaches (env_of (with_number (k + 4) n g)) (through_part k E) a × Through pl a)
+      ⊎ (Reaches (env_of (with_number (k + 4) n g)) (through_part k E) a × OfCell (Through pl a))
 
   split_more : (o : EffectOwn) (E : List EffectOwn) → Split E → Split (o ∷ E)
   split_more o E h = go (is_through k o)
     where
       go : (c : Bool) → LiesIn (with_number (k + 4) n g) (cond (not c) (o ∷ filter (λ o. not (is_through k o)) E) (filter (λ o. not (is_through k o)) E)) a
-          ⊎ (Reaches (env_of (with_number (k + 4) n g)) (as_effects (cond c (o ∷ filter (is_through k) E) (filter (is_through k) E))) a × Through pl a)
+          ⊎ (Reaches (env_of (with_number (k + 4) n g)) (as_effects (cond c (o ∷ filter (is_through k) E) (filter (is_through k) E))) a × OfCell (Through pl a))
       go true = elim h [ inl l ↦ inl l | inr r ↦ inr (inr r.0, r.1) ]
       go false = elim h [ inl l ↦ inl (inr l) | inr r ↦ inr r ]
 
-  split_use : (j : ℕ) (e : Effect) (E : List EffectOwn) → Speaks (with_number (k + 4) n g) e a → Through ((with_places k pl g).part j) a → Split (uses j e ∷ E)
+  split_use : (j : ℕ) (e : Effect) (E : List EffectOwn) → Speaks (with_number (k + 4) n g) e a → OfCell (Through ((with_places k pl g).part j) a) → Split (uses j e ∷ E)
   split_use j e E s h = go (j == k) refl
     where
       go : (c : Bool) → (j == k) ≡ c →
           LiesIn (with_number (k + 4) n g) (cond (not c) (uses j e ∷ filter (λ o. not (is_through k o)) E) (filter (λ o. not (is_through k o)) E)) a
-          ⊎ (Reaches (env_of (with_number (k + 4) n g)) (as_effects (cond c (uses j e ∷ filter (is_through k) E) (filter (is_through k) E))) a × Through pl a)
-      go true q = inr (inl (s.matches, s.writes, s.guarded), through_it j q h)
-      go false q = inl (inl (s, through_other j q h))
+          ⊎ (Reaches (env_of (with_number (k + 4) n g)) (as_effects (cond c (uses j e ∷ filter (is_through k) E) (filter (is_through k) E))) a × OfCell (Through pl a))
+      go true q = inr (inl (s.includes, s.writes, s.guarded), λ c. through_it j q (h c))
+      go false q = inl (inl (s, λ c. through_other j q (h c)))
 
   lies_split : (E : List EffectOwn) → LiesIn (with_number (k + 4) n (with_places k pl g)) E a → Split E
   lies_split [] h = absurd h
@@ -102,15 +107,15 @@ module _ (k : ℕ) (g : Setting) (n : ℤ) (pl : Places) (a : Access) where
   lies_after source up (does e ∷ E) h = elim h [ inl c ↦ inl (speaks_same e c) | inr r ↦ inr (lies_after source up E r) ]
   lies_after source up (uses j e ∷ E) h = elim h [ inl c ↦ inl (one (j == k) refl (speaks_same e c.0) c.1) | inr r ↦ inr (lies_after source up E r) ]
     where
-      handed : (s : Source) → ((i : ℕ) → s ≡ of_part i → Through pl a → Through (g.part i) a) → Speaks (with_number (k + 4) n g) e a → Through pl a →
+      handed : (s : Source) → ((i : ℕ) → s ≡ of_part i → Through pl a → Through (g.part i) a) → Speaks (with_number (k + 4) n g) e a → OfCell (Through pl a) →
           Covers (with_number (k + 4) n g) (handed_on s e) a
       handed (of_array x) up s t = s
-      handed (of_part i) up s t = (s, up i refl t)
+      handed (of_part i) up s t = (s, λ c. up i refl (t c))
 
-      one : (c : Bool) → (j == k) ≡ c → Speaks (with_number (k + 4) n g) e a → Through ((with_places k pl g).part j) a →
+      one : (c : Bool) → (j == k) ≡ c → Speaks (with_number (k + 4) n g) e a → OfCell (Through ((with_places k pl g).part j) a) →
           Covers (with_number (k + 4) n g) (cond c (handed_on source e) (uses j e)) a
-      one true q s t = handed source up s (through_it j q t)
-      one false q s t = (s, through_other j q t)
+      one true q s t = handed source up s (λ c. through_it j q (t c))
+      one false q s t = (s, λ c. through_other j q (t c))
 
 module _ (P : PlainProgram) (b : Bounds) (st : State) (L : Scope) (good : GoodScope L) (g : Setting) (f : Frame) (ff : FrameFits P b.path st g L f)
     (k : ℕ) (t : PlainType) (a : Rpl) (free : (i : ℕ) → i < 5 → IsFree L (k + i)) (s : TypeInScope L 0 (array t a false)) where
@@ -245,10 +250,10 @@ module _ (P : PlainProgram) (b : Bounds) (st : State) (L : Scope) (good : GoodSc
     env_at : ℤ → Env
     env_at n = env_of (with_number (k + 4) n g)
 
-    moves : (n m : ℤ) (r : List _) → Matches (env_of (with_number (k + 4) n g)) a r → Matches (env_of (with_number (k + 4) m g)) a r
+    moves : (n m : ℤ) (r : List _) → Includes (env_of (with_number (k + 4) n g)) a r → Includes (env_of (with_number (k + 4) m g)) a r
     moves n m r h =
-        alike_matches (in_loop_branch L) 0 (env_of g) (env_of (with_number (k + 4) m g)) (setting_alike (number_alike (in_loop_branch L) g (k + 4) m (loop_free 4 (omega arith)).0)) a path_outside r
-        (alike_matches (in_loop_branch L) 0 (env_of (with_number (k + 4) n g)) (env_of g)
+        alike_includes (in_loop_branch L) 0 (env_of g) (env_of (with_number (k + 4) m g)) (setting_alike (number_alike (in_loop_branch L) g (k + 4) m (loop_free 4 (omega arith)).0)) a path_outside r
+        (alike_includes (in_loop_branch L) 0 (env_of (with_number (k + 4) n g)) (env_of g)
         (setting_alike (setting_back (number_alike (in_loop_branch L) g (k + 4) n (loop_free 4 (omega arith)).0))) a path_outside r h)
 
     through_moves : (n m : ℤ) (c : Access) (E : List EffectOwn) → All (UsesPart (with_part k t a (in_loop_branch L))) E →
@@ -259,8 +264,8 @@ module _ (P : PlainProgram) (b : Bounds) (st : State) (L : Scope) (good : GoodSc
         one (j == k) refl (All-head (UsesPart (with_part k t a (in_loop_branch L))) (uses j e) E us)
         (through_moves n m c E (All-tail (UsesPart (with_part k t a (in_loop_branch L))) (uses j e) E us)) h
       where
-        moved : e.rpl ≡ a → Matches (env_of (with_number (k + 4) n g)) e.rpl c.region → Matches (env_of (with_number (k + 4) m g)) e.rpl c.region
-        moved q h = subst (λ z. Matches (env_of (with_number (k + 4) m g)) z c.region) (sym q) (moves n m c.region (subst (λ z. Matches (env_of (with_number (k + 4) n g)) z c.region) q h))
+        moved : e.rpl ≡ a → Includes (env_of (with_number (k + 4) n g)) e.rpl c.region → Includes (env_of (with_number (k + 4) m g)) e.rpl c.region
+        moved q h = subst (λ z. Includes (env_of (with_number (k + 4) m g)) z c.region) (sym q) (moves n m c.region (subst (λ z. Includes (env_of (with_number (k + 4) n g)) z c.region) q h))
 
         one : (d : Bool) → (j == k) ≡ d → UsesPart (with_part k t a (in_loop_branch L)) (uses j e) →
             (Reaches (env_of (with_number (k + 4) n g)) (through_part k E) c → Reaches (env_of (with_number (k + 4) m g)) (through_part k E) c) →
@@ -292,7 +297,7 @@ module _ (P : PlainProgram) (b : Bounds) (st : State) (L : Scope) (good : GoodSc
           both (inr hx) (inl hy) = lists_quiet L.given None (env_of (with_number (k + 4) (number_at j) g)) (is_env j) tt y x (meet_back meet) (besides_part k G) (through_part k G) apart
               (reached_same (with_number (k + 4) (number_at j) g) y (filter (λ o. not (is_through k o)) G) hy) (through_moves (number_at i) (number_at j) x G us hx.0)
           both (inr hx) (inr hy) = parts_apart (slot_value f.values k) (number (slot_value f.values (k + 1))) (number (slot_value f.values (k + 2))) (number (slot_value f.values (k + 3)))
-              (number_at i) (number_at j) x y hx.1 hy.1 ne len_fits meet.index
+              (number_at i) (number_at j) x y (hx.1 meet.cells.0) (hy.1 meet.cells.1) ne len_fits meet.index
 
       marked_scope : (E : List EffectOwn) → All (λ o. PathInScope (with_part k t a (in_loop_branch L)) 0 (effect_of o).rpl) E →
           All (λ o. PathInScope (with_part k t a (in_loop_branch L)) 0 (effect_of o).rpl) (map (marked false) E)
@@ -316,6 +321,21 @@ module _ (P : PlainProgram) (b : Bounds) (st : State) (L : Scope) (good : GoodSc
           one true o h = handed source (effect_of o) h
           one false o h = h
 
+      no_marks_after : (source : Source) (E : List EffectOwn) → All HasNoMark E → All HasNoMark (after_parts k source E)
+      no_marks_after source E h = All-map HasNoMark (own_after k source) E (λ q d l. one (slice_index_or E q d) (h q d l))
+        where
+          handed : (s : Source) (e : Effect) → e.atomic ≡ false → HasNoMark (handed_on s e)
+          handed (of_array x) e h = tt
+          handed (of_part i) e h = h
+
+          picked : (c : Bool) (j : ℕ) (e : Effect) → e.atomic ≡ false → HasNoMark (cond c (handed_on source e) (uses j e))
+          picked true j e h = handed source e h
+          picked false j e h = h
+
+          one : (o : EffectOwn) → HasNoMark o → HasNoMark (own_after k source o)
+          one (does e) h = tt
+          one (uses j e) h = picked (j == k) j e h
+
       -- the branches are in order at their fork
       pub parts_forks : (source : Source) → ((j : ℕ) → source ≡ of_part j →
           g.part j ≡ record { array = slot_value f.values k; first = number (slot_value f.values (k + 1)); len = number (slot_value f.values (k + 2)) }) →
@@ -333,14 +353,23 @@ module _ (P : PlainProgram) (b : Bounds) (st : State) (L : Scope) (good : GoodSc
               scope = good_parts;
               fits = λ u. branch_frame i (u, i);
               copies = λ q d l. absurd (omega (arith, l));
-              within = λ c gu l. w c gu (lies_general g (k + 4) (number_at i) (with_part k t a (in_loop_branch L)) (after_branches Deterministic (after_parts k source G)) c
-                  (marked_scope (after_parts k source G) (after_scope source G in_scope))
-                  (lies_branches Deterministic (with_number (k + 4) (number_at i) g) (after_parts k source G) c
-                  (lies_after k g (number_at i) (part_at i) c source (λ j q h. subst (λ z. Through z c) (sym (is j q))
-                  (in_whole (slot_value f.values k) (number (slot_value f.values (k + 1))) (number (slot_value f.values (k + 2))) (number (slot_value f.values (k + 3))) (number_at i) c h)) G l)));
+              within = λ c gu l. w c gu (after i c (lies_branches Deterministic (with_number (k + 4) (number_at i) g) (after_parts k source G) c (before i c l)));
             });
-        apart = λ i j ne l m. parts_quiet i j (λ e. ne (number_one (pos 0) i j (small i l) (small j m) e));
+        quiet = λ i j ne l m. parts_quiet i j (λ e. ne (number_one (pos 0) i j (small i l) (small j m) e));
+        unmarked = λ kind out i x e c l. w (unguarded c) (outside_alone out) (after i (unguarded c) (lies_unguarded (with_number (k + 4) (number_at i) g) (after_parts k source G) c
+            (no_marks_after source G (without_marks (with_part k t a (in_loop_branch L)) G us)) (before i c l)));
+        separate = λ kind. absurd (let z : ◌≡◌ {A = Forking} Deterministic Nondeterministic = kind in cc);
       }
         where
+          -- what a branch does, by what the construct does after it
+          before : (i : ℕ) (c : Access) → LiesIn (inner i) G c → LiesIn (with_number (k + 4) (number_at i) g) (after_parts k source G) c
+          before i c l = lies_after k g (number_at i) (part_at i) c source (λ j q h. subst (λ z. Through z c) (sym (is j q))
+              (in_whole (slot_value f.values k) (number (slot_value f.values (k + 1))) (number (slot_value f.values (k + 2))) (number (slot_value f.values (k + 3))) (number_at i) c h)) G l
+
+          after : (i : ℕ) (c : Access) → LiesIn (with_number (k + 4) (number_at i) g) (after_branches Deterministic (after_parts k source G)) c →
+              LiesIn g (outside_variable (k + 4) (after_branches Deterministic (after_parts k source G))) c
+          after i c l = lies_general g (k + 4) (number_at i) (with_part k t a (in_loop_branch L)) (after_branches Deterministic (after_parts k source G)) c
+              (marked_scope (after_parts k source G) (after_scope source G in_scope)) l
+
           small : (i : ℕ) → i < length (iterations (Some k) (k + 4) body f (pos 0) 0 n) → i < 2 ^ 32
           small i l = let c = iterations_length (Some k) (k + 4) body f (pos 0) 0 n in omega (arith, l, c, few)

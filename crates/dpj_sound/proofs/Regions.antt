@@ -10,7 +10,8 @@ use Rattle.dpj_base.specs.declared.elems.Elem.{Elem}
 use Rattle.dpj_base.specs.declared.elems.Elem.TheVariants.{Name, At, Any, Star, Local}
 use Rattle.dpj_base.specs.declared.region.Head.TheVariants.{Root}
 use Rattle.dpj_base.specs.declared.region.Rpl.{Rpl}
-use Rattle.dpj_base.specs.Matching.{Matches}
+use Rattle.dpj_base.specs.Regions.{is_local}
+use Rattle.dpj_regions.proofs.Inclusion.{Covers, one, stop, skip}
 use Rattle.dpj_base.specs.Types.{PlainType}
 use Rattle.dpj_typed.specs.Effects.{Own as EffectOwn, does, uses, effect_of, begins_in, outside_regions}
 use Rattle.dpj_typed.specs.Plain.{PlainProgram}
@@ -23,12 +24,14 @@ use Rattle.dpj_meaning.specs.Statements.{makes}
 use Rattle.dpj_runs.specs.Objects.{Path, LocalRegion, Made, Unmade}
 use Rattle.dpj_runs.specs.Objects.{Effect as RunEffect}
 use Rattle.dpj_sound.specs.Settings.{local_code, Setting, env_of}
-use Rattle.dpj_sound.specs.Accesses.{Access, Speaks, Covers, LiesIn, InOwnRegion, Bounds, InEachEntry, Within}
+use Rattle.dpj_sound.specs.Accesses.{Access, Includes, Speaks, LiesIn, InOwnRegion, Bounds, InEachEntry, Within}
+use Rattle.dpj_sound.specs.Accesses.{Covers as CoversAccess}
 use Rattle.dpj_sound.specs.Frames.{Frame, State, Since, IsOld, FrameFits}
 use Rattle.dpj_sound.specs.Scopes.{InScope, PathInScope, GoodScope}
 use Rattle.dpj_sound.specs.Work.{Result, AfterMaking, InOrder}
-use Rattle.dpj_sound.proofs.Alike.{Alike, setting_back, setting_alike, alike_holds, alike_matches, local_alike}
+use Rattle.dpj_sound.proofs.Alike.{Alike, setting_back, setting_alike, alike_holds, alike_includes, local_alike}
 use Rattle.dpj_sound.proofs.Frames.{old_later, local_later}
+use Rattle.dpj_sound.proofs.Including.{covers_of, local_within}
 use Rattle.dpj_sound.proofs.Locals.{local_wider, inner_is, inner_local}
 use Rattle.dpj_sound.proofs.Placed.{PathPlaced, TypePlaced, LocalPlaced, PlacedScope, with_outer, placed_wider, placed_path}
 use Rattle.dpj_sound.proofs.Wider.{Wider, wider_path, wider_type, wider_local}
@@ -265,21 +268,19 @@ new_alike L p g made f e rs free n = made_alike L g made (λ q i. sym (n.kept q 
 
 -- what effects speak of where they stand for what was made, they speak of outside, or it lies in a region of the task's own
 
+-- what lies in a path that begins with a local region begins with it
+begins_local : {x : Elem} {b r : List Elem} → is_local x ≡ true → Covers (x ∷ b) r → (rest : List Elem) × (r ≡ x ∷ rest)
+begins_local h (one {x = y} {a = a} e s q) = (a, ap (λ z. z ∷ a) (local_within y _ h e))
+begins_local h (stop q) = absurd (false≢true h)
+begins_local h (skip l q) = absurd (false≢true h)
+
 own_begins : (p : Path) (g : Setting) (c r : ℕ) (rest : List Elem) (a : Rpl) (region : List Elem) → a ≡ record { head = Root; elems = Local r 0 ∷ rest } → g.made r ≡ Made p c →
-    Matches (env_of g) a region → InOwnRegion p region
-unfolding Matches
-own_begins p g c r rest a region is m h = go (subst (λ z. Matches (env_of g) z region) is h)
-  where
-    go : Matches (env_of g) (record { head = Root; elems = Local r 0 ∷ rest }) region → InOwnRegion p region
-    go k =
-        let code = ap local_code m in
-        let fits = k.2 in
-        record {
-          below = [];
-          count = c;
-          rest = fits.1;
-          is = k.1 ∙ fits.2 ∙ ap (λ z. z ++ fits.1) fits.3 ∙ (λ i. Local (code i).0 (code i).1 ∷ fits.1);
-        }
+    Includes (env_of g) a region → InOwnRegion p region
+own_begins p g c r rest a region is m h =
+    let code = ap local_code m in
+    let first : Rpl = record { head = Root; elems = Local r 0 ∷ rest } in
+    let z = begins_local refl (covers_of (env_of g) first region (subst (λ z. Includes (env_of g) z region) is h)) in
+    record { below = []; count = c; rest = z.0; is = z.1 ∙ (λ i. Local (code i).0 (code i).1 ∷ z.0) }
 
 module _ (L : Scope) (outer : ℕ → Bool) (placed : PlacedScope outer L) (p : Path) (g : Setting) (made : ℕ → LocalRegion) (f e : Frame) (rs : List ℕ)
     (free : All (λ r. (L.regions r ≡ false) × (r < L.local_regions)) rs) (n : NewRegions p rs g.made made f e) where
@@ -299,21 +300,21 @@ module _ (L : Scope) (outer : ℕ → Bool) (placed : PlacedScope outer L) (p : 
   speaks_own : (x : Effect) (a : Access) → PathPlaced outer (with_regions rs L) 0 x.rpl → begins_in rs x.rpl.elems ≡ true → Speaks (with_made made g) x a → InOwnRegion p a.region
   speaks_own x a s h t = elim s [
     | inl q ↦ absurd (no_outer x.rpl.elems q h)
-    | inr q ↦ (let m = n.made q.0 (subst (λ z. begins_in rs (Rpl.elems z) ≡ true) q.2 h) in own_begins p (with_made made g) m.0 q.0 q.1 x.rpl a.region q.2 m.1 t.matches)
+    | inr q ↦ (let m = n.made q.0 (subst (λ z. begins_in rs (Rpl.elems z) ≡ true) q.2 h) in own_begins p (with_made made g) m.0 q.0 q.1 x.rpl a.region q.2 m.1 t.includes)
   ]
 
   speaks_outside : (x : Effect) (a : Access) → PathInScope L 0 x.rpl → Speaks (with_made made g) x a → Speaks g x a
   speaks_outside x a s t = record {
-    matches = alike_matches L 0 (env_of (with_made made g)) (env_of g) (setting_alike (setting_back al)) x.rpl s a.region t.matches;
+    includes = alike_includes L 0 (env_of (with_made made g)) (env_of g) (setting_alike (setting_back al)) x.rpl s a.region t.includes;
     writes = t.writes;
     guarded = t.guarded;
   }
 
-  covers_outside : (o : EffectOwn) (a : Access) → PathInScope L 0 (effect_of o).rpl → Covers (with_made made g) o a → Covers g o a
+  covers_outside : (o : EffectOwn) (a : Access) → PathInScope L 0 (effect_of o).rpl → CoversAccess (with_made made g) o a → CoversAccess g o a
   covers_outside (does x) a s c = speaks_outside x a s c
   covers_outside (uses k x) a s c = (speaks_outside x a s c.0, c.1)
 
-  covers_own : (o : EffectOwn) (a : Access) → PathPlaced outer (with_regions rs L) 0 (effect_of o).rpl → begins_in rs (effect_of o).rpl.elems ≡ true → Covers (with_made made g) o a →
+  covers_own : (o : EffectOwn) (a : Access) → PathPlaced outer (with_regions rs L) 0 (effect_of o).rpl → begins_in rs (effect_of o).rpl.elems ≡ true → CoversAccess (with_made made g) o a →
       InOwnRegion p a.region
   covers_own (does x) a s h c = speaks_own x a s h c
   covers_own (uses k x) a s h c = speaks_own x a s h c.0

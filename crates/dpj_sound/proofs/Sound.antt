@@ -12,7 +12,7 @@ use Rattle.dpj_runs.specs.Blocks.{Hold, Out_of, own_hold, hold}
 use Rattle.dpj_runs.specs.Objects.{Path, Name, Thing, Effect}
 use Rattle.dpj_runs.specs.Runs.{Event, Run, Upto, mine, answers, count, Begun, thing_of, value_in}
 use Rattle.dpj_sound.specs.Shapes.{Shape, Shapes, Grows, FitsIn, CellAt, Describes}
-use Rattle.dpj_sound.specs.Accesses.{Bounds}
+use Rattle.dpj_sound.specs.Accesses.{Bounds, MayEnterWith}
 use Rattle.dpj_sound.specs.Frames.{State}
 use Rattle.dpj_sound.specs.Branches.{Forks}
 use Rattle.dpj_sound.specs.Laws.{branch_bounds}
@@ -41,6 +41,13 @@ pub record Accessed (P : PlainProgram) (b : Bounds) (S : Shapes) (es : Run) (n :
   pub grown : Grows state.shapes S
   pub held : hold es ≡ hold_of state.entries
 
+-- an entry
+pub record EnteredAt (b : Bounds) (S : Shapes) (es : Run) (E : List Effect) : Type 0 where
+  pub state : State
+  pub may : MayEnterWith b state.entries E
+  pub grown : Grows state.shapes S
+  pub held : hold es ≡ hold_of state.entries
+
 -- a fork
 pub record ForkedAt (P : PlainProgram) (b : Bounds) (branch : ℕ → Kept) (S : Shapes) (es : Run) (ts : Branches) : Type 0 where
   pub state : State
@@ -58,7 +65,7 @@ module _ (P : PlainProgram) (Q : Program) where
   OwnOk k S es (Look n) = Unit {0}
   OwnOk k S es (New t c) = Unit {0}
   OwnOk k S es (Print bytes) = Unit {0}
-  OwnOk k S es (Enter E) = Unit {0}
+  OwnOk k S es (Enter E) = EnteredAt k.bounds S es E
   OwnOk k S es Exit = hold es ≡ Out_of → ⊥
 
   -- what an event of a task keeps to, with the run before it

@@ -43,14 +43,14 @@ use Rattle.dpj_sound.proofs.Locals.{frame_outside, frame_store, frame_declare, f
 use Rattle.dpj_meaning.specs.Regions.{around, concrete_effect}
 use Rattle.dpj_typed.specs.Scope.{in_atomic_block}
 use Rattle.dpj_runs.specs.Objects.{Effect as RunEffect}
-use Rattle.dpj_sound.proofs.Blocks.{good_block, frame_later, frame_block, frame_unblock, within_block}
+use Rattle.dpj_sound.proofs.Blocks.{good_block, frame_later, frame_block, frame_unblock, within_block, may_enter}
 use Rattle.dpj_sound.proofs.Alike.{set_other, set_same, Alike, fits_alike, setting_back}
 use Rattle.dpj_sound.proofs.Expressions.{order_choose}
 use Rattle.dpj_sound.proofs.Typed.{type_alone, yields, expr_order}
 use Rattle.dpj_sound.proofs.Work.{since_now, since_since, since_after, order_then, order_on, order_post, order_ret}
 use Rattle.dpj_sound.proofs.Parts.{good_part, placed_part}
 use Rattle.dpj_sound.proofs.Wider.{wider_type}
-use Rattle.dpj_sound.proofs.Uses.{cuts_in, free_slots, free_in_branch}
+use Rattle.dpj_sound.proofs.Uses.{without_marks, stmts_use, all_use, cuts_in, free_slots, free_in_branch}
 use Rattle.dpj_sound.proofs.Forking.{Left, left_since, cobegin_order, foreach_order, parts_order, filled, filled_first, room, room_first, taken_slots, array_order}
 use Rattle.dpj_sound.proofs.Ints.{number_fits}
 use Rattle.dpj_sound.proofs.Forks.{good_loop, placed_loop, loop_wider, free_in_loop}
@@ -251,7 +251,8 @@ module _ (P : PlainProgram) (wt : WellTyped P) (b : Bounds) (dp : Option Deeper)
     stmt_order {L} (atomic {entry = entry} {ss = ss} {E = E} p se) good {outer} pl g st f ff w = (
       tt,
       λ x h after ans. (
-        tt,
+        may_enter P b L g h f (frame_later after.grows (let m = after.made in omega (arith, m)) ff) entry E h.entries se scoped
+            (subst (λ z. Within b z g (after_block E)) (sym after.entries) w),
         λ y u enters ans'.
             (let s : Since st h = since_after Rest refl after in
             let e : u.entries ≡ map (concrete_effect (named_by b.path) (around f)) entry ∷ st.entries = enters.entries ∙ ap
@@ -261,10 +262,13 @@ module _ (P : PlainProgram) (wt : WellTyped P) (b : Bounds) (dp : Option Deeper)
             order_on P b (Left P b (in_atomic_block L) g (all_complete ss) u) (Left P b L g true st) (next_of (λ v k. Act Exit (λ c. gives none k)))
             (leaves_block L g (all_complete ss) st u (map (concrete_effect (named_by b.path) (around f)) entry) grown made e) (of_stmts (named_by b.path) P dp ss f) u
             (stmts_order p (good_block L good) (placed_block outer L pl) g u f (frame_block L (frame_later grown made ff))
-            (subst (λ z. Within b z g E) (sym e) (within_block P b L g st f ff entry E st.entries se (all_own P wt outer L pl (after_block E) (marked_in P wt outer L true E (stmts_effects_in P wt outer p (good_block L good) (placed_block outer L pl)))) w)))),
+            (subst (λ z. Within b z g E) (sym e) (within_block P b L g st f ff entry E st.entries se scoped w)))),
       ),
     )
-    stmt_order {L} (cobegin {at = at} calm p nc) good pl g st f ff w = cobegin_order P b dp L good g st f ff at _ p nc w
+      where
+        scoped : All (λ o. PathInScope L 0 (effect_of o).rpl) (after_block E)
+        scoped = all_own P wt outer L pl (after_block E) (marked_in P wt outer L true E (stmts_effects_in P wt outer p (good_block L good) (placed_block outer L pl)))
+    stmt_order {L} (cobegin {at = at} calm p nc) good pl g st f ff w = cobegin_order P b dp L good g st f ff at _ p nc (without_marks L _ (all_use P wt p (λ j d l. absurd (omega (arith, l))) good)) w
     stmt_order {L} (foreach {at = at} {forking = forking} {x = x} {s = s} {E = E} {F = F} {G = G} calm hs ts hc tc free p ic) good {outer} pl g st f ff w =
         behind L good g hs _ _ st f ff (within_left b st.entries g E _ w)
         (λ h1 v s1 fv iv. behind L good g hc _ _ h1 f (frame_since s1 ff) (within_since b s1 g F (within_left b st.entries g F _ (within_right b st.entries g E _ w)))
@@ -273,6 +277,7 @@ module _ (P : PlainProgram) (wt : WellTyped P) (b : Bounds) (dp : Option Deeper)
         (all_own P wt outer (with_local x (constant int) (in_loop_branch L)) (placed_declare outer (in_loop_branch L) (placed_loop outer L pl) x true int (free_in_loop L x free) tt) G
         (stmts_effects_in P wt outer p (good_declare (in_loop_branch L) (good_loop L good) x true int (free_in_loop L x free) tt)
         (placed_declare outer (in_loop_branch L) (placed_loop outer L pl) x true int (free_in_loop L x free) tt)))
+        (without_marks (with_local x (constant int) (in_loop_branch L)) G (stmts_use P wt p (good_declare (in_loop_branch L) (good_loop L good) x true int (free_in_loop L x free) tt)))
         (within_since b (since_since s1 s2) g _ (within_right b st.entries g F _ (within_right b st.entries g E _ w))) (number v) (number u) (number_fits P h2.shapes (env_of g) _ u fu))))
     stmt_order {L} (foreach_parts {at = at} {k = k} {s = body} {t = t} {a = a} {E = E} {F = F} {G = G} (cuts_array {e = e} ha ty full) hc tc fr p ic lc) good {outer} pl g st f ff w =
         let cu = cuts_array ha ty full in

@@ -118,7 +118,7 @@ module _ (P : PlainProgram) (b : Bounds) where
             cell = cell;
             allowed = w (access_of b st n p false region) (λ e. e) (inl (
               speaks_read g a (access_of b st n p false region) refl (region_alone g p a pf.no_index region (i'.region p)),
-              record {
+              λ cell. record {
                 array = ap (λ q. q.array) pf.places ∙ is;
                 index = i;
                 from_first = s.0;

@@ -23,17 +23,24 @@ use Rattle.dpj_sound.specs.Scopes.{InScope, PathInScope, TypeInScope, GoodScope}
 use Rattle.dpj_typed.specs.WellTyped.{WellTyped}
 use Rattle.dpj_sound.proofs.Blocks.{good_block}
 use Rattle.dpj_sound.proofs.Cobegins.{seen_as_part, good_branch, copies_variables}
-use Rattle.dpj_sound.proofs.Forks.{seen_local, seen_part, good_loop, free_in_loop, loop_wider}
+use Rattle.dpj_sound.proofs.Forks.{HasNoMark, seen_local, seen_part, good_loop, free_in_loop, loop_wider}
 use Rattle.dpj_sound.proofs.InScope.{good_type, typed_in}
 use Rattle.dpj_sound.proofs.Locals.{inner_is, inner_local, other_than, no_part, good_declare}
 use Rattle.dpj_sound.proofs.Parts.{PartLocal, part_local, part_is_local, good_part}
 use Rattle.dpj_sound.proofs.Regions.{good_regions}
 use Rattle.dpj_sound.proofs.Wider.{wider_type}
 
--- the slot is a part of an array in this region
+-- the slot is a part of an array in this region, and the effect has no mark
 abbrev pub UsesPart : Scope → EffectOwn → Type 0
 UsesPart L (does e) = Unit {0}
-UsesPart L (uses k e) = (t : PlainType) × (L.local k ≡ Some (part t e.rpl))
+UsesPart L (uses k e) = (t : PlainType) × (L.local k ≡ Some (part t e.rpl)) × (e.atomic ≡ false)
+
+pub without_marks : (L : Scope) (E : List EffectOwn) → All (UsesPart L) E → All HasNoMark E
+without_marks L E h = λ k d l. one (slice_index_or E k d) (h k d l)
+  where
+    one : (o : EffectOwn) → UsesPart L o → HasNoMark o
+    one (does e) u = tt
+    one (uses j e) u = u.2
 
 -- a path without the variable is general
 general_one : (L : Scope) (x D : ℕ) → L.local x ≡ None → (y : Elem) → InScope L D y → general_elem x y ≡ y
@@ -64,8 +71,8 @@ none_used L = λ k d l. absurd (omega (arith, l))
 one_does : (L : Scope) (e : Effect) → All (UsesPart L) (does e ∷ [])
 one_does L e = All-cons (UsesPart L) (does e) [] tt (none_used L)
 
-one_uses : (L : Scope) (k : ℕ) (t : PlainType) (e : Effect) → L.local k ≡ Some (part t e.rpl) → All (UsesPart L) (uses k e ∷ [])
-one_uses L k t e h = All-cons (UsesPart L) (uses k e) [] (t, h) (none_used L)
+one_uses : (L : Scope) (k : ℕ) (t : PlainType) (e : Effect) → L.local k ≡ Some (part t e.rpl) → e.atomic ≡ false → All (UsesPart L) (uses k e ∷ [])
+one_uses L k t e h n = All-cons (UsesPart L) (uses k e) [] (t, h, n) (none_used L)
 
 both_used : (L : Scope) (E F : List EffectOwn) → All (UsesPart L) E → All (UsesPart L) F → All (UsesPart L) (E ++ F)
 both_used L E F h k = All-append (UsesPart L) E F h k
@@ -92,7 +99,7 @@ module _ (P : PlainProgram) (L : Scope) where
     expr_uses (conjunction {E = E} {F = F} ha ta hb tb) = both_used L E F (expr_uses ha) (expr_uses hb)
     expr_uses (disjunction {E = E} {F = F} ha ta hb tb) = both_used L E F (expr_uses ha) (expr_uses hb)
     expr_uses (length_of_part e) = none_used L
-    expr_uses (read_part {k = k} {t = t} {E = E} e h ty) = both_used L E _ (expr_uses h) (one_uses L k t _ e)
+    expr_uses (read_part {k = k} {t = t} {E = E} e h ty) = both_used L E _ (expr_uses h) (one_uses L k t _ e refl)
 
     exprs_use : {es : TypedExprs} {ts : List PlainType} {E : List EffectOwn} → Fit P L es ts E → All (UsesPart L) E
     exprs_use fit.none = none_used L
@@ -104,11 +111,11 @@ local_uses : (L : Scope) → GoodScope L → (x : ℕ) (l : ScopeLocal) → L.lo
 local_uses L good x l n np (does e) h = tt
 local_uses L good x l n np (uses j e) h =
     let k : L.local j ≡ Some (part h.0 e.rpl) = ⊎_elim (λ t. absurd (np h.0 e.rpl (inner_is L x j l (part h.0 e.rpl) t h.1))) (λ f. inner_local L x j l (part h.0 e.rpl) f h.1) (cases_Bool (j == x)) in
-    (h.0, k ∙ ap (λ z. Some (part h.0 z)) (sym (general_same L x 1 n e.rpl (good.each j (part h.0 e.rpl) k).0)))
+    (h.0, k ∙ ap (λ z. Some (part h.0 z)) (sym (general_same L x 1 n e.rpl (good.each j (part h.0 e.rpl) k).0)), h.2)
 
 general_use : (L : Scope) → GoodScope L → (x : ℕ) → L.local x ≡ None → (o : EffectOwn) → UsesPart L o → UsesPart L (mapped (λ e. record e { rpl = generalised x e.rpl }) o)
 general_use L good x n (does e) h = tt
-general_use L good x n (uses j e) h = (h.0, h.1 ∙ ap (λ z. Some (part h.0 z)) (sym (general_same L x 1 n e.rpl (good.each j (part h.0 e.rpl) h.1).0)))
+general_use L good x n (uses j e) h = (h.0, h.1 ∙ ap (λ z. Some (part h.0 z)) (sym (general_same L x 1 n e.rpl (good.each j (part h.0 e.rpl) h.1).0)), h.2)
 
 general_uses : (L : Scope) → GoodScope L → (x : ℕ) → L.local x ≡ None → (E : List EffectOwn) → All (UsesPart L) E → All (UsesPart L) (outside_variable x E)
 general_uses L good x n E h = All-map (UsesPart L) (mapped (λ e. record e { rpl = generalised x e.rpl })) E (λ k d l. general_use L good x n (slice_index_or E k d) (h k d l))
@@ -142,7 +149,7 @@ seen_uses L M i E h = λ k d l. one (slice_index_or E k d) (h k d l)
   where
     one : (o : EffectOwn) → UsesPart M o → UsesPart L o
     one (does e) u = tt
-    one (uses j e) u = (u.0, i j u.0 e.rpl u.1)
+    one (uses j e) u = (u.0, i j u.0 e.rpl u.1, u.2)
 
 loop_part : (L : Scope) (j : ℕ) (t : PlainType) (a : Rpl) → (in_loop_branch L).local j ≡ Some (part t a) → L.local j ≡ Some (part t a)
 loop_part L j t a e = let z = seen_local (L.local j) (part t a) e in z.1 ∙ ap (λ y. Some y) (seen_part z.0 t a z.2)
@@ -184,12 +191,12 @@ module _ (L : Scope) (k : ℕ) (source : Source) (t : PlainType) (a : Rpl) (E : 
   after_use is (does e) h = tt
   after_use is (uses j e) h = ⊎_elim
       (λ q. subst (UsesPart L) (sym (cond-true (j == k) (handed_on source e) (uses j e) q)) (handed source is (own_part L k t a h.0 e.rpl (subst (λ z. (with_part k t a L).local z ≡ Some (part h.0 e.rpl)) (eqb-true j k q) h.1))))
-      (λ q. subst (UsesPart L) (sym (cond-false (j == k) (handed_on source e) (uses j e) q)) (h.0, inner_part j h.0 e.rpl h.1 q))
+      (λ q. subst (UsesPart L) (sym (cond-false (j == k) (handed_on source e) (uses j e) q)) (h.0, inner_part j h.0 e.rpl h.1 q, h.2))
       (cases_Bool (j == k))
     where
       handed : (s : Source) → ((i : ℕ) → s ≡ of_part i → L.local i ≡ Some (part t a)) → e.rpl ≡ a → UsesPart L (handed_on s e)
       handed (of_array x) is c = tt
-      handed (of_part i) is c = (t, is i refl ∙ ap (λ z. Some (part t z)) (sym c))
+      handed (of_part i) is c = (t, is i refl ∙ ap (λ z. Some (part t z)) (sym c), h.2)
 
 cut_part : {P : PlainProgram} {L : Scope} {source : Source} {t : PlainType} {a : Rpl} {E : List EffectOwn} → Cuts P L source t a E → (j : ℕ) → source ≡ of_part j →
     L.local j ≡ Some (part t a)
@@ -212,7 +219,7 @@ module _ (P : PlainProgram) (wt : WellTyped P) where
     stmt_uses {L} (store_element {E = E} {F = F} {G = G} ha ty hi ti rg he sub) good =
         both_used L E _ (expr_uses P L ha) (both_used L F _ (expr_uses P L hi) (both_used L G _ (expr_uses P L he) (one_does L _)))
     stmt_uses {L} (store_part {k = k} {t = t} {E = E} {F = F} e hi ti he sub) good =
-        both_used L E _ (expr_uses P L hi) (both_used L F _ (expr_uses P L he) (one_uses L k t _ e))
+        both_used L E _ (expr_uses P L hi) (both_used L F _ (expr_uses P L he) (one_uses L k t _ e refl))
     stmt_uses {L} (perform ip h) good = expr_uses P L h
     stmt_uses (nested p) good = stmts_use p good
     stmt_uses {L} (choice {E = E} {F = F} h ty p) good = both_used L E F (expr_uses P L h) (stmts_use p good)
@@ -249,7 +256,7 @@ module _ (P : PlainProgram) (wt : WellTyped P) where
         (stmts_use rest (good_declare L good x is_final t free (good_type P L 0 t gt))))
     stmts_use {L} (declare_regions {rs = rs} {F = F} fr rest) good = regions_use L rs F (stmts_use rest (good_regions L good rs))
 
-    all_use : {L : Scope} {others : List ℕ} {bs : TypedBranches} {Es : List (List EffectOwn)} → BranchesPass P L others bs Es → All (IsVariable L) others → GoodScope L →
+    pub all_use : {L : Scope} {others : List ℕ} {bs : TypedBranches} {Es : List (List EffectOwn)} → BranchesPass P L others bs Es → All (IsVariable L) others → GoodScope L →
         All (UsesPart L) (joined Es)
     all_use {L} no_branch v good = none_used L
     all_use {L} {others} (one_branch {copies = copies} {bs = bs} {E = E} {Es = Es} cv ca p rest) v good =

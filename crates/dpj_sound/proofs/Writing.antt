@@ -33,6 +33,7 @@ use Rattle.dpj_sound.specs.Scopes.{PathInScope}
 use Rattle.dpj_sound.specs.Work.{Result, Prog, Touches, Reaches, access_of, InOrder}
 use Rattle.dpj_sound.proofs.Closed.{closed_path, closed_type}
 use Rattle.dpj_sound.proofs.Types.{fits_same, same_sym, fits_with_down, path_up}
+use Rattle.dpj_sound.proofs.Including.{includes_matched}
 use Rattle.dpj_sound.proofs.Indices.{IsIndexElem, fits_at_down, region_at_up, same_inside, region_alone}
 use Rattle.dpj_sound.proofs.Classes.{good_is, field_good, field_is, stands_args}
 use Rattle.dpj_sound.proofs.InScope.{paths_alone}
@@ -41,7 +42,7 @@ use Rattle.dpj_sound.proofs.Typed.{inside_part}
 use Rattle.dpj_sound.proofs.Work.{since_after}
 
 speaks_write : (g : Setting) (rpl : Rpl) (a : Access) → Matches (env_of g) rpl a.region → Speaks g (writes rpl) a
-speaks_write g rpl a m = record { matches = m; writes = λ e. refl; guarded = λ e. absurd (false≢true e) }
+speaks_write g rpl a m = record { includes = includes_matched (env_of g) rpl a.region m; writes = λ e. refl; guarded = λ e. absurd (false≢true e) }
 
 module _ (P : PlainProgram) (b : Bounds) where
   -- a write that is allowed, of a value of the cell's type
@@ -89,7 +90,7 @@ module _ (P : PlainProgram) (b : Bounds) where
             cell = cell;
             allowed = w (access_of b st n p true region) (λ e. e) (inl (
               speaks_write g a (access_of b st n p true region) (region_alone g p a pf.no_index region (i'.region p)),
-              record {
+              λ cell. record {
                 array = ap (λ q. q.array) pf.places ∙ is;
                 index = i;
                 from_first = s.0;

@@ -1,6 +1,7 @@
 -- Branches that are in order at their fork: each is typed and its frame fits, what its effects speak of is allowed, and no two
 -- of them touch one cell in a way that shows.
-use Rattle.std.specs.Prelude.{◌≡◌, ◌≢◌, ◌<◌, ℕ, true, false, ◌||◌, List, [], ◌∷◌, All, length, Some, slice_get, Contains}
+use Rattle.std.specs.Prelude.{◌≡◌, ◌≢◌, ◌<◌, ℕ, true, false, ◌||◌, ◌&&◌, List, [], ◌∷◌, All, length, Some, slice_get, Contains}
+use Rattle.dpj_base.specs.Apart.{apart}
 use Rattle.dpj_base.specs.Branches.{ends_atomic}
 use Rattle.dpj_base.specs.Types.{PlainType}
 use Rattle.dpj_typed.specs.declared.stmt.Forking.{Forking}
@@ -15,12 +16,13 @@ use Rattle.dpj_runs.specs.Actions.{Task}
 use Rattle.dpj_runs.specs.Objects.{Name, Value}
 use Rattle.dpj_sound.specs.Settings.{Setting, env_of}
 use Rattle.dpj_sound.specs.Shapes.{FitsIn}
-use Rattle.dpj_sound.specs.Accesses.{Access, Bounds, LiesIn, Within}
+use Rattle.dpj_sound.specs.Accesses.{Access, unguarded, at_root, Bounds, is_guarded, LiesIn, Allowed, Within}
 use Rattle.dpj_sound.specs.Frames.{State, FrameFits}
 use Rattle.dpj_sound.specs.Scopes.{GoodScope}
 
 -- accesses of one cell, of which one is a write
 pub record Meet (a c : Access) : Type 0 where
+  pub cells : (a.of_cell ≡ true) × (c.of_cell ≡ true)
   pub object : a.object ≡ c.object
   pub index : a.index ≡ c.index
   pub region : a.region ≡ c.region
@@ -33,6 +35,11 @@ MayMeet P Nondeterministic a c = (a.guarded ≡ true) × (c.guarded ≡ true) ×
 
 abbrev pub Quiet : PlainProgram → Forking → Setting → List Own → Setting → List Own → Type 0
 Quiet P forking g E k F = (a c : Access) → Meet a c → LiesIn g E a → LiesIn k F c → MayMeet P forking a c
+
+-- of two accesses that effects of two branches of an nd construct speak of, where one is a write and not both stand in atomic blocks, the
+-- regions are apart, also where they are of no cells
+abbrev pub Separate : Setting → List Own → Setting → List Own → Type 0
+Separate g E k F = (a c : Access) → (a.write || c.write) ≡ true → (a.guarded && c.guarded) ≡ false → LiesIn g E a → LiesIn k F c → apart [] (at_root a.region) (at_root c.region) ≡ true
 
 -- the branch of this number
 pub record BranchFits (P : PlainProgram) (b : Bounds) (st : State) (i : ℕ) (t : Task) (M : Scope) (k : Setting) (F : List Own) : Type 0 where
@@ -48,7 +55,11 @@ pub record Forks (P : PlainProgram) (b : Bounds) (st : State) (forking : Forking
   pub setting : ℕ → Setting
   pub effects : ℕ → List Own
   pub branch : (i : ℕ) (t : Task) → slice_get ts i ≡ Some t → BranchFits P b st i t (scope i) (setting i) (effects i)
-  pub apart : (i j : ℕ) → i ≢ j → i < length ts → j < length ts → Quiet P forking (setting i) (effects i) (setting j) (effects j)
+  pub quiet : (i j : ℕ) → i ≢ j → i < length ts → j < length ts → Quiet P forking (setting i) (effects i) (setting j) (effects j)
+  -- outside all blocks a deterministic construct has no marks
+  pub unmarked : forking ≡ Deterministic → is_guarded b st.entries ≡ false → (i : ℕ) (t : Task) → slice_get ts i ≡ Some t → (a : Access) →
+      LiesIn (setting i) (effects i) a → Allowed b st.entries (unguarded a)
+  pub separate : forking ≡ Nondeterministic → (i j : ℕ) → i ≢ j → i < length ts → j < length ts → Separate (setting i) (effects i) (setting j) (effects j)
 
 -- a local that a join copies back: one that the branch of this number assigns, and its value fits there
 pub record Returned (P : PlainProgram) (b : Bounds) (st : State) (forking : Forking) (ts : List Task) (forks : Forks P b st forking ts) (h : State) (x : ℕ) (v : Value) : Type 0 where

@@ -30,7 +30,7 @@ use Rattle.dpj_sound.specs.Shapes.{Grows, FitsIn, object}
 use Rattle.dpj_sound.specs.Accesses.{Bounds, is_guarded, Within}
 use Rattle.dpj_sound.specs.Frames.{Frame, State, Since, FrameFits}
 use Rattle.dpj_sound.specs.Scopes.{PathInScope, GoodScope}
-use Rattle.dpj_sound.specs.Branches.{Quiet, Forks}
+use Rattle.dpj_sound.specs.Branches.{Quiet, Separate, Forks}
 use Rattle.dpj_sound.specs.Work.{Result, GoesFitting, InOrder}
 
 abbrev pub Deeper : Type 0
@@ -130,3 +130,14 @@ NdIterationsQuiet = (P : PlainProgram) (given : List Constraint) (params : List 
     EndAtomic P.region_names params g.regions → All HasNoCopies given → (E : List Own) → All (λ o. PathInScope L 0 (effect_of o).rpl) E →
     iterations_clash given (Some (record { names = P.region_names; params = params })) x (as_effects E) ≡ false → j ≢ k →
     Quiet P Nondeterministic (with_number x j g) E (with_number x k g) E
+
+-- regions that they speak of, not both of accesses in atomic blocks, are apart, also those of effects of entries
+abbrev pub NdBranchesSeparate : Type 0
+NdBranchesSeparate = (P : PlainProgram) (given : List Constraint) (params : List Bool) (g : Setting) → IsEnv given (env_of g) → EndAtomic P.region_names params g.regions → (E F : List Own) →
+    lists_clash given (Some (record { names = P.region_names; params = params })) (as_effects E) (as_effects F) ≡ false → Separate g E g F
+
+abbrev pub NdIterationsSeparate : Type 0
+NdIterationsSeparate = (P : PlainProgram) (given : List Constraint) (params : List Bool) (L : Scope) (g : Setting) (x : ℕ) (j k : ℤ) → IsEnv given (env_of (with_number x j g)) →
+    EndAtomic P.region_names params g.regions → All HasNoCopies given → (E : List Own) → All (λ o. PathInScope L 0 (effect_of o).rpl) E →
+    iterations_clash given (Some (record { names = P.region_names; params = params })) x (as_effects E) ≡ false → j ≢ k →
+    Separate (with_number x j g) E (with_number x k g) E

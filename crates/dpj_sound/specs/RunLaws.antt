@@ -4,10 +4,11 @@ use Rattle.std.specs.Int.{w32}
 use Rattle.dpj_typed.specs.declared.stmt.Forking.TheVariants.{Nondeterministic}
 use Rattle.dpj_typed.specs.Plain.{PlainProgram}
 use Rattle.dpj_typed.specs.WellTyped.{WellTyped}
-use Rattle.dpj_moving.specs.Guarded.{ConflictsGuarded}
-use Rattle.dpj_runs.specs.Blocks.{Legal}
+use Rattle.dpj_moving.specs.Guarded.{AccessesLevelled, ConflictsGuarded, EntriesLet}
+use Rattle.dpj_runs.specs.Blocks.{Legal, leaving_locals, with_rule}
 use Rattle.dpj_runs.specs.Laws.{AllFree}
-use Rattle.dpj_runs.specs.Actions.{Branches, Fork}
+use Rattle.dpj_runs.specs.Actions.{Branches, Fork, Rule}
+use Rattle.dpj_runs.specs.Meaning.{Known}
 use Rattle.dpj_runs.specs.Runs.{Event, Run, Upto}
 use Rattle.dpj_runs.specs.Standing.{Outside, standing}
 use Rattle.dpj_steps.specs.Steps.{stepped}
@@ -30,3 +31,16 @@ ConflictsAreGuarded = (P : PlainProgram) → WellTyped P → (arg : ℤ) → Fit
 abbrev pub NdForksAreOutside : Type 0
 NdForksAreOutside = (P : PlainProgram) → WellTyped P → (arg : ℤ) → FitsSigned w32 arg → (R : Run) → Legal (stepped P arg) R →
     (F : Run) (f : Event) (ts : Branches) → Upto (f ∷ F) R → f.act ≡ Fork ts → ts.kind ≡ Nondeterministic → standing F f.path ≡ Outside
+
+-- so these blocks are on one level: their openers are in one branch of a deterministic construct, or both in none
+abbrev pub ConflictsAreLevelled : Type 0
+ConflictsAreLevelled = (P : PlainProgram) → WellTyped P → (arg : ℤ) → FitsSigned w32 arg → (R : Run) → Legal (stepped P arg) R → AccessesLevelled (stepped P arg).rule R
+
+-- and blocks on two levels whose tasks part at an nd construct let each other by, leaving aside effects on local regions
+abbrev pub EntriesAreLet : Type 0
+EntriesAreLet = (P : PlainProgram) → WellTyped P → (arg : ℤ) → FitsSigned w32 arg → (R : Run) → Legal (stepped P arg) R →
+    EntriesLet (leaving_locals (stepped P arg).rule) R
+
+-- and what a task next acts on is there, in each run that is legal by any rule of open blocks
+abbrev pub NamesAreKnownByAnyRule : Type 0
+NamesAreKnownByAnyRule = (P : PlainProgram) → WellTyped P → (arg : ℤ) → FitsSigned w32 arg → (rule : Rule) → Known (with_rule rule (stepped P arg))

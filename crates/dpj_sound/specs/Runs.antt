@@ -1,15 +1,15 @@
 -- What holds of a whole run of a well-typed program: what has been made and what stands in it, what each task keeps to, and that
--- each access is one of those.
-use Rattle.std.specs.Prelude.{◌≡◌, ℕ, ℤ, pos, Bool, true, false, [], ◌∷◌, Some}
+-- each access, and each effect with which a block is entered, is one of those.
+use Rattle.std.specs.Prelude.{◌≡◌, ℕ, ℤ, pos, Bool, true, false, List, [], ◌∷◌, Some}
 use Rattle.dpj_base.specs.declared.region.Rpl.{Rpl}
 use Rattle.dpj_base.specs.Matching.{Env}
 use Rattle.dpj_base.specs.Types.{PlainType}
 use Rattle.dpj_typed.specs.Plain.{PlainProgram}
-use Rattle.dpj_runs.specs.Actions.{Program, Task, Branches, Read, Write, Do, Fork}
-use Rattle.dpj_runs.specs.Objects.{Path, Name, Thing, Value}
+use Rattle.dpj_runs.specs.Actions.{Program, Task, Branches, Read, Write, Enter, Do, Fork}
+use Rattle.dpj_runs.specs.Objects.{Path, Name, Thing, Value, Effect}
 use Rattle.dpj_runs.specs.Runs.{Event, Run, Upto, count, Begun, thing_of, value_in}
 use Rattle.dpj_sound.specs.Shapes.{Shape, Shapes, Grows, FitsIn, CellAt, Describes}
-use Rattle.dpj_sound.specs.Accesses.{Bounds}
+use Rattle.dpj_sound.specs.Accesses.{Bounds, MayEnterWith}
 use Rattle.dpj_sound.specs.Frames.{State}
 use Rattle.dpj_sound.specs.Branches.{Forks}
 use Rattle.dpj_sound.specs.Laws.{branch_bounds}
@@ -25,6 +25,12 @@ pub record HeapFits (P : PlainProgram) (Q : Program) (R : Run) (S : Shapes) : Ty
 pub record InOrderAt (P : PlainProgram) (b : Bounds) (S : Shapes) (n : Name) (i : ℤ) (write : Bool) : Type 0 where
   pub state : State
   pub reaches : Reaches P b state n i write
+  pub grown : Grows state.shapes S
+
+-- a block that was entered with effects that are allowed where the task stood
+pub record EnteredInOrder (b : Bounds) (S : Shapes) (E : List Effect) : Type 0 where
+  pub state : State
+  pub may : MayEnterWith b state.entries E
   pub grown : Grows state.shapes S
 
 -- branches that were in order at their fork, and what each keeps to
@@ -45,3 +51,4 @@ pub record KeepsTo (P : PlainProgram) (Q : Program) (main : Bounds) (R : Run) : 
       ForkedInOrder P (bounds f.path) (λ i. bounds ((count F f.path, i) ∷ f.path)) shapes (count F f.path) ts
   pub reads : (y : Event) (Y : Run) (n : Name) (i : ℤ) → Upto (y ∷ Y) R → y.act ≡ Do (Read n i) → InOrderAt P (bounds y.path) shapes n i false
   pub writes : (y : Event) (Y : Run) (n : Name) (i : ℤ) (v : Value) → Upto (y ∷ Y) R → y.act ≡ Do (Write n i v) → InOrderAt P (bounds y.path) shapes n i true
+  pub entries : (y : Event) (Y : Run) (E : List Effect) → Upto (y ∷ Y) R → y.act ≡ Do (Enter E) → EnteredInOrder (bounds y.path) shapes E

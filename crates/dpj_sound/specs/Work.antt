@@ -12,7 +12,7 @@ use Rattle.dpj_runs.specs.Actions.{Own, Rest, Read, Write, Look, New, Print, Ent
 use Rattle.dpj_runs.specs.Objects.{Path, Name, LocalRegion, Made, Value, Effect}
 use Rattle.dpj_sound.specs.Settings.{Setting, env_of}
 use Rattle.dpj_sound.specs.Shapes.{Shape, object, elements, Shapes, Grows, FitsIn, CellAt, Describes}
-use Rattle.dpj_sound.specs.Accesses.{Access, Bounds, is_guarded, Allowed}
+use Rattle.dpj_sound.specs.Accesses.{Access, Bounds, is_guarded, Allowed, MayEnterWith}
 use Rattle.dpj_sound.specs.Frames.{Frame, State, Since, FrameFits}
 use Rattle.dpj_sound.specs.Branches.{Forks, Brings}
 
@@ -36,15 +36,15 @@ pub record Touches (P : PlainProgram) (S : Shapes) (n : Name) (i : ℤ) : Type 0
 
 -- it is accessed
 abbrev pub access_of : Bounds → State → Name → ℤ → Bool → List Elem → Access
-access_of b st n i write region = record { object = n; index = i; write = write; guarded = is_guarded b st.entries; region = region }
+access_of b st n i write region = record { object = n; index = i; write = write; guarded = is_guarded b st.entries; region = region; of_cell = true }
 
 -- an access that is allowed, of a cell that is there
 pub record Reaches (P : PlainProgram) (b : Bounds) (st : State) (n : Name) (i : ℤ) (write : Bool) : Type 0 where
   pub cell : Touches P st.shapes n i
   pub allowed : Allowed b st.entries (access_of b st n i write (put_in cell.env cell.rpl).elems)
 
--- an action in order: what is accessed or looked at is there, accesses are allowed, and what is written has the cell's type;
--- of a new object or array it is said what it is
+-- an action in order: what is accessed or looked at is there, accesses and effects of entries are allowed, and what is written has the
+-- cell's type; of a new object or array it is said what it is
 abbrev pub Moves : PlainProgram → Bounds → State → Own → Type 0
 Moves P b st (Read n i) = Reaches P b st n i false
 Moves P b st (Write n i v) = (r : Reaches P b st n i true) × FitsIn P st.shapes r.cell.env r.cell.ty v
@@ -52,7 +52,7 @@ Moves P b st (Look n) = (s : Shape) × (st.shapes n ≡ Some s)
 Moves P b st (New thing constructor) = (s : Shape) × Describes P s thing
 Moves P b st Rest = Unit {0}
 Moves P b st (Print bytes) = Unit {0}
-Moves P b st (Enter effects) = Unit {0}
+Moves P b st (Enter effects) = MayEnterWith b st.entries effects
 Moves P b st Exit = Unit {0}
 
 -- only an array's index is out of bounds

@@ -1,4 +1,4 @@
-use Rattle.std.proofs.Common.{◌∙◌, ap, sym, map, [], unwrap_or}
+use Rattle.std.proofs.Common.{◌∙◌, ap, sym, map, []}
 use Rattle.std.specs.Option.{option_copied}
 use Rattle.dpj_typed.specs.Plain.{plain_field as typed_field}
 use Rattle.dpj_classes.specs.Rows.{plain_field}

@@ -1,4 +1,4 @@
-use Rattle.std.proofs.Common.{◌∙◌, ap, sym, map, [], unwrap_or}
+use Rattle.std.proofs.Common.{◌∙◌, ap, sym, map, []}
 use Rattle.std.specs.Option.{option_copied}
 use Rattle.dpj_assembly.proofs.Lists.{if_ok, found_or}
 use Rattle.dpj_assembly.proofs.classes.typed_rows.Goals as goal

@@ -1,4 +1,4 @@
-use Rattle.std.proofs.Common.{◌∙◌, ap, sym, map}
+use Rattle.std.proofs.Common.{◌∙◌, ap, map}
 use Rattle.std.proofs.lemmas.List.{drop_all}
 use Rattle.dpj_compile.specs.Emitted.{plain_line}
 use Rattle.dpj_compile.proofs.Operands.{next_at}
@@ -9,5 +9,8 @@ pub loop-line-preserved : goal.loop-line-preserved
 loop-line-preserved c =
     split_one _ _ _ _ _ _ _ _ (next_at _ c.loop-line.line-index _ c.loop-line-test.true) c.in_ok-push.ensures.ok c.in_ok-push-2.ensures.ok c.loop-line.invariant
 
-pub returns : goal.returns
-returns c = split_all _ _ _ _ (drop_all c.loop-line.line-index _ c.loop-line-test.false) c.loop-line.invariant ∙ ap (map plain_line) c.as_slice-line-items.ensures
+pub returns-clause-lines : goal.returns-clause-lines
+returns-clause-lines c = split_all _ _ _ _ (drop_all c.loop-line.line-index _ c.loop-line-test.false) c.loop-line.invariant ∙ ap (map plain_line) c.as_slice-line-items.ensures
+
+pub returns-clause-even : goal.returns-clause-even
+returns-clause-even c = c.loop-line.invariant.even

@@ -1,12 +1,20 @@
-use Rattle.std.proofs.Common.{map}
+use Rattle.std.proofs.Common.{map, refl}
 use Rattle.dpj_typed.specs.Plain.{plain_program}
 use Rattle.dpj_code.specs.Plain.{plain_class}
 use Rattle.dpj_compile.specs.Emitted.{emitted_of}
 use Rattle.dpj_compile.specs.Bodies.{output_of}
 use Rattle.dpj_compile.proofs.Members.{code_is}
+use Rattle.dpj_compile.proofs.Titling.{all_titles, all_placed}
 use Rattle.dpj_compile.proofs.whole.compile.Goals as goal
 
-pub returns : goal.returns
-returns c =
+pub returns-clause-code : goal.returns-clause-code
+returns-clause-code c =
     code_is (plain_program c.args.program.now) (map plain_class c.in_ok-classes.classes) (output_of (emitted_of c.members.new.out) c.members.new.bodies) c.in_ok-numbers.numbers
     c.number_of.result c.in_ok-numbers.ensures.numbers c.in_ok-classes.ensures c.in_ok-numbers.ensures.output c.number_of.ensures
+
+pub returns-clause-titles : goal.returns-clause-titles
+returns-clause-titles c =
+    all_titles c.args.program.now _ c.members.new.bodies _ c.new-bodies.ensures c.in_ok-numbers.ensures.titled refl (returns-clause-code c)
+
+pub returns-clause-placed : goal.returns-clause-placed
+returns-clause-placed c = all_placed _ c.members.new.bodies _ c.new-bodies.ensures c.in_ok-numbers.ensures.titled

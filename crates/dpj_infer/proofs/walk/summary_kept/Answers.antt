@@ -1,7 +1,7 @@
 use Rattle.std.proofs.Common.{◌∙◌, ◌++◌, ap, sym, inl, inr, ⊎_elim}
 use Rattle.std.proofs.lemmas.List.{append-nil}
 use Rattle.dpj_infer.proofs.Reading.{nothing_left}
-use Rattle.dpj_infer.proofs.asking.kept_of.Goals as goal
+use Rattle.dpj_infer.proofs.walk.summary_kept.Goals as goal
 
 pub returns : goal.returns
 returns c =

@@ -1,0 +1,5 @@
+use Rattle.dpj_listing.proofs.Plain.{told_plainly}
+use Rattle.dpj_listing.proofs.laws.law_plain.Goals as goal
+
+pub returns : goal.returns
+returns c = λ code placed. told_plainly code.bodies placed
