@@ -1,6 +1,6 @@
 -- How emitted pieces follow each other.
-use Rattle.std.proofs.Common.{◌≡◌, ℕ, zero, suc, ◌+◌, List, [], ◌∷◌, ◌++◌, length, map, refl, sym, ap, ◌∙◌, subst, arith, append_assoc, length-append, Result, Ok, Err, OnOk, slice_set, ◌<◌, ◌≤◌, true, false}
-use Rattle.std.proofs.lemmas.List.{append-nil, map-append, length-map, length-set}
+use Rattle.std.proofs.Common.{◌≡◌, ℕ, suc, ◌+◌, List, [], ◌∷◌, ◌++◌, length, refl, sym, ap, ◌∙◌, arith, append_assoc, length-append, Result, Ok, Err, OnOk, slice_set, ◌<◌, ◌≤◌, true, false}
+use Rattle.std.proofs.lemmas.List.{append-nil, length-set}
 use Rattle.std.proofs.Math.Seq.{set-append_seam}
 use Rattle.dpj_base.specs.declared.place.Place.{Place}
 use Rattle.dpj_code.specs.declared.instr.Instr.{Instr}

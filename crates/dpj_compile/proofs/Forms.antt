@@ -1,6 +1,5 @@
 -- The forms of the code's expressions and statements.
-use Rattle.std.proofs.Common.{◌≡◌, ◌∙◌, ℕ, ℤ, Bool, List, Option, Some, None, map, ap, rules}
-use Rattle.dpj_base.specs.declared.place.Place.{Place}
+use Rattle.std.proofs.Common.{◌≡◌, ◌∙◌, Bool, List, Some, None, map, ap, rules}
 use Rattle.dpj_base.specs.declared.effect.Effect.{Effect}
 use Rattle.dpj_base.specs.declared.region.Rpl.{Rpl}
 use Rattle.dpj_base.specs.declared.ty.Ty.{Ty}
@@ -12,7 +11,6 @@ use Rattle.dpj_typed.specs.declared.expr.ExprForm.{ExprForm, fold-ExprForm, the_
 use Rattle.dpj_typed.specs.declared.expr.ExprForm.TheVariants as kind
 use Rattle.dpj_typed.specs.declared.stmt.Branch.{Branch}
 use Rattle.dpj_typed.specs.declared.stmt.Forking.{Forking}
-use Rattle.dpj_typed.specs.declared.stmt.PartSource.TheVariants as source
 use Rattle.dpj_typed.specs.declared.stmt.Stmt.{Stmt}
 use Rattle.dpj_typed.specs.declared.stmt.StmtForm.{StmtForm, fold-StmtForm}
 use Rattle.dpj_typed.specs.declared.stmt.StmtForm.{the_lemmas as stmt_lemmas}
@@ -21,7 +19,7 @@ use Rattle.dpj_typed.specs.declared.ids.ClassId.{ClassId}
 use Rattle.dpj_typed.specs.declared.ids.FieldSlot.{FieldSlot}
 use Rattle.dpj_typed.specs.declared.ids.Row.{Row}
 use Rattle.dpj_typed.specs.declared.ids.Slot.{Slot}
-use Rattle.dpj_typed.specs.Plain.{TypedExpr, typed, type_of, plain_expr, exprs_of, expr_form, expr_node, TypedStmt, TypedBranch, statement, plain_stmt, stmts_of, branches_of, stmt_form, branch_node, stmt_node, of_array, of_part}
+use Rattle.dpj_typed.specs.Plain.{TypedExpr, typed, type_of, plain_expr, exprs_of, expr_form, expr_node, TypedStmt, TypedBranch, statement, plain_stmt, stmts_of, branches_of, stmt_form, branch_node, stmt_node}
 use Rattle.dpj_typed.specs.Plain.{StmtForm as made}
 use Rattle.dpj_typed.specs.Plain.{ExprForm as form}
 use Rattle.dpj_compile.specs.Walked.{plain_branch}

@@ -1,22 +1,21 @@
 -- How bodies follow each other, and how the queue of branches empties.
-use Rattle.std.proofs.Common.{◌≡◌, ◌∙◌, ℕ, zero, suc, ◌+◌, ◌<◌, ◌≤◌, List, [], ◌∷◌, ◌++◌, map, length, get_or, drop, add-one, refl, sym, ap, ap₂, subst, arith, cond, Bool, true, false, Option, Some, None, option_map, slice_get, append_assoc, length-append}
-use Rattle.std.proofs.lemmas.List.{append-nil, map-append, length-map, drop_all}
+use Rattle.std.proofs.Common.{◌≡◌, ◌∙◌, ℕ, zero, suc, ◌+◌, ◌<◌, ◌≤◌, List, [], ◌∷◌, ◌++◌, map, length, get_or, drop, add-one, refl, sym, ap, ap₂, subst, arith, true, false, Option, Some, None, option_map, slice_get, append_assoc, length-append}
+use Rattle.std.proofs.lemmas.List.{append-nil, length-map, drop_all}
 use Rattle.std.proofs.lemmas.Option.{slice_get-map, slice_get-get_or}
 use Rattle.dpj_base.specs.declared.place.Place.{Place}
 use Rattle.dpj_typed.specs.declared.stmt.Stmt.{Stmt}
-use Rattle.dpj_typed.specs.Plain.{TypedStmt, PlainMember, plain_stmt}
+use Rattle.dpj_typed.specs.Plain.{PlainMember, plain_stmt}
 use Rattle.dpj_code.specs.declared.code.Body.{Body}
 use Rattle.dpj_code.specs.declared.instr.Instr.{Instr}
 use Rattle.dpj_code.specs.declared.instr.Instr.TheVariants as i
-use Rattle.dpj_code.specs.Plain.{Title, of_member, PlainBody, Site, plain_body, lines_of}
-use Rattle.dpj_code.specs.Plain.{Line as PlainLine}
+use Rattle.dpj_code.specs.Plain.{of_member, PlainBody, Site, plain_body, lines_of}
 use Rattle.dpj_gen.specs.Pieces.{Branch, Piece, Next, past, nothing, line, beside, then_next}
 use Rattle.dpj_gen.specs.Scheme.{closes, stmt_piece, stmts_piece}
 use Rattle.dpj_gen.specs.Whole.{weight, weight_all, no_place, place_of, branch_piece_of, branch_piece, closing, member_piece, body_of, Output, no_output, followed_by, then_output, generate, in_member, member_output}
 use Rattle.dpj_gen.proofs.Whole.{need, need_on, branch_needs, member_needs}
 use Rattle.dpj_compile.specs.declared.line.Line.{Line}
 use Rattle.dpj_compile.specs.declared.pending.Pending.{Pending}
-use Rattle.dpj_compile.specs.Emitted.{Emitted, next_of, after, Emits, plain_line, plain_pending, member_begun, without_lines}
+use Rattle.dpj_compile.specs.Emitted.{Emitted, next_of, Emits, plain_line, plain_pending, member_begun, without_lines}
 use Rattle.dpj_compile.specs.Bodies.{body_from, output_of, next_member, Finished, BranchDone}
 use Rattle.dpj_compile.proofs.Emits.{same_next, next_after, beside_nothing, emits_as, emits_line}
 use Rattle.dpj_compile.proofs.Forms.{plain_statement}

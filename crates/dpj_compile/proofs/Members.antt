@@ -1,12 +1,12 @@
 -- Member after member: the output, and the numbers of the bodies.
-use Rattle.std.proofs.Common.{◌≡◌, ◌∙◌, ℕ, ◌+◌, ◌<◌, List, [], ◌∷◌, ◌++◌, map, length, get_or, drop, refl, sym, ap, ap₂, subst, arith, append_assoc, length-append}
+use Rattle.std.proofs.Common.{◌≡◌, ◌∙◌, ℕ, ◌+◌, List, [], ◌∷◌, ◌++◌, map, length, drop, sym, ap, ap₂, append_assoc, length-append}
 use Rattle.std.proofs.lemmas.List.{append-nil, length-map}
 use Rattle.dpj_typed.specs.declared.program.Member.{Member}
 use Rattle.dpj_typed.specs.Plain.{plain_member, PlainMember, PlainProgram}
 use Rattle.dpj_code.specs.declared.code.Body.{Body}
 use Rattle.dpj_code.specs.Plain.{plain_body, PlainBody, Site, ClassCode, PlainCode}
 use Rattle.dpj_gen.specs.Pieces.{Next}
-use Rattle.dpj_gen.specs.Whole.{Output, no_output, then_output, member_output, past_output, members_output, member_numbers, first, number_in, compiled}
+use Rattle.dpj_gen.specs.Whole.{Output, then_output, member_output, past_output, members_output, member_numbers, first, number_in, compiled}
 use Rattle.dpj_gen.specs.Scheme.{class_code}
 use Rattle.dpj_compile.specs.Classes.{number_from}
 use Rattle.dpj_compile.specs.Emitted.{Emitted}

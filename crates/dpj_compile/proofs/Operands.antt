@@ -1,5 +1,5 @@
 -- How expressions are emitted: a lemma a construct that needs more than its parts.
-use Rattle.std.proofs.Common.{◌≡◌, ◌∙◌, ℕ, suc, ◌+◌, ◌<◌, List, [], ◌∷◌, map, length, get_or, drop, drop-cons, add-one, refl, sym, ap, ap₂, subst, arith, true, false}
+use Rattle.std.proofs.Common.{◌≡◌, ◌∙◌, ℕ, suc, ◌+◌, ◌<◌, List, [], ◌∷◌, map, length, get_or, drop, drop-cons, add-one, refl, sym, ap, ap₂, subst, arith, true}
 use Rattle.dpj_base.specs.declared.place.Place.{Place}
 use Rattle.dpj_base.specs.Types.{PlainType}
 use Rattle.dpj_typed.specs.declared.expr.Expr.{Expr}
@@ -12,7 +12,7 @@ use Rattle.dpj_code.specs.Plain.{Site, call_site, new_site}
 use Rattle.dpj_code.specs.declared.instr.Instr.TheVariants as i
 use Rattle.dpj_gen.specs.Pieces.{Piece, Next, nothing, line, with_site, then_next}
 use Rattle.dpj_gen.specs.Scheme.{many, after_expr, after_exprs, expr_piece, exprs_piece, site_of_array}
-use Rattle.dpj_gen.proofs.Pieces.{Far, far, next, stop}
+use Rattle.dpj_gen.proofs.Pieces.{next, stop}
 use Rattle.dpj_gen.proofs.Placed.{expr_far, exprs_far}
 use Rattle.dpj_compile.specs.Emitted.{Emitted, next_of, after, Emits, patched, jump_past, BothClosed}
 use Rattle.dpj_compile.proofs.Forms.{shaped}

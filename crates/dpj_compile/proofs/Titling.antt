@@ -1,15 +1,15 @@
 -- How the titles of bodies follow each other.
-use Rattle.std.proofs.Common.{◌≡◌, ◌∙◌, ℕ, ◌+◌, List, [], ◌∷◌, ◌++◌, map, length, drop, refl, sym, ap, ap₂, subst, append_assoc}
-use Rattle.std.specs.List.{All, flat_map}
+use Rattle.std.proofs.Common.{◌≡◌, ◌∙◌, ℕ, List, [], ◌∷◌, ◌++◌, map, refl, sym, ap, ap₂, subst, append_assoc}
+use Rattle.std.specs.List.{All}
 use Rattle.std.specs.Option.{option_map_or}
 use Rattle.std.specs.Prelude.{Option, Some, None, option_map, slice_get}
-use Rattle.std.proofs.lemmas.List.{append-nil, map-append}
+use Rattle.std.proofs.lemmas.List.{append-nil}
 use Rattle.std.proofs.lemmas.List.Elements.{All-push, All-same, All-nil}
 use Rattle.std.proofs.lemmas.Option.{slice_get-map}
 use Rattle.dpj_typed.specs.declared.program.Class.{Class}
 use Rattle.dpj_typed.specs.declared.program.Member.{Member}
 use Rattle.dpj_typed.specs.declared.program.Program.{Program}
-use Rattle.dpj_typed.specs.Names.{ProgramNames, named_class, named_member, names_of}
+use Rattle.dpj_typed.specs.Names.{named_class, named_member, names_of}
 use Rattle.dpj_typed.specs.Plain.{plain_member, plain_program}
 use Rattle.dpj_code.specs.declared.code.Body.{Body}
 use Rattle.dpj_code.specs.declared.code.Title.{Title}
@@ -17,7 +17,7 @@ use Rattle.dpj_code.specs.declared.code.Title.TheVariants as title
 use Rattle.dpj_code.specs.Plain.{plain_body, plain_title, PlainCode}
 use Rattle.dpj_code.specs.Plain.{Title as PlainTitle}
 use Rattle.dpj_gen.specs.Whole.{compiled}
-use Rattle.dpj_compile.specs.Titles.{Follow, HasPlaces, member_of, member_title, member_titles, members_in, class_name, name_of, titled, titles_of}
+use Rattle.dpj_compile.specs.Titles.{Follow, HasPlaces, member_of, member_title, member_titles, members_in, name_of, titled, titles_of}
 
 members_on : (bodies more : List Body) → members_in (bodies ++ more) ≡ members_in bodies ++ members_in more
 members_on [] more = refl

@@ -1,5 +1,5 @@
 -- Bodies that are done.
-use Rattle.std.specs.Prelude.{◌≡◌, ℕ, List, [], ◌∷◌, ◌++◌, map, length, Option, Some, slice_get}
+use Rattle.std.specs.Prelude.{◌≡◌, ℕ, List, [], ◌∷◌, ◌++◌, map, length, Some, slice_get}
 use Rattle.dpj_typed.specs.Plain.{PlainMember}
 use Rattle.dpj_code.specs.declared.code.Body.{Body}
 use Rattle.dpj_code.specs.Plain.{Line, Title, PlainBody, plain_body}

@@ -1,5 +1,5 @@
 -- What is emitted so far, and when a construct has been emitted.
-use Rattle.std.specs.Prelude.{◌≡◌, ℕ, suc, ◌+◌, false, List, [], map, length, slice_set}
+use Rattle.std.specs.Prelude.{◌≡◌, ℕ, suc, ◌+◌, false, [], map, length, slice_set}
 use Rattle.dpj_base.specs.declared.place.Place.{Place}
 use Rattle.dpj_typed.specs.Plain.{plain_stmt}
 use Rattle.dpj_code.specs.declared.instr.Instr.{Instr}

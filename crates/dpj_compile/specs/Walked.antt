@@ -1,7 +1,6 @@
 -- Parts of the scheme by names of their own.
-use Rattle.std.specs.Prelude.{ℕ, suc, ◌+◌, Bool, true, false, List, [], map, pos, Some, None}
+use Rattle.std.specs.Prelude.{ℕ, ◌+◌, Bool, true, false, map, pos, Some}
 use Rattle.dpj_base.specs.declared.place.Place.{Place}
-use Rattle.dpj_base.specs.Types.{boolean}
 use Rattle.dpj_typed.specs.declared.stmt.Branch.{Branch}
 use Rattle.dpj_typed.specs.declared.stmt.Forking.{Forking}
 use Rattle.dpj_typed.specs.declared.stmt.Forking.TheVariants.{Deterministic}
@@ -10,7 +9,7 @@ use Rattle.dpj_typed.specs.Plain.{StmtForm as stmt_form}
 use Rattle.dpj_typed.specs.Plain.{ExprForm as form}
 use Rattle.dpj_code.specs.declared.instr.Instr.TheVariants as i
 use Rattle.dpj_gen.specs.Pieces.{Next, Piece, nothing, line, with_branches}
-use Rattle.dpj_gen.specs.Scheme.{expr_piece, stmt_piece, branches_of, spread_piece}
+use Rattle.dpj_gen.specs.Scheme.{stmt_piece, branches_of, spread_piece}
 
 -- an expression that evaluates all of its operands and then does one thing
 abbrev pub is_operation : TypedExpr → Bool

@@ -1,5 +1,5 @@
 -- Two least keepings leave the same summaries.
-use Rattle.std.proofs.Common.{◌≡◌, ◌≤◌, ℕ, zero, suc, List, [], ◌∷◌, ◌++◌, map, length, Some, slice_get, refl, ap, ap₂, sym, arith}
+use Rattle.std.proofs.Common.{◌≡◌, ◌≤◌, ℕ, suc, List, [], ◌∷◌, ◌++◌, map, length, Some, slice_get, refl, ap, ap₂, sym, arith}
 use Rattle.dpj_base.specs.declared.effect.Access.{Access}
 use Rattle.dpj_base.specs.declared.effect.Access.TheVariants.{Read, Write}
 use Rattle.dpj_base.specs.declared.effect.Effect.{Effect}
@@ -7,7 +7,7 @@ use Rattle.dpj_typed.specs.Plain.{PlainMember, PlainProgram}
 use Rattle.dpj_infer.specs.declared.kept.Kept.{Kept}
 use Rattle.dpj_infer.specs.declared.kept.Kept.TheVariants as kept
 use Rattle.dpj_infer.specs.Firm.{IsInferred}
-use Rattle.dpj_infer.specs.Kept.{Keeping, SaysOfEach, item_kept, members_kept, program_kept, strength_kept, strength_of, summary_kept}
+use Rattle.dpj_infer.specs.Kept.{Keeping, item_kept, members_kept, program_kept, strength_kept, strength_of, summary_kept}
 
 none_of_some : (a : Access) → 0 ≡ strength_of a → ⊥
 none_of_some Read h = absurd (omega arith)

@@ -41,6 +41,9 @@ spot_cases (Branch_of u p) (Branch_of v q) = go (path_cases (u ∷ p) (v ∷ q))
     go (inl k) = inl (let a : u ≡ v = cc in let b : p ≡ q = cc in (λ i. Branch_of (a i) (b i)))
     go (inr n) = inr (λ k. (let a : u ≡ v = cc in let b : p ≡ q = cc in n (λ i. (a i) ∷ (b i))))
 
+ended_later : {B R : Run} {p : Path} → Upto B R → (x : Ending) × Ended B p x → (x : Ending) × Ended R p x
+ended_later h (x, e) = (x, ended_upto h e)
+
 module _ (P : Program) (D : Disciplined P) where
   -- who has ended stands in no block of its own
   ended_out : {R : Run} {x : Ending} (p : Path) → Faithful P R → Ended R p x → hold (mine R p) ≡ Out_of
@@ -71,7 +74,7 @@ module _ (P : Program) (D : Disciplined P) where
       let jb = upto_tail j.stands in
       let e = branch_ended P D q f.tasks u f.task l.1 fs f.path f.act (sym f.number) f.is_there j in
       let c = complete P D (u ∷ q) l.1 (faithful_upto P jb l.1) (record { both = λ p. inr (mine_upto p jb) }) e.1 xs W w hw wq in
-      (c.0, ended_upto jb c.1)
+      ended_later jb c
 
 module _ (P : Program) (D : Disciplined P) (weak : Rule) (weaker : Weaker weak P.rule) (R G : Run) (l : Valid P R) (ended : (x : Ending) × Ended R [] x)
     (lets : EntriesLet weak R) (g : Rebuilt (with_rule anything P) R G) (placed : AfterForks R G) where

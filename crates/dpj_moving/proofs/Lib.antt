@@ -16,5 +16,6 @@ pub mod Ended
 pub mod Theorems
 pub mod Tests
 pub mod Samples
+mod Waiting
 pub mod OneGathered
 pub mod OneMoved

@@ -27,7 +27,7 @@ use Rattle.dpj_runs.proofs.Tests.{script_known}
 use Rattle.dpj_moving.proofs.Insertion.{valid_upto}
 use Rattle.dpj_moving.proofs.Tests.{conflicts_guarded, levels_guarded, without, upto_without}
 
-abbrev writes_to : ℕ → List Effect
+abbrev pub writes_to : ℕ → List Effect
 writes_to n = record { access = access.Write; region = Region_name n ∷ [] } ∷ []
 
 -- the rule lets a block by where it writes to another region
@@ -39,13 +39,13 @@ abbrev name_of : List Effect → ℕ
 name_of [] = 0
 name_of (E ∷ Es) = elim E.region [ [] ↦ 0 | p ∷ ps ↦ region_name p ]
 
-abbrev other_region : Rule
+abbrev pub other_region : Rule
 other_region F E = not (name_of F == name_of E)
 
-abbrev pa : Path
+abbrev pub pa : Path
 pa = (0, 0) ∷ []
 
-abbrev pb : Path
+abbrev pub pb : Path
 pb = (0, 1) ∷ []
 
 abbrev pc : Path
@@ -154,7 +154,7 @@ some_conflict = record {
   levels = two_levels;
 }
 
-abbrev is_path : Path → Option Event → Bool
+abbrev pub is_path : Path → Option Event → Bool
 is_path p None = false
 is_path p (Some e) = same_path e.path p
 

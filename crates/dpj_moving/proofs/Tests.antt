@@ -7,7 +7,7 @@ use Rattle.dpj_runs.specs.Objects.{Effect, Path, same_path}
 use Rattle.dpj_runs.specs.Order.{Conflict, Unordered}
 use Rattle.dpj_runs.specs.Runs.{Event, Run, Upto, later, now}
 use Rattle.dpj_runs.specs.Standing.{Inside, Outside, Standing, standing}
-use Rattle.dpj_moving.specs.Guarded.{Barred, ConflictsGuarded, Guarded, LetBy, Levelled, LevelsGuarded}
+use Rattle.dpj_moving.specs.Guarded.{AccessesLevelled, Barred, ConflictsGuarded, Guarded, LetBy, Levelled, LevelsGuarded}
 use Rattle.dpj_moving.specs.Insertion.{All_of, Branch_of, Spot}
 use Rattle.dpj_moving.specs.Moved.{inner}
 use Rattle.dpj_runs.proofs.Upto.{upto_split, upto_none}
@@ -172,11 +172,26 @@ or_else_so : (s t : Bool) → (s || t) ≡ true → (s ≡ true → ⊥) → t �
 or_else_so true t e n = absurd (n refl)
 or_else_so false t e n = e
 
-abbrev access_test : Rule → Test
+abbrev pub access_test : Rule → Test
 access_test rule Y y X x = only_if (may_meet y x) (levelled_by rule X Y (standing X x.path) (standing Y y.path))
 
 abbrev pub level_test : Rule → Test
 level_test rule Y y X x = access_test rule Y y X x && entry_test rule Y y X x
+
+levelled_at : (rule : Rule) (Y X : Run) (y x : Event) → access_test rule Y y X x ≡ true → Unordered x.path y.path → Conflict x y → Levelled rule X x Y y
+levelled_at rule Y X y x t u c =
+    let b = two_levels rule X Y (standing X x.path) (standing Y y.path)
+    (only_so (may_meet y x) (levelled_by rule X Y (standing X x.path) (standing Y y.path)) t (and_from _ _ (parts u) (clashes c))) in
+    record {
+      former = record { opener = b.o; effects = b.E; stands = b.first_is };
+      latter = record { opener = b.q; effects = b.F; stands = b.second_is };
+      differ = b.differ;
+      level = b.level;
+      barred = b.barred;
+    }
+
+pub accesses_levelled : (rule : Rule) (R : Run) → each_pair (access_test rule) R ≡ true → AccessesLevelled rule R
+accesses_levelled rule R e = record { each = λ Y X y x hy hx u c. levelled_at rule Y X y x (pair_at (access_test rule) R Y X y x e hy hx) u c }
 
 pub levels_guarded : (rule : Rule) (R : Run) → each_pair (level_test rule) R ≡ true → LevelsGuarded rule R
 levels_guarded rule R e = record { accesses = accesses; entries = entries }
@@ -185,17 +200,7 @@ levels_guarded rule R e = record { accesses = accesses; entries = entries }
     both Y X y x hy hx = and_parts (access_test rule Y y X x) (entry_test rule Y y X x) (pair_at (level_test rule) R Y X y x e hy hx)
 
     accesses : (Y X : Run) (y x : Event) → Upto (y ∷ Y) R → Upto (x ∷ X) Y → Unordered x.path y.path → Conflict x y → Levelled rule X x Y y
-    accesses Y X y x hy hx u c =
-        let b = two_levels rule X Y (standing X x.path) (standing Y y.path)
-        (only_so (may_meet y x) (levelled_by rule X Y (standing X x.path) (standing Y y.path)) (both Y X y x hy hx).0
-        (and_from _ _ (parts u) (clashes c))) in
-        record {
-          former = record { opener = b.o; effects = b.E; stands = b.first_is };
-          latter = record { opener = b.q; effects = b.F; stands = b.second_is };
-          differ = b.differ;
-          level = b.level;
-          barred = b.barred;
-        }
+    accesses Y X y x hy hx u c = levelled_at rule Y X y x (both Y X y x hy hx).0 u c
 
     entries : (Y X : Run) (y x : Event) (E F : List Effect) → Upto (y ∷ Y) R → Upto (x ∷ X) Y → Unordered x.path y.path → x.act ≡ Do (Enter E)
         → y.act ≡ Do (Enter F)

@@ -7,7 +7,7 @@ use Rattle.dpj_runs.specs.Order.{Conflict, Unordered}
 use Rattle.dpj_runs.specs.Meaning.{Disciplined, Known}
 use Rattle.dpj_moving.specs.Gathered.{gather}
 use Rattle.dpj_moving.specs.Moved.{inner, move}
-use Rattle.dpj_moving.specs.Guarded.{ConflictsGuarded, LevelsGuarded}
+use Rattle.dpj_moving.specs.Guarded.{AccessesLevelled, ConflictsGuarded, EntriesLet, LevelsGuarded, anything}
 use Rattle.dpj_moving.specs.Laws.{Weaker}
 
 -- two events of a run that conflict
@@ -41,3 +41,14 @@ GatheringNeedsKnown = (P : Program) × Disciplined P × (R : Run) × Legal P R �
 abbrev pub MovingNeedsWeaker : Type 0
 MovingNeedsWeaker = (P : Program) × Weaker (leaving_locals P.rule) P.rule × Disciplined P × Known (with_rule (leaving_locals P.rule) P) × (R : Run) × Legal P R
     × LevelsGuarded (leaving_locals P.rule) R × ((x : Ending) × Ended R [] x) × (Legal P (move R) → ⊥)
+
+-- a run whose root has ended can be moved, though blocks of two branches of one deterministic construct waited for each other, so that its
+-- levels aren't guarded
+abbrev pub MovingEndedApplies : Type 0
+MovingEndedApplies = (P : Program) × Disciplined P × Known (with_rule anything P) × (R : Run) × Legal P R × ((x : Ending) × Ended R [] x)
+    × AccessesLevelled P.rule R × EntriesLet P.rule R × (LevelsGuarded P.rule R → ⊥) × (move R ≡ R → ⊥)
+
+-- where the root has not ended, the moved run may not be legal
+abbrev pub MovingNeedsEnded : Type 0
+MovingNeedsEnded = (P : Program) × Disciplined P × Known (with_rule anything P) × (R : Run) × Legal P R × AccessesLevelled P.rule R × EntriesLet P.rule R
+    × (Legal P (move R) → ⊥)

@@ -1,7 +1,7 @@
 //! The laws of gathering and moving, each the clause of a function that does nothing.
 
 ghost use Rattle.dpj_moving.specs.Laws.{Gathering, OneGathered, StillOpen, Moving, OneMoved, MovingBy, MovingEnded, MovingInside};
-ghost use Rattle.dpj_moving.specs.Samples.{BothApply, GatheringNeedsGuarded, GatheringNeedsKnown, MovingNeedsWeaker};
+ghost use Rattle.dpj_moving.specs.Samples.{BothApply, GatheringNeedsGuarded, GatheringNeedsKnown, MovingEndedApplies, MovingNeedsEnded, MovingNeedsWeaker};
 
 /// Where unordered conflicts are guarded by blocks, each block's events can be gathered at its entry.
 pub fn law_gathering()
@@ -25,4 +25,6 @@ pub fn law_samples()
     ensures unguarded { GatheringNeedsGuarded }
     ensures forged { GatheringNeedsKnown }
     ensures weaker { MovingNeedsWeaker }
+    ensures ended { MovingEndedApplies }
+    ensures unended { MovingNeedsEnded }
 {}

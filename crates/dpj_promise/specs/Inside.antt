@@ -1,4 +1,4 @@
--- What a machine's run of a well-typed program is inside nd constructs: what they hold of deterministic constructs is in sequence.
+-- What a machine's run of a well-typed program is inside nd constructs: the deterministic constructs in them can stand in sequence.
 use Rattle.std.specs.Prelude.{◌≡◌, ◌≤◌, ◌⊎◌, FitsSigned, Some, reverse}
 use Rattle.std.specs.Int.{w32}
 use Rattle.dpj_base.specs.declared.outcome.Ending.TheVariants as came

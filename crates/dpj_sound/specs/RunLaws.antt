@@ -32,7 +32,7 @@ abbrev pub NdForksAreOutside : Type 0
 NdForksAreOutside = (P : PlainProgram) → WellTyped P → (arg : ℤ) → FitsSigned w32 arg → (R : Run) → Legal (stepped P arg) R →
     (F : Run) (f : Event) (ts : Branches) → Upto (f ∷ F) R → f.act ≡ Fork ts → ts.kind ≡ Nondeterministic → standing F f.path ≡ Outside
 
--- so these blocks are on one level: their openers are in one branch of a deterministic construct, or both in none
+-- so unordered events that conflict stand inside blocks on one level: their openers are in one branch of a deterministic construct, or both in none
 abbrev pub ConflictsAreLevelled : Type 0
 ConflictsAreLevelled = (P : PlainProgram) → WellTyped P → (arg : ℤ) → FitsSigned w32 arg → (R : Run) → Legal (stepped P arg) R → AccessesLevelled (stepped P arg).rule R
 

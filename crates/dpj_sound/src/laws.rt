@@ -18,7 +18,7 @@ pub fn law_statements()
 {}
 
 /// Branches and iterations of deterministic constructs whose effects don't clash touch no cell in a way that shows, and those of
-/// nd constructs do so in atomic blocks alone.
+/// nd constructs do so in atomic blocks alone: regions that these speak of are apart, but for those that both touch in atomic blocks.
 pub fn law_quiet()
     ensures branches { BranchesQuiet }
     ensures iterations { IterationsQuiet }

@@ -1,8 +1,7 @@
-use Rattle.std.proofs.Common.{◌∙◌, ap, sym, map, ◌++◌, ◌∷◌, [], Some, subst, length, ◌<◌}
-use Rattle.std.proofs.lemmas.List.{map-append, length-map}
-use Rattle.std.proofs.lemmas.Option.{slice_get-map, slice_get-get_or}
-use Rattle.dpj_typed.specs.Plain.{plain_member, plain_stmt}
-use Rattle.dpj_code.specs.Plain.{plain_body, plain_title, of_branch}
+use Rattle.std.proofs.Common.{◌∙◌, ap, map, ◌++◌, ◌∷◌, []}
+use Rattle.std.proofs.lemmas.List.{map-append}
+use Rattle.dpj_typed.specs.Plain.{plain_member}
+use Rattle.dpj_code.specs.Plain.{plain_body, of_branch}
 use Rattle.dpj_gen.specs.Whole.{branch_piece}
 use Rattle.dpj_compile.specs.Emitted.{emitted_of, plain_pending, without_lines}
 use Rattle.dpj_compile.specs.Bodies.{body_from}

@@ -1,5 +1,5 @@
-use Rattle.std.proofs.Common.{◌≡◌, ◌∙◌, ap, sym, map, ◌++◌, ◌∷◌, [], length, subst, ◌<◌}
-use Rattle.std.proofs.lemmas.List.{map-append, drop_all, length-map}
+use Rattle.std.proofs.Common.{◌≡◌, ◌∙◌, ap, map, ◌++◌, ◌∷◌, [], subst}
+use Rattle.std.proofs.lemmas.List.{map-append}
 use Rattle.dpj_typed.specs.Plain.{plain_member}
 use Rattle.dpj_code.specs.Plain.{plain_body, plain_title, of_member}
 use Rattle.dpj_compile.specs.Emitted.{emitted_of, plain_line}

@@ -1,4 +1,4 @@
-use Rattle.std.proofs.Common.{◌∙◌, ap, sym}
+use Rattle.std.proofs.Common.{◌∙◌, sym}
 use Rattle.dpj_typed.specs.Plain.{plain_member}
 use Rattle.dpj_compile.specs.Emitted.{emitted_of}
 use Rattle.dpj_compile.proofs.Emits.{on_ok}

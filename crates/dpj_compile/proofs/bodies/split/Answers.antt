@@ -1,4 +1,4 @@
-use Rattle.std.proofs.Common.{◌∙◌, ap, sym, map}
+use Rattle.std.proofs.Common.{◌∙◌, ap, map}
 use Rattle.std.proofs.lemmas.List.{drop_all}
 use Rattle.dpj_compile.specs.Emitted.{plain_line}
 use Rattle.dpj_compile.proofs.Operands.{next_at}

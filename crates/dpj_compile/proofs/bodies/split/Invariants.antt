@@ -1,6 +1,4 @@
-use Rattle.std.proofs.Common.{◌≡◌, ◌++◌, length, map, drop}
-use Rattle.dpj_code.specs.Plain.{lines_of}
-use Rattle.dpj_compile.specs.Emitted.{plain_line}
+use Rattle.std.proofs.Common.{drop}
 use Rattle.dpj_compile.proofs.Generating.{Split}
 use Rattle.dpj_compile.proofs.bodies.split.Given as goal
 

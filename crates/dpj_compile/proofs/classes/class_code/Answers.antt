@@ -1,4 +1,4 @@
-use Rattle.std.proofs.Common.{◌≡◌, ◌∙◌, ap, sym, map, None, Some, option_map}
+use Rattle.std.proofs.Common.{◌∙◌, ap, sym, Some, option_map}
 use Rattle.dpj_typed.specs.Plain.{plain_program, plain_parent, plain_field, PlainField}
 use Rattle.dpj_gen.specs.Scheme.{first_constant, method_code}
 use Rattle.dpj_compile.specs.Classes.{number_from}

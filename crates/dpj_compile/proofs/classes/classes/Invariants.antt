@@ -1,8 +1,7 @@
 use Rattle.std.proofs.Common.{◌≡◌, ◌++◌, map, drop}
-use Rattle.dpj_base.specs.Types.{plain_type}
 use Rattle.dpj_typed.specs.Plain.{plain_class, plain_program}
-use Rattle.dpj_code.specs.Plain.{plain_class as plain_class_code, plain_method}
-use Rattle.dpj_gen.specs.Scheme.{class_code, method_code, first_constant}
+use Rattle.dpj_code.specs.Plain.{plain_class as plain_class_code}
+use Rattle.dpj_gen.specs.Scheme.{class_code}
 use Rattle.dpj_compile.specs.Classes.{number_from}
 use Rattle.dpj_compile.proofs.classes.classes.Given as goal
 

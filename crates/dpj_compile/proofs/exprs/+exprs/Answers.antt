@@ -1,4 +1,4 @@
-use Rattle.std.proofs.Common.{◌∙◌, ap, sym, map, arith}
+use Rattle.std.proofs.Common.{◌∙◌, ap, sym, map}
 use Rattle.std.proofs.lemmas.List.{drop_all}
 use Rattle.dpj_base.specs.Types.{plain_type}
 use Rattle.dpj_typed.specs.Plain.{plain_expr, exprs_of}
@@ -6,9 +6,9 @@ use Rattle.dpj_code.specs.declared.instr.Instr.TheVariants as i
 use Rattle.dpj_code.specs.Plain.{plain_site, call_site}
 use Rattle.dpj_gen.specs.Scheme.{exprs_piece}
 use Rattle.dpj_compile.specs.Emitted.{emitted_of, after}
-use Rattle.dpj_compile.proofs.Emits.{on_ok, one_longer, emits_length}
+use Rattle.dpj_compile.proofs.Emits.{on_ok}
 use Rattle.dpj_compile.proofs.Forms.{at_Field, at_Element, at_Length, at_Call, at_New, at_NewArray, at_Unary, at_Binary, at_And, at_Or, at_PartElement}
-use Rattle.dpj_compile.proofs.Operands.{line_is, one_operand, two_operands, shaped_emits, operand_at, operands_at, both_emitted, either_emitted, both_below, either_below, called, made, made_array, part_read, site_is, one_more, none_more, next_is}
+use Rattle.dpj_compile.proofs.Operands.{line_is, one_operand, two_operands, shaped_emits, operand_at, both_emitted, either_emitted, both_below, either_below, called, made, made_array, part_read, site_is, one_more, none_more, next_is}
 use Rattle.dpj_compile.proofs.exprs.+exprs.Goals as goal
 
 pub expr-close_both-requires : goal.expr-close_both-requires

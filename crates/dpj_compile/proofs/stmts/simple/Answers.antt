@@ -1,4 +1,4 @@
-use Rattle.std.proofs.Common.{◌∙◌, ap, sym, Some}
+use Rattle.std.proofs.Common.{◌∙◌, ap, sym}
 use Rattle.dpj_typed.specs.Plain.{plain_expr, plain_stmt}
 use Rattle.dpj_typed.specs.declared.stmt.StmtForm.TheVariants as kind
 use Rattle.dpj_gen.specs.Scheme.{is_void}

@@ -1,4 +1,4 @@
-use Rattle.std.proofs.Common.{◌∙◌, ap, sym, map, subst}
+use Rattle.std.proofs.Common.{◌∙◌, ap, map, subst}
 use Rattle.std.proofs.lemmas.List.{drop_all}
 use Rattle.dpj_typed.specs.Plain.{plain_member}
 use Rattle.dpj_gen.specs.Whole.{first, members_output, member_numbers}

@@ -1,5 +1,13 @@
 use Rattle.dpj_moving.proofs.Samples.{both_apply, gathering_needs_guarded, gathering_needs_known, moving_needs_weaker}
+use Rattle.dpj_moving.proofs.Waiting.{moving_ended_applies, moving_needs_ended}
 use Rattle.dpj_moving.proofs.laws.law_samples.Goals as goal
 
 pub returns : goal.returns
-returns c = record { both = both_apply; unguarded = gathering_needs_guarded; forged = gathering_needs_known; weaker = moving_needs_weaker }
+returns c = record {
+  both = both_apply;
+  unguarded = gathering_needs_guarded;
+  forged = gathering_needs_known;
+  weaker = moving_needs_weaker;
+  ended = moving_ended_applies;
+  unended = moving_needs_ended;
+}

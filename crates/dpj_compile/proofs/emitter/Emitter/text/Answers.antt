@@ -1,4 +1,4 @@
-use Rattle.std.proofs.Common.{◌∙◌, ap}
+use Rattle.std.proofs.Common.{ap}
 use Rattle.dpj_code.specs.declared.instr.Instr.TheVariants as i
 use Rattle.dpj_compile.specs.Emitted.{emitted_of}
 use Rattle.dpj_compile.proofs.Emits.{on_ok, texted_pushed}
