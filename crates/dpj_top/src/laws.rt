@@ -3,6 +3,7 @@ ghost use Rattle.dpj_top.specs.Answer.{OneAnswer};
 ghost use Rattle.dpj_top.specs.Promise.{KeepsPromise};
 ghost use Rattle.dpj_top.specs.Replaying.{OneReplay};
 
+use dpj_infer::laws::law_one_inferred;
 use dpj_passed::laws::{law_one_passing, law_passed};
 use dpj_promise::laws::{law_elide, law_goes_on, law_inside, law_promise, law_reduced};
 use dpj_trace::law_readings;
@@ -13,6 +14,7 @@ pub fn one_answer()
 {
     promise();
     law_one_passing();
+    law_one_inferred();
 }
 
 /// There is at most one answer to a replay of any bytes, for each run that was recorded.
