@@ -6,8 +6,9 @@ use Rattle.dpj_tokens.specs.declared.token.Token.{Token}
 use Rattle.dpj_tokens.specs.Cutting.{Cuts, FaultsAt}
 use Rattle.dpj_tree.specs.declared.class.Program.{Program}
 use Rattle.dpj_parse.specs.Program.{IsProgram, IsGrammarFault}
+use Rattle.dpj_typed.specs.Names.{ProgramNames}
 use Rattle.dpj_typed.specs.Plain.{PlainProgram}
-use Rattle.dpj_front.specs.Judging.{IsAccepted, IsFaulty}
+use Rattle.dpj_front.specs.Judging.{HasNames, IsAccepted, IsFaulty}
 
 -- the tokens of a text derive a program, and it is accepted as this typed program
 pub record HasProgram (text : List ℕ) (tokens : List Token) (typed : PlainProgram) : Type 0 where
@@ -27,6 +28,19 @@ pub record IsPassed (text : List ℕ) (place : Place) (typed : PlainProgram) : T
   pub cut : Cuts text tokens end
   pub first : place ≡ first_place tokens end
   pub has_program : HasProgram text tokens typed
+
+-- the tokens of a text derive a program, and its typed program has these names
+pub record HasNamed (text : List ℕ) (tokens : List Token) (names : ProgramNames) : Type 0 where
+  pub program : Program
+  pub derived : IsProgram text tokens program
+  pub has_names : HasNames program names
+
+-- the names of the typed program of a text that passes
+pub record AreNames (text : List ℕ) (names : ProgramNames) : Type 0 where
+  pub tokens : List Token
+  pub end : Place
+  pub cut : Cuts text tokens end
+  pub has_named : HasNamed text tokens names
 
 -- the fault that is told of the tokens of a text: that of their grammar, or that of the program that they derive
 pub data IsTokenFault (text : List ℕ) (tokens : List Token) (end : Place) (refusal : Refusal) : Type 0 where

@@ -12,8 +12,10 @@ use Rattle.dpj_check.specs.Keeping.{ProgramKeeps}
 use Rattle.dpj_gen.specs.Resolved.{Resolved}
 use Rattle.dpj_going.specs.Going.{HasMain}
 use Rattle.dpj_tree.specs.Nd.{program_uses_nd}
+use Rattle.dpj_typed.specs.Names.{ProgramNames}
 use Rattle.dpj_typed.specs.Plain.{PlainProgram}
 use Rattle.dpj_assembly.specs.Assembled.{PlainBody, plain_body, program_of}
+use Rattle.dpj_assembly.specs.Named.{names_in}
 use Rattle.dpj_check.specs.Methods.{BodiesChecking}
 use Rattle.dpj_front.specs.declared.passing.Passed.{Passed}
 
@@ -35,6 +37,14 @@ pub record IsAccepted (program : Program) (typed : PlainProgram) : Type 0 where
   pub typed_so : typed ≡ program_of table program.names (program_uses_nd program) bodies
   pub keeps : ProgramKeeps program
 
+-- the program is accepted, and these are the names that its typed program has beside its plain form
+pub record HasNames (program : Program) (names : ProgramNames) : Type 0 where
+  pub table : Table
+  pub has_table : HasTable program table
+  pub bodies : List PlainBody
+  pub checked : BodiesChecking program table (Ok bodies)
+  pub named_so : names ≡ names_in table program.names bodies
+
 -- the first fault of its class table, or where it has one, of its bodies
 pub data IsFaulty (program : Program) (refusal : Refusal) : Type 0 where
   of_table : IsTold program refusal → IsFaulty program refusal
@@ -47,12 +57,20 @@ typed_with table names checked = program_of table names checked.uses_nd (map pla
 abbrev pub typed_of : Passed → PlainProgram
 typed_of passed = typed_with passed.table passed.names passed.checked
 
+-- and its names
+abbrev pub names_with : Table → List (List ℕ) → Accepted → ProgramNames
+names_with table names checked = names_in table names (map plain_body checked.bodies)
+
+abbrev pub names_of_passed : Passed → ProgramNames
+names_of_passed passed = names_with passed.table passed.names passed.checked
+
 -- what a run asks of a typed program
 abbrev pub CanRun : PlainProgram → Type 0
 CanRun P = Resolved P × HasMain P
 
--- a program has one verdict at most: it is accepted as one typed program, or it has one fault
+-- a program has one verdict at most: it is accepted as one typed program with one list of names, or it has one fault
 pub record OneJudgement : Type 0 where
   pub one_fault : (program : Program) (first second : Refusal) → IsFaulty program first → IsFaulty program second → first ≡ second
   pub one_program : (program : Program) (first second : PlainProgram) → IsAccepted program first → IsAccepted program second → first ≡ second
+  pub one_naming : (program : Program) (first second : ProgramNames) → HasNames program first → HasNames program second → first ≡ second
   pub not_both : (program : Program) (typed : PlainProgram) (refusal : Refusal) → IsAccepted program typed → IsFaulty program refusal → ⊥

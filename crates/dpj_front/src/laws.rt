@@ -4,7 +4,7 @@ ghost use Rattle.dpj_front.specs.Judging.{OneJudgement};
 use dpj_check::one_checking;
 use dpj_classes::{one_fault, one_table};
 
-/// A program is accepted, or it has one fault, and not both.
+/// A program is accepted, with one list of names, or it has one fault, and not both.
 pub fn one_judgement()
     ensures { OneJudgement }
 {

@@ -3,8 +3,8 @@ ghost use Rattle.dpj_base.specs.Refused.{IfRefused};
 ghost use Rattle.dpj_headers.specs.Second.{AreCounted};
 ghost use Rattle.dpj_tokens.specs.Cutting.{StandInOrder};
 ghost use Rattle.dpj_tree.specs.Size.{program_size};
-ghost use Rattle.dpj_front.specs.Front.{HasProgram, IsFault, IsPassed, IsTokenFault, first_place};
-ghost use Rattle.dpj_front.specs.Judging.{HasTable, IsAccepted, IsFaulty, CanRun, typed_of, typed_with};
+ghost use Rattle.dpj_front.specs.Front.{AreNames, HasNamed, HasProgram, IsFault, IsPassed, IsTokenFault, first_place};
+ghost use Rattle.dpj_front.specs.Judging.{HasNames, HasTable, IsAccepted, IsFaulty, CanRun, names_of_passed, names_with, typed_of, typed_with};
 
 use dpj_assembly::program;
 use dpj_base::{Bytes, Items, NoMemory, Place, Stop};
@@ -29,12 +29,14 @@ pub struct Passed {
 
 impl Passed {
     ghost use Rattle.std.specs.Prelude.{◌≡◌, IfOk};
+    ghost use Rattle.dpj_typed.specs.Names.{names_of};
     ghost use Rattle.dpj_typed.specs.Plain.{plain_program};
-    ghost use Rattle.dpj_front.specs.Judging.{typed_of};
+    ghost use Rattle.dpj_front.specs.Judging.{names_of_passed, typed_of};
 
     /// The typed program. Its size grows with the square of a chain of superclasses, since each class has all fields.
     pub fn typed(self, alloc: Global) -> Result<Program, NoMemory>
-        ensures { IfOk result (λ made. plain_program made ≡ typed_of self) }
+        ensures typed { IfOk result (λ made. plain_program made ≡ typed_of self) }
+        ensures named { IfOk result (λ made. names_of made ≡ names_of_passed self) }
     {
         let Passed {
             names,
@@ -56,6 +58,7 @@ impl Passed {
 pub fn front(alloc: Global, text: &[u8]) -> Result<Passed, Stop>
     requires { length text.now ≤ 1048576 }
     ensures accepted { IfOk result (λ passed. IsPassed text.now passed.place (typed_of passed)) }
+    ensures named { IfOk result (λ passed. AreNames text.now (names_of_passed passed)) }
     ensures can_run { IfOk result (λ passed. CanRun (typed_of passed)) }
     ensures fault { IfErr result (λ stop. IfRefused stop (IsFault text.now)) }
 {
@@ -68,6 +71,7 @@ fn judge_text(alloc: Global, text: &[u8], tokens: &Tokens) -> Result<Passed, Sto
     requires short { length text.now ≤ 1048576 }
     requires stand { StandInOrder text.now 0 tokens.now.list }
     ensures accepted { IfOk result (λ passed. HasProgram text.now tokens.now.list (typed_of passed)) }
+    ensures named { IfOk result (λ passed. HasNamed text.now tokens.now.list (names_of_passed passed)) }
     ensures can_run { IfOk result (λ passed. CanRun (typed_of passed)) }
     ensures place { IfOk result (λ passed. passed.place ≡ first_place tokens.now.list tokens.now.end) }
     ensures fault { IfErr result (λ stop. IfRefused stop (IsTokenFault text.now tokens.now.list tokens.now.end)) }
@@ -81,6 +85,7 @@ fn judge_program(alloc: Global, tree: Tree, place: Place) -> Result<Passed, Stop
     requires counted { AreCounted (length tree.names) tree.classes }
     requires small { program_size tree ≤ 1048576 }
     ensures accepted { IfOk result (λ passed. IsAccepted tree (typed_of passed)) }
+    ensures named { IfOk result (λ passed. HasNames tree (names_of_passed passed)) }
     ensures can_run { IfOk result (λ passed. CanRun (typed_of passed)) }
     ensures place { IfOk result (λ passed. passed.place ≡ place) }
     ensures fault { IfErr result (λ stop. IfRefused stop (IsFaulty tree)) }
@@ -102,6 +107,7 @@ fn judge_bodies(alloc: Global, tree: &Tree, table: &Table) -> Result<Accepted, S
     requires small { program_size tree.now ≤ 1048576 }
     requires has_table { HasTable tree.now table.now }
     ensures accepted { IfOk result (λ checked. IsAccepted tree.now (typed_with table.now tree.now.names checked)) }
+    ensures named { IfOk result (λ checked. HasNames tree.now (names_with table.now tree.now.names checked)) }
     ensures can_run { IfOk result (λ checked. CanRun (typed_with table.now tree.now.names checked)) }
     ensures fault { IfErr result (λ stop. IfRefused stop (IsFaulty tree.now)) }
 {
