@@ -1,0 +1,5 @@
+use Rattle.dpj_sample.proofs.Runs.{comes, has_ended}
+use Rattle.dpj_sample.proofs.laws.law_sample.Goals as goal
+
+pub returns : goal.returns
+returns c = (let e = has_ended in comes)
