@@ -1,1 +1,4 @@
+mod Flow
+mod Objects
 mod Runs
+mod Small

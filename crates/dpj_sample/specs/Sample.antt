@@ -179,8 +179,8 @@ flow = stmts_of (
 abbrev pub new_cell : Rpl → TypedExpr → TypedExpr
 new_cell a e = typed here (cell a) (expr.create (exprs_of (e ∷ [])))
 
-abbrev pub objects : TypedStmts
-objects = stmts_of (
+abbrev pub making : TypedStmts
+making = stmts_of (
   does (form.declare 4 (shape in_a) false (typed here (square in_a) (expr.create (exprs_of []))))
   ∷ does (form.store_field (local_of (shape in_a) 4) 1 0 (number 3))
   ∷ does (form.declare 5 (cell in_b) false (typed here null expr.null))
@@ -277,7 +277,7 @@ raises_by_index = does (form.foreach Nondeterministic 21 (number 0) n (raises (i
 abbrev pub main_body : TypedStmts
 main_body = stmts_of (
   does (form.block flow)
-  ∷ does (form.block objects)
+  ∷ does (form.block making)
   ∷ does (form.block arrays)
   ∷ raises_side_by_side
   ∷ raises_by_index
