@@ -1,3 +1,4 @@
+mod Arrays
 mod Flow
 mod Objects
 mod Runs

@@ -1,5 +1,5 @@
 -- What the derivations of the sample share.
-use Rattle.std.proofs.Common.{◌≡◌, ℕ, zero, suc, ◌==◌, Bool, true, false, not, ◌<◌, List, [], ◌∷◌, All, Some, None, IsTrue, pos, refl, subst, inl, inr, T, ltb, ◌^◌, slice_get, ◌++◌}
+use Rattle.std.proofs.Common.{◌≡◌, ℕ, zero, suc, arith, AllPairs, ◌==◌, Bool, true, false, not, ◌<◌, List, [], ◌∷◌, All, Some, None, IsTrue, pos, refl, subst, inl, inr, T, ltb, ◌^◌, slice_get, ◌++◌}
 use Rattle.std.proofs.Math.Facts.{sfits_lit}
 use Rattle.std.proofs.lemmas.Bool.{false≢true}
 use Rattle.std.proofs.lemmas.List.Elements.{All-nil, All-cons}
@@ -104,3 +104,11 @@ one_arg L others a h = record { arity = refl; paths = all_one (GoodPath sample L
     none : (p : ℕ) (b : Rpl) → slice_get (false ∷ []) p ≡ Some true → slice_get (a ∷ []) p ≡ Some b → IsTrue (atomic_path (atomic_in sample L) b)
     none zero b e k = absurd (false≢true (some_is false true e))
     none (suc p) b e k = nothing_there true e
+
+-- what holds of each pair of a list of two
+pub of_pair : {A : Type 0} (Q : A → A → Type 0) (x y : A) → Q x y → AllPairs Q (x ∷ y ∷ [])
+of_pair Q x y h zero (suc zero) d lt in_list = h
+of_pair Q x y h zero zero d lt in_list = absurd (omega arith)
+of_pair Q x y h zero (suc (suc j)) d lt in_list = absurd (omega arith)
+of_pair Q x y h (suc i) zero d lt in_list = absurd (omega arith)
+of_pair Q x y h (suc i) (suc j) d lt in_list = absurd (omega arith)

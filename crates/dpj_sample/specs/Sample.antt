@@ -214,13 +214,16 @@ abbrev pub got : TypedExpr
 got = int_local 9
 
 abbrev pub fills : TypedStmt
-fills = does (form.store_element a (int_local 7) (int_local 7))
+fills = does (form.foreach Deterministic 7 (number 0) (an_int (expr.array_length a)) (does (form.store_element a (int_local 7) (int_local 7))))
+
+abbrev pub keeps_last : TypedStmt
+keeps_last = does (form.store 9 (an_int (expr.element a last)))
+
+abbrev pub writes_y : TypedStmt
+writes_y = does (form.store_field (this main) 3 0 last)
 
 abbrev pub two_branches : TypedStmt
-two_branches = does (form.cobegin Deterministic (branches_of (
-  record { copies = 9 ∷ []; body = does (form.store 9 (an_int (expr.element a last))) }
-  ∷ record { copies = []; body = does (form.store_field (this main) 3 0 last) }
-  ∷ [])))
+two_branches = does (form.cobegin Deterministic (branches_of (record { copies = 9 ∷ []; body = keeps_last } ∷ record { copies = []; body = writes_y } ∷ [])))
 
 abbrev pub local_array : PlainType
 local_array = array int in_local false
@@ -228,25 +231,24 @@ local_array = array int in_local false
 abbrev pub b : TypedExpr
 b = local_of local_array 10
 
-abbrev pub adds_length : TypedStmt
-adds_length = does (form.store_part 16 (number 0) (calculated op.Add (an_int (expr.part_element 16 (number 0))) (an_int (expr.part_length 16))))
+abbrev pub adds_lengths : TypedStmt
+adds_lengths = does (form.foreach_parts 16 (of_part 11) (number 1)
+  (does (form.store_part 16 (number 0) (calculated op.Add (an_int (expr.part_element 16 (number 0))) (an_int (expr.part_length 16))))))
 
-abbrev pub fills_part : TypedStmts
-fills_part = stmts_of (
-  does (form.store_part 11 (number 0) (int_local 15))
-  ∷ does (form.foreach_parts 16 (of_part 11) (number 1) adds_length)
-  ∷ [])
+abbrev pub fills_parts : TypedStmt
+fills_parts = does (form.foreach_parts 11 (of_array b) n
+  (does (form.block (stmts_of (does (form.store_part 11 (number 0) (int_local 15)) ∷ adds_lengths ∷ [])))))
 
-abbrev pub arrays : TypedStmts
-arrays = stmts_of (
+abbrev pub filling : TypedStmts
+filling = stmts_of (
   does (form.declare 6 by_index false (typed here by_index (expr.create_array n)))
-  ∷ does (form.foreach Deterministic 7 (number 0) (an_int (expr.array_length a)) fills)
+  ∷ fills
   ∷ does (form.declare 8 int true (calculated op.Subtract n (number 1)))
   ∷ does (form.declare 9 int false (number 0))
   ∷ two_branches
   ∷ does (form.local_regions (0 ∷ []))
   ∷ does (form.declare 10 local_array false (typed here local_array (expr.create_array n)))
-  ∷ does (form.foreach_parts 11 (of_array b) n (does (form.block fills_part)))
+  ∷ fills_parts
   ∷ does (form.print_int (an_int (expr.element b got)))
   ∷ [])
 
@@ -278,7 +280,7 @@ abbrev pub main_body : TypedStmts
 main_body = stmts_of (
   does (form.block flow)
   ∷ does (form.block making)
-  ∷ does (form.block arrays)
+  ∷ does (form.block filling)
   ∷ raises_side_by_side
   ∷ raises_by_index
   ∷ does (form.return_value z)
