@@ -27,7 +27,7 @@ use Rattle.dpj_sample.proofs.Flow.{main_scope}
 use Rattle.dpj_sample.proofs.Small.{all_one, all_two, alone, calculates, fixed, int_known, of_pair, outer, small, var}
 
 -- `A:[..]` at an index
-abbrev in_a_at : Elem → Rpl
+abbrev pub in_a_at : Elem → Rpl
 in_a_at x = below_root (Name 0 ∷ x ∷ [])
 
 by_index_good : (L : Scope) → GoodType sample L 0 by_index

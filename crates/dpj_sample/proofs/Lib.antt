@@ -1,5 +1,6 @@
 mod Arrays
 mod Flow
+mod Main
 mod Objects
 mod Runs
 mod Small

@@ -45,9 +45,9 @@ calls_area {L} loud h k =
     (all_one (Known (in_a ∷ in_b ∷ [])) (cell (param 1)) known_cell) (int_readable (in_a ∷ in_b ∷ [])) (one_more (var k) (objects refl) none)
     (λ c. absurd (false≢true (sym loud ∙ c))) refl
 
-pub objects_pass : AllPass sample main_scope making (does (writes in_a) ∷ does (writes in_b) ∷ does (writes in_a) ∷ does (reads in_a) ∷ does (reads in_b) ∷ [])
+pub making_passes : AllPass sample main_scope making (does (writes in_a) ∷ does (writes in_b) ∷ does (writes in_a) ∷ does (reads in_a) ∷ does (reads in_b) ∷ [])
 unfolding substituted within generalised
-objects_pass =
+making_passes =
     declare (refl, omega arith) (class_shape, refl, one_arg _ [] in_a (a_good _)) (create_object refl (one_arg _ [] in_a (a_good _)) (full in_a refl) refl)
     (inherits refl (objects refl))
     (then' (store_field (var refl) refl refl (int_known (in_a ∷ [])) (small 3 tt) ints) (inl refl)
