@@ -4,3 +4,4 @@ mod Main
 mod Objects
 mod Runs
 mod Small
+mod Typed
