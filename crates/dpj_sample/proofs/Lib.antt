@@ -1,4 +1,5 @@
 mod Arrays
+mod Every
 mod Flow
 mod Main
 mod Objects

@@ -1,2 +1,3 @@
-pub mod Sample
+pub mod Constructs
 pub mod Laws
+pub mod Sample
