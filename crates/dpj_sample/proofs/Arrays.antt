@@ -14,10 +14,10 @@ use Rattle.dpj_base.specs.Regions.{generalised, substituted, within}
 use Rattle.dpj_base.specs.Types.{int}
 use Rattle.dpj_typed.specs.declared.stmt.Forking.TheVariants.{Deterministic}
 use Rattle.dpj_typed.specs.Effects.{Own as OwnEffect, as_effects, does, reads, uses, writes}
-use Rattle.dpj_typed.specs.Plain.{TypedStmts, more_stmts, no_stmts}
+use Rattle.dpj_typed.specs.Plain.{more_stmts, no_stmts}
 use Rattle.dpj_typed.specs.Samples.{below_root, in_b}
-use Rattle.dpj_typed.specs.Scope.{Scope, constant, frozen, in_branch, in_loop_branch, variable, with_local, with_regions}
-use Rattle.dpj_typed.specs.Statements.{AllPass, AreApart, IsFree, IsVariable, NoClash, Passes, with_part}
+use Rattle.dpj_typed.specs.Scope.{Scope, constant, in_branch, in_loop_branch, variable, with_local, with_regions}
+use Rattle.dpj_typed.specs.Statements.{AllPass, IsFree, IsVariable, NoClash, Passes, with_part}
 use Rattle.dpj_typed.specs.Statements.{cobegin, cuts_array, cuts_part, declare, declare_regions, foreach, foreach_parts, nested, no_branch, no_more, one_branch}
 use Rattle.dpj_typed.specs.Statements.{print_int, store, store_element, store_field, store_part, then'}
 use Rattle.dpj_typed.specs.Types.{GoodElem, GoodType, arrays, ints}

@@ -1,5 +1,5 @@
 -- The sample has every construct: where the first one of each stands.
-use Rattle.std.proofs.Common.{◌≡◌, ℕ, true, false, Contains, List, Some, slice_get, refl}
+use Rattle.std.proofs.Common.{◌≡◌, ℕ, true, false, Contains, Some, slice_get, refl}
 use Rattle.std.proofs.lemmas.Option.{get_or_from_slice_get, slice_get_within}
 use Rattle.dpj_typed.specs.declared.expr.BinaryOp.TheVariants as op
 use Rattle.dpj_typed.specs.declared.expr.UnaryOp.TheVariants.{Negate, Not}

@@ -1,6 +1,5 @@
 -- The first block of the sample passes: it has no effects.
-use Rattle.std.proofs.Common.{◌≡◌, ℕ, pos, List, [], refl, inl, inr, arith}
-use Rattle.dpj_base.specs.Types.{int, boolean}
+use Rattle.std.proofs.Common.{[], refl, inl, arith}
 use Rattle.dpj_typed.specs.Scope.{Scope}
 use Rattle.dpj_typed.specs.Statements.{AllPass, choice, choice_else, declare, nested, no_more, print_boolean, print_int, print_text, store, then', while_loop}
 use Rattle.dpj_typed.specs.Table.{body_scope}

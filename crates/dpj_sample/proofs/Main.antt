@@ -15,7 +15,7 @@ use Rattle.dpj_typed.specs.Effects.{Own, as_effects, does, reads, writes}
 use Rattle.dpj_typed.specs.Plain.{ExprForm as expr}
 use Rattle.dpj_typed.specs.Plain.{more_stmts, no_stmts}
 use Rattle.dpj_typed.specs.Samples.{anything, in_a, in_b, number}
-use Rattle.dpj_typed.specs.Scope.{Scope, atomic_in, frozen, in_atomic_block, in_branch}
+use Rattle.dpj_typed.specs.Scope.{Scope, atomic_in, frozen, in_atomic_block}
 use Rattle.dpj_typed.specs.Statements.{AllPass, IsVariable, NoClash, Passes, SameEffects}
 use Rattle.dpj_typed.specs.Statements.{atomic, cobegin, foreach, nested, no_branch, no_more, one_branch, return_value, store_field, then'}
 use Rattle.dpj_typed.specs.Types.{ints}

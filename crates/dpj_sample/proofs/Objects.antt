@@ -1,9 +1,9 @@
 -- The second block of the sample passes.
-use Rattle.std.proofs.Common.{◌≡◌, ℕ, zero, suc, All, IsTrue, List, [], ◌∷◌, false, refl, sym, ◌∙◌, inl, inr, arith, Some}
+use Rattle.std.proofs.Common.{◌≡◌, ℕ, zero, suc, All, IsTrue, [], ◌∷◌, false, refl, sym, ◌∙◌, inl, inr, arith, Some}
 use Rattle.std.proofs.lemmas.Bool.{false≢true}
 use Rattle.dpj_base.specs.declared.region.Rpl.{Rpl}
 use Rattle.dpj_base.specs.Regions.{argument, fully_specified, generalised, substituted, within}
-use Rattle.dpj_base.specs.Types.{int, mentions_param}
+use Rattle.dpj_base.specs.Types.{mentions_param}
 use Rattle.dpj_typed.specs.Effects.{does, effect_with, reads, writes}
 use Rattle.dpj_typed.specs.Plain.{exprs_of}
 use Rattle.dpj_typed.specs.Plain.{ExprForm as expr}

@@ -1,6 +1,5 @@
 -- The runs of the sample.
-use Rattle.std.proofs.Common.{◌≡◌, ◌≢◌, ℕ, ℤ, pos, zero, suc, Bool, true, false, true≢false, List, [], ◌∷◌, refl, sym, ap, arith, Option, Some, None, slice_get}
-use Rattle.std.specs.Prelude.{codes}
+use Rattle.std.proofs.Common.{◌≡◌, ◌≢◌, ℕ, pos, zero, suc, Bool, true, false, true≢false, List, [], ◌∷◌, refl, sym, ap, arith, Option, Some, None, slice_get}
 use Rattle.std.specs.Fmt.{digits}
 use Rattle.dpj_typed.specs.WellTyped.{WellTyped}
 use Rattle.dpj_meaning.specs.Asking.{ask, meaning, most_turns}

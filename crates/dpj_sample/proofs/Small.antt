@@ -1,5 +1,5 @@
 -- What the derivations of the sample share.
-use Rattle.std.proofs.Common.{◌≡◌, ℕ, zero, suc, arith, AllPairs, ◌==◌, Bool, true, false, not, ◌<◌, List, [], ◌∷◌, All, Some, None, IsTrue, pos, refl, subst, inl, inr, T, ltb, ◌^◌, slice_get, ◌++◌}
+use Rattle.std.proofs.Common.{◌≡◌, ℕ, zero, suc, arith, AllPairs, ◌==◌, Bool, true, false, not, ◌<◌, List, [], ◌∷◌, All, Some, None, IsTrue, refl, subst, inl, inr, T, ltb, ◌^◌, slice_get, ◌++◌}
 use Rattle.std.proofs.Math.Facts.{sfits_lit}
 use Rattle.std.proofs.lemmas.Bool.{false≢true}
 use Rattle.std.proofs.lemmas.List.Elements.{All-nil, All-cons}
@@ -13,10 +13,9 @@ use Rattle.dpj_typed.specs.Scope.{Scope, atomic_in, constant, frozen, variable}
 use Rattle.dpj_typed.specs.Statements.{AllPass, Passes, then', no_more}
 use Rattle.dpj_typed.specs.Types.{GoodArgs, GoodElem, GoodPath, Known, Readable}
 use Rattle.dpj_typed.specs.Typing.{Has, Operands, literal_int, operation, read_local, result_of}
-use Rattle.dpj_typed.specs.Samples.{below_root, here, number}
+use Rattle.dpj_typed.specs.Samples.{below_root, number}
 use Rattle.dpj_typed.specs.declared.expr.BinaryOp.{BinaryOp}
 use Rattle.dpj_typed.specs.declared.expr.BinaryOp.TheVariants as op
-use Rattle.dpj_typed.specs.Plain.{typed}
 use Rattle.dpj_typed.specs.Plain.{ExprForm as expr}
 use Rattle.dpj_sample.specs.Sample.{sample, an_int, calculated, compared, local_of}
 

@@ -1,6 +1,6 @@
 -- The sample is well typed: its classes, its members, and `main`.
-use Rattle.std.proofs.Common.{◌≡◌, ℕ, zero, suc, All, List, [], ◌∷◌, Some, None, IsTrue, slice_get, length, ◌<◌, false, refl, sym, subst, inl, inr, arith}
-use Rattle.std.proofs.lemmas.Bool.{false≢true, true≢false}
+use Rattle.std.proofs.Common.{◌≡◌, ℕ, zero, suc, All, [], ◌∷◌, Some, IsTrue, slice_get, length, ◌<◌, refl, subst, inl, inr, arith}
+use Rattle.std.proofs.lemmas.Bool.{true≢false}
 use Rattle.std.proofs.lemmas.List.Elements.{All-nil}
 use Rattle.dpj_base.specs.declared.elems.Elem.TheVariants.{Name, Star}
 use Rattle.dpj_base.specs.Effects.{covers_effect}

@@ -1,5 +1,5 @@
 -- The constructs of the language, and which of them a program has.
-use Rattle.std.specs.Prelude.{ℕ, Bool, true, false, List, [], ◌∷◌, ◌++◌, Contains, flat_map}
+use Rattle.std.specs.Prelude.{Bool, true, false, List, [], ◌∷◌, ◌++◌, Contains, flat_map}
 use Rattle.dpj_typed.specs.declared.expr.BinaryOp.{BinaryOp}
 use Rattle.dpj_typed.specs.declared.expr.UnaryOp.{UnaryOp}
 use Rattle.dpj_typed.specs.declared.stmt.Forking.{Forking}

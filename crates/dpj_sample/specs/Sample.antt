@@ -1,6 +1,6 @@
 -- A program with every construct of the language, as the checker makes it of its text: a definition for each class, member and block, with
 -- its text above it.
-use Rattle.std.specs.Prelude.{ℕ, pos, codes, true, false, List, [], ◌∷◌, Some, None}
+use Rattle.std.specs.Prelude.{ℕ, codes, true, false, List, [], ◌∷◌, Some, None}
 use Rattle.dpj_base.specs.declared.effect.Access.TheVariants.{Read, Write}
 use Rattle.dpj_base.specs.declared.effect.Effect.{Effect}
 use Rattle.dpj_base.specs.declared.elems.Elem.TheVariants.{Name, At, Local}
@@ -13,8 +13,8 @@ use Rattle.dpj_typed.specs.declared.expr.BinaryOp.TheVariants as op
 use Rattle.dpj_typed.specs.declared.expr.UnaryOp.TheVariants.{Negate, Not}
 use Rattle.dpj_typed.specs.declared.stmt.Forking.TheVariants.{Deterministic, Nondeterministic}
 use Rattle.dpj_typed.specs.Effects.{reads, writes}
-use Rattle.dpj_typed.specs.Plain.{PlainProgram, PlainClass, PlainField, PlainMember, TypedExpr, typed, exprs_of, Source, of_array, of_part}
-use Rattle.dpj_typed.specs.Plain.{TypedStmt, TypedStmts, stmts_of, no_stmts, more_stmts, branches_of}
+use Rattle.dpj_typed.specs.Plain.{PlainProgram, PlainClass, PlainField, PlainMember, TypedExpr, typed, exprs_of, of_array, of_part}
+use Rattle.dpj_typed.specs.Plain.{TypedStmt, TypedStmts, stmts_of, branches_of}
 use Rattle.dpj_typed.specs.Plain.{ExprForm as expr}
 use Rattle.dpj_typed.specs.Plain.{StmtForm as form}
 use Rattle.dpj_typed.specs.Samples.{here, number, int_local, does, in_a, in_b, below_root, anything}
@@ -153,22 +153,22 @@ n = int_local 1
 
 abbrev pub searches : TypedStmts
 searches = stmts_of (
-  does (form.store 3 (calculated op.Add root (number 1)))
-  ∷ does (form.store 2 (compared op.AtLeast (calculated op.Multiply root root) n))
-  ∷ [])
+    does (form.store 3 (calculated op.Add root (number 1)))
+    ∷ does (form.store 2 (compared op.AtLeast (calculated op.Multiply root root) n))
+    ∷ [])
 
 abbrev pub is_root : TypedExpr
 is_root = a_boolean (expr.both (compared op.Equal (calculated op.Divide n root) root) (compared op.NotEqual (calculated op.Remainder n root) (number 1)))
 
 abbrev pub flow : TypedStmts
 flow = stmts_of (
-  does (form.declare 2 boolean false (a_boolean (expr.boolean false)))
-  ∷ does (form.declare 3 int false (number 0))
-  ∷ does (form.while_loop (a_boolean (expr.both (a_boolean (expr.unary Not found)) (compared op.AtMost root n))) (does (form.block searches)))
-  ∷ does (form.choice (a_boolean (expr.either found (compared op.Less n (number 0)))) (does (form.print_text (codes "root"))))
-  ∷ does (form.choice_else is_root (does (form.print_int root)) (does (form.print_int (an_int (expr.unary Negate root)))))
-  ∷ does (form.print_boolean (compared op.Greater n (number 1)))
-  ∷ [])
+    does (form.declare 2 boolean false (a_boolean (expr.boolean false)))
+    ∷ does (form.declare 3 int false (number 0))
+    ∷ does (form.while_loop (a_boolean (expr.both (a_boolean (expr.unary Not found)) (compared op.AtMost root n))) (does (form.block searches)))
+    ∷ does (form.choice (a_boolean (expr.either found (compared op.Less n (number 0)))) (does (form.print_text (codes "root"))))
+    ∷ does (form.choice_else is_root (does (form.print_int root)) (does (form.print_int (an_int (expr.unary Negate root)))))
+    ∷ does (form.print_boolean (compared op.Greater n (number 1)))
+    ∷ [])
 
 -- Shape<A> s = new Square<A>();
 -- s.side = 3;
@@ -181,13 +181,13 @@ new_cell a e = typed here (cell a) (expr.create (exprs_of (e ∷ [])))
 
 abbrev pub making : TypedStmts
 making = stmts_of (
-  does (form.declare 4 (shape in_a) false (typed here (square in_a) (expr.create (exprs_of []))))
-  ∷ does (form.store_field (local_of (shape in_a) 4) 1 0 (number 3))
-  ∷ does (form.declare 5 (cell in_b) false (typed here null expr.null))
-  ∷ does (form.store 5 (new_cell in_b n))
-  ∷ does (form.perform (new_cell in_a (number 0)))
-  ∷ does (form.print_int (an_int (expr.call (local_of (shape in_a) 4) 1 0 (in_b ∷ []) (exprs_of (local_of (cell in_b) 5 ∷ [])))))
-  ∷ [])
+    does (form.declare 4 (shape in_a) false (typed here (square in_a) (expr.create (exprs_of []))))
+    ∷ does (form.store_field (local_of (shape in_a) 4) 1 0 (number 3))
+    ∷ does (form.declare 5 (cell in_b) false (typed here null expr.null))
+    ∷ does (form.store 5 (new_cell in_b n))
+    ∷ does (form.perform (new_cell in_a (number 0)))
+    ∷ does (form.print_int (an_int (expr.call (local_of (shape in_a) 4) 1 0 (in_b ∷ []) (exprs_of (local_of (cell in_b) 5 ∷ [])))))
+    ∷ [])
 
 -- int[]<A:[j]>#j a = new int[n]<A:[j]>#j;
 -- foreach (int i in 0, a.length) a[i] = i;
@@ -233,24 +233,24 @@ b = local_of local_array 10
 
 abbrev pub adds_lengths : TypedStmt
 adds_lengths = does (form.foreach_parts 16 (of_part 11) (number 1)
-  (does (form.store_part 16 (number 0) (calculated op.Add (an_int (expr.part_element 16 (number 0))) (an_int (expr.part_length 16))))))
+    (does (form.store_part 16 (number 0) (calculated op.Add (an_int (expr.part_element 16 (number 0))) (an_int (expr.part_length 16))))))
 
 abbrev pub fills_parts : TypedStmt
 fills_parts = does (form.foreach_parts 11 (of_array b) n
-  (does (form.block (stmts_of (does (form.store_part 11 (number 0) (int_local 15)) ∷ adds_lengths ∷ [])))))
+    (does (form.block (stmts_of (does (form.store_part 11 (number 0) (int_local 15)) ∷ adds_lengths ∷ [])))))
 
 abbrev pub filling : TypedStmts
 filling = stmts_of (
-  does (form.declare 6 by_index false (typed here by_index (expr.create_array n)))
-  ∷ fills
-  ∷ does (form.declare 8 int true (calculated op.Subtract n (number 1)))
-  ∷ does (form.declare 9 int false (number 0))
-  ∷ two_branches
-  ∷ does (form.local_regions (0 ∷ []))
-  ∷ does (form.declare 10 local_array false (typed here local_array (expr.create_array n)))
-  ∷ fills_parts
-  ∷ does (form.print_int (an_int (expr.element b got)))
-  ∷ [])
+    does (form.declare 6 by_index false (typed here by_index (expr.create_array n)))
+    ∷ fills
+    ∷ does (form.declare 8 int true (calculated op.Subtract n (number 1)))
+    ∷ does (form.declare 9 int false (number 0))
+    ∷ two_branches
+    ∷ does (form.local_regions (0 ∷ []))
+    ∷ does (form.declare 10 local_array false (typed here local_array (expr.create_array n)))
+    ∷ fills_parts
+    ∷ does (form.print_int (an_int (expr.element b got)))
+    ∷ [])
 
 -- cobegin_nd {
 --   atomic { this.z = this.z + 1; }
@@ -268,9 +268,9 @@ raises e = does (form.atomic z_accesses (stmts_of (does (form.store_field (this 
 
 abbrev pub raises_side_by_side : TypedStmt
 raises_side_by_side = does (form.cobegin Nondeterministic (branches_of (
-  record { copies = []; body = raises (number 1) }
-  ∷ record { copies = []; body = raises (number 2) }
-  ∷ [])))
+    record { copies = []; body = raises (number 1) }
+    ∷ record { copies = []; body = raises (number 2) }
+    ∷ [])))
 
 abbrev pub raises_by_index : TypedStmt
 raises_by_index = does (form.foreach Nondeterministic 21 (number 0) n (raises (int_local 21)))
@@ -278,13 +278,13 @@ raises_by_index = does (form.foreach Nondeterministic 21 (number 0) n (raises (i
 -- { .. } { .. } { .. } .. return this.z;
 abbrev pub main_body : TypedStmts
 main_body = stmts_of (
-  does (form.block flow)
-  ∷ does (form.block making)
-  ∷ does (form.block filling)
-  ∷ raises_side_by_side
-  ∷ raises_by_index
-  ∷ does (form.return_value z)
-  ∷ [])
+    does (form.block flow)
+    ∷ does (form.block making)
+    ∷ does (form.block filling)
+    ∷ raises_side_by_side
+    ∷ raises_by_index
+    ∷ does (form.return_value z)
+    ∷ [])
 
 abbrev pub main_method : PlainMember
 main_method = record {

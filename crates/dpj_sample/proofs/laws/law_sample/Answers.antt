@@ -2,7 +2,7 @@ use Rattle.std.proofs.Common.{pos}
 use Rattle.std.proofs.Math.Facts.{sfits_lit}
 use Rattle.dpj_sample.specs.Sample.{sample}
 use Rattle.dpj_sample.proofs.Every.{has_every}
-use Rattle.dpj_sample.proofs.Runs.{P, a_run, is_elided, whole_run}
+use Rattle.dpj_sample.proofs.Runs.{a_run, is_elided, whole_run}
 use Rattle.dpj_sample.proofs.Typed.{well_typed}
 use Rattle.dpj_sample.proofs.laws.law_sample.Goals as goal
 
