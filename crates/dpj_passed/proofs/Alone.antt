@@ -1,5 +1,5 @@
 -- A text passes as one program, or it has one fault.
-use Rattle.std.proofs.Common.{◌≡◌, ◌∙◌, ℕ, List, inl, inr, ap, sym, subst}
+use Rattle.std.proofs.Common.{◌≡◌, ◌≤◌, ◌∙◌, ℕ, List, length, inl, inr, ap, sym, subst}
 use Rattle.dpj_base.specs.declared.place.Place.{Place}
 use Rattle.dpj_base.specs.declared.refusal.Refusal.{Refusal}
 use Rattle.dpj_tokens.specs.declared.token.Token.{Token}
@@ -7,12 +7,11 @@ use Rattle.dpj_tokens.specs.Cutting.{OneCutting}
 use Rattle.dpj_parse.specs.OneProgram.{OneProgram}
 use Rattle.dpj_parse.specs.OneRefusal.{OneRefusal}
 use Rattle.dpj_parse.specs.Program.{IsProgram}
-use Rattle.dpj_tree.specs.declared.class.Program.{Program}
 use Rattle.dpj_typed.specs.Names.{ProgramNames}
 use Rattle.dpj_typed.specs.Plain.{PlainProgram}
-use Rattle.dpj_front.specs.Front.{AreNames, first_place, IsFault, IsLaterFault, IsPassed, IsTokenFault, of_grammar, of_program}
+use Rattle.dpj_front.specs.Front.{AreNames, first_place, IsFault, IsPassed, IsTokenFault, of_grammar, of_program}
 use Rattle.dpj_front.specs.Judging.{HasNames, IsAccepted, IsFaulty, OneJudgement}
-use Rattle.dpj_passed.specs.Laws.{OneNaming, OneVerdict, OnePassing}
+use Rattle.dpj_passed.specs.Laws.{HasVerdict, OneNaming, OneVerdict, OnePassing}
 
 pub one_passing : OneCutting → OneProgram → OneJudgement → OnePassing
 one_passing cutting programs judgement text place other one another p q =
@@ -28,8 +27,8 @@ one_naming cutting programs judgement text first second p q =
     let tree : q.has_named.program ≡ p.has_named.program = programs text p.tokens q.has_named.program p.has_named.program derived p.has_named.derived in
     judgement.one_naming p.has_named.program first second p.has_named.has_names (subst (λ t. HasNames t second) tree q.has_named.has_names)
 
-pub one_verdict : OneCutting → OneProgram → OneRefusal → OneJudgement → OneVerdict
-one_verdict cutting programs refusals judgement = record { one_fault = one_fault; not_both = not_both; one_place = one_place }
+pub one_verdict : ((text : List ℕ) → length text ≤ 1048576 → HasVerdict text) → OneCutting → OneProgram → OneRefusal → OneJudgement → OneVerdict
+one_verdict some cutting programs refusals judgement = record { some = some; one_fault = one_fault; not_both = not_both; one_place = one_place }
   where
     one_place : (text : List ℕ) (place other : Place) (one another : PlainProgram) → IsPassed text place one → IsPassed text other another → place ≡ other
     one_place text place other one another p q =

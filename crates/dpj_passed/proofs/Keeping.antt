@@ -1,5 +1,5 @@
 -- What the parts of a text that passes give of its typed program.
-use Rattle.std.proofs.Common.{◌≡◌, ◌≤◌, ◌<◌, ℕ, List, length, sym, subst, arith}
+use Rattle.std.proofs.Common.{◌≤◌, ◌<◌, length, sym, subst, arith}
 use Rattle.dpj_headers.proofs.Shaped.{counted_when_named}
 use Rattle.dpj_tree.specs.Size.{program_size}
 use Rattle.dpj_tree.proofs.Sizes.{classes_counted}

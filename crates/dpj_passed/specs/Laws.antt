@@ -1,5 +1,5 @@
 -- What is kept by the typed program of a text that passes, as statements.
-use Rattle.std.specs.Prelude.{◌≡◌, ◌≤◌, ℕ, List, All, length}
+use Rattle.std.specs.Prelude.{◌≡◌, ◌⊎◌, ◌≤◌, ℕ, List, All, length}
 use Rattle.dpj_base.specs.declared.place.Place.{Place}
 use Rattle.dpj_base.specs.declared.refusal.Refusal.{Refusal}
 use Rattle.dpj_typed.specs.Names.{ProgramNames}
@@ -31,8 +31,13 @@ OnePassing = (text : List ℕ) (place other : Place) (one another : PlainProgram
 abbrev pub OneNaming : Type 0
 OneNaming = (text : List ℕ) (first second : ProgramNames) → AreNames text first → AreNames text second → first ≡ second
 
--- a text has one verdict at most: it passes, or it has one fault
+-- a text passes as a program, or it has a fault
+abbrev pub HasVerdict : List ℕ → Type 0
+HasVerdict text = ((place : Place) × (typed : PlainProgram) × IsPassed text place typed) ⊎ ((refusal : Refusal) × IsFault text refusal)
+
+-- a text has one verdict: it passes, or it has one fault
 pub record OneVerdict : Type 0 where
+  pub some : (text : List ℕ) → length text ≤ 1048576 → HasVerdict text
   pub one_fault : (text : List ℕ) (first second : Refusal) → IsFault text first → IsFault text second → first ≡ second
   pub not_both : (text : List ℕ) (place : Place) (typed : PlainProgram) (refusal : Refusal) → IsPassed text place typed → IsFault text refusal → ⊥
   -- its first token stands at one place

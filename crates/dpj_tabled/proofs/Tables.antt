@@ -20,7 +20,8 @@ use Rattle.dpj_classes.specs.Rows.{all_constraints, supers_meant, fields_meant, 
 use Rattle.dpj_classes.specs.Table.{headers_of, methods_of, supers_of}
 use Rattle.dpj_classes.proofs.Back.{super_back, field_back, method_back}
 use Rattle.dpj_classes.proofs.Rising.{extending_ordered}
-use Rattle.dpj_tabled.specs.Laws.{HasTable, EachTable}
+use Rattle.dpj_front.specs.Judging.{HasTable}
+use Rattle.dpj_tabled.specs.Laws.{EachTable}
 use Rattle.dpj_tabled.proofs.Marks.{Marks, all_reached}
 use Rattle.dpj_tabled.proofs.Rounds.{first_told}
 use Rattle.dpj_tabled.proofs.Rows.{supers_there, fields_there, methods_there, rows_extend}
