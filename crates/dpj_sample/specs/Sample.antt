@@ -1,5 +1,5 @@
--- A program with every construct of the language, as the checker makes it of its text: a definition for each class, member and block, with
--- its text above it.
+-- A program with every construct of the language: a definition for each class, member and block, with its text above it. Classes, members,
+-- regions and slots are numbered as the checker numbers them.
 use Rattle.std.specs.Prelude.{ℕ, codes, true, false, [], ◌∷◌, Some, None}
 use Rattle.dpj_base.specs.declared.effect.Access.TheVariants.{Read, Write}
 use Rattle.dpj_base.specs.declared.effect.Constraint.{Constraint}
@@ -62,7 +62,7 @@ local_of t x = typed here t (expr.local x)
 abbrev pub this : PlainType → TypedExpr
 this t = local_of t 0
 
--- `class Cell<region P> { int v in P; Cell(int start) writes P { this.v = start; return; } .. }`
+-- `class Cell<region P> { int v in P; Cell(int start) writes P { this.v = start; return; } }`
 abbrev pub class_cell : PlainClass
 class_cell = record {
   params = false ∷ [];
