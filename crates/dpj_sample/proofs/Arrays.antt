@@ -22,7 +22,7 @@ use Rattle.dpj_typed.specs.Statements.{cobegin, cuts_array, cuts_part, declare, 
 use Rattle.dpj_typed.specs.Statements.{print_int, store, store_element, store_field, store_part, then'}
 use Rattle.dpj_typed.specs.Types.{GoodElem, GoodType, arrays, ints}
 use Rattle.dpj_typed.specs.Typing.{length_of_array, length_of_part, make_array, read_element, read_part}
-use Rattle.dpj_sample.specs.Sample.{sample, adds_lengths, by_index, filling, fills, fills_parts, keeps_last, writes_y, in_local, local_array, two_branches}
+use Rattle.dpj_sample.specs.Sample.{sample, adds_lengths, by_index, filling, fills, fills_parts, keeps_last, keeps_it, in_local, local_array, two_branches}
 use Rattle.dpj_sample.proofs.Flow.{main_scope}
 use Rattle.dpj_sample.proofs.Small.{all_one, all_two, alone, calculates, fixed, int_known, of_pair, outer, small, var}
 
@@ -54,23 +54,23 @@ loop_passes =
 abbrev read_last : List OwnEffect
 read_last = does (reads (in_a_at (At (Variable 8)))) ∷ []
 
-abbrev wrote_y : List OwnEffect
-wrote_y = does (writes in_b) ∷ []
+abbrev wrote_kept : List OwnEffect
+wrote_kept = does (writes in_b) ∷ []
 
 first_passes : AllPass sample (in_branch (9 ∷ []) [] scope_got) (more_stmts keeps_last no_stmts) read_last
 first_passes = alone (store refl (read_element {t = int} (outer {t = by_index} refl) refl (fixed {x = 8} refl) refl (λ h. absurd (false≢true h)) refl) ints)
 
-second_passes : AllPass sample (in_branch [] (9 ∷ []) scope_got) (more_stmts writes_y no_stmts) wrote_y
+second_passes : AllPass sample (in_branch [] (9 ∷ []) scope_got) (more_stmts keeps_it no_stmts) wrote_kept
 unfolding substituted
 second_passes = alone (store_field {f = record { ty = int; region = in_b }} (outer refl) refl refl (int_known []) (fixed refl) ints)
 
-quiet : NoClash sample Deterministic scope_got (read_last ∷ wrote_y ∷ [])
+quiet : NoClash sample Deterministic scope_got (read_last ∷ wrote_kept ∷ [])
 unfolding clashes interferes apart within
-quiet = of_pair (λ E F. lists_clash [] None (as_effects E) (as_effects F) ≡ false) read_last wrote_y refl
+quiet = of_pair (λ E F. lists_clash [] None (as_effects E) (as_effects F) ≡ false) read_last wrote_kept refl
 
 branches_pass : Passes sample scope_got two_branches (does (reads (in_a_at (At (Variable 8)))) ∷ does (writes in_b) ∷ [])
 branches_pass =
-    cobegin {Es = read_last ∷ wrote_y ∷ []} (λ c. refl)
+    cobegin {Es = read_last ∷ wrote_kept ∷ []} (λ c. refl)
     (one_branch (all_one (IsVariable scope_got) 9 (int, refl)) (all_one (λ x. list_any (λ y. x == y) [] ≡ false) 9 refl) first_passes
     (one_branch (All-nil (IsVariable scope_got)) (All-nil _) second_passes no_branch)) quiet
 

@@ -9,7 +9,7 @@ use Rattle.dpj_sample.specs.Sample.{sample, class_main, flow, main_method}
 use Rattle.dpj_sample.proofs.Small.{alone, calculates, calm, compares, small, var}
 
 abbrev pub main_scope : Scope
-main_scope = body_scope class_main calm 3 main_method
+main_scope = body_scope class_main calm 5 main_method
 
 pub flow_passes : AllPass sample main_scope flow []
 flow_passes =

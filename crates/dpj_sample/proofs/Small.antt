@@ -4,13 +4,14 @@ use Rattle.std.proofs.Math.Facts.{sfits_lit}
 use Rattle.std.proofs.lemmas.Bool.{false≢true}
 use Rattle.std.proofs.lemmas.List.Elements.{All-nil, All-cons}
 use Rattle.dpj_base.specs.declared.elems.Elem.TheVariants.{Name}
+use Rattle.dpj_base.specs.declared.effect.Effect.{Effect}
 use Rattle.dpj_base.specs.declared.region.Rpl.{Rpl}
 use Rattle.dpj_base.specs.Branches.{atomic_path}
 use Rattle.dpj_base.specs.Types.{PlainType, int, boolean}
 use Rattle.dpj_typed.specs.Effects.{Own}
 use Rattle.dpj_typed.specs.Plain.{TypedStmt, more_stmts, no_stmts}
 use Rattle.dpj_typed.specs.Scope.{Scope, atomic_in, constant, frozen, variable}
-use Rattle.dpj_typed.specs.Statements.{AllPass, Passes, then', no_more}
+use Rattle.dpj_typed.specs.Statements.{AllPass, Passes, SameEffects, then', no_more}
 use Rattle.dpj_typed.specs.Types.{GoodArgs, GoodElem, GoodPath, Known, Readable}
 use Rattle.dpj_typed.specs.Typing.{Has, Operands, literal_int, operation, read_local, result_of}
 use Rattle.dpj_typed.specs.Samples.{below_root, number}
@@ -50,7 +51,7 @@ int_readable args p h = absurd (false≢true h)
 
 -- all members but `main` reach no nd construct
 abbrev pub calm : ℕ → Bool
-calm n = not (n == 3)
+calm n = not (n == 5)
 
 -- one statement alone
 pub alone : {L : Scope} {s : TypedStmt} {E : List Own} → Passes sample L s E → AllPass sample L (more_stmts s no_stmts) (E ++ [])
@@ -111,3 +112,18 @@ of_pair Q x y h zero zero d lt in_list = absurd (omega arith)
 of_pair Q x y h zero (suc (suc j)) d lt in_list = absurd (omega arith)
 of_pair Q x y h (suc i) zero d lt in_list = absurd (omega arith)
 of_pair Q x y h (suc i) (suc j) d lt in_list = absurd (omega arith)
+
+-- and for one that is
+pub one_atomic_arg : (L : Scope) (a : Rpl) → GoodPath sample L 0 a → IsTrue (atomic_path (atomic_in sample L) a) → GoodArgs sample L 0 (true ∷ []) [] [] (a ∷ [])
+one_atomic_arg L a h is = record { arity = refl; paths = all_one (GoodPath sample L 0) a h; atomic = one; hold = All-nil _ }
+  where
+    one : (p : ℕ) (b : Rpl) → slice_get (true ∷ []) p ≡ Some true → slice_get (a ∷ []) p ≡ Some b → IsTrue (atomic_path (atomic_in sample L) b)
+    one zero b e k = subst (λ c. IsTrue (atomic_path (atomic_in sample L) c)) (some_is a b k) is
+    one (suc p) b e k = nothing_there true e
+
+-- for no parameters
+pub no_args : (L : Scope) (others : List Rpl) → GoodArgs sample L 0 [] [] others []
+no_args L others = record { arity = refl; paths = All-nil (GoodPath sample L 0); atomic = λ p a e. nothing_there true e; hold = All-nil _ }
+
+pub same_effects : (F : List Effect) → SameEffects F F
+same_effects F e = (λ h. h, λ h. h)

@@ -1,14 +1,24 @@
 -- The constructs of the language, and which of them a program has.
-use Rattle.std.specs.Prelude.{Bool, true, false, List, [], ◌∷◌, ◌++◌, Contains, flat_map}
+use Rattle.std.specs.Prelude.{Bool, true, false, List, [], ◌∷◌, ◌++◌, Contains, flat_map, map}
+use Rattle.std.specs.Option.{option_map_or}
+use Rattle.dpj_base.specs.declared.effect.Access.{Access}
 use Rattle.dpj_typed.specs.declared.expr.BinaryOp.{BinaryOp}
 use Rattle.dpj_typed.specs.declared.expr.UnaryOp.{UnaryOp}
 use Rattle.dpj_typed.specs.declared.stmt.Forking.{Forking}
-use Rattle.dpj_typed.specs.Plain.{PlainProgram, PlainMember, TypedExpr, typed, TypedExprs, no_exprs, more_exprs, of_array, of_part}
+use Rattle.dpj_typed.specs.Plain.{PlainProgram, PlainClass, PlainMember, TypedExpr, typed, TypedExprs, no_exprs, more_exprs, of_array, of_part}
 use Rattle.dpj_typed.specs.Plain.{TypedStmt, statement, TypedStmts, no_stmts, more_stmts, TypedBranches, no_branches, more_branches}
 use Rattle.dpj_typed.specs.Plain.{ExprForm as expr}
 use Rattle.dpj_typed.specs.Plain.{StmtForm as form}
 
 pub data Construct : Type 0 where
+  -- declarations: an effect of a summary is one of an access, marked or not
+  superclass : Construct
+  constructor : Construct
+  class_param : (atomic : Bool) → Construct
+  method_param : Construct
+  constraint : Construct
+  effect : Access → (atomic : Bool) → Construct
+  region_name : (atomic : Bool) → Construct
   -- expressions
   int : Construct
   boolean : Construct
@@ -109,9 +119,16 @@ abbrev mutual
   of_branches no_branches = []
   of_branches (more_branches copies s bs) = of_stmt s ++ of_branches bs
 
--- all that stand in a program, in the order of the text
+abbrev pub of_class : PlainClass → List Construct
+of_class k =
+    map class_param k.params ++ map (λ g. constraint) k.given ++ option_map_or (λ p. superclass ∷ []) k.parent [] ++ option_map_or (λ n. constructor ∷ []) k.constructor []
+
+abbrev pub of_member : PlainMember → List Construct
+of_member m = map (λ p. method_param) m.params ++ map (λ g. constraint) m.given ++ map (λ e. effect e.access e.atomic) m.summary ++ of_stmts m.body
+
+-- all that stand in a program
 abbrev pub constructs_of : PlainProgram → List Construct
-constructs_of P = flat_map (λ (m : PlainMember). of_stmts m.body) P.members
+constructs_of P = flat_map of_class P.classes ++ flat_map of_member P.members ++ map region_name P.region_names
 
 -- a program has every construct
 abbrev pub HasEvery : PlainProgram → Type 0

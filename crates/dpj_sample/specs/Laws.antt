@@ -18,9 +18,9 @@ use Rattle.dpj_sound.specs.Runs.{KeepsTo}
 use Rattle.dpj_steps.specs.Steps.{stepped}
 use Rattle.dpj_sample.specs.Sample.{sample}
 
--- in sequence it prints this and gives 4, in 79 steps and 33 cells. The fourth line is the area of a square
+-- in sequence it prints this and gives 4, in 92 steps and 35 cells. The fourth line is the area of a square
 abbrev pub SampleIsElided : Type 0
-SampleIsElided = elided sample (pos 2) (record { steps = 1000; cells = 1000 }) ≡ Came (Returned (Int (pos 4))) (codes "root\n-2\ntrue\n18\n2\n") 79 33
+SampleIsElided = elided sample (pos 2) (record { steps = 1000; cells = 1000 }) ≡ Came (Returned (Int (pos 4))) (codes "root\n-2\ntrue\n18\n2\n") 92 35
 
 -- two unordered events of a run that conflict, each inside a block
 pub record ConflictInBlocks (R : Run) : Type 0 where
