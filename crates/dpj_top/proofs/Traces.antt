@@ -1,11 +1,11 @@
 -- Answers to traces, over plain variables.
-use Rattle.std.proofs.Common.{◌≡◌, ◌∙◌, ◌≤◌, ℕ, ℤ, List, length, IfOk, Result, Ok, Err, sym, ap, subst}
+use Rattle.std.proofs.Common.{◌≡◌, ◌∙◌, ◌≤◌, ℕ, ℤ, FitsSigned, List, length, IfOk, Result, Ok, Err, sym, ap, subst}
+use Rattle.std.specs.Int.{w32}
 use Rattle.dpj_base.specs.declared.memory.NoMemory.{NoMemory}
 use Rattle.dpj_base.specs.declared.place.Place.{Place}
 use Rattle.dpj_base.specs.declared.refusal.Refusal.{Refusal}
 use Rattle.dpj_base.specs.declared.refusal.Kind.TheVariants.{Trace as trace_kind}
 use Rattle.dpj_typed.specs.Plain.{PlainProgram}
-use Rattle.dpj_trace.specs.Laws.{HasNumbers}
 use Rattle.dpj_trace.specs.Reading.{IsMisfit, IsTrace}
 use Rattle.dpj_trace.specs.declared.reading.Trace.{Trace}
 use Rattle.dpj_base.specs.declared.outcome.Limits.{Limits}
@@ -36,7 +36,7 @@ replay-no-usage bytes answered (no_trace line short misfit is) e = let s = same-
 replay-no-usage bytes answered (of_trace trace short is numbers on) e = on-trace-no-usage bytes trace answered on e
 
 -- bytes that are a trace, and bytes that are none
-pub trace-answer : (bytes : List ℕ) (trace : Trace) (result : Result Answered NoMemory) → length bytes ≤ max_trace → IsTrace bytes trace → HasNumbers trace → IfOk result (IsAnswerOnTrace bytes trace)
+pub trace-answer : (bytes : List ℕ) (trace : Trace) (result : Result Answered NoMemory) → length bytes ≤ max_trace → IsTrace bytes trace → FitsSigned w32 trace.arg → IfOk result (IsAnswerOnTrace bytes trace)
     → IfOk result (IsReplayed bytes)
 trace-answer bytes trace (Ok answered) short is numbers on = of_trace trace short is numbers on
 trace-answer bytes trace (Err none) short is numbers on = tt

@@ -54,14 +54,20 @@ ran-no-usage : (job : Job) (text : List ℕ) (typed : PlainProgram) (answered : 
 ran-no-usage job text typed answered r e =
     told-no-usage job.command job text r.made.record.machine.schedule r.made.outcome (ap (λ (a : Answered). status_of a.verdict) (sym r.is) ∙ e)
 
+listed-no-usage : (bytes : List ℕ) (answered : Answered) → answered ≡ only (Listed bytes) → status_of answered.verdict ≡ ended.Usage → ⊥
+listed-no-usage bytes answered is e = let s : status_of (Listed bytes) ≡ ended.Usage = ap (λ (a : Answered). status_of a.verdict) (sym is) ∙ e in cc
+
+effects-no-usage : (bytes : List ℕ) (answered : Answered) → answered ≡ only (Effects bytes) → status_of answered.verdict ≡ ended.Usage → ⊥
+effects-no-usage bytes answered is e = let s : status_of (Effects bytes) ≡ ended.Usage = ap (λ (a : Answered). status_of a.verdict) (sym is) ∙ e in cc
+
 program-no-usage : (job : Job) (text : List ℕ) (typed : PlainProgram) (answered : Answered) → IsAnswerOn job text typed answered
     → status_of answered.verdict ≡ ended.Usage → ⊥
 program-no-usage job text typed answered (to_check asked is) e = cc
 program-no-usage job text typed answered (to_run asked is) e = ran-no-usage job text typed answered is e
 program-no-usage job text typed answered (to_elide asked is) e =
     ending_status-no-usage is.outcome.ending (ap (λ (a : Answered). status_of a.verdict) (sym is.is) ∙ e)
-program-no-usage job text typed answered (to_list asked is) e = let lists = is.lists in cc
-program-no-usage job text typed answered (to_effects asked is) e = let tells = is.tells in cc
+program-no-usage job text typed answered (to_list asked is) e = listed-no-usage _ answered is.lists e
+program-no-usage job text typed answered (to_effects asked is) e = effects-no-usage _ answered is.tells e
 
 -- the answer to a job isn't told as usage
 pub answer-no-usage : (job : Job) (text : List ℕ) (answered : Answered) → IsAnswer job text answered → status_of answered.verdict ≡ ended.Usage → ⊥

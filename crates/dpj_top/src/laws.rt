@@ -1,12 +1,10 @@
 //! What the definitions of the answer say of themselves, and what they come to.
 ghost use Rattle.dpj_top.specs.Answer.{OneAnswer};
 ghost use Rattle.dpj_top.specs.Promise.{KeepsPromise};
-ghost use Rattle.dpj_top.specs.Replaying.{OneReplay};
 
 use dpj_infer::laws::law_one_inferred;
 use dpj_passed::laws::{law_one_passing, law_passed};
 use dpj_promise::laws::{law_elide, law_goes_on, law_inside, law_promise, law_reduced};
-use dpj_trace::law_readings;
 
 /// There is at most one answer to a job on a text, for each run that was recorded.
 pub fn one_answer()
@@ -15,14 +13,6 @@ pub fn one_answer()
     promise();
     law_one_passing();
     law_one_inferred();
-}
-
-/// There is at most one answer to a replay of any bytes, for each run that was recorded.
-pub fn one_replay()
-    ensures { OneReplay }
-{
-    law_readings();
-    law_one_passing();
 }
 
 /// The promise of the language. What is accepted is well typed, and its runs come out. A run of an accepted program without nd constructs is answered by the
