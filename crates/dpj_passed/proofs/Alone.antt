@@ -7,10 +7,11 @@ use Rattle.dpj_tokens.specs.Cutting.{OneCutting}
 use Rattle.dpj_parse.specs.OneProgram.{OneProgram}
 use Rattle.dpj_parse.specs.OneRefusal.{OneRefusal}
 use Rattle.dpj_parse.specs.Program.{IsProgram}
+use Rattle.dpj_typed.specs.Names.{ProgramNames}
 use Rattle.dpj_typed.specs.Plain.{PlainProgram}
-use Rattle.dpj_front.specs.Front.{first_place, IsFault, IsPassed, IsTokenFault, of_grammar, of_program}
-use Rattle.dpj_front.specs.Judging.{IsAccepted, IsFaulty, OneJudgement}
-use Rattle.dpj_passed.specs.Laws.{HasVerdict, OneVerdict, OnePassing}
+use Rattle.dpj_front.specs.Front.{AreNames, first_place, IsFault, IsPassed, IsTokenFault, of_grammar, of_program}
+use Rattle.dpj_front.specs.Judging.{HasNames, IsAccepted, IsFaulty, OneJudgement}
+use Rattle.dpj_passed.specs.Laws.{HasVerdict, OneNaming, OneVerdict, OnePassing}
 
 pub one_passing : OneCutting → OneProgram → OneJudgement → OnePassing
 one_passing cutting programs judgement text place other one another p q =
@@ -18,6 +19,13 @@ one_passing cutting programs judgement text place other one another p q =
     let derived = subst (λ ts. IsProgram text ts q.has_program.program) same q.has_program.derived in
     let tree : q.has_program.program ≡ p.has_program.program = programs text p.tokens q.has_program.program p.has_program.program derived p.has_program.derived in
     judgement.one_program p.has_program.program one another p.has_program.accepted (subst (λ t. IsAccepted t another) tree q.has_program.accepted)
+
+pub one_naming : OneCutting → OneProgram → OneJudgement → OneNaming
+one_naming cutting programs judgement text first second p q =
+    let same = (cutting.tokens text q.tokens p.tokens q.end p.end q.cut p.cut).0 in
+    let derived = subst (λ ts. IsProgram text ts q.has_named.program) same q.has_named.derived in
+    let tree : q.has_named.program ≡ p.has_named.program = programs text p.tokens q.has_named.program p.has_named.program derived p.has_named.derived in
+    judgement.one_naming p.has_named.program first second p.has_named.has_names (subst (λ t. HasNames t second) tree q.has_named.has_names)
 
 pub one_verdict : ((text : List ℕ) → length text ≤ 1048576 → HasVerdict text) → OneCutting → OneProgram → OneRefusal → OneJudgement → OneVerdict
 one_verdict some cutting programs refusals judgement = record { some = some; one_fault = one_fault; not_both = not_both; one_place = one_place }

@@ -2,6 +2,7 @@
 use Rattle.std.specs.Prelude.{◌≡◌, ◌⊎◌, ◌≤◌, ℕ, List, All, length}
 use Rattle.dpj_base.specs.declared.place.Place.{Place}
 use Rattle.dpj_base.specs.declared.refusal.Refusal.{Refusal}
+use Rattle.dpj_typed.specs.Names.{ProgramNames}
 use Rattle.dpj_typed.specs.Plain.{PlainProgram}
 use Rattle.dpj_typed.specs.WellTyped.{WellTyped}
 use Rattle.dpj_code.specs.declared.code.Code.{Code}
@@ -10,7 +11,7 @@ use Rattle.dpj_gen.specs.Resolved.{Resolved}
 use Rattle.dpj_gen.specs.Whole.{compiled}
 use Rattle.dpj_going.specs.Going.{HasMain}
 use Rattle.dpj_legs.specs.Halts.{IsFew}
-use Rattle.dpj_front.specs.Front.{IsFault, IsPassed}
+use Rattle.dpj_front.specs.Front.{AreNames, IsFault, IsPassed}
 
 -- it is well typed and resolved, has a `main`, and no fork of its code has more branches than a value counts
 pub record Keeps (typed : PlainProgram) : Type 0 where
@@ -25,6 +26,10 @@ PassedKeeps = (text : List ℕ) (place : Place) (typed : PlainProgram) → lengt
 -- a text passes as one program
 abbrev pub OnePassing : Type 0
 OnePassing = (text : List ℕ) (place other : Place) (one another : PlainProgram) → IsPassed text place one → IsPassed text other another → one ≡ another
+
+-- and its program has one list of names
+abbrev pub OneNaming : Type 0
+OneNaming = (text : List ℕ) (first second : ProgramNames) → AreNames text first → AreNames text second → first ≡ second
 
 -- a text passes as a program, or it has a fault
 abbrev pub HasVerdict : List ℕ → Type 0

@@ -1,6 +1,6 @@
 //! The laws of accepted texts, the clauses of a function that does nothing but name others.
 
-ghost use Rattle.dpj_passed.specs.Laws.{PassedKeeps, OnePassing, OneVerdict};
+ghost use Rattle.dpj_passed.specs.Laws.{PassedKeeps, OneNaming, OnePassing, OneVerdict};
 
 use dpj_accepted::laws::law_well_typed;
 use dpj_front::one_judgement;
@@ -25,9 +25,10 @@ pub fn law_passed()
     law_has_rows();
 }
 
-/// A text passes as one typed program, or it has one fault, and not both.
+/// A text passes as one typed program, whose names are one list, or it has one fault, and not both.
 pub fn law_one_passing()
     ensures one { OnePassing }
+    ensures naming { OneNaming }
     ensures verdict { OneVerdict }
 {
     law_each_text();
