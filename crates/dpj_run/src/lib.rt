@@ -17,6 +17,8 @@ mod rounding;
 mod running;
 
 pub use eliding::elide;
+pub use finish::came_out;
+pub use open::open;
 pub use recorded::Recorded;
 pub use replaying::{Replayed, replay};
 pub use rounding::run_rounds;

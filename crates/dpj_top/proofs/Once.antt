@@ -4,13 +4,19 @@ use Rattle.dpj_base.specs.declared.outcome.Outcome.{Outcome}
 use Rattle.dpj_base.specs.declared.place.Place.{Place}
 use Rattle.dpj_history.specs.declared.record.Record.{Record}
 use Rattle.dpj_typed.specs.Plain.{PlainProgram}
-use Rattle.dpj_passed.specs.Laws.{OnePassing, OneVerdict}
+use Rattle.dpj_gen.specs.Whole.{compiled}
+use Rattle.dpj_compile.specs.Titles.{titles_of}
+use Rattle.dpj_infer.specs.Kept.{program_kept}
+use Rattle.dpj_infer.specs.Lines.{lines_of}
+use Rattle.dpj_infer.specs.Once.{OneInferred}
+use Rattle.dpj_listing.specs.Listing.{plain_listing}
+use Rattle.dpj_passed.specs.Laws.{OneNaming, OnePassing, OneVerdict}
 use Rattle.dpj_words.specs.declared.command.Command.{Command}
 use Rattle.dpj_words.specs.declared.command.Command.TheVariants as command
 use Rattle.dpj_words.specs.declared.job.Job.{Job}
-use Rattle.dpj_words.specs.declared.verdict.Verdict.TheVariants.{Refused}
+use Rattle.dpj_words.specs.declared.verdict.Verdict.TheVariants.{Effects, Listed, Refused}
 use Rattle.dpj_top.specs.declared.answered.Answered.{Answered}
-use Rattle.dpj_top.specs.Answer.{IsAcceptedAs, IsAnswer, IsAnswerOn, IsRan, IsWithin, OneAnswer, asks_run, faulty, is_pinned, limits_of, of_program, only, told_of, to_check, to_effects, to_elide, to_list, to_run, too_long}
+use Rattle.dpj_top.specs.Answer.{IsAcceptedAs, IsAnswer, IsAnswerOn, IsListing, IsRan, IsWithin, OneAnswer, asks_run, faulty, limits_of, of_program, only, told_of, to_check, to_effects, to_elide, to_list, to_run, too_long, TellsEffects}
 use Rattle.dpj_top.specs.Promise.{KeepsPromise}
 use Rattle.dpj_top.proofs.Promised.{made_run}
 
@@ -31,39 +37,53 @@ ran_once job text typed first second a b same =
     a.is ∙ ap (λ (k : Record). record { verdict = told_of job text k.machine.schedule r.outcome; recorded = Some k }) record_same
     ∙ ap (λ (o : Outcome). record { verdict = told_of job text q.record.machine.schedule o; recorded = Some q.record }) outcome_same ∙ sym b.is
 
+listed_once : OneNaming → (text : List ℕ) (typed : PlainProgram) (first second : Answered) → IsListing text typed first → IsListing text typed second → first ≡ second
+listed_once naming text typed first second a b =
+    a.lists ∙ ap (λ names. only (Listed (plain_listing (titles_of typed names) (compiled typed)))) (naming text a.names b.names a.are_names b.are_names) ∙ sym b.lists
+
+effects_once : OneNaming → OneInferred → (text : List ℕ) (typed : PlainProgram) (first second : Answered) → TellsEffects text typed first → TellsEffects text typed second → first ≡ second
+effects_once naming least text typed first second a b =
+    a.tells ∙ ap (λ P. only (Effects (lines_of P a.names))) (least typed a.kept b.kept a.inferred b.inferred)
+    ∙ ap (λ names. only (Effects (lines_of (program_kept b.kept typed) names))) (naming text a.names b.names a.are_names b.are_names) ∙ sym b.tells
+
 -- an answer on a program, by its command
 unlike : (job : Job) (c d : Command) → job.command ≡ c → job.command ≡ d → (c ≡ d → ⊥) → ⊥
 unlike job c d e f different = different (sym e ∙ f)
 
-unpinned : (job : Job) (c : Command) → is_pinned job.command ≡ true → job.command ≡ c → is_pinned c ≡ false → ⊥
-unpinned job c pinned e none = not_true_false (sym pinned ∙ ap is_pinned e ∙ none)
-
 no_run : (job : Job) (c : Command) → asks_run job.command ≡ true → job.command ≡ c → asks_run c ≡ false → ⊥
 no_run job c run e none = not_true_false (sym run ∙ ap asks_run e ∙ none)
 
-on_once : KeepsPromise → (job : Job) (text : List ℕ) (place : Place) (typed : PlainProgram) (first second : Answered) → IsWithin job → is_pinned job.command ≡ true → IsAcceptedAs text place typed →
-    IsAnswerOn job text typed first → IsAnswerOn job text typed second → first.recorded ≡ second.recorded → first ≡ second
-on_once keeps job text place typed first second within pinned accepted (to_check c is) (to_check d so) same = is ∙ sym so
-on_once keeps job text place typed first second within pinned accepted (to_check c is) (to_run d so) same = absurd (no_run job command.Check d c refl)
-on_once keeps job text place typed first second within pinned accepted (to_check c is) (to_elide d so) same = absurd (unlike job command.Check command.Elide c d (λ e. absurd (cc e)))
-on_once keeps job text place typed first second within pinned accepted (to_run c is) (to_check d so) same = absurd (no_run job command.Check c d refl)
-on_once keeps job text place typed first second within pinned accepted (to_run c is) (to_run d so) same = ran_once job text typed first second is so same
-on_once keeps job text place typed first second within pinned accepted (to_run c is) (to_elide d so) same = absurd (no_run job command.Elide c d refl)
-on_once keeps job text place typed first second within pinned accepted (to_elide c is) (to_check d so) same = absurd (unlike job command.Elide command.Check c d (λ e. absurd (cc e)))
-on_once keeps job text place typed first second within pinned accepted (to_elide c is) (to_run d so) same = absurd (no_run job command.Elide d c refl)
-on_once keeps job text place typed first second within pinned accepted (to_elide c is) (to_elide d so) same =
-    keeps.elide job text place typed first within accepted is ∙ sym (keeps.elide job text place typed second within accepted so)
-on_once keeps job text place typed first second within pinned accepted (to_list c is) other same = absurd (unpinned job command.«List» pinned c refl)
-on_once keeps job text place typed first second within pinned accepted (to_effects c is) other same = absurd (unpinned job command.Effects pinned c refl)
-on_once keeps job text place typed first second within pinned accepted (to_check c is) (to_list d so) same = absurd (unpinned job command.«List» pinned d refl)
-on_once keeps job text place typed first second within pinned accepted (to_check c is) (to_effects d so) same = absurd (unpinned job command.Effects pinned d refl)
-on_once keeps job text place typed first second within pinned accepted (to_run c is) (to_list d so) same = absurd (unpinned job command.«List» pinned d refl)
-on_once keeps job text place typed first second within pinned accepted (to_run c is) (to_effects d so) same = absurd (unpinned job command.Effects pinned d refl)
-on_once keeps job text place typed first second within pinned accepted (to_elide c is) (to_list d so) same = absurd (unpinned job command.«List» pinned d refl)
-on_once keeps job text place typed first second within pinned accepted (to_elide c is) (to_effects d so) same = absurd (unpinned job command.Effects pinned d refl)
+module _ (keeps : KeepsPromise) (naming : OneNaming) (least : OneInferred) (job : Job) (text : List ℕ) (place : Place) (typed : PlainProgram) (within : IsWithin job)
+    (accepted : IsAcceptedAs text place typed) where
+  on_once : (first second : Answered) → IsAnswerOn job text typed first → IsAnswerOn job text typed second → first.recorded ≡ second.recorded → first ≡ second
+  on_once first second (to_check c is) (to_check d so) same = is ∙ sym so
+  on_once first second (to_check c is) (to_run d so) same = absurd (no_run job command.Check d c refl)
+  on_once first second (to_check c is) (to_elide d so) same = absurd (unlike job command.Check command.Elide c d (λ e. absurd (cc e)))
+  on_once first second (to_check c is) (to_list d so) same = absurd (unlike job command.Check command.«List» c d (λ e. absurd (cc e)))
+  on_once first second (to_check c is) (to_effects d so) same = absurd (unlike job command.Check command.Effects c d (λ e. absurd (cc e)))
+  on_once first second (to_run c is) (to_check d so) same = absurd (no_run job command.Check c d refl)
+  on_once first second (to_run c is) (to_run d so) same = ran_once job text typed first second is so same
+  on_once first second (to_run c is) (to_elide d so) same = absurd (no_run job command.Elide c d refl)
+  on_once first second (to_run c is) (to_list d so) same = absurd (no_run job command.«List» c d refl)
+  on_once first second (to_run c is) (to_effects d so) same = absurd (no_run job command.Effects c d refl)
+  on_once first second (to_elide c is) (to_check d so) same = absurd (unlike job command.Elide command.Check c d (λ e. absurd (cc e)))
+  on_once first second (to_elide c is) (to_run d so) same = absurd (no_run job command.Elide d c refl)
+  on_once first second (to_elide c is) (to_elide d so) same = keeps.elide job text place typed first within accepted is ∙ sym (keeps.elide job text place typed second within accepted so)
+  on_once first second (to_elide c is) (to_list d so) same = absurd (unlike job command.Elide command.«List» c d (λ e. absurd (cc e)))
+  on_once first second (to_elide c is) (to_effects d so) same = absurd (unlike job command.Elide command.Effects c d (λ e. absurd (cc e)))
+  on_once first second (to_list c is) (to_check d so) same = absurd (unlike job command.«List» command.Check c d (λ e. absurd (cc e)))
+  on_once first second (to_list c is) (to_run d so) same = absurd (no_run job command.«List» d c refl)
+  on_once first second (to_list c is) (to_elide d so) same = absurd (unlike job command.«List» command.Elide c d (λ e. absurd (cc e)))
+  on_once first second (to_list c is) (to_list d so) same = listed_once naming text typed first second is so
+  on_once first second (to_list c is) (to_effects d so) same = absurd (unlike job command.«List» command.Effects c d (λ e. absurd (cc e)))
+  on_once first second (to_effects c is) (to_check d so) same = absurd (unlike job command.Effects command.Check c d (λ e. absurd (cc e)))
+  on_once first second (to_effects c is) (to_run d so) same = absurd (no_run job command.Effects d c refl)
+  on_once first second (to_effects c is) (to_elide d so) same = absurd (unlike job command.Effects command.Elide c d (λ e. absurd (cc e)))
+  on_once first second (to_effects c is) (to_list d so) same = absurd (unlike job command.Effects command.«List» c d (λ e. absurd (cc e)))
+  on_once first second (to_effects c is) (to_effects d so) same = effects_once naming least text typed first second is so
 
-pub answer_once : KeepsPromise → OneVerdict → OnePassing → OneAnswer
-answer_once keeps verdict one job text first second within pinned = by
+pub answer_once : KeepsPromise → OneVerdict → OnePassing → OneNaming → OneInferred → OneAnswer
+answer_once keeps verdict one naming least job text first second within = by
   where
     by : {x y : Answered} → IsAnswer job text x → IsAnswer job text y → x.recorded ≡ y.recorded → x ≡ y
     by (too_long h) (too_long k) same = refl
@@ -75,5 +95,5 @@ answer_once keeps verdict one job text first second within pinned = by
     by (of_program place typed answered accepted on) (too_long h) same = let short = accepted.0 in absurd (omega (arith, h, short))
     by (of_program place typed answered accepted on) (faulty refusal short fault) same = absurd (verdict.not_both text place typed refusal accepted.1 fault)
     by (of_program place typed answered accepted on) (of_program other typed_so another passed on_so) same =
-        on_once keeps job text place typed answered another within pinned accepted on
+        on_once keeps naming least job text place typed within accepted answered another on
         (subst (λ t. IsAnswerOn job text t another) (one text other place typed_so typed passed.1 accepted.1) on_so) same

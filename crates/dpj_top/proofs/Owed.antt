@@ -23,7 +23,7 @@ pub tells-no-want : (status : Status) → TellsOfVerdict status → status ≡ e
 tells-no-want status told e = subst TellsOfVerdict e told
 
 -- the answer to a job and a text that are there
-given_answer : (words : List (List ℕ)) (held : Option (List ℕ)) (asked : Job) (text : List ℕ) (answered : Answered) → job words ≡ Some asked → text_for asked held ≡ Some text →
+pub given_answer : (words : List (List ℕ)) (held : Option (List ℕ)) (asked : Job) (text : List ℕ) (answered : Answered) → job words ≡ Some asked → text_for asked held ≡ Some text →
     IsAnswered words held answered → Answers asked text answered
 given_answer words held asked text answered e f is =
     let some : IfSome (text_for asked held) (λ t. Answers asked t answered) =
@@ -108,4 +108,5 @@ module _ (keeps : KeepsPromise) (verdict : OneVerdict) (one : OnePassing) (words
         is = tells.run_recorded ∙ ap (λ (a : Answered). a.recorded) told.is;
         reported = verdict_told (told_of asked text told.made.record.machine.schedule told.made.outcome) (ap (λ (a : Answered). a.verdict) told.is);
         reduced = told.reduced;
+        inside = told.inside;
       }

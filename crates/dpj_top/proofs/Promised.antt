@@ -9,6 +9,7 @@ use Rattle.dpj_typed.specs.Plain.{PlainProgram}
 use Rattle.dpj_typed.specs.WellTyped.{WellTyped}
 use Rattle.dpj_passed.specs.Laws.{Keeps, PassedKeeps}
 use Rattle.dpj_promise.specs.Promise.{GreedyMachinesElide, MachinesAreNotStuck, MachinesComeOutAsElided, MachinesGoOn, elision}
+use Rattle.dpj_promise.specs.Inside.{ComesOutElidedInside, MachinesElideInside}
 use Rattle.dpj_promise.specs.Reduced.{ComesOutReduced, MachinesAreReduced}
 use Rattle.dpj_machine.specs.Keeping.{HaltsGreedily, HasEnded, IsStuckAt, WhyHaltedAt}
 use Rattle.dpj_machine.specs.declared.halted.Halted.{Halted}
@@ -30,7 +31,7 @@ use Rattle.dpj_words.specs.declared.job.Job.{Job}
 use Rattle.dpj_words.specs.declared.verdict.Verdict.TheVariants.{Ran}
 use Rattle.dpj_top.specs.declared.answered.Answered.{Answered}
 use Rattle.dpj_top.specs.Answer.{IsAcceptedAs, IsElided, IsRan, IsRunBy, IsWithin, limits_of, only, told_of}
-use Rattle.dpj_top.specs.Promise.{GoesOn, KeepsPromise, TellsElision, TellsReduced, elision_for}
+use Rattle.dpj_top.specs.Promise.{FollowsReduced, GoesOn, KeepsPromise, TellsElision, TellsReduced, elision_for}
 
 module _ (typed : PlainProgram) (keeps : Keeps typed) (L : Limits) (argument : ℤ) (few : L.steps ≤ 20000000) (fits : FitsSigned w32 argument) where
   few_steps : (p : Played) → IsRunOf typed L argument p → p.limits.steps ≤ 20000000
@@ -55,6 +56,10 @@ module _ (typed : PlainProgram) (keeps : Keeps typed) (L : Limits) (argument : �
   pub reduced_so : MachinesAreReduced → (p : Played) (o : Outcome) → IsRunOf typed L argument p → p.outcome ≡ Some o → ComesOutReduced typed keeps.well_typed p o
   reduced_so machines p o is come =
       machines typed keeps.well_typed p o keeps.resolved keeps.has_main is.is_code (few_steps p is) (fits_there p is) is.replayed come
+
+  pub inside_so : MachinesElideInside → (p : Played) (o : Outcome) → IsRunOf typed L argument p → p.outcome ≡ Some o → ComesOutElidedInside typed p o
+  inside_so machines p o is come =
+      machines typed p o keeps.well_typed keeps.resolved keeps.has_main is.is_code (few_steps p is) (fits_there p is) is.replayed come
 
   -- and none can't go on
   module _ (never_stuck : MachinesAreNotStuck) (machines : MachinesGoOn) (cells : L.cells ≤ 16777216) where
@@ -109,8 +114,8 @@ made_run mode.Steps typed L argument workers r (recorded_so _ is) = (is.is_run, 
 made_run mode.Rounds typed L argument workers r (by_rounds _ p is alone) =
     (subst (λ q. IsRunOf typed L argument q) (sym alone.machine) is.is_run, ap (λ (q : Played). q.outcome) alone.machine ∙ alone.came)
 
-pub keeps_promise : MachinesComeOutAsElided → GreedyMachinesElide → MachinesAreReduced → MachinesAreNotStuck → MachinesGoOn → PassedKeeps → KeepsPromise
-keeps_promise machines greedy reduce never_stuck goes passed = record { typed_well = typed_well; goes_on = goes_further; follows = follows; run = run; reduce = reduces; elide = elide }
+pub keeps_promise : MachinesComeOutAsElided → GreedyMachinesElide → MachinesAreReduced → MachinesElideInside → MachinesAreNotStuck → MachinesGoOn → PassedKeeps → KeepsPromise
+keeps_promise machines greedy reduce inside never_stuck goes passed = record { typed_well = typed_well; goes_on = goes_further; follows = follows; replay = replay; run = run; reduce = reduces; elide = elide }
   where
     kept : (text : List ℕ) (place : Place) (typed : PlainProgram) → IsAcceptedAs text place typed → Keeps typed
     kept text place typed accepted = passed text place typed accepted.0 accepted.1
@@ -145,6 +150,18 @@ keeps_promise machines greedy reduce never_stuck goes passed = record { typed_we
     follows text place typed limits argument schedule accepted allowed fits =
         follows_on typed (kept text place typed accepted) limits argument allowed.steps_most fits never_stuck goes allowed.cells_most schedule
 
+    replay : (text : List ℕ) (place : Place) (typed : PlainProgram) (limits : Limits) (argument : ℤ) (schedule : List ℕ) (made : Recorded) → IsAcceptedAs text place typed → AreLimits limits
+        → FitsSigned w32 argument → IsFollowed typed limits argument schedule (replayed.Ran made) → FollowsReduced typed limits argument schedule made
+    replay text place typed limits argument schedule made accepted allowed fits (IsFollowed.ran _ is same) =
+        let keeps = kept text place typed accepted in
+        record {
+          well_typed = keeps.well_typed;
+          by_schedule = same;
+          reduced = reduced_so typed keeps limits argument allowed.steps_most fits reduce made.record.machine made.outcome is.is_run is.came;
+          inside = inside_so typed keeps limits argument allowed.steps_most fits inside made.record.machine made.outcome is.is_run is.came;
+          elided = λ none. told_elision typed keeps limits argument allowed.steps_most fits machines none made.record.machine made.outcome is.is_run is.came;
+        }
+
     run : (job : Job) (text : List ℕ) (place : Place) (typed : PlainProgram) (answered : Answered) → IsWithin job → IsAcceptedAs text place typed
         → typed.uses_nd ≡ false → IsRan job text typed answered → TellsElision job text typed answered
     run job text place typed answered within accepted none ran =
@@ -166,6 +183,7 @@ keeps_promise machines greedy reduce never_stuck goes passed = record { typed_we
           made = r;
           is = ran.is;
           reduced = reduced_so typed (kept text place typed accepted) (limits_of job) job.arg within.0.steps_most within.1 reduce r.record.machine r.outcome m.0 m.1;
+          inside = inside_so typed (kept text place typed accepted) (limits_of job) job.arg within.0.steps_most within.1 inside r.record.machine r.outcome m.0 m.1;
         }
 
     elide : (job : Job) (text : List ℕ) (place : Place) (typed : PlainProgram) (answered : Answered) → IsWithin job → IsAcceptedAs text place typed

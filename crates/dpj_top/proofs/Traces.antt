@@ -5,6 +5,7 @@ use Rattle.dpj_base.specs.declared.place.Place.{Place}
 use Rattle.dpj_base.specs.declared.refusal.Refusal.{Refusal}
 use Rattle.dpj_base.specs.declared.refusal.Kind.TheVariants.{Trace as trace_kind}
 use Rattle.dpj_typed.specs.Plain.{PlainProgram}
+use Rattle.dpj_trace.specs.Laws.{HasNumbers}
 use Rattle.dpj_trace.specs.Reading.{IsMisfit, IsTrace}
 use Rattle.dpj_trace.specs.declared.reading.Trace.{Trace}
 use Rattle.dpj_base.specs.declared.outcome.Limits.{Limits}
@@ -32,13 +33,13 @@ on-trace-no-usage bytes trace answered (followed place typed accepted (unfit at 
 pub replay-no-usage : (bytes : List ℕ) (answered : Answered) → IsReplayed bytes answered → status_of answered.verdict ≡ ended.Usage → ⊥
 replay-no-usage bytes answered (too_long long is) e = let s = same-status answered _ is e in cc
 replay-no-usage bytes answered (no_trace line short misfit is) e = let s = same-status answered _ is e in cc
-replay-no-usage bytes answered (of_trace trace short is on) e = on-trace-no-usage bytes trace answered on e
+replay-no-usage bytes answered (of_trace trace short is numbers on) e = on-trace-no-usage bytes trace answered on e
 
 -- bytes that are a trace, and bytes that are none
-pub trace-answer : (bytes : List ℕ) (trace : Trace) (result : Result Answered NoMemory) → length bytes ≤ max_trace → IsTrace bytes trace → IfOk result (IsAnswerOnTrace bytes trace)
+pub trace-answer : (bytes : List ℕ) (trace : Trace) (result : Result Answered NoMemory) → length bytes ≤ max_trace → IsTrace bytes trace → HasNumbers trace → IfOk result (IsAnswerOnTrace bytes trace)
     → IfOk result (IsReplayed bytes)
-trace-answer bytes trace (Ok answered) short is on = of_trace trace short is on
-trace-answer bytes trace (Err none) short is on = tt
+trace-answer bytes trace (Ok answered) short is numbers on = of_trace trace short is numbers on
+trace-answer bytes trace (Err none) short is numbers on = tt
 
 pub misfit-answer : (bytes : List ℕ) (found told : ℕ) (answered : Answered) → found ≡ told → answered ≡ only (refused_at trace_kind told) → length bytes ≤ max_trace → IsMisfit bytes found
     → IsReplayed bytes answered

@@ -1,5 +1,6 @@
 -- Answers, over plain variables.
-use Rattle.std.proofs.Common.{◌≡◌, ◌≢◌, ◌∙◌, ◌≤◌, ◌⊎◌, ℕ, ℤ, true, List, length, Option, Some, IfOk, Result, Ok, Err, refl, sym, ap, subst, inl, inr}
+use Rattle.std.proofs.Common.{◌≡◌, ◌≢◌, map, ◌∙◌, ◌≤◌, ◌⊎◌, ℕ, ℤ, true, List, length, Option, Some, IfOk, Result, Ok, Err, refl, sym, ap, subst, inl, inr}
+use Rattle.std.specs.List.{All}
 use Rattle.dpj_base.specs.declared.memory.NoMemory.{NoMemory}
 use Rattle.dpj_base.specs.declared.outcome.Limits.{Limits}
 use Rattle.dpj_base.specs.declared.outcome.Outcome.{Outcome}
@@ -13,13 +14,23 @@ use Rattle.dpj_words.specs.declared.job.Job.{Job}
 use Rattle.dpj_words.specs.declared.key.Mode.{Mode}
 use Rattle.dpj_words.specs.declared.verdict.Status.TheVariants as ended
 use Rattle.dpj_words.specs.declared.verdict.Verdict.{Verdict}
-use Rattle.dpj_words.specs.declared.verdict.Verdict.TheVariants.{Refused}
+use Rattle.dpj_words.specs.declared.verdict.Verdict.TheVariants.{Effects, Listed, Refused}
 use Rattle.dpj_words.specs.Jobs.{job}
 use Rattle.dpj_words.specs.Reports.{status_of, ending_status}
+use Rattle.dpj_code.specs.declared.code.Code.{Code}
+use Rattle.dpj_code.specs.Plain.{plain_code}
+use Rattle.dpj_compile.specs.Titles.{titles_of}
+use Rattle.dpj_gen.specs.Whole.{compiled}
+use Rattle.dpj_infer.specs.Firm.{IsInferred}
+use Rattle.dpj_infer.specs.Kept.{Keeping, program_kept}
+use Rattle.dpj_infer.specs.Lines.{lines_of}
+use Rattle.dpj_listing.specs.Laws.{TellsPlainCode}
+use Rattle.dpj_listing.specs.Listing.{listing_of, plain_listing}
+use Rattle.dpj_typed.specs.Names.{ProgramNames}
 use Rattle.dpj_typed.specs.Plain.{PlainProgram}
 use Rattle.dpj_run.specs.Run.{ComesOut}
 use Rattle.dpj_run.specs.declared.recorded.Recorded.{Recorded}
-use Rattle.dpj_front.specs.Front.{IsFault}
+use Rattle.dpj_front.specs.Front.{AreNames, IsFault}
 use Rattle.dpj_top.specs.declared.answered.Answered.{Answered}
 use Rattle.dpj_top.specs.Answer.{IsAcceptedAs, IsAnswer, too_long, faulty, of_program, IsRan, IsRunBy, IsElided, IsListing, IsAnswerOn, to_check, to_run, to_elide, to_list, to_effects, TellsEffects, told_by, told_of, limits_of, only, asks_run, max_text}
 
@@ -50,7 +61,7 @@ program-no-usage job text typed answered (to_run asked is) e = ran-no-usage job 
 program-no-usage job text typed answered (to_elide asked is) e =
     ending_status-no-usage is.outcome.ending (ap (λ (a : Answered). status_of a.verdict) (sym is.is) ∙ e)
 program-no-usage job text typed answered (to_list asked is) e = let lists = is.lists in cc
-program-no-usage job text typed answered (to_effects asked is) e = let tells = is.is in cc
+program-no-usage job text typed answered (to_effects asked is) e = let tells = is.tells in cc
 
 -- the answer to a job isn't told as usage
 pub answer-no-usage : (job : Job) (text : List ℕ) (answered : Answered) → IsAnswer job text answered → status_of answered.verdict ≡ ended.Usage → ⊥
@@ -76,12 +87,12 @@ elide-answer asked text typed (Ok answered) is run = to_elide is run
 elide-answer asked text typed (Err none) is run = tt
 
 pub list-answer : (asked : Job) (text : List ℕ) (typed : PlainProgram) (result : Result Answered NoMemory) → asked.command ≡ command.«List»
-    → IfOk result (IsListing typed) → IfOk result (IsAnswerOn asked text typed)
+    → IfOk result (IsListing text typed) → IfOk result (IsAnswerOn asked text typed)
 list-answer asked text typed (Ok answered) is lists = to_list is lists
 list-answer asked text typed (Err none) is lists = tt
 
 pub effects-answer : (asked : Job) (text : List ℕ) (typed : PlainProgram) (result : Result Answered NoMemory) → asked.command ≡ command.Effects
-    → IfOk result TellsEffects → IfOk result (IsAnswerOn asked text typed)
+    → IfOk result (TellsEffects text typed) → IfOk result (IsAnswerOn asked text typed)
 effects-answer asked text typed (Ok answered) is tells = to_effects is tells
 effects-answer asked text typed (Err none) is tells = tt
 
@@ -128,3 +139,27 @@ pub ran-so : (asked : Job) (text : List ℕ) (typed : PlainProgram) (r : Recorde
     → verdict ≡ told_of asked text schedule r.outcome → IsRan asked text typed (record { verdict = verdict; recorded = Some r.record })
 ran-so asked text typed r schedule verdict runs same is =
     record { made = r; run = runs; is = ap (λ v. record { verdict = v; recorded = Some r.record }) (is ∙ ap (λ ks. told_of asked text ks r.outcome) same) }
+
+-- the listing of a code that is the compiled program's, with the titles that its names give
+pub listing-so : (text : List ℕ) (made typed : PlainProgram) (own names : ProgramNames) (code : Code) (listed : List ℕ) (answered : Answered) → TellsPlainCode
+    → made ≡ typed → own ≡ names → AreNames text names → plain_code code ≡ compiled made → map (λ body. body.title) code.bodies ≡ titles_of made own
+    → All (λ body. length body.instrs ≡ length body.places) code.bodies → listed ≡ listing_of code → answered ≡ only (Listed listed) → IsListing text typed answered
+listing-so text made typed own names code listed answered plain same named are_names is titles placed lists told = record {
+  names = names;
+  are_names = are_names;
+  lists = told
+      ∙ ap (λ l. only (Listed l))
+      (lists ∙ plain code placed ∙ ap (λ ts. plain_listing ts (plain_code code)) titles ∙ ap (λ c. plain_listing (titles_of made own) c) is
+      ∙ ap (λ P. plain_listing (titles_of P own) (compiled P)) same ∙ ap (λ n. plain_listing (titles_of typed n) (compiled typed)) named);
+}
+
+-- the lines of the inferred summaries of a program, with its names
+pub effects-so : (text : List ℕ) (made typed : PlainProgram) (own names : ProgramNames) (kept : Keeping) (lines : List ℕ) (answered : Answered) → made ≡ typed → own ≡ names
+    → AreNames text names → IsInferred made kept → lines ≡ lines_of (program_kept kept made) own → answered ≡ only (Effects lines) → TellsEffects text typed answered
+effects-so text made typed own names kept lines answered same named are_names inferred is told = record {
+  names = names;
+  are_names = are_names;
+  kept = kept;
+  inferred = subst (λ P. IsInferred P kept) same inferred;
+  tells = told ∙ ap (λ l. only (Effects l)) (is ∙ ap (λ P. lines_of (program_kept kept P) own) same ∙ ap (lines_of (program_kept kept typed)) named);
+}

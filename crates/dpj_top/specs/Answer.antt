@@ -7,16 +7,19 @@ use Rattle.dpj_base.specs.declared.place.Place.{Place}
 use Rattle.dpj_base.specs.declared.refusal.Kind.{Kind}
 use Rattle.dpj_base.specs.declared.refusal.Kind.TheVariants.{TooLong}
 use Rattle.dpj_base.specs.declared.refusal.Refusal.{Refusal}
+use Rattle.dpj_typed.specs.Names.{ProgramNames}
 use Rattle.dpj_typed.specs.Plain.{PlainProgram}
-use Rattle.dpj_code.specs.declared.code.Code.{Code}
-use Rattle.dpj_code.specs.Plain.{plain_code}
+use Rattle.dpj_compile.specs.Titles.{titles_of}
 use Rattle.dpj_gen.specs.Whole.{compiled}
-use Rattle.dpj_listing.specs.Listing.{listing_of}
+use Rattle.dpj_infer.specs.Firm.{IsInferred}
+use Rattle.dpj_infer.specs.Kept.{Keeping, program_kept}
+use Rattle.dpj_infer.specs.Lines.{lines_of}
+use Rattle.dpj_listing.specs.Listing.{plain_listing}
 use Rattle.dpj_run.specs.Run.{ComesOut, IsRun}
 use Rattle.dpj_run.specs.Rounding.{ComesByRounds}
 use Rattle.dpj_run.specs.declared.recorded.Recorded.{Recorded}
 use Rattle.dpj_trace.specs.Text.{trace_text}
-use Rattle.dpj_front.specs.Front.{IsPassed, IsFault}
+use Rattle.dpj_front.specs.Front.{AreNames, IsPassed, IsFault}
 use Rattle.dpj_words.specs.declared.command.Command.{Command}
 use Rattle.dpj_words.specs.declared.command.Command.TheVariants as command
 use Rattle.dpj_words.specs.Jobs.{IsInRange}
@@ -88,24 +91,27 @@ pub record IsRan (job : Job) (text : List ℕ) (typed : PlainProgram) (answered 
   pub run : IsRunBy job.mode typed (limits_of job) job.arg job.workers (Some made)
   pub is : answered ≡ record { verdict = told_of job text made.record.machine.schedule made.outcome; recorded = Some made.record }
 
--- the listing of the code of a program
-pub record IsListing (typed : PlainProgram) (answered : Answered) : Type 0 where
-  pub code : Code
-  pub is_code : plain_code code ≡ compiled typed
-  pub lists : answered ≡ only (Listed (listing_of code))
+-- the listing of the code of a program, with the names of the text
+pub record IsListing (text : List ℕ) (typed : PlainProgram) (answered : Answered) : Type 0 where
+  pub names : ProgramNames
+  pub are_names : AreNames text names
+  pub lists : answered ≡ only (Listed (plain_listing (titles_of typed names) (compiled typed)))
 
--- some lines of inferred summaries; what they say isn't pinned
-pub record TellsEffects (answered : Answered) : Type 0 where
-  pub lines : List ℕ
-  pub is : answered ≡ only (Effects lines)
+-- the lines of its inferred summaries, with the names of the text
+pub record TellsEffects (text : List ℕ) (typed : PlainProgram) (answered : Answered) : Type 0 where
+  pub names : ProgramNames
+  pub are_names : AreNames text names
+  pub kept : Keeping
+  pub inferred : IsInferred typed kept
+  pub tells : answered ≡ only (Effects (lines_of (program_kept kept typed) names))
 
 -- the answer to a job on the accepted program of a text
 pub data IsAnswerOn (job : Job) (text : List ℕ) (typed : PlainProgram) (answered : Answered) : Type 0 where
   to_check : job.command ≡ command.Check → answered ≡ only Accepted → IsAnswerOn job text typed answered
   to_run : asks_run job.command ≡ true → IsRan job text typed answered → IsAnswerOn job text typed answered
   to_elide : job.command ≡ command.Elide → IsElided job typed answered → IsAnswerOn job text typed answered
-  to_list : job.command ≡ command.«List» → IsListing typed answered → IsAnswerOn job text typed answered
-  to_effects : job.command ≡ command.Effects → TellsEffects answered → IsAnswerOn job text typed answered
+  to_list : job.command ≡ command.«List» → IsListing text typed answered → IsAnswerOn job text typed answered
+  to_effects : job.command ≡ command.Effects → TellsEffects text typed answered → IsAnswerOn job text typed answered
 
 -- the text isn't too long, and is accepted as this typed program, of which the first token stands at the place
 abbrev pub IsAcceptedAs : List ℕ → Place → PlainProgram → Type 0
@@ -121,13 +127,6 @@ pub data IsAnswer (job : Job) (text : List ℕ) : Answered → Type 0 where
   faulty : (refusal : Refusal) → length text ≤ max_text → IsFault text refusal → IsAnswer job text (only (Refused refusal))
   of_program : (place : Place) (typed : PlainProgram) (answered : Answered) → IsAcceptedAs text place typed → IsAnswerOn job text typed answered → IsAnswer job text answered
 
--- commands whose answer is pinned: the lines of inferred summaries aren't, nor are the titles of bodies in a listing
-abbrev pub is_pinned : Command → Bool
-is_pinned command.«List» = false
-is_pinned command.Effects = false
-is_pinned _ = true
-
 -- there is one answer at most to a job on a text, for each run that was recorded
 abbrev pub OneAnswer : Type 0
-OneAnswer = (job : Job) (text : List ℕ) (first second : Answered) → IsWithin job → is_pinned job.command ≡ true → IsAnswer job text first → IsAnswer job text second
-    → first.recorded ≡ second.recorded → first ≡ second
+OneAnswer = (job : Job) (text : List ℕ) (first second : Answered) → IsWithin job → IsAnswer job text first → IsAnswer job text second → first.recorded ≡ second.recorded → first ≡ second

@@ -7,13 +7,16 @@ use Rattle.dpj_base.specs.declared.place.Place.{Place}
 use Rattle.dpj_typed.specs.Plain.{PlainProgram}
 use Rattle.dpj_typed.specs.WellTyped.{WellTyped}
 use Rattle.dpj_history.specs.declared.record.Record.{Record}
+use Rattle.dpj_promise.specs.Inside.{ComesOutElidedInside}
 use Rattle.dpj_promise.specs.Promise.{elision}
 use Rattle.dpj_promise.specs.Reduced.{ComesOutReduced}
 use Rattle.dpj_run.specs.declared.recorded.Recorded.{Recorded}
 use Rattle.dpj_run.specs.Replays.{IsFollowed}
 use Rattle.dpj_run.specs.Run.{ComesOut}
 use Rattle.dpj_run.specs.declared.replaying.Replayed.TheVariants.{Halted}
-use Rattle.dpj_trace.specs.Reading.{AreLimits}
+use Rattle.dpj_run.specs.declared.replaying.Replayed.TheVariants as replayed
+use Rattle.dpj_trace.specs.Reading.{AreLimits, IsTrace}
+use Rattle.dpj_trace.specs.declared.reading.Trace.{Trace}
 use Rattle.dpj_words.specs.Jobs.{job as job_of}
 use Rattle.dpj_words.specs.Reports.{report_of, status_of}
 use Rattle.dpj_words.specs.declared.command.Command.TheVariants as command
@@ -24,6 +27,7 @@ use Rattle.dpj_words.specs.declared.verdict.Verdict.TheVariants.{Ran}
 use Rattle.dpj_top.specs.declared.answered.Answered.{Answered}
 use Rattle.dpj_top.specs.Answer.{IsAcceptedAs, IsElided, IsRan, IsRunBy, IsWithin, asks_run, limits_of, only, told_of}
 use Rattle.dpj_top.specs.Call.{Appends, text_for}
+use Rattle.dpj_top.specs.Replaying.{program_of}
 
 -- the sequential elision of a program on the argument of a job, within the job's limits
 abbrev pub elision_for : Job → PlainProgram → Outcome
@@ -34,13 +38,22 @@ pub record TellsElision (job : Job) (text : List ℕ) (typed : PlainProgram) (an
   pub schedule : List ℕ
   pub is : answered.verdict ≡ told_of job text schedule (elision_for job typed)
 
--- the recorded run is one of the source, in which values have their types and tasks keep to their effects, whose unordered events that conflict lie in atomic blocks, and gathered by blocks it
--- comes out as the verdict says
+-- the recorded run is one of the source, in which values have their types and tasks keep to their effects, whose unordered events that conflict lie in atomic blocks; gathered by blocks it
+-- comes out as the verdict says, and so it does with its deterministic constructs in sequence, where it isn't over a limit
 pub record TellsReduced (job : Job) (text : List ℕ) (typed : PlainProgram) (answered : Answered) : Type 0 where
   pub well_typed : WellTyped typed
   pub made : Recorded
   pub is : answered ≡ record { verdict = told_of job text made.record.machine.schedule made.outcome; recorded = Some made.record }
   pub reduced : ComesOutReduced typed well_typed made.record.machine made.outcome
+  pub inside : ComesOutElidedInside typed made.record.machine made.outcome
+
+-- a run that has followed a schedule is reduced, inside nd constructs too, and without them it comes out as the elision
+pub record FollowsReduced (typed : PlainProgram) (limits : Limits) (argument : ℤ) (schedule : List ℕ) (made : Recorded) : Type 0 where
+  pub well_typed : WellTyped typed
+  pub by_schedule : made.record.machine.schedule ≡ schedule
+  pub reduced : ComesOutReduced typed well_typed made.record.machine made.outcome
+  pub inside : ComesOutElidedInside typed made.record.machine made.outcome
+  pub elided : typed.uses_nd ≡ false → made.outcome ≡ elision typed limits argument
 
 -- a run in the job's mode and an elision come out
 pub record GoesOn (job : Job) (typed : PlainProgram) : Type 0 where
@@ -55,6 +68,8 @@ pub record KeepsPromise : Type 0 where
   -- also by a schedule, as far as it can be followed
   pub follows : (text : List ℕ) (place : Place) (typed : PlainProgram) (limits : Limits) (argument : ℤ) (schedule : List ℕ) → IsAcceptedAs text place typed → AreLimits limits → FitsSigned w32 argument
       → IsFollowed typed limits argument schedule Halted → ⊥
+  pub replay : (text : List ℕ) (place : Place) (typed : PlainProgram) (limits : Limits) (argument : ℤ) (schedule : List ℕ) (made : Recorded) → IsAcceptedAs text place typed → AreLimits limits
+      → FitsSigned w32 argument → IsFollowed typed limits argument schedule (replayed.Ran made) → FollowsReduced typed limits argument schedule made
   pub run : (job : Job) (text : List ℕ) (place : Place) (typed : PlainProgram) (answered : Answered) → IsWithin job → IsAcceptedAs text place typed
       → typed.uses_nd ≡ false → IsRan job text typed answered → TellsElision job text typed answered
   pub reduce : (job : Job) (text : List ℕ) (place : Place) (typed : PlainProgram) (answered : Answered) → IsWithin job → IsAcceptedAs text place typed
@@ -78,6 +93,7 @@ pub record ReportsReduced (job : Job) (text : List ℕ) (typed : PlainProgram) (
   pub is : recorded ≡ Some made.record
   pub reported : IsReported (told_of job text made.record.machine.schedule made.outcome) before after status
   pub reduced : ComesOutReduced typed well_typed made.record.machine made.outcome
+  pub inside : ComesOutElidedInside typed made.record.machine made.outcome
 
 -- a run, or an elision, is asked of a program without nd constructs
 abbrev pub AsksElision : Job → PlainProgram → Type 0
@@ -100,3 +116,27 @@ OwesElision words held before after status =
 abbrev pub OwesReduction : List (List ℕ) → Option (List ℕ) → Option (List ℕ) → Option (List ℕ) → Status → Option Record → Type 0
 OwesReduction words held before after status recorded =
     (job : Job) (text : List ℕ) (typed : PlainProgram) → GivesJob words held job text typed → asks_run job.command ≡ true → ReportsReduced job text typed before after status recorded
+
+-- words that ask for a replay of these bytes
+pub record GivesReplay (words : List (List ℕ)) (held : Option (List ℕ)) (bytes : List ℕ) : Type 0 where
+  pub job : Job
+  pub said : job_of words ≡ Some job
+  pub replays : job.command ≡ command.Replay
+  pub given : held ≡ Some bytes
+
+-- the bytes are a trace of an accepted program, what is recorded is the run that its schedule leads to, this is reduced, and it is what is reported
+pub record ReportsReplay (bytes : List ℕ) (before after : Option (List ℕ)) (status : Status) (recorded : Record) : Type 0 where
+  pub trace : Trace
+  pub is_trace : IsTrace bytes trace
+  pub place : Place
+  pub typed : PlainProgram
+  pub accepted : IsAcceptedAs (program_of bytes trace) place typed
+  pub made : Recorded
+  pub is : recorded ≡ made.record
+  pub reported : IsReported (Ran made.outcome) before after status
+  pub follows : FollowsReduced typed trace.limits trace.arg trace.schedule made
+
+-- and to a replay of which a run is recorded
+abbrev pub OwesReplay : List (List ℕ) → Option (List ℕ) → Option (List ℕ) → Option (List ℕ) → Status → Option Record → Type 0
+OwesReplay words held before after status recorded =
+    (bytes : List ℕ) (r : Record) → GivesReplay words held bytes → recorded ≡ Some r → ReportsReplay bytes before after status r

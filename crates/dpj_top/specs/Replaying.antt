@@ -1,10 +1,11 @@
 -- What the tool answers to the text of a trace, and what it records.
-use Rattle.std.specs.Prelude.{ℕ, ◌≡◌, ◌<◌, ◌≤◌, List, length, drop, Some}
+use Rattle.std.specs.Prelude.{ℕ, ◌≡◌, ◌⊎◌, ◌<◌, ◌≤◌, List, length, drop, Some}
 use Rattle.dpj_base.specs.declared.place.Place.{Place}
 use Rattle.dpj_base.specs.declared.refusal.Kind.TheVariants.{TooLong, Schedule}
 use Rattle.dpj_base.specs.declared.refusal.Kind.TheVariants.{Trace as no_trace_kind}
 use Rattle.dpj_base.specs.declared.refusal.Refusal.{Refusal}
 use Rattle.dpj_typed.specs.Plain.{PlainProgram}
+use Rattle.dpj_trace.specs.Laws.{HasNumbers}
 use Rattle.dpj_trace.specs.Reading.{IsMisfit, IsTrace}
 use Rattle.dpj_trace.specs.Runs.{line_of}
 use Rattle.dpj_trace.specs.declared.reading.Trace.{Trace}
@@ -37,4 +38,12 @@ pub data IsAnswerOnTrace (bytes : List ℕ) (trace : Trace) (answered : Answered
 pub data IsReplayed (bytes : List ℕ) (answered : Answered) : Type 0 where
   too_long : max_trace < length bytes → answered ≡ only (refused_at_start TooLong) → IsReplayed bytes answered
   no_trace : (line : ℕ) → length bytes ≤ max_trace → IsMisfit bytes line → answered ≡ only (refused_at no_trace_kind line) → IsReplayed bytes answered
-  of_trace : (trace : Trace) → length bytes ≤ max_trace → IsTrace bytes trace → IsAnswerOnTrace bytes trace answered → IsReplayed bytes answered
+  of_trace : (trace : Trace) → length bytes ≤ max_trace → IsTrace bytes trace → HasNumbers trace → IsAnswerOnTrace bytes trace answered → IsReplayed bytes answered
+
+-- a number of the schedule can't be followed
+abbrev pub IsUnfit : Answered → Type 0
+IsUnfit answered = (line : ℕ) × (answered ≡ only (refused_at Schedule line))
+
+-- there is one answer at most to a replay of any bytes, for each run that was recorded; which number can't be followed is left aside
+abbrev pub OneReplay : Type 0
+OneReplay = (bytes : List ℕ) (first second : Answered) → IsReplayed bytes first → IsReplayed bytes second → first.recorded ≡ second.recorded → (first ≡ second) ⊎ (IsUnfit first × IsUnfit second)

@@ -5,7 +5,7 @@ ghost use Rattle.dpj_make.specs.Demo.{demo_text};
 ghost use Rattle.dpj_words.specs.Jobs.{job, IsInRange};
 ghost use Rattle.dpj_words.specs.Reports.{report_of, status_of};
 ghost use Rattle.dpj_top.specs.Answer.{IsAnswer, most_bytes, only};
-ghost use Rattle.dpj_top.specs.Promise.{OwesElision, OwesReduction};
+ghost use Rattle.dpj_top.specs.Promise.{OwesElision, OwesReduction, OwesReplay};
 ghost use Rattle.dpj_top.specs.Call.{Answers, IsAnswered, TellsOfVerdict, Tells, BreaksOff, ReadToEnd, Appends, AppendsPart, asks_text, makes_text};
 
 use crate::answered::Answered;
@@ -51,9 +51,13 @@ pub fn dpj<R: Threads + Wait + Sync, S: Source, K: Sink, G: Gate + Sync>(
     // The promise: a run of an accepted program without nd constructs is told by its sequential elision, whatever the workers did.
     ensures promised { TellsOfVerdict result.status
         → OwesElision (map string_bytes words.now) (S.left source.old) (K.held sink.old) (K.held sink.new) result.status }
-    // With nd constructs or without, the recorded run is one of the source that can be gathered, and it is what is told.
+    // With nd constructs or without, the recorded run is one of the source that can be gathered, and whose deterministic constructs can be
+    // put in sequence; and it is what is told.
     ensures reduced { TellsOfVerdict result.status
         → OwesReduction (map string_bytes words.now) (S.left source.old) (K.held sink.old) (K.held sink.new) result.status result.recorded }
+    // So is a run that a replay has made, which is told by its outcome: without nd constructs that is the elision.
+    ensures replayed { TellsOfVerdict result.status
+        → OwesReplay (map string_bytes words.now) (S.left source.old) (K.held sink.old) (K.held sink.new) result.status result.recorded }
 
     // Every other status has its cause, and want of memory alone needs none.
     ensures read_fault { result.status ≡ Status.ReadFault → Rose (S.faults source.old) (S.faults source.new) }

@@ -1,6 +1,7 @@
 ghost use Rattle.std.specs.Int.{w32};
 ghost use Rattle.std.specs.Prelude.{◌≡◌, ◌≢◌, FitsSigned, IfOk};
-ghost use Rattle.dpj_front.specs.Judging.{CanRun, typed_of};
+ghost use Rattle.dpj_front.specs.Front.{AreNames};
+ghost use Rattle.dpj_front.specs.Judging.{CanRun, names_of_passed, typed_of};
 ghost use Rattle.dpj_typed.specs.Plain.{plain_program};
 ghost use Rattle.dpj_words.specs.Jobs.{IsInRange};
 ghost use Rattle.dpj_words.specs.declared.command.Command.TheVariants.{Replay};
@@ -12,6 +13,7 @@ use dpj_base::{NoMemory, Outcome};
 use dpj_compile::compile;
 use dpj_front::Passed;
 use dpj_infer::{infer, lines};
+use dpj_listing::laws::law_plain;
 use dpj_listing::listing;
 use dpj_run::{Recorded, elide, run, run_rounds};
 use dpj_trace::trace_text;
@@ -33,6 +35,7 @@ pub fn carry_out<R: Threads + Wait + Sync, G: Gate + Sync>(
 ) -> Result<Answered, NoMemory>
     requires in_range { IsInRange job.now }
     requires accepted { IsAcceptedAs text.now passed.place (typed_of passed) }
+    requires named { AreNames text.now (names_of_passed passed) }
     requires can_run { CanRun (typed_of passed) }
     requires no_replay { job.now.command ≢ Replay }
     ensures { IfOk result (IsAnswer job.now text.now) }
@@ -40,8 +43,8 @@ pub fn carry_out<R: Threads + Wait + Sync, G: Gate + Sync>(
     match job.command {
         Command::Run | Command::Demo | Command::Trace => ran(rt, alloc, job, text, passed, gate),
         Command::Elide => elided(alloc, job, text, passed),
-        Command::List => listed(alloc, passed),
-        Command::Effects => inferred(alloc, passed),
+        Command::List => listed(alloc, text, passed),
+        Command::Effects => inferred(alloc, text, passed),
         _ => Ok(Answered::only(Verdict::Accepted)),
     }
 }
@@ -88,7 +91,7 @@ fn made<R: Threads + Wait + Sync, G: Gate + Sync>(
 {
     match job.mode {
         Mode::Steps => run(rt, alloc, typed, limits(job), job.arg, job.workers, gate),
-        Mode::Rounds => run_rounds(alloc, typed, limits(job), job.arg, job.workers),
+        Mode::Rounds => run_rounds(rt, alloc, typed, limits(job), job.arg, job.workers),
     }
 }
 
@@ -132,8 +135,9 @@ fn elided(alloc: Global, job: &Job, text: &[u8], passed: Passed) -> Result<Answe
 }
 
 /// The inferred summaries of an accepted program.
-fn inferred(alloc: Global, passed: Passed) -> Result<Answered, NoMemory>
-    ensures { IfOk result TellsEffects }
+fn inferred(alloc: Global, text: &[u8], passed: Passed) -> Result<Answered, NoMemory>
+    requires { AreNames text.now (names_of_passed passed) }
+    ensures { IfOk result (TellsEffects text.now (typed_of passed)) }
 {
     let typed = passed.typed(alloc)?;
     let kept = infer(alloc, &typed)?;
@@ -141,9 +145,11 @@ fn inferred(alloc: Global, passed: Passed) -> Result<Answered, NoMemory>
 }
 
 /// The listing of the code of an accepted program.
-fn listed(alloc: Global, passed: Passed) -> Result<Answered, NoMemory>
-    ensures { IfOk result (IsListing (typed_of passed)) }
+fn listed(alloc: Global, text: &[u8], passed: Passed) -> Result<Answered, NoMemory>
+    requires { AreNames text.now (names_of_passed passed) }
+    ensures { IfOk result (IsListing text.now (typed_of passed)) }
 {
+    law_plain();
     let typed = passed.typed(alloc)?;
     let code = compile(alloc, &typed)?;
     Ok(Answered::only(Verdict::Listed(listing(alloc, &code)?)))

@@ -1,6 +1,7 @@
 use Rattle.std.proofs.Common.{Global, map, refl}
 use Rattle.std.specs.String.{string_bytes}
 use Rattle.dpj_top.proofs.Owed.{owed_elision, owed_reduction, tells-no-want}
+use Rattle.dpj_top.proofs.Replayed.{owed_replay}
 use Rattle.dpj_top.proofs.call.dpj.Goals as goal
 
 pub returns-in-Ok-clause-promised : goal.returns-in-Ok-clause-promised
@@ -21,6 +22,19 @@ returns-in-Ok-clause-reduced g c told =
     let whole = c.tell.ensures.whole told in
     owed_reduction c.promise.ensures c.law_one_passing.ensures.verdict c.law_one_passing.ensures.one (map (string_bytes {Z = Global}) c.args.words.now)
     (g.S.Source.left c.args.source.now) (g.K.Sink.held c.args.sink.now) (g.K.Sink.held c.tell.new.sink) c.tell.result.status c.tell.result.recorded
+    (record {
+      answered = c.in-Ok.answered;
+      is_answered = c.in-Ok.ensures.ok;
+      status_told = whole.0;
+      report_told = whole.1;
+      run_recorded = c.tell.ensures.kept (tells-no-want c.tell.result.status told);
+    })
+
+pub returns-in-Ok-clause-replayed : goal.returns-in-Ok-clause-replayed
+returns-in-Ok-clause-replayed g c told =
+    let whole = c.tell.ensures.whole told in
+    owed_replay c.promise.ensures (map (string_bytes {Z = Global}) c.args.words.now) (g.S.Source.left c.args.source.now) (g.K.Sink.held c.args.sink.now) (g.K.Sink.held c.tell.new.sink)
+    c.tell.result.status c.tell.result.recorded
     (record {
       answered = c.in-Ok.answered;
       is_answered = c.in-Ok.ensures.ok;

@@ -5,12 +5,12 @@ use Rattle.dpj_top.proofs.Verdicts.{ran-so}
 use Rattle.dpj_top.proofs.carrying.ran.Goals as goal
 
 pub made-requires-clause-can_run : goal.made-requires-clause-can_run
-made-requires-clause-can_run g c κs within = subst CanRun (sym c.in_ok-typed.ensures) c.requires.can_run
+made-requires-clause-can_run g c κs within = subst CanRun (sym c.in_ok-typed.ensures.typed) c.requires.can_run
 
 pub returns : goal.returns
 returns g c =
     let job = c.args.job.now in
-    let runs = subst (λ P. IsRunBy job.mode P (limits_of job) job.arg job.workers c.in_ok-run.field-0) c.in_ok-typed.ensures c.in_ok-run.ensures.run in
+    let runs = subst (λ P. IsRunBy job.mode P (limits_of job) job.arg job.workers c.in_ok-run.field-0) c.in_ok-typed.ensures.typed c.in_ok-run.ensures.run in
     ran-so job c.args.text.now (typed_of c.args.passed) c.in-Some.run' c.schedule.result.now c.in_ok-verdict.verdict
     (subst (λ r. IsRunBy job.mode (typed_of c.args.passed) (limits_of job) job.arg job.workers r) c.in-Some.is runs) c.schedule.ensures.schedule
     c.in_ok-verdict.ensures
@@ -19,5 +19,5 @@ pub unreachable-requires : goal.unreachable-requires
 unreachable-requires g c =
     let job = c.args.job.now in
     let goes = c.promise.ensures.goes_on job c.args.text.now c.args.passed.place (typed_of c.args.passed) (c.requires.in_range, c.made.ensures.fits) c.requires.accepted in
-    let runs = subst (λ P. IsRunBy job.mode P (limits_of job) job.arg job.workers c.in_ok-run.field-0) c.in_ok-typed.ensures c.in_ok-run.ensures.run in
+    let runs = subst (λ P. IsRunBy job.mode P (limits_of job) job.arg job.workers c.in_ok-run.field-0) c.in_ok-typed.ensures.typed c.in_ok-run.ensures.run in
     goes.runs (subst (λ r. IsRunBy job.mode (typed_of c.args.passed) (limits_of job) job.arg job.workers r) c.in_default.is runs)

@@ -17,7 +17,7 @@ unreachable-requires c =
     let trace = c.args.trace.now in
     let fits : SFits w32 trace.arg = search rules in
     let f =
-    followed_as (plain_program c.in_ok-typed.typed) (typed_of c.args.passed) trace.limits _ trace.arg c.as_slice-schedule.result.now trace.schedule c.in_ok-run.field-0 c.in_ok-typed.ensures
+    followed_as (plain_program c.in_ok-typed.typed) (typed_of c.args.passed) trace.limits _ trace.arg c.as_slice-schedule.result.now trace.schedule c.in_ok-run.field-0 c.in_ok-typed.ensures.typed
     (to_z-of_z fits) c.as_slice-schedule.ensures c.in_ok-run.ensures in
     c.promise.ensures.follows c.args.text.now c.args.passed.place (typed_of c.args.passed) trace.limits trace.arg trace.schedule c.requires.accepted c.requires.limits fits
     (subst (λ r. IsFollowed (typed_of c.args.passed) trace.limits trace.arg trace.schedule r) c.in-Halted.is f)
@@ -27,7 +27,7 @@ returns-in-Ran c =
     let trace = c.args.trace.now in
     let fits : SFits w32 trace.arg = search rules in
     let f =
-    followed_as (plain_program c.in_ok-typed.typed) (typed_of c.args.passed) trace.limits _ trace.arg c.as_slice-schedule.result.now trace.schedule c.in_ok-run.field-0 c.in_ok-typed.ensures
+    followed_as (plain_program c.in_ok-typed.typed) (typed_of c.args.passed) trace.limits _ trace.arg c.as_slice-schedule.result.now trace.schedule c.in_ok-run.field-0 c.in_ok-typed.ensures.typed
     (to_z-of_z fits) c.as_slice-schedule.ensures c.in_ok-run.ensures in
     ran c.in-Ran.run' (subst (λ r. IsFollowed (typed_of c.args.passed) trace.limits trace.arg trace.schedule r) c.in-Ran.is f) refl
 
@@ -36,7 +36,7 @@ returns-in-Unfit c =
     let trace = c.args.trace.now in
     let fits : SFits w32 trace.arg = search rules in
     let f =
-    followed_as (plain_program c.in_ok-typed.typed) (typed_of c.args.passed) trace.limits _ trace.arg c.as_slice-schedule.result.now trace.schedule c.in_ok-run.field-0 c.in_ok-typed.ensures
+    followed_as (plain_program c.in_ok-typed.typed) (typed_of c.args.passed) trace.limits _ trace.arg c.as_slice-schedule.result.now trace.schedule c.in_ok-run.field-0 c.in_ok-typed.ensures.typed
     (to_z-of_z fits) c.as_slice-schedule.ensures c.in_ok-run.ensures in
     unfit c.in-Unfit.at (subst (λ r. IsFollowed (typed_of c.args.passed) trace.limits trace.arg trace.schedule r) c.in-Unfit.is f)
     (c.refused_at.ensures ∙ ap (λ n. only (refused_at Schedule n)) (c.trace_line-line.ensures ∙ ap (λ ks. line_of ks c.in-Unfit.at) c.as_slice-schedule.ensures))

@@ -1,9 +1,12 @@
-use Rattle.std.proofs.Common.{sym}
+use Rattle.std.proofs.Common.{rules, sym}
+use Rattle.dpj_trace.specs.Laws.{HasNumbers}
 use Rattle.dpj_top.proofs.Traces.{misfit-answer, trace-answer}
 use Rattle.dpj_top.proofs.replays.replayed.Goals as goal
 
 pub returns-in-Ok : goal.returns-in-Ok
-returns-in-Ok c = trace-answer c.args.bytes.now c.in-Ok.trace c.on_trace.result c.requires.short c.in-Ok.ensures.trace c.on_trace.ensures
+returns-in-Ok c =
+    let numbers : HasNumbers c.in-Ok.trace = record { arg = search rules; tasks = search rules } in
+    trace-answer c.args.bytes.now c.in-Ok.trace c.on_trace.result c.requires.short c.in-Ok.ensures.trace numbers c.on_trace.ensures
 
 pub returns-in-Err-Bad : goal.returns-in-Err-Bad
 returns-in-Err-Bad c =
