@@ -5,7 +5,7 @@ ghost use Rattle.dpj_typed.specs.Plain.{plain_program};
 ghost use Rattle.dpj_run.specs.Run.{ComesOut};
 
 use crate::finish::finish;
-use crate::open::open;
+use crate::opening::open;
 use dpj_base::{Limits, NoMemory, Outcome};
 use dpj_typed::Program;
 use std::alloc::Global;

@@ -10,7 +10,7 @@
 mod eliding;
 mod few;
 mod finish;
-mod open;
+mod opening;
 mod recorded;
 mod replaying;
 mod rounding;
@@ -18,7 +18,7 @@ mod running;
 
 pub use eliding::elide;
 pub use finish::came_out;
-pub use open::open;
+pub use opening::open;
 pub use recorded::Recorded;
 pub use replaying::{Replayed, replay};
 pub use rounding::run_rounds;

@@ -4,7 +4,7 @@ ghost use Rattle.dpj_going.specs.Going.{HasMain};
 ghost use Rattle.dpj_typed.specs.Plain.{plain_program};
 ghost use Rattle.dpj_run.specs.Replays.{IsFollowed, IsMadeBy};
 
-use crate::open::open;
+use crate::opening::open;
 use crate::recorded::Recorded;
 use dpj_base::{Items, Limits, NoMemory, Plain};
 use dpj_history::{Record, ReplayStop};

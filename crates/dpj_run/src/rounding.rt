@@ -5,7 +5,7 @@ ghost use Rattle.dpj_typed.specs.Plain.{plain_program};
 ghost use Rattle.dpj_run.specs.Rounding.{ComesByRounds, IsMadeAlone};
 
 use crate::finish::came_out;
-use crate::open::open;
+use crate::opening::open;
 use crate::recorded::Recorded;
 use dpj_base::{Items, Limits, NoMemory};
 use dpj_history::Record;

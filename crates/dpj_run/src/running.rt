@@ -5,7 +5,7 @@ ghost use Rattle.dpj_typed.specs.Plain.{plain_program};
 ghost use Rattle.dpj_run.specs.Run.{IsFinished, IsRun};
 
 use crate::finish::finish;
-use crate::open::open;
+use crate::opening::open;
 use crate::recorded::Recorded;
 use dpj_base::{Limits, NoMemory};
 use dpj_history::Record;

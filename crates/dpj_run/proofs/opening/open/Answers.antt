@@ -6,7 +6,7 @@ use Rattle.dpj_code.specs.Plain.{plain_code}
 use Rattle.dpj_typed.specs.Plain.{plain_program}
 use Rattle.dpj_run.specs.Run.{opened, too_wide}
 use Rattle.dpj_run.proofs.Coming.{not_few}
-use Rattle.dpj_run.proofs.open.open.Goals as goal
+use Rattle.dpj_run.proofs.opening.open.Goals as goal
 
 pub returns-then-not-all_few : goal.returns-then-not-all_few
 returns-then-not-all_few c =
