@@ -7,9 +7,8 @@ use Rattle.dpj_tokens.specs.Cutting.{OneCutting}
 use Rattle.dpj_parse.specs.OneProgram.{OneProgram}
 use Rattle.dpj_parse.specs.OneRefusal.{OneRefusal}
 use Rattle.dpj_parse.specs.Program.{IsProgram}
-use Rattle.dpj_typed.specs.Names.{ProgramNames}
 use Rattle.dpj_typed.specs.Plain.{PlainProgram}
-use Rattle.dpj_front.specs.Front.{AreNames, first_place, IsFault, IsPassed, IsTokenFault, of_grammar, of_program}
+use Rattle.dpj_front.specs.Front.{first_place, IsFault, IsPassed, IsTokenFault, of_grammar, of_program}
 use Rattle.dpj_front.specs.Judging.{HasNames, IsAccepted, IsFaulty, OneJudgement}
 use Rattle.dpj_passed.specs.Laws.{HasVerdict, OneNaming, OneVerdict, OnePassing}
 
