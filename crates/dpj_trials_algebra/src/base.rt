@@ -40,11 +40,11 @@ fn nested_types_copy_and_compare(rt: HostRuntime) -> Result<(), Fail> {
 #[test]
 fn refusals_are_told_by_place_and_name(rt: HostRuntime) -> Result<(), Fail> {
     let told = [
-        (Kind::TooLong, "6:5 too-long", 1),
-        (Kind::RegionArgs, "6:5 region-args", 10),
-        (Kind::PartialWrite, "6:5 partial-write", 14),
-        (Kind::InterferesNd, "6:5 interferes-nd", 19),
-        (Kind::Schedule, "6:5 schedule", 23),
+        (Kind::TooLong, "6:5 too-long", 0),
+        (Kind::RegionArgs, "6:5 region-args", 9),
+        (Kind::PartialWrite, "6:5 partial-write", 13),
+        (Kind::InterferesNd, "6:5 interferes-nd", 18),
+        (Kind::Schedule, "6:5 schedule", 22),
     ];
     for (kind, text, number) in told {
         let refusal = Refusal {
