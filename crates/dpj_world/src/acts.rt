@@ -64,7 +64,7 @@ impl World {
             Action::Join => join(&mut self.tree, task),
             Action::End(ending) => {
                 let (trap, slots) = parts_of(alloc, ending);
-                self.tree.end(task, trap, slots);
+                self.tree.end(task, trap, slots)?;
                 self.locks.release(task);
                 Ok(Answer::Went)
             }
