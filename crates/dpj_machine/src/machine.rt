@@ -20,8 +20,8 @@ pub enum Stepped {
     Finished,
 }
 
-/// How many events `finish` makes at most. A run within the limits of a job is to have no more, since an event costs a step, but
-/// for rests and ends; that it has none is open.
+/// How many events `finish` makes at most. A run within the limits of a job has no more, since an event costs a step, but for rests and
+/// ends, and schedules are proved to be short.
 const MOST_EVENTS: usize = 40000002;
 
 /// A run of compiled code within limits. A contract sees its code, its limits, its argument, its schedule, the world that its

@@ -9,6 +9,7 @@ use crate::slot::Slot;
 use dpj_base::NoMemory;
 use dpj_code::Code;
 use dpj_legs::{Action, Answer};
+use dpj_tasks::Kept;
 use std::alloc::Global;
 use std::collections::BTreeMap;
 use std::marker::Model;
@@ -16,7 +17,8 @@ use std::marker::Model;
 /// The live tasks. A contract sees a finite map from their numbers.
 #[derive(Drop)]
 pub struct Slots {
-    map: BTreeMap<u32, Slot>,
+    map: BTreeMap<u32, Kept<Slot>>,
+    alloc: Global,
 }
 
 impl Model for Slots {
@@ -39,20 +41,24 @@ impl Slots {
     {
         Slots {
             map: BTreeMap::new(alloc),
+            alloc,
         }
     }
 
     pub fn get(&self, number: u32) -> Option<&Slot>
         ensures { option_copied result ≡ get self.now number }
     {
-        self.map.get(&number)
+        match self.map.get(&number) {
+            Some(slot) => Some(slot.get()),
+            None => None,
+        }
     }
 
     pub fn insert(&mut self, number: u32, slot: Slot) -> Result<(), NoMemory>
         ensures ok { OnOk result (self.new ≡ insert self.old number slot) }
         ensures err { OnErr result (self.new ≡ self.old) }
     {
-        let _ = self.map.insert(number, slot)?;
+        let _ = self.map.insert(number, Kept::new(self.alloc, slot)?)?;
         Ok(())
     }
 
@@ -72,6 +78,7 @@ impl Slots {
         let Some(slot) = self.map.get_mut(&number) else {
             unreachable!()
         };
+        let slot = slot.get_mut();
         slot.advance(alloc, code)
     }
 
@@ -83,6 +90,7 @@ impl Slots {
         let Some(slot) = self.map.get_mut(&number) else {
             unreachable!()
         };
+        let slot = slot.get_mut();
         slot.pending = Some(answer);
     }
 }

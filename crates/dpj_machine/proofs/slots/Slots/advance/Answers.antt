@@ -4,7 +4,7 @@ use Rattle.std.specs.FinMap.{FinMap, get, insert}
 use Rattle.std.specs.Ordering.{nat_cmp}
 use Rattle.dpj_code.specs.Plain.{plain_code}
 use Rattle.dpj_machine.specs.declared.slot.Slot.{Slot}
-use Rattle.dpj_machine.specs.Running.{Running, CanGo, AllStand, StandsForOne}
+use Rattle.dpj_machine.specs.Running.{Running, Goes, CanGo, AllStand, StandsFor, StandsForOne}
 use Rattle.dpj_world.proofs.Maps.{seen, get_seen}
 use Rattle.dpj_machine.proofs.Maps.{written, got, of_found, of_none}
 use Rattle.dpj_machine.proofs.Tasks.{stand_kept, stands_still, stands_at}
@@ -15,8 +15,9 @@ unreachable-requires c = of_none c.self.inside.map c.args.number c.args.self.now
 
 pub advance-requires-clause-stands : goal.advance-requires-clause-stands
 advance-requires-clause-stands c =
-    let can : CanGo (plain_code c.args.code.now) c.args.number c.in-Some.slot.now =
-    of_found c.self.inside.map c.args.number c.in-Some.slot.now c.args.self.now (CanGo (plain_code c.args.code.now) c.args.number) c.in-Some.ensures.value c.self.view_is c.requires.goes in
+    let can : CanGo (plain_code c.args.code.now) c.args.number c.get_mut-slot.result.now =
+    subst (CanGo (plain_code c.args.code.now) c.args.number) (sym c.get_mut-slot.ensures.value)
+    (of_found c.self.inside.map c.args.number c.in-Some.slot.now c.args.self.now (CanGo (plain_code c.args.code.now) c.args.number) c.in-Some.ensures.value c.self.view_is c.requires.goes) in
     (c.args.number, can.task, can.goes, can.stands)
 
 pub returns-clause-stand : goal.returns-clause-stand
@@ -29,7 +30,9 @@ returns-clause-stand c = λ tasks go all.
     (stand_kept (plain_code c.args.code.now) c.args.self.now tasks c.args.number c.advance.new.self all
     (stands_still (plain_code c.args.code.now) c.args.number c.in-Some.slot.now c.advance.new.self (tasks c.args.number) (go c.args.number)
     (subst (λ o. StandsForOne (plain_code c.args.code.now) c.args.number o (tasks c.args.number)) there (all c.args.number))
-    (λ t. c.advance.ensures.stands c.args.number t)))
+    (subst (λ s. (t : Running) → Goes (plain_code c.args.code.now) c.args.number t → StandsFor (plain_code c.args.code.now) c.args.number s t
+    → StandsFor (plain_code c.args.code.now) c.args.number c.advance.new.self t) c.get_mut-slot.ensures.value
+    (λ t. c.advance.ensures.stands c.args.number t))))
 
 pub returns-clause-at : goal.returns-clause-at
 returns-clause-at c =

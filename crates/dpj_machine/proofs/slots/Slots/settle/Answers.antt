@@ -3,6 +3,7 @@ use Rattle.std.proofs.Common.{ap, ◌∙◌, ◌≡◌, Some}
 use Rattle.std.specs.FinMap.{FinMap, insert}
 use Rattle.std.specs.Ordering.{nat_cmp}
 use Rattle.dpj_machine.specs.declared.slot.Slot.{Slot}
+use Rattle.dpj_world.proofs.Maps.{seen}
 use Rattle.dpj_machine.proofs.Maps.{written, of_none, put_there}
 use Rattle.dpj_machine.proofs.slots.Slots.settle.Goals as goal
 
@@ -13,4 +14,5 @@ pub returns : goal.returns
 returns c =
     put_there c.self.inside.map c.args.number c.in-Some.slot.now c.args.self.now _ c.in-Some.ensures.value c.self.view_is
     (written c.self.inside.map c.get_mut.follows.lender c.args.number _ c.in-Some.slot.now c.in-Some.ensures.value c.get_mut.follows.holds
+    ∙ ap (λ (s : Slot). insert (seen c.self.inside.map) c.args.number (record { task = s.task; pending = Some c.args.answer })) c.get_mut-slot.ensures.value
     ∙ ap (λ (slots : FinMap nat_cmp Slot). insert slots c.args.number (record { task = c.in-Some.slot.now.task; pending = Some c.args.answer })) c.self.view_is)
