@@ -12,3 +12,4 @@ pub mod Padding
 pub mod Dropped
 pub mod Leading
 pub mod Idle
+mod Spots

@@ -15,6 +15,7 @@ mod answers;
 mod branches;
 mod calls;
 mod classes;
+mod copying;
 mod entries;
 mod exec;
 mod frame;

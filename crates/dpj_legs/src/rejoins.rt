@@ -1,57 +1,23 @@
-ghost use Rattle.std.specs.Prelude.{◌≡◌, ◌<◌, ◌^◌, ◌∷◌, ◌==◌, ℕ, map, pos, Some, IfOk, OnErr};
-ghost use Rattle.std.specs.List.{list_any};
+ghost use Rattle.std.specs.Prelude.{◌≡◌, ◌<◌, ◌^◌, ◌∷◌, ℕ, map, pos, Some, IfOk, OnErr};
 ghost use Rattle.dpj_base.specs.declared.place.Place.{Place};
 ghost use Rattle.dpj_typed.specs.declared.stmt.Forking.{Forking};
 ghost use Rattle.dpj_meaning.specs.Actions as meaning;
-ghost use Rattle.dpj_meaning.specs.Counts.{number, copied, how_many, brought};
+ghost use Rattle.dpj_meaning.specs.Counts.{number, how_many, brought};
 ghost use Rattle.dpj_meaning.specs.Values.{Int};
 ghost use Rattle.dpj_code.specs.Machine.{one, two, next, all_copied, joined, joins_fork, joins_spread, spread};
 ghost use Rattle.dpj_code.specs.Plain.{spread_site};
 ghost use Rattle.dpj_legs.specs.Answers.{IsIn, Leads, below_top};
 ghost use Rattle.dpj_legs.specs.Names.{plain_value};
 ghost use Rattle.dpj_legs.specs.Steps.{HasNext};
-ghost use Rattle.dpj_legs.specs.Tasks.{plain_level, plain_answer, plain_slot};
+ghost use Rattle.dpj_legs.specs.Tasks.{plain_level, plain_answer};
 
-use crate::action::{Answer, SlotValue};
+use crate::action::Answer;
 use crate::answers::trapped;
+use crate::copying::copy_back;
 use crate::task::{Level, Standing};
-use crate::values::{counted, number, set_slot};
-use dpj_base::{Items, NoMemory, Value};
+use crate::values::{counted, number};
+use dpj_base::{NoMemory, Value};
 use dpj_code::BranchCopies;
-
-/// Whether a join copies a slot back.
-fn is_copied(copies: &[BranchCopies], slot: u32) -> bool
-    ensures { result ≡ list_any (λ y. slot == y) (all_copied (map (λ c. c.slots) copies.now)) }
-{
-    for copied in copies {
-        if is_among(copied.slots.as_slice(), slot) {
-            return true;
-        }
-    }
-    false
-}
-
-fn is_among(slots: &[u32], slot: u32) -> bool
-    ensures { result ≡ list_any (λ y. slot == y) slots.now }
-{
-    for other in slots {
-        if slot == *other {
-            return true;
-        }
-    }
-    false
-}
-
-/// Copies the slots back that a join does copy back.
-fn copy_back(values: &mut Items<Value>, copies: &[BranchCopies], slots: &[SlotValue])
-    ensures { map plain_value values.new ≡ copied (all_copied (map (λ c. c.slots) copies.now)) (map plain_slot slots.now) (map plain_value values.old) }
-{
-    for copied in slots {
-        if is_copied(copies, copied.slot) {
-            set_slot(values, copied.slot as usize, copied.value);
-        }
-    }
-}
 
 impl Level {
     /// After the join of all branches, with so many values less.

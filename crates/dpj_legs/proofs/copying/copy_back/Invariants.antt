@@ -3,7 +3,7 @@ use Rattle.dpj_meaning.specs.Counts.{copied}
 use Rattle.dpj_code.specs.Machine.{all_copied}
 use Rattle.dpj_legs.specs.Names.{plain_value}
 use Rattle.dpj_legs.specs.Tasks.{plain_slot}
-use Rattle.dpj_legs.proofs.rejoins.copy_back.Given as goal
+use Rattle.dpj_legs.proofs.copying.copy_back.Given as goal
 
 abbrev pub invariant-loop-copied : goal.invariant-loop-copied
 invariant-loop-copied l =

@@ -1,7 +1,7 @@
 use Rattle.std.proofs.Common.{◌≡◌, ◌==◌, drop, map}
 use Rattle.std.specs.List.{list_any}
 use Rattle.dpj_code.specs.Machine.{all_copied}
-use Rattle.dpj_legs.proofs.rejoins.is_copied.Given as goal
+use Rattle.dpj_legs.proofs.copying.is_copied.Given as goal
 
 abbrev pub invariant-loop-copied : goal.invariant-loop-copied
 invariant-loop-copied l =
