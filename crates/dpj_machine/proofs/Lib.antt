@@ -7,3 +7,4 @@ pub mod Playing
 pub mod Ends
 pub mod Begins
 pub mod Opening
+mod Aways

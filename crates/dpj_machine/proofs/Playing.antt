@@ -1,6 +1,8 @@
 -- What a machine keeps of its run, at its start and through a step.
-use Rattle.std.proofs.Common.{◌≡◌, ℕ, ℤ, List, [], ◌∷◌, ◌++◌, All, reverse, Option, Some, None, Result, Ok, Err, IfErr, OnOk, OnErr, refl, sym, ap, subst, ◌∙◌}
+use Rattle.std.proofs.Common.{◌≡◌, ℕ, ℤ, List, [], ◌∷◌, ◌++◌, All, reverse, Option, Some, None, Result, Ok, Err, OnErr, refl, sym, ap, subst, ◌∙◌}
 use Rattle.std.proofs.lemmas.List.{reverse-append}
+use Rattle.std.specs.FinMap.{FinMap}
+use Rattle.std.specs.Ordering.{nat_cmp}
 use Rattle.dpj_base.specs.declared.outcome.Limits.{Limits}
 use Rattle.dpj_base.specs.declared.outcome.Outcome.{Outcome}
 use Rattle.dpj_code.specs.declared.code.Code.{Code}
@@ -11,13 +13,14 @@ use Rattle.dpj_world.specs.declared.world.World.{World}
 use Rattle.dpj_machine.specs.declared.halted.Halted.{Halted}
 use Rattle.dpj_machine.specs.declared.halted.Halted.TheVariants as halted
 use Rattle.dpj_machine.specs.declared.run.Run.{Run}
-use Rattle.dpj_machine.specs.Running.{Running, GoesOne, AllGo}
+use Rattle.dpj_machine.specs.declared.slot.Slot.{Slot}
+use Rattle.dpj_machine.specs.Running.{Running, GoesOne, AllGo, AllStand}
 use Rattle.dpj_machine.specs.Replay.{Moment, Moves, LeadsTo, Opens}
 use Rattle.dpj_machine.specs.Premise.{GoesOn, GoesOnAble}
-use Rattle.dpj_machine.specs.Keeping.{Keeps, HasNext, CanStep, Played, IsReplayed, IsStuckAt, WhyHalted, WhyHaltedAt, IsAfter, Plays}
+use Rattle.dpj_machine.specs.Keeping.{Keeps, CanStep, with_slots, Played, IsReplayed, WhyHalted, WhyHaltedAt, IsAfter, Plays}
 
 -- tasks that go on
-all_go : (C : PlainCode) (m : Moment) → GoesOn C m → AllGo C m.tasks
+pub all_go : (C : PlainCode) (m : Moment) → GoesOn C m → AllGo C m.tasks
 all_go C m g k = by_case (m.tasks k) refl
   where
     by_case : (o : Option Running) → m.tasks k ≡ o → GoesOne C k o
@@ -76,6 +79,18 @@ module _ (code : Code) (L : Limits) (argument : ℤ) where
     goes = p.goes;
     few = p.few;
   }
+
+  -- the tasks for which those stand that are kept
+  abbrev pub kept_tasks : (r : Run) → Plays code L argument r → (tasks : ℕ → Option Running) × AllGo (plain_code code) tasks × AllStand (plain_code code) r.slots tasks
+  kept_tasks r p = (p.moment.tasks, all_go (plain_code code) p.moment (p.goes (reverse r.schedule) p.moment p.leads), p.keeps.stand)
+
+  -- with slots that stand for the same
+  pub plays_with : (r : Run) (slots : FinMap nat_cmp Slot) (p : Plays code L argument r)
+      → ((tasks : ℕ → Option Running) → AllGo (plain_code code) tasks → AllStand (plain_code code) r.slots tasks → AllStand (plain_code code) slots tasks)
+      → Plays code L argument (with_slots r slots)
+  plays_with r slots p same =
+      let kept = kept_tasks r p in
+      plays_still r (with_slots r slots) p (record { world = p.keeps.world; outcome = p.keeps.outcome; stand = same kept.0 kept.1 kept.2 }) refl
 
   pub is_after : (old new : Run) (p : Plays code L argument old) (k : ℕ) (n : Moment) → Moves code L p.moment k n → Keeps (plain_code code) new n
       → new.schedule ≡ old.schedule ++ k ∷ [] → IsAfter (played old) k (played new)

@@ -2,4 +2,5 @@ pub mod Running
 pub mod Wants
 pub mod Replay
 pub mod Premise
+pub mod Away
 pub mod Keeping

@@ -12,11 +12,15 @@
 //! A machine is stuck where what a ready task does next can't be done: an object isn't there, a fork, a join, an entry or an
 //! exit comes out of turn, or a branch has no start. A step tells so, and leaves the machine as it was.
 //!
+//! What a task does up to its event, its leg, touches nothing but the task. So `prepare` takes many tasks towards their next events side
+//! by side, in threads, ahead of their steps; a contract sees the machine as it was.
+//!
 //! A step takes the time of the leg that its task makes and of what its event touches; `next_ready` and `ready_below` the logarithm
 //! of the live tasks, and the tasks that they pass over.
 #![tactic(auto)]
 
 mod answers;
+mod away;
 mod halted;
 mod machine;
 mod outcome;

@@ -12,6 +12,7 @@ use dpj_base::{Limits, NoMemory, Outcome};
 use dpj_code::Code;
 use std::alloc::Global;
 use std::marker::Model;
+use std::thread::Threads;
 
 /// What a step left.
 #[derive(Clone, Copy, Debug, PartialEq, Eq)]
@@ -133,6 +134,14 @@ impl Machine {
         Ok(())
     }
 
+    /// Takes tasks towards their next events, side by side in at most so many threads, so that their steps find them there. What a
+    /// task does up to its event touches nothing but the task, so nothing else can be seen of it.
+    pub fn prepare<R: Threads + Sync>(&mut self, rt: &R, threads: usize, tasks: &[u32])
+        ensures { self.new ≡ self.old }
+    {
+        self.run.slots.prepare(rt, &self.code, threads, tasks);
+    }
+
     /// How the run came out, once it has finished.
     pub fn outcome(&self) -> Option<&Outcome>
         ensures { option_copied result ≡ self.now.outcome }
@@ -152,6 +161,13 @@ impl Machine {
         ensures replayed { IsReplayed self.now }
     {
         self.run.schedule.as_slice()
+    }
+
+    /// The steps made so far, with that of the entry of `main`.
+    pub fn steps(&self) -> u64
+        ensures { result ≡ self.now.world.steps }
+    {
+        self.run.world.steps
     }
 
     pub fn code(&self) -> &Code

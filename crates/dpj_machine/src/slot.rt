@@ -1,13 +1,13 @@
-ghost use Rattle.std.specs.Prelude.{◌≡◌, ℕ, All, None, IfOk, OnOk, IfSome};
+ghost use Rattle.std.specs.Prelude.{◌≡◌, ◌≢◌, ℕ, All, None, IfOk, OnOk, IfSome};
 ghost use Rattle.dpj_code.specs.Plain.{plain_code};
 ghost use Rattle.dpj_legs.specs.Answers.{IsCounted};
 ghost use Rattle.dpj_legs.specs.Halts.{Halts, Tells, IsFew, front_of};
 ghost use Rattle.dpj_machine.specs.Running.{Running, Goes, StandsFor, IsFirst};
 
 use crate::answers::copied;
-use dpj_base::NoMemory;
+use dpj_base::{Items, NoMemory};
 use dpj_code::Code;
-use dpj_legs::{Action, Answer, Start, Task};
+use dpj_legs::{Action, Answer, Frame, Start, Task};
 use std::alloc::Global;
 
 /// A task that has begun and not ended.
@@ -25,6 +25,22 @@ impl Slot {
     {
         Slot {
             task: Task::start(alloc, number, start),
+            pending: None,
+        }
+    }
+
+    /// What holds the place of a task of this number, which was taken out. It takes no memory.
+    pub fn in_place_of(alloc: Global, number: u32) -> Slot
+        ensures { result.task.number ≢ number }
+    {
+        let frame = Frame {
+            values: Items::new(alloc),
+            regions: Items::new(alloc),
+            locals: Items::new(alloc),
+            left: 0,
+        };
+        Slot {
+            task: Task::start(alloc, another(number), Start { body: 0, frame }),
             pending: None,
         }
     }
@@ -57,4 +73,11 @@ impl Slot {
         self.deliver(alloc, code)?;
         self.task.leg(alloc, code)
     }
+}
+
+/// Another number.
+fn another(number: u32) -> u32
+    ensures { result ≢ number }
+{
+    if number == 0 { 1 } else { 0 }
 }

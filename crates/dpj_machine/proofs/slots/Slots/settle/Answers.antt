@@ -1,5 +1,5 @@
 -- An answer kept in the map.
-use Rattle.std.proofs.Common.{ap, ◌∙◌, ◌≡◌, Some}
+use Rattle.std.proofs.Common.{ap, ◌∙◌, Some}
 use Rattle.std.specs.FinMap.{FinMap, insert}
 use Rattle.std.specs.Ordering.{nat_cmp}
 use Rattle.dpj_machine.specs.declared.slot.Slot.{Slot}
