@@ -2,23 +2,37 @@ ghost use Rattle.std.specs.Prelude.{◌≡◌, ◌↔◌, None, reverse, IsTrue,
 ghost use Rattle.dpj_machine.specs.Keeping.{HasEnded, WhyHaltedAt};
 ghost use Rattle.dpj_rounds.specs.Rounds.{IsTurn, HadTurns, IsRound, RoundsOn, BreaksOff, RoundsBreakOff, TurnsBreakOff};
 
+use crate::mark::Mark;
 use crate::ready::ready_tasks;
 use dpj_base::Items;
 use dpj_machine::{Halted, Machine};
 use std::alloc::Global;
+use std::thread::Threads;
 
 /// How many events `run_rounds` makes, after which it begins no more rounds. A run within the limits of a job has no more.
 const MOST_EVENTS: usize = 40000002;
 
+/// How many tasks must be ready for threads to pay.
+const FEWEST: usize = 16;
+
 /// Makes rounds until the machine has finished, or no task is ready, or 40000002 events were made. Where it breaks off, the machine is
-/// where its schedule leaves it.
-pub fn run_rounds(alloc: Global, machine: &mut Machine) -> Result<(), Halted>
+/// where its schedule leaves it. What the tasks do up to their events is computed in at most so many threads, side by side, wherever it
+/// was long in the round before.
+pub fn run_rounds<R: Threads + Sync>(
+    rt: &R,
+    alloc: Global,
+    machine: &mut Machine,
+    threads: usize,
+) -> Result<(), Halted>
     ensures rounds { OnOk result (RoundsOn machine.old machine.new) }
     ensures done { OnOk result (HasEnded machine.new) }
     ensures why { IfErr result (RoundsBreakOff machine.old machine.new) }
 {
+    let mut useful = 1;
     while !has_ended(machine) {
-        round(alloc, machine)?;
+        let begun = Mark::of(machine);
+        round(rt, alloc, machine, useful)?;
+        useful = begun.useful_threads(machine, threads);
     }
     Ok(())
 }
@@ -31,13 +45,28 @@ fn has_ended(machine: &Machine) -> bool
 }
 
 /// Makes a round.
-pub fn round(alloc: Global, machine: &mut Machine) -> Result<(), Halted>
+pub fn round<R: Threads + Sync>(
+    rt: &R,
+    alloc: Global,
+    machine: &mut Machine,
+    threads: usize,
+) -> Result<(), Halted>
     requires unfinished { machine.old.outcome ≡ None }
     ensures round { OnOk result (IsRound machine.old machine.new) }
     ensures why { IfErr result (BreaksOff machine.old machine.new) }
 {
     let tasks = ready_tasks(alloc, machine)?;
+    prepare(rt, machine, threads, &tasks);
     turns(machine, tasks)
+}
+
+/// Takes the tasks towards their events, where they are many enough for threads.
+fn prepare<R: Threads + Sync>(rt: &R, machine: &mut Machine, threads: usize, tasks: &Items<u32>)
+    ensures { machine.new ≡ machine.old }
+{
+    if threads > 1 && tasks.len() >= FEWEST {
+        machine.prepare(rt, threads, tasks.as_slice());
+    }
 }
 
 /// Gives each task its turn, the last first.

@@ -6,15 +6,15 @@ use Rattle.dpj_rounds.proofs.Whole.{nearer}
 use Rattle.dpj_rounds.proofs.rounding.run_rounds.Goals as goal
 
 pub loop-alloc-init : goal.loop-alloc-init
-loop-alloc-init c = here
+loop-alloc-init g c = here
 
 pub loop-alloc-smaller : goal.loop-alloc-smaller
-loop-alloc-smaller c = nearer c.loop-alloc.machine (iff_false c.has_ended.ensures c.loop-alloc-test.true) c.round.new.machine c.in_ok-round.ensures.round
+loop-alloc-smaller g c = nearer c.loop-alloc.machine (iff_false c.has_ended.ensures c.loop-alloc-test.true) c.round.new.machine c.in_ok-round.ensures.round
 
 pub loop-alloc-preserved : goal.loop-alloc-preserved
-loop-alloc-preserved c = further c.loop-alloc.machine c.round.new.machine c.loop-alloc.invariant c.in_ok-round.ensures.round
+loop-alloc-preserved g c = further c.loop-alloc.machine c.round.new.machine c.loop-alloc.invariant c.in_ok-round.ensures.round
 
 pub returns-in_err-round-clause-why : goal.returns-in_err-round-clause-why
-returns-in_err-round-clause-why c =
+returns-in_err-round-clause-why g c =
     let q = err_from_is_err_and c.from_residual.result c.from_residual.ensures.1 in
     rw (q.1, q.2) (record { middle = c.loop-alloc.machine; rounds = c.loop-alloc.invariant; breaks = c.in_err-round.ensures.why })

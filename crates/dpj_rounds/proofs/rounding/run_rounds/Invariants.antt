@@ -4,7 +4,7 @@ use Rattle.dpj_rounds.specs.Rounds.{RoundsOn}
 use Rattle.dpj_rounds.proofs.rounding.run_rounds.Given as goal
 
 abbrev pub invariant-loop-alloc : goal.invariant-loop-alloc
-invariant-loop-alloc l = RoundsOn l.fn.machine l.machine
+invariant-loop-alloc g l = RoundsOn l.fn.machine l.machine
 
 abbrev pub decreases-loop-alloc : goal.decreases-loop-alloc
-decreases-loop-alloc l = most_events - length l.machine.schedule
+decreases-loop-alloc g l = most_events - length l.machine.schedule
