@@ -12,10 +12,12 @@ use dpj_history::Record;
 use dpj_machine::{Halted, Machine};
 use dpj_typed::Program;
 use std::alloc::Global;
+use std::thread::Threads;
 
-/// Runs a program on the argument of `main` within limits, in rounds, of which the caller makes all events; the workers make none.
-/// None, where the run can't go on.
-pub fn run_rounds(
+/// Runs a program on the argument of `main` within limits, in rounds, of which the caller makes all events; the workers make none, but
+/// in as many threads what the tasks do up to their events is computed side by side. None, where the run can't go on.
+pub fn run_rounds<R: Threads + Sync>(
+    rt: &R,
     alloc: Global,
     program: &Program,
     limits: Limits,
@@ -31,7 +33,7 @@ pub fn run_rounds(
     let Some(mut machine) = open(alloc, program, limits, argument)? else {
         return Ok(None);
     };
-    let made = dpj_rounds::run_rounds(alloc, &mut machine);
+    let made = dpj_rounds::run_rounds(rt, alloc, &mut machine, workers as usize);
     let _ = machine.schedule();
     match made {
         Ok(()) => recorded(alloc, machine, workers),

@@ -88,7 +88,7 @@ fn made<R: Threads + Wait + Sync, G: Gate + Sync>(
 {
     match job.mode {
         Mode::Steps => run(rt, alloc, typed, limits(job), job.arg, job.workers, gate),
-        Mode::Rounds => run_rounds(alloc, typed, limits(job), job.arg, job.workers),
+        Mode::Rounds => run_rounds(rt, alloc, typed, limits(job), job.arg, job.workers),
     }
 }
 

@@ -11,7 +11,7 @@ use Rattle.dpj_run.proofs.Rounded.{none_opened, came_by_rounds, came_to_nothing}
 use Rattle.dpj_run.proofs.rounding.run_rounds.Goals as goal
 
 pub returns-in_default : goal.returns-in_default
-returns-in_default c =
+returns-in_default g c =
     let P = plain_program c.args.program.now in
     let fits : SFits w32 c.args.argument = search rules in
     none_opened P c.args.limits c.args.argument c.args.workers
@@ -19,7 +19,7 @@ returns-in_default c =
     (subst (λ a. IsOpened P c.args.limits a c.in_ok-machine.field-0) (to_z-of_z fits) c.in_ok-machine.ensures))
 
 pub returns-in-Ok : goal.returns-in-Ok
-returns-in-Ok c =
+returns-in-Ok g c =
     let P = plain_program c.args.program.now in
     let fits : SFits w32 c.args.argument = search rules in
     let o = opened_run P c.args.limits c.args.argument c.in-Some.machine
@@ -29,7 +29,7 @@ returns-in-Ok c =
     c.in-Ok.ensures.rounds c.in-Ok.ensures.done c.recorded.result c.recorded.ensures
 
 pub returns-in-Err-Stuck : goal.returns-in-Err-Stuck
-returns-in-Err-Stuck c =
+returns-in-Err-Stuck g c =
     let P = plain_program c.args.program.now in
     let fits : SFits w32 c.args.argument = search rules in
     let o = opened_run P c.args.limits c.args.argument c.in-Some.machine

@@ -21,10 +21,10 @@ returns-in-Steps-clause-run g c =
     c.run.result c.in-Steps.is c.limits.ensures (to_z-of_z fits) c.run.ensures
 
 pub run_rounds-requires-clause-resolved : goal.run_rounds-requires-clause-resolved
-run_rounds-requires-clause-resolved g c = c.requires.can_run.0
+run_rounds-requires-clause-resolved g c κs within = c.requires.can_run.0
 
 pub run_rounds-requires-clause-main : goal.run_rounds-requires-clause-main
-run_rounds-requires-clause-main g c = c.requires.can_run.1
+run_rounds-requires-clause-main g c κs within = c.requires.can_run.1
 
 pub returns-in-Rounds-clause-run : goal.returns-in-Rounds-clause-run
 returns-in-Rounds-clause-run g c =
