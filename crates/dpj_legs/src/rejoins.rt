@@ -7,7 +7,6 @@ ghost use Rattle.dpj_meaning.specs.Values.{Int};
 ghost use Rattle.dpj_code.specs.Machine.{one, two, next, all_copied, joined, joins_fork, joins_spread, spread};
 ghost use Rattle.dpj_code.specs.Plain.{spread_site};
 ghost use Rattle.dpj_legs.specs.Answers.{IsIn, Leads, below_top};
-ghost use Rattle.dpj_legs.specs.Names.{plain_value};
 ghost use Rattle.dpj_legs.specs.Steps.{HasNext};
 ghost use Rattle.dpj_legs.specs.Tasks.{plain_level, plain_answer};
 

@@ -6,7 +6,7 @@ ghost use Rattle.dpj_tasks.specs.Scope.{with_branch, with_end};
 ghost use Rattle.dpj_tasks.specs.Tree.{CanBegin, CanJoin, origin_of, printed_task, ready, IsLastBelow, IsGreatestReady, NoneReady, changed, forked_task, with_scope, joined_task, ends_in};
 
 use crate::closed::Closed;
-use crate::end::{Joined, TaskEnd};
+use crate::end::Joined;
 use crate::kept::Kept;
 use crate::scope::Scope;
 use crate::task::{Origin, State, Task};

@@ -3,7 +3,7 @@ ghost use Rattle.dpj_tasks.specs.Join.{JoinsTo, joined_out, first_trap, all_slot
 ghost use Rattle.dpj_tasks.specs.Scope.{no_branch_yet, with_branch, with_end, can_go_on, all_begun, all_ended};
 
 use crate::closed::Closed;
-use crate::end::{Joined, TaskEnd};
+use crate::end::Joined;
 use dpj_base::{Bytes, Items, NoMemory, Place, Trap};
 use dpj_legs::SlotValue;
 use std::alloc::Global;

@@ -1,7 +1,7 @@
 ghost use Rattle.std.specs.Prelude.{◌≡◌, ◌↔◌, ◌<◌, length, IsTrue, IfOk, OnOk, OnErr};
 
 use crate::closed::Closed;
-use crate::end::{Joined, TaskEnd};
+use crate::end::Joined;
 use crate::scope::{Scope, joined};
 use dpj_base::{Bytes, NoMemory, PathStep};
 use std::alloc::Global;
