@@ -8,6 +8,7 @@ const PASSES: u64 = 4;
 const LOOKS: u64 = 1000000000;
 
 /// A gate that lets two workers pass by turns. A pass is over when its worker has called again.
+#[derive(Drop)]
 pub struct ByTurns {
     over: AtomicU64,
     first: AtomicU64,

@@ -1,12 +1,11 @@
 ghost use Rattle.std.specs.Prelude.{◌≤◌};
 
-use crate::by_turns::ByTurns;
 use crate::texts::LIMITS;
 use dpj_base::{Items, NoMemory, Stop};
 use dpj_front::front;
 use dpj_history::Record;
 use dpj_run::run;
-use dpj_workers::{Gate, NoGate};
+use dpj_workers::Gate;
 use std::alloc::Global;
 use std::sync::Wait;
 use std::thread::Threads;
@@ -14,21 +13,8 @@ use std::thread::Threads;
 /// Two branches that print.
 const TEXT: &str = "class Main { int main(int n) { cobegin { print(1); print(2); } return 0; } }";
 
-/// Tells the records of a run by two workers that pass by turns, and of one by one worker.
-pub fn tell_records(rt: &HostRuntime, alloc: Global) -> Result<(), anyhow::Error> {
-    let gate = ByTurns::new();
-    let by_turns = told(rt, alloc, 2, &gate)?;
-    println!(rt; "two workers by turns: {by_turns}")?;
-    if gate.ran_out() {
-        println!(rt; "a worker gave up waiting for its turn")?;
-    }
-    let alone = told(rt, alloc, 1, &NoGate)?;
-    println!(rt; "one worker: {alone}")?;
-    Ok(())
-}
-
 /// The record of a run of the text by so many workers, in words.
-fn told<R: Threads + Wait + Sync, G: Gate + Sync>(
+pub fn told<R: Threads + Wait + Sync, G: Gate + Sync>(
     rt: &R,
     alloc: Global,
     workers: u32,

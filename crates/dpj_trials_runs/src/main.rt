@@ -14,16 +14,25 @@ mod schedules;
 mod texts;
 mod wander;
 
-use crate::gated::tell_records;
+use crate::by_turns::ByTurns;
+use crate::gated::told;
 use crate::schedules::tell_schedules;
 use dpj_io::{StdSource, read_all};
+use dpj_workers::NoGate;
 
 /// The most bytes that are read.
 const MOST_BYTES: usize = 1048576;
 
 fn main(rt: HostRuntime) -> Result<(), anyhow::Error> {
     let alloc = rt.alloc();
-    tell_records(&rt, alloc)?;
+    let gate = ByTurns::new();
+    let by_turns = told(&rt, alloc, 2, &gate)?;
+    println!(rt; "two workers by turns: {by_turns}")?;
+    if gate.ran_out() {
+        println!(rt; "a worker gave up waiting for its turn")?;
+    }
+    let alone = told(&rt, alloc, 1, &NoGate)?;
+    println!(rt; "one worker: {alone}")?;
     let mut source = StdSource::new(rt.stdin());
     let Ok(texts) = read_all(alloc, &mut source, MOST_BYTES) else {
         println!(rt; "the texts can't be read")?;
