@@ -19,6 +19,11 @@ use Rattle.dpj_sound.specs.Runs.{KeepsTo}
 abbrev pub RunsKeepTo : Type 0
 RunsKeepTo = (P : PlainProgram) (wt : WellTyped P) (arg : ℤ) → FitsSigned w32 arg → (R : Run) → Legal (stepped P arg) R → KeepsTo P (stepped P arg) (main_bounds P wt) R
 
+-- and so in each run that is legal by any rule of open blocks
+abbrev pub RunsKeepToByAnyRule : Type 0
+RunsKeepToByAnyRule = (P : PlainProgram) (wt : WellTyped P) (arg : ℤ) → FitsSigned w32 arg → (rule : Rule) (R : Run) → Legal (with_rule rule (stepped P arg)) R →
+    KeepsTo P (stepped P arg) (main_bounds P wt) R
+
 -- no legal run of a program without nd constructs has two unordered events that conflict
 abbrev pub RunsAreFree : Type 0
 RunsAreFree = (P : PlainProgram) → WellTyped P → P.uses_nd ≡ false → (arg : ℤ) → FitsSigned w32 arg → AllFree (stepped P arg)
