@@ -18,6 +18,14 @@ WORDS = "run workers=2 arg=9000000 steps=20000000".split()
 TRIES = 3
 
 
+def tasks(process):
+    """The threads of a process; none where it has ended."""
+    try:
+        return sorted(pathlib.Path(f"/proc/{process}/task").iterdir())
+    except OSError:
+        return []
+
+
 def ticks(task):
     """The processor time of a thread, in ticks; none where it has ended."""
     try:
@@ -34,9 +42,8 @@ def worked(program):
         text.write(LOOP)
         text.seek(0)
         running = subprocess.Popen([program, *WORDS], stdin=text, stdout=subprocess.DEVNULL)
-        threads = pathlib.Path(f"/proc/{running.pid}/task")
         while running.poll() is None:
-            for task in sorted(threads.iterdir()) if threads.exists() else []:
+            for task in tasks(running.pid):
                 now = ticks(task)
                 if now > used.get(task.name, 0) and order[-1:] != [task.name]:
                     order.append(task.name)
