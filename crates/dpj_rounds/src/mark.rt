@@ -1,7 +1,10 @@
 use dpj_machine::Machine;
 
 /// How many steps an event must cost, taken together, for legs to be long.
-const LONG: u64 = 256;
+const LONG: u64 = 64;
+
+/// How many steps a thread must make to be worth its beginning.
+const SHARE: u64 = 4096;
 
 /// How far a machine is.
 #[derive(Clone, Copy, Debug)]
@@ -18,10 +21,13 @@ impl Mark {
         }
     }
 
-    /// How many threads, of at most so many, are useful: one alone, unless the legs of the events that the machine has made since were long.
+    /// How many threads, of at most so many, would have been useful for what the machine has done since.
     pub fn useful_threads(self, machine: &Machine, most: usize) -> usize {
         let events = machine.schedule().len().saturating_sub(self.events) as u64;
         let steps = machine.steps().saturating_sub(self.steps);
-        if events <= steps / LONG { most } else { 1 }
+        if events > steps / LONG {
+            return 1;
+        }
+        most.min((steps / SHARE) as usize)
     }
 }

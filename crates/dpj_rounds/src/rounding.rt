@@ -12,9 +12,6 @@ use std::thread::Threads;
 /// How many events `run_rounds` makes, after which it begins no more rounds. A run within the limits of a job has no more.
 const MOST_EVENTS: usize = 40000002;
 
-/// How many tasks must be ready for threads to pay.
-const FEWEST: usize = 16;
-
 /// Makes rounds until the machine has finished, or no task is ready, or 40000002 events were made. Where it breaks off, the machine is
 /// where its schedule leaves it. What the tasks do up to their events is computed in at most so many threads, side by side, wherever it
 /// was long in the round before.
@@ -60,11 +57,11 @@ pub fn round<R: Threads + Sync>(
     turns(machine, tasks)
 }
 
-/// Takes the tasks towards their events, where they are many enough for threads.
+/// Takes the tasks towards their events, where there are threads and tasks for them.
 fn prepare<R: Threads + Sync>(rt: &R, machine: &mut Machine, threads: usize, tasks: &Items<u32>)
     ensures { machine.new ≡ machine.old }
 {
-    if threads > 1 && tasks.len() >= FEWEST {
+    if threads > 1 && tasks.len() > 1 {
         machine.prepare(rt, threads, tasks.as_slice());
     }
 }

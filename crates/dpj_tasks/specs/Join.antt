@@ -33,6 +33,20 @@ all_slots [] = []
 all_slots (None ∷ ends) = all_slots ends
 all_slots (Some e ∷ ends) = e.slots ++ all_slots ends
 
+-- an end of which nothing is left
+abbrev pub nothing_left : TaskEnd
+nothing_left = record { out = []; trap = None; slots = [] }
+
+-- the end that is kept, or none where nothing is left of it
+abbrev pub end_in : Option TaskEnd → TaskEnd
+end_in None = nothing_left
+end_in (Some e) = e
+
+-- the same with what was printed
+abbrev pub closed_as : Option TaskEnd → List ℕ → TaskEnd
+closed_as None out = nothing_left
+closed_as (Some e) out = record { out = out; trap = e.trap; slots = e.slots }
+
 -- what branches came to
 pub record JoinsTo (ends : List (Option TaskEnd)) (joined : Joined) : Type 0 where
   pub trap_is : joined.trap ≡ first_trap ends

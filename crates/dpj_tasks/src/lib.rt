@@ -12,6 +12,7 @@
 //! theirs run. The greatest live task is never one of these.
 #![tactic(auto)]
 
+mod closed;
 mod end;
 mod kept;
 mod live;

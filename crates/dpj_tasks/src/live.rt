@@ -5,7 +5,8 @@ ghost use Rattle.dpj_tasks.specs.Join.{JoinsTo};
 ghost use Rattle.dpj_tasks.specs.Scope.{with_branch, with_end};
 ghost use Rattle.dpj_tasks.specs.Tree.{CanBegin, CanJoin, origin_of, printed_task, ready, IsLastBelow, IsGreatestReady, NoneReady, changed, forked_task, with_scope, joined_task, ends_in};
 
-use crate::end::{Joined, TaskEnd};
+use crate::closed::Closed;
+use crate::end::Joined;
 use crate::kept::Kept;
 use crate::scope::Scope;
 use crate::task::{Origin, State, Task};
@@ -132,7 +133,7 @@ impl Live {
     }
 
     /// Notes in the open scope of a task how a branch ended.
-    pub fn end(&mut self, number: u32, branch: u32, how: Kept<TaskEnd>)
+    pub fn end(&mut self, number: u32, branch: u32, how: Closed)
         ensures { self.new ≡ changed self.old number (with_scope (λ scope. with_end scope branch how)) }
     {
         let Some(task) = self.tasks.get_mut(&number) else {

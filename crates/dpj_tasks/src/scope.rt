@@ -2,8 +2,8 @@ ghost use Rattle.std.specs.Prelude.{◌≡◌, ◌↔◌, ◌<◌, ◌≤◌, �
 ghost use Rattle.dpj_tasks.specs.Join.{JoinsTo, joined_out, first_trap, all_slots};
 ghost use Rattle.dpj_tasks.specs.Scope.{no_branch_yet, with_branch, with_end, can_go_on, all_begun, all_ended};
 
-use crate::end::{Joined, TaskEnd};
-use crate::kept::Kept;
+use crate::closed::Closed;
+use crate::end::Joined;
 use dpj_base::{Bytes, Items, NoMemory, Place, Trap};
 use dpj_legs::SlotValue;
 use std::alloc::Global;
@@ -16,7 +16,7 @@ pub struct Scope {
     count: u32,
     /// How many branches have begun and not ended.
     left: u32,
-    ends: Vec<Option<Kept<TaskEnd>>>,
+    ends: Vec<Option<Closed>>,
 }
 
 impl Model for Scope {
@@ -60,7 +60,7 @@ impl Scope {
     }
 
     /// Notes how a branch ended. Where it isn't running nothing changes.
-    pub fn end(&mut self, branch: u32, how: Kept<TaskEnd>)
+    pub fn end(&mut self, branch: u32, how: Closed)
         ensures { self.new ≡ with_end self.old branch how }
     {
         let at = branch as usize;
@@ -108,7 +108,7 @@ impl Scope {
 }
 
 /// What branches came to that ended so.
-pub fn joined(alloc: Global, ends: &[Option<Kept<TaskEnd>>]) -> Result<Joined, NoMemory>
+pub fn joined(alloc: Global, ends: &[Option<Closed>]) -> Result<Joined, NoMemory>
     ensures { IfOk result (JoinsTo ends.now) }
 {
     Ok(Joined {
@@ -117,13 +117,13 @@ pub fn joined(alloc: Global, ends: &[Option<Kept<TaskEnd>>]) -> Result<Joined, N
     })
 }
 
-fn all_slots(alloc: Global, ends: &[Option<Kept<TaskEnd>>]) -> Result<Items<SlotValue>, NoMemory>
+fn all_slots(alloc: Global, ends: &[Option<Closed>]) -> Result<Items<SlotValue>, NoMemory>
     ensures { IfOk result (λ slots. slots ≡ all_slots ends.now) }
 {
     let mut slots = Items::new(alloc);
     for end in ends {
         if let Some(end) = end {
-            append(&mut slots, end.get().slots.as_slice())?;
+            append(&mut slots, end.slots())?;
         }
     }
     Ok(slots)
@@ -138,7 +138,7 @@ fn append(slots: &mut Items<SlotValue>, more: &[SlotValue]) -> Result<(), NoMemo
     Ok(())
 }
 
-fn joined_out(alloc: Global, ends: &[Option<Kept<TaskEnd>>]) -> Result<Bytes, NoMemory>
+fn joined_out(alloc: Global, ends: &[Option<Closed>]) -> Result<Bytes, NoMemory>
     ensures { IfOk result (λ out. out ≡ joined_out ends.now) }
 {
     let mut out = Bytes::new(alloc);
@@ -146,23 +146,22 @@ fn joined_out(alloc: Global, ends: &[Option<Kept<TaskEnd>>]) -> Result<Bytes, No
         let Some(end) = end else {
             continue;
         };
-        let end = end.get();
-        out.extend(end.out.as_slice())?;
-        if end.trap.is_some() {
+        out.extend(end.out())?;
+        if end.trap().is_some() {
             return Ok(out);
         }
     }
     Ok(out)
 }
 
-fn first_trap(ends: &[Option<Kept<TaskEnd>>]) -> Option<(Trap, Place)>
+fn first_trap(ends: &[Option<Closed>]) -> Option<(Trap, Place)>
     ensures { result ≡ first_trap ends.now }
 {
     for end in ends {
         let Some(end) = end else {
             continue;
         };
-        let trap = end.get().trap;
+        let trap = end.trap();
         if trap.is_some() {
             return trap;
         }

@@ -1,7 +1,7 @@
 ghost use Rattle.std.specs.Prelude.{◌≡◌, ◌↔◌, ◌<◌, length, IsTrue, IfOk, OnOk, OnErr};
 
-use crate::end::{Joined, TaskEnd};
-use crate::kept::Kept;
+use crate::closed::Closed;
+use crate::end::Joined;
 use crate::scope::{Scope, joined};
 use dpj_base::{Bytes, NoMemory, PathStep};
 use std::alloc::Global;
@@ -100,7 +100,7 @@ impl State {
     }
 
     /// Notes in the open scope, if there is one, how a branch ended.
-    pub fn end(&mut self, branch: u32, how: Kept<TaskEnd>)
+    pub fn end(&mut self, branch: u32, how: Closed)
         ensures { self.new ≡ in_scope (λ scope. with_end scope branch how) self.old }
     {
         match self {

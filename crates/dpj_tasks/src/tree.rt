@@ -1,7 +1,8 @@
-ghost use Rattle.std.specs.Prelude.{◌≡◌, ◌↔◌, ◌<◌, ◌≤◌, IsTrue, IfOk, OnOk, OnErr, MatchOption, None, ℕ};
+ghost use Rattle.std.specs.Prelude.{◌≡◌, ◌↔◌, ◌<◌, ◌≤◌, [], IsTrue, IfOk, OnOk, OnErr, MatchOption, None, ℕ};
 ghost use Rattle.std.specs.Option.{option_copied};
 ghost use Rattle.dpj_tasks.specs.Tree.{fresh, next_origin};
 
+use crate::closed::Closed;
 use crate::end::{Joined, TaskEnd};
 use crate::kept::Kept;
 use crate::live::Live;
@@ -35,8 +36,8 @@ impl Model for TaskTree {
 }
 
 impl TaskTree {
-    ghost use Rattle.dpj_tasks.specs.Join.{JoinsTo};
-    ghost use Rattle.dpj_tasks.specs.Tree.{only_root, task_at, Runs, CanBegin, CanJoin, is_ready, forked, with_task, without_task, joined, printed, ends_in, IsPath, IsGreatestReady, NoneReady};
+    ghost use Rattle.dpj_tasks.specs.Join.{JoinsTo, closed_as};
+    ghost use Rattle.dpj_tasks.specs.Tree.{only_root, task_at, Runs, CanBegin, CanJoin, is_ready, forked, with_task, without_task, joined, printed, ends_in, out_of, end_of, IsPath, IsGreatestReady, NoneReady};
 
     /// The root alone, which has begun.
     pub fn open(alloc: Global) -> Result<TaskTree, NoMemory>
@@ -162,23 +163,42 @@ impl TaskTree {
         ensures ok { OnOk result (self.new ≡ without_task self.old task trap slots) }
         ensures err { OnErr result (self.new ≡ self.old) }
     {
-        let room = Kept::new(
-            self.alloc,
-            TaskEnd {
-                out: Bytes::new(self.alloc),
-                trap,
-                slots,
-            },
-        )?;
+        let room = self.room(task, trap, slots)?;
         let Some(ended) = self.tasks.remove(task) else {
             unreachable!()
         };
-        let how = with_output(room, ended.out);
+        let how = Closed::new(room, ended.out);
         match ended.origin {
-            None => self.root_end = Some(how.into_inner()),
+            None => self.root_end = Some(how.into_end(self.alloc)),
             Some(origin) => self.tasks.end(origin.parent, origin.step.branch, how),
         }
         Ok(())
+    }
+
+    /// Room for the end of a task; none where nothing is left of it.
+    fn room(
+        &self,
+        task: u32,
+        trap: Option<(Trap, Place)>,
+        slots: Items<SlotValue>,
+    ) -> Result<Option<Kept<TaskEnd>>, NoMemory>
+        ensures { IfOk result (λ room. closed_as room (out_of (task_at self.now task)) ≡ end_of (task_at self.now task) trap slots) }
+    {
+        if trap.is_none() && slots.is_empty() && self.is_silent(task) {
+            return Ok(None);
+        }
+        let out = Bytes::new(self.alloc);
+        Ok(Some(Kept::new(self.alloc, TaskEnd { out, trap, slots })?))
+    }
+
+    /// Whether a task has printed nothing.
+    fn is_silent(&self, task: u32) -> bool
+        ensures { IsTrue result → out_of (task_at self.now task) ≡ [] }
+    {
+        match self.tasks.get(task) {
+            Some(found) => found.out.is_empty(),
+            None => true,
+        }
     }
 
     /// Puts bytes behind what a task has printed.
@@ -227,15 +247,6 @@ fn fresh(alloc: Global, origin: Option<Origin>) -> Task
         out: Bytes::new(alloc),
         state: State::Running,
     }
-}
-
-/// An end with this output.
-fn with_output(end: Kept<TaskEnd>, out: Bytes) -> Kept<TaskEnd>
-    ensures { result ≡ record { out = out; trap = end.trap; slots = end.slots } }
-{
-    let mut end = end;
-    end.get_mut().out = out;
-    end
 }
 
 /// Where the next branch of a task comes from.

@@ -19,6 +19,6 @@ pub invariant_of-self-in-Some-origin : goal.invariant_of-self-in-Some-origin
 invariant_of-self-in-Some-origin c =
     subst (λ tasks. IsNumbered tasks c.self.inside.begun) (sym c.end.ensures)
     (numbered_changed c.remove.new.self c.self.inside.begun c.in-Some-origin.origin.parent
-    (with_scope (λ scope. with_end scope c.in-Some-origin.origin.step.branch c.with_output-how.result)) (λ t. refl)
+    (with_scope (λ scope. with_end scope c.in-Some-origin.origin.step.branch c.new-how.result)) (λ t. refl)
     (subst (λ tasks. IsNumbered tasks c.self.inside.begun) (sym c.remove.ensures.removed)
     (numbered_removed c.self.inside.tasks c.self.inside.begun c.args.task c.self.invariant)))
