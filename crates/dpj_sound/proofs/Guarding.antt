@@ -2,6 +2,7 @@
 -- that was made inside; so unordered conflicts are guarded.
 use Rattle.std.proofs.Common.{◌≡◌, ◌⊎◌, ⊎_elim, inl, inr, ℕ, suc, ℤ, Bool, true, false, ◌||◌, List, [], ◌∷◌, ◌++◌, length, refl, sym, ap, ◌∙◌, subst, arith, append_assoc}
 use Rattle.std.proofs.lemmas.Bool.{false≢true, or_left, or_right, or_parts, cases_Bool}
+use Rattle.dpj_base.specs.Branches.{ends_atomic}
 use Rattle.dpj_typed.specs.declared.stmt.Forking.{Forking}
 use Rattle.dpj_typed.specs.declared.stmt.Forking.TheVariants.{Deterministic, Nondeterministic}
 use Rattle.dpj_typed.specs.Plain.{PlainProgram}
@@ -9,7 +10,7 @@ use Rattle.dpj_moving.specs.Guarded.{InBlock, Barred, Guarded}
 use Rattle.dpj_runs.specs.Actions.{Branches, Program, Task, Enter}
 use Rattle.dpj_runs.specs.Blocks.{Hold, Out_of, In_block, own_hold, hold}
 use Rattle.dpj_runs.specs.Objects.{Path, Name, Made, Effect}
-use Rattle.dpj_runs.specs.Order.{Unordered, Conflict}
+use Rattle.dpj_runs.specs.Order.{Unordered, Conflict, read_write, write_read, write_write}
 use Rattle.dpj_runs.specs.Runs.{Event, Run, Upto, mine, count, Begun, Faithful}
 use Rattle.dpj_runs.specs.Standing.{Standing, Outside, Inside, first_of, joined_by, above, standing}
 use Rattle.dpj_runs.proofs.Faithful.{ForkAt, own_fork, faithful_upto, follows_at, begun_upto}
@@ -24,6 +25,7 @@ use Rattle.dpj_sound.specs.Settings.{local_code}
 use Rattle.dpj_sound.specs.Accesses.{Bounds, Access, LiesIn, InOwnRegion, LiesInEntry, is_entered, is_guarded, InEachEntry, Allowed}
 use Rattle.dpj_sound.specs.Branches.{MayMeet}
 use Rattle.dpj_sound.specs.RunLaws.{ConflictsAreGuarded, NdForksAreOutside}
+use Rattle.dpj_sound.specs.Soundness.{cell_of, ConflictIsAtomic}
 use Rattle.dpj_sound.proofs.Barred.{entries_barred}
 use Rattle.dpj_sound.proofs.Branching.{stepped_disciplined}
 use Rattle.dpj_sound.proofs.Free.{access, Met, fork_sound, Clash, clash_of, clash_met, one_place}
@@ -238,6 +240,39 @@ module _ (P : PlainProgram) (arg : ℤ) {N : ℕ} {R : Run} (l : Faithful (stepp
       go Deterministic h = absurd h
       go Nondeterministic h = guarded_pair hx hy n k m h.0 h.1
 
+  -- what conflicts is guarded, and lies in a region that ends by an atomic name
+  atomic_region : {X Y : Run} {x y : Event} → {ts : Branches} (k : Clash P arg l s X x Y y) → {p q : Path} → Met P arg l s ts p q (access k.first) (access k.second) →
+      ends_atomic P.region_names (access k.first).region ≡ true
+  atomic_region k {ts = ts} m = go ts.kind m.may
+    where
+      go : (f : Forking) → MayMeet P f (access k.first) (access k.second) → ends_atomic P.region_names (access k.first).region ≡ true
+      go Deterministic h = absurd h
+      go Nondeterministic h = h.2
+
+  clash_on : {X Y : Run} {x y : Event} (hx : Upto (x ∷ X) R) (hy : Upto (y ∷ Y) R) (c : Conflict x y) → (clash_of P arg l s hx hy c).cell ≡ cell_of c
+  clash_on hx hy (read_write c r w) = refl
+  clash_on hx hy (write_read c w r) = refl
+  clash_on hx hy (write_write c v w) = refl
+
+  pub conflict_is_atomic : (Y X : Run) (y x : Event) → Upto (y ∷ Y) R → Upto (x ∷ X) Y → Unordered x.path y.path → (c : Conflict x y) → ConflictIsAtomic P lets s.shapes X x Y y (cell_of c)
+  conflict_is_atomic Y X y x hx hy n c =
+      let up = upto_trans hy (upto_tail hx) in
+      let k = clash_of P arg l s up hx c in
+      let m = clash_met P arg l s up hx n k in
+      let there = k.first.reaches.cell in
+      subst (λ z. ConflictIsAtomic P lets s.shapes X x Y y z) (clash_on up hx c) (record {
+        blocks = by_kind up hx n k m;
+        cell = record {
+          shape = there.shape;
+          is = k.first.grown k.cell.object there.shape there.is;
+          env = there.env;
+          ty = there.ty;
+          rpl = there.rpl;
+          cell = there.cell;
+        };
+        atomic = atomic_region k m;
+      })
+
 pub nd_forks_are_outside : NdForksAreOutside
 nd_forks_are_outside P wt arg small R l F f ts u act kind = go (cases_Bool (is_guarded b ok.state.entries))
   where
@@ -264,16 +299,10 @@ nd_forks_are_outside P wt arg small R l F f ts u act kind = go (cases_Bool (is_g
         ∙ ap (joined_by Outside f.path) (ok.held ∙ none_entered P arg faithful s ok.state.entries z.1)
 
 pub conflicts_are_guarded : ConflictsAreGuarded
-conflicts_are_guarded P wt arg small R l = record { each = each }
+conflicts_are_guarded P wt arg small R l = record { each = λ Y X y x hy hx n c. (conflict_is_atomic P arg f s Y X y x hy hx n c).blocks }
   where
     f : Faithful (stepped P arg) R
     f = legal_faithful (stepped P arg) R l
 
     s : Sound P (stepped P arg) (length R) R
     s = sound P wt arg small (length R) R f (omega arith)
-
-    each : (Y X : Run) (y x : Event) → Upto (y ∷ Y) R → Upto (x ∷ X) Y → Unordered x.path y.path → Conflict x y → Guarded lets X x Y y
-    each Y X y x hy hx n c =
-        let up = upto_trans hx (upto_tail hy) in
-        let k = clash_of P arg f s up hy c in
-        by_kind P arg f s up hy n k (clash_met P arg f s up hy n k)

@@ -26,6 +26,7 @@ pub mod InScope
 pub mod Including
 pub mod Indices
 pub mod Ints
+pub mod Joining
 pub mod Keeping
 pub mod Levels
 pub mod Locals

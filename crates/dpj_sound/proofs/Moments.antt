@@ -17,6 +17,7 @@ use Rattle.dpj_sound.specs.Shapes.{Shapes, FitsIn}
 use Rattle.dpj_sound.specs.Accesses.{Bounds}
 use Rattle.dpj_sound.specs.Frames.{State, Since}
 use Rattle.dpj_sound.specs.Branches.{Forks, Brings}
+use Rattle.dpj_sound.specs.Soundness.{EndFits}
 use Rattle.dpj_sound.specs.Work.{Brought, Moves, Answers, After}
 use Rattle.dpj_sound.proofs.Calm.{CalmFork, MayLeave}
 use Rattle.dpj_sound.proofs.Work.{since_now, since_after}
@@ -59,13 +60,6 @@ finish_bind (Lost w) j K = refl
 pub data Moment (P : PlainProgram) (b : Bounds) : Type 0 where
   at : (st : State) → Moment P b
   forked : (st : State) (forking : Forking) (ts : List Task) (forks : Forks P b st forking ts) (begun : ℕ) → Moment P b
-
--- what a task ends with fits: locals that it copies back
-abbrev pub EndFits : PlainProgram → Bounds → Scope → List ℕ → Shapes → Ending → Type 0
-EndFits P b L copies S (Assigned ls) = (x : ℕ) (v : Value) → Contains ls (x, v) →
-    Contains copies x × (t : PlainType) × (L.local x ≡ Some (variable t)) × FitsIn P S (env_of b.setting) t v
-EndFits P b L copies S (Returned v) = Unit {0}
-EndFits P b L copies S (Trapped trap place) = Unit {0}
 
 -- the state in which it has made so many local regions
 abbrev pub having_made : ℕ → State → State
