@@ -60,9 +60,9 @@ names_assigned (x ∷ xs) vs = ap (λ ys. x ∷ ys) (names_assigned xs vs)
 -- a branch, in which no return stands, ends with the locals that it copies back
 branch_ends : (P : PlainProgram) (b : Bounds) (L : Scope) (t : Task) (st : State) → b.path ≢ [] → t.work.is_root ≡ false → L.result ≡ None → All (IsVariable L) t.work.copies → (h : State) (r : Result) →
     Leaves P b L b.setting t.work.stmts st h r → EndFits P b L t.work.copies h.shapes (ended t.work r)
-branch_ends P b L t st below branch none vs h (Returns v) y = absurd (subst (λ o. ReturnFits P h.shapes b.setting o v) none y.1)
-branch_ends P b L t st below branch none vs h (Goes_on v f) y =
-    subst (λ c. EndFits P b L t.work.copies h.shapes (cond c (Returned Null) (Assigned (assigned t.work.copies f.values)))) (sym branch)
+branch_ends P b L t st below no_root none vs h (Returns v) y = absurd (subst (λ o. ReturnFits P h.shapes b.setting o v) none y.1)
+branch_ends P b L t st below no_root none vs h (Goes_on v f) y =
+    subst (λ c. EndFits P b L t.work.copies h.shapes (cond c (Returned Null) (Assigned (assigned t.work.copies f.values)))) (sym no_root)
     (below, names_assigned t.work.copies f.values, λ x u c.
         (let z = assigned_in t.work.copies f.values x u c in
         let is = subst (IsVariable L) z.0.2 (vs z.0.0 x z.0.1) in
@@ -218,11 +218,11 @@ module _ (P : PlainProgram) (wt : WellTyped P) (arg : ℤ) {N : ℕ} {R : Run} {
       fits : BranchFits P bounds ok.state n.u.1 z (ok.forks.scope n.u.1) (ok.forks.setting n.u.1) (ok.forks.effects n.u.1)
       fits = ok.forks.branch n.u.1 z n.there
 
-      is_below : bb.path ≢ []
-      is_below q = let k : v ∷ bounds.path ≡ [] = q in cc
-
       bb : Bounds
       bb = branch_bounds bounds ok.state ok.forks v
+
+      is_below : v ∷ bounds.path ≢ []
+      is_below q = let k : v ∷ bounds.path ≡ [] = q in cc
 
       h : State
       h = record { shapes = s.shapes; made = 0; entries = [] }

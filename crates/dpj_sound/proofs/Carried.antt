@@ -87,7 +87,7 @@ module _ (P : PlainProgram) (Q : Program) where
   event_later k B C S T Y p g c Join h = tt
   event_later k B C S T Y p g c (End x) h = (h.0, h.1, end_grows P k.bounds k.scope h.0.work.copies S T g x h.2)
 
-  act_later : (k : Kept) (S T : Shapes) (Y : Run) (p : Path) → Grows S T → (a : Action) (x : Answer) → ActOk P k S Y p a x → ActOk P k T Y p a x
+  pub act_later : (k : Kept) (S T : Shapes) (Y : Run) (p : Path) → Grows S T → (a : Action) (x : Answer) → ActOk P k S Y p a x → ActOk P k T Y p a x
   act_later k S T Y p g (Do o) x h = record {
     state = h.state;
     entries = h.entries;

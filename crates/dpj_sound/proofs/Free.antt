@@ -21,6 +21,7 @@ use Rattle.dpj_sound.specs.Accesses.{Access, Allowed, LiesIn, InOwnRegion, Bound
 use Rattle.dpj_sound.specs.Branches.{Meet, MayMeet}
 use Rattle.dpj_sound.specs.RunLaws.{RunsAreFree}
 use Rattle.dpj_sound.specs.Shapes.{Shapes, CellAt}
+use Rattle.dpj_sound.specs.Soundness.{cell_of}
 use Rattle.dpj_sound.specs.Work.{access_of}
 use Rattle.dpj_sound.proofs.Branching.{stepped_disciplined}
 use Rattle.dpj_sound.proofs.Cells.{one_cell}
@@ -204,6 +205,12 @@ module _ (P : PlainProgram) (arg : ℤ) {N : ℕ} {R : Run} (l : Faithful (stepp
   clash_of hx hy (read_write c r w) = record { cell = c; left = false; right = true; first = read_ok hx c r; second = write_ok hy c w; write = refl }
   clash_of hx hy (write_read c w r) = record { cell = c; left = true; right = false; first = write_ok hx c w; second = read_ok hy c r; write = refl }
   clash_of hx hy (write_write c v w) = record { cell = c; left = true; right = true; first = write_ok hx c v; second = write_ok hy c w; write = refl }
+
+  pub clash_on : {X Y : Run} {x y : Event} (hx : Upto (x ∷ X) R) (hy : Upto (y ∷ Y) R) (c : Conflict x y) → (clash_of hx hy c).cell ≡ cell_of c
+  unfolding clash_of
+  clash_on hx hy (read_write c r w) = refl
+  clash_on hx hy (write_read c w r) = refl
+  clash_on hx hy (write_write c v w) = refl
 
   pub clash_met : {X Y : Run} {x y : Event} → (hx : Upto (x ∷ X) R) → Upto (y ∷ Y) R → (n : Unordered x.path y.path) → (k : Clash X x Y y) →
       Met (fork_of_event n.below_p n.above n.u hx n.p_is).tasks (n.u ∷ n.above) (n.v ∷ n.above) (access k.first) (access k.second)

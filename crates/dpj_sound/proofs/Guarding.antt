@@ -10,7 +10,7 @@ use Rattle.dpj_moving.specs.Guarded.{InBlock, Barred, Guarded}
 use Rattle.dpj_runs.specs.Actions.{Branches, Program, Task, Enter}
 use Rattle.dpj_runs.specs.Blocks.{Hold, Out_of, In_block, own_hold, hold}
 use Rattle.dpj_runs.specs.Objects.{Path, Name, Made, Effect}
-use Rattle.dpj_runs.specs.Order.{Unordered, Conflict, read_write, write_read, write_write}
+use Rattle.dpj_runs.specs.Order.{Unordered, Conflict}
 use Rattle.dpj_runs.specs.Runs.{Event, Run, Upto, mine, count, Begun, Faithful}
 use Rattle.dpj_runs.specs.Standing.{Standing, Outside, Inside, first_of, joined_by, above, standing}
 use Rattle.dpj_runs.proofs.Faithful.{ForkAt, own_fork, faithful_upto, follows_at, begun_upto}
@@ -28,7 +28,7 @@ use Rattle.dpj_sound.specs.RunLaws.{ConflictsAreGuarded, NdForksAreOutside}
 use Rattle.dpj_sound.specs.Soundness.{cell_of, ConflictIsAtomic}
 use Rattle.dpj_sound.proofs.Barred.{entries_barred}
 use Rattle.dpj_sound.proofs.Branching.{stepped_disciplined}
-use Rattle.dpj_sound.proofs.Free.{access, Met, fork_sound, Clash, clash_of, clash_met, one_place}
+use Rattle.dpj_sound.proofs.Free.{access, Met, fork_sound, Clash, clash_of, clash_on, clash_met, one_place}
 use Rattle.dpj_sound.proofs.Sound.{Kept, branch_kept, hold_of, Accessed, Sound, ForkedAt, EventOk, branches_of}
 use Rattle.dpj_sound.proofs.Whole.{sound}
 
@@ -243,16 +243,11 @@ module _ (P : PlainProgram) (arg : ℤ) {N : ℕ} {R : Run} (l : Faithful (stepp
   -- what conflicts is guarded, and lies in a region that ends by an atomic name
   atomic_region : {X Y : Run} {x y : Event} → {ts : Branches} (k : Clash P arg l s X x Y y) → {p q : Path} → Met P arg l s ts p q (access k.first) (access k.second) →
       ends_atomic P.region_names (access k.first).region ≡ true
-  atomic_region k {ts = ts} m = go ts.kind m.may
+  atomic_region {ts = ts} k m = go ts.kind m.may
     where
       go : (f : Forking) → MayMeet P f (access k.first) (access k.second) → ends_atomic P.region_names (access k.first).region ≡ true
       go Deterministic h = absurd h
       go Nondeterministic h = h.2
-
-  clash_on : {X Y : Run} {x y : Event} (hx : Upto (x ∷ X) R) (hy : Upto (y ∷ Y) R) (c : Conflict x y) → (clash_of P arg l s hx hy c).cell ≡ cell_of c
-  clash_on hx hy (read_write c r w) = refl
-  clash_on hx hy (write_read c w r) = refl
-  clash_on hx hy (write_write c v w) = refl
 
   pub conflict_is_atomic : (Y X : Run) (y x : Event) → Upto (y ∷ Y) R → Upto (x ∷ X) Y → Unordered x.path y.path → (c : Conflict x y) → ConflictIsAtomic P lets s.shapes X x Y y (cell_of c)
   conflict_is_atomic Y X y x hx hy n c =
@@ -260,7 +255,7 @@ module _ (P : PlainProgram) (arg : ℤ) {N : ℕ} {R : Run} (l : Faithful (stepp
       let k = clash_of P arg l s up hx c in
       let m = clash_met P arg l s up hx n k in
       let there = k.first.reaches.cell in
-      subst (λ z. ConflictIsAtomic P lets s.shapes X x Y y z) (clash_on up hx c) (record {
+      subst (λ z. ConflictIsAtomic P lets s.shapes X x Y y z) (clash_on P arg l s up hx c) (record {
         blocks = by_kind up hx n k m;
         cell = record {
           shape = there.shape;

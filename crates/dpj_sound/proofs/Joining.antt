@@ -67,19 +67,19 @@ slot_of_local (y ∷ ls) x v (suc k, l, e) = let r = slot_of_local ls x v (k, om
 -- of an end, what is said of its locals
 end_local : (P : PlainProgram) (b : Bounds) (L : Scope) (copies : List ℕ) (S : Shapes) (y : Ending) (x : ℕ) (v : Value) → EndFits P b L copies S y → Contains (locals_of y) (x, v) →
     Contains copies x × (t : PlainType) × (L.local x ≡ Some (variable t)) × FitsIn P S (env_of b.setting) t v
-end_local P b L copies S (Assigned ls) x v h c = (subst (λ xs. Contains xs x) h.1 (slot_of_local ls x v c), h.2 x v c)
+end_local P b L copies S (Assigned ls) x v h c = (let z = h.2 x v c in (subst (λ xs. Contains xs x) h.1 (slot_of_local ls x v c), z.0, z.1, z.2))
 end_local P b L copies S (Returned w) x v h c = let l = c.1 in absurd (omega (arith, l))
 end_local P b L copies S (Trapped trap place) x v h c = let l = c.1 in absurd (omega (arith, l))
+
+-- where a task stands at the join of a fork, when this has been made
+abbrev pub joined_at : Shapes → State → State
+joined_at S st = record { shapes = S; made = st.made; entries = st.entries }
 
 -- a fork of a run, and branches of it that have ended there
 module _ (P : PlainProgram) (Q : Program) {N : ℕ} {R : Run} (s : Sound P Q N R) (p : Path) (F : Run) (f : Event) (stands : Upto (f ∷ F) R) (path : f.path ≡ p) (ts : Branches) (act : f.act ≡ Fork ts)
     (st : State) (forks : Forks P (s.keeping p).bounds st ts.kind ts.tasks) (kept : (i : ℕ) → s.keeping ((count F p, i) ∷ p) ≡ branch_kept (s.keeping p).bounds st forks (count F p) i) where
-  -- where all of them have
-  abbrev pub joined_at : State
-  joined_at = record { shapes = s.shapes; made = st.made; entries = st.entries }
-
   returned : (i : ℕ) (y : Ending) → Ended R ((count F p, i) ∷ p) y → (x : ℕ) (v : Value) → Contains (locals_of y) (x, v) →
-      ReturnedOf P (s.keeping p).bounds st ts.kind ts.tasks forks joined_at x v
+      ReturnedOf P (s.keeping p).bounds st ts.kind ts.tasks forks (joined_at s.shapes st) x v
   returned i y over x v c =
       let w : Path = (count F p, i) ∷ p in
       let ok0 = subst (λ q. EventOk P Q (s.keeping q) (branches_of P Q s.keeping q) s.shapes over.before q over.event.act) over.path (s.events over.event over.before over.stands) in
@@ -99,5 +99,5 @@ module _ (P : PlainProgram) (Q : Program) {N : ℕ} {R : Run} (s : Sound P Q N R
       }
 
   pub all_returned : (ends : List Ending) → ((u : ℕ × ℕ) (x : Ending) → u.0 ≡ count F p → slice_get ends u.1 ≡ Some x → Ended R (u ∷ p) x) → (x : ℕ) (v : Value) → Contains (all_locals ends) (x, v) →
-      ReturnedOf P (s.keeping p).bounds st ts.kind ts.tasks forks joined_at x v
+      ReturnedOf P (s.keeping p).bounds st ts.kind ts.tasks forks (joined_at s.shapes st) x v
   all_returned ends ended x v c = let r = brought_by ends x v c in returned r.0 r.1 (ended (count F p, r.0) r.1 refl r.2) x v r.3

@@ -1,5 +1,5 @@
 -- What is said of whole runs, read off what holds of them.
-use Rattle.std.proofs.Common.{◌≡◌, ℕ, ℤ, FitsSigned, ◌∷◌, length, sym, ap, subst, arith, Option, Some, None, slice_get}
+use Rattle.std.proofs.Common.{◌≡◌, ℕ, ℤ, FitsSigned, ◌∷◌, length, refl, sym, ap, subst, arith, Option, Some, None, slice_get}
 use Rattle.std.specs.Int.{w32}
 use Rattle.dpj_base.specs.declared.place.Place.{Place}
 use Rattle.dpj_base.specs.declared.value.Trap.{Trap}
@@ -75,7 +75,7 @@ module _ (P : PlainProgram) (wt : WellTyped P) (arg : ℤ) (small : FitsSigned w
         record { before = z.before; event = z.event; stands = upto_trans z.stands (upto_tail u); path = z.path; act = z.act }
 
     fits : (o : Option (Trap × Place)) → JoinFits P (s.keeping y.path).bounds forked.state j.tasks.kind j.tasks.tasks forked.forks
-        (joined_at P (stepped P arg) s y.path j.before j.fork (upto_trans j.stands (upto_tail u)) j.path j.tasks j.act forked.state forked.forks kept) (joined_or o (all_locals j.ends))
+        (joined_at s.shapes forked.state) (joined_or o (all_locals j.ends))
     fits None = all_returned P (stepped P arg) s y.path j.before j.fork (upto_trans j.stands (upto_tail u)) j.path j.tasks j.act forked.state forked.forks kept j.ends ended
     fits (Some fell) = tt
 
@@ -88,10 +88,10 @@ module _ (P : PlainProgram) (wt : WellTyped P) (arg : ℤ) (small : FitsSigned w
       path = j.path;
       act = j.act;
       forked = forked;
-      after = joined_at P (stepped P arg) s y.path j.before j.fork (upto_trans j.stands (upto_tail u)) j.path j.tasks j.act forked.state forked.forks kept;
+      after = joined_at s.shapes forked.state;
       since = record { grows = forked.grown; made = omega arith; entries = refl };
       fits = subst (λ x. JoinFits P (s.keeping y.path).bounds forked.state j.tasks.kind j.tasks.tasks forked.forks
-          (joined_at P (stepped P arg) s y.path j.before j.fork (upto_trans j.stands (upto_tail u)) j.path j.tasks j.act forked.state forked.forks kept) x)
+          (joined_at s.shapes forked.state) x)
           (sym j.answer) (fits (first_trap j.ends));
       grown = λ n z q. q;
     }

@@ -1,5 +1,5 @@
 -- Each run of a well-typed program is sound: from its start, event by event.
-use Rattle.std.proofs.Common.{Bool, inl, inr, true, ◌≡◌, ◌≤◌, ⊎_elim, ℕ, suc, ℤ, FitsSigned, List, [], ◌∷◌, ◌++◌, length, reverse, refl, sym, ap, ◌∙◌, subst, arith, Option, Some, None, IsTrue, slice_get, zero}
+use Rattle.std.proofs.Common.{Bool, inl, inr, true, ◌≡◌, ◌≤◌, ⊎_elim, ℕ, suc, ℤ, FitsSigned, List, [], ◌∷◌, ◌++◌, length, reverse, refl, sym, ap, ◌∙◌, subst, arith, Option, Some, None, slice_get, zero}
 use Rattle.std.specs.Int.{w32}
 use Rattle.std.proofs.lemmas.Bool.{false≢true, cond-true, cond-false, cases_Bool}
 use Rattle.dpj_base.specs.Types.{PlainType, int, void}
@@ -54,9 +54,9 @@ module _ (P : PlainProgram) (wt : WellTyped P) (arg : ℤ) (small : FitsSigned w
   -- the body of `main` doesn't complete normally, so the root ends with what it returns, an int
   root_ends : (copies : List ℕ) (k : Work) → k.is_root ≡ true → (h : State) (r : Result) →
       Leaves P (main_bounds P wt) (main_scope P wt) (class_setting []) wt.main.member.body (start P) h r → EndFits P (main_bounds P wt) (main_scope P wt) copies h.shapes (ended k r)
-  root_ends copies k root h (Returns v) y = (refl, subst (λ t. FitsIn P h.shapes (env_of (class_setting [])) t v) wt.main.result y.1)
-  root_ends copies k root h (Goes_on v f) y =
-      ⊎_elim (λ none. absurd (let z : ◌≡◌ {A = PlainType} int void = sym wt.main.result ∙ none in cc)) (λ e. absurd (subst IsTrue e y.0))
+  root_ends copies k of_root h (Returns v) y = (refl, subst (λ t. FitsIn P h.shapes (env_of (class_setting [])) t v) wt.main.result y.1)
+  root_ends copies k of_root h (Goes_on v f) y =
+      ⊎_elim (λ none. absurd (let z : ◌≡◌ {A = PlainType} int void = sym wt.main.result ∙ none in cc)) (λ e. absurd (false≢true (sym e ∙ y.0)))
       (wt.members P.main_member wt.main.member wt.main.member_is).ends
 
   main_calm : (c : Bool) × IsCalm P (main_bounds P wt) [] (Back [] c) (does (named_by []) P (root_task (named_by []) P first_name arg))
