@@ -1,12 +1,10 @@
 -- One more event at a fork, a begin, a join or an end: branches begin where their fork says, and a join brings what their ends fit.
-use Rattle.std.proofs.Common.{◌≡◌, ◌≢◌, ◌<◌, ◌≤◌, ◌+◌, ◌⊎◌, ⊎_elim, inl, inr, ℕ, zero, suc, ℤ, Bool, true, false, cond, ◌&&◌, ◌==◌, List, [], ◌∷◌, ◌++◌, map, length, reverse, refl, sym, ap, ◌∙◌, subst, arith, Option, Some, None, slice_get, append-nil}
+use Rattle.std.proofs.Common.{◌≡◌, ◌≢◌, ◌<◌, ◌≤◌, ◌+◌, ⊎_elim, inl, inr, ℕ, zero, suc, ℤ, Bool, true, false, cond, ◌&&◌, ◌==◌, List, [], ◌∷◌, ◌++◌, map, length, reverse, refl, sym, ap, ◌∙◌, subst, arith, Option, Some, None, slice_get, append-nil}
 use Rattle.std.specs.Prelude.{All, Contains}
 use Rattle.std.proofs.lemmas.Bool.{false≢true, or_cases, cond-true, cond-false, and_from, and_parts, eq-eqb, eqb-true, false_from_ne_true}
 use Rattle.std.proofs.lemmas.List.{reverse-reverse}
-use Rattle.std.proofs.lemmas.List.Elements.{Contains-append_cases}
 use Rattle.dpj_base.specs.declared.place.Place.{Place}
 use Rattle.dpj_base.specs.declared.value.Trap.{Trap}
-use Rattle.dpj_base.specs.Types.{PlainType}
 use Rattle.dpj_typed.specs.declared.stmt.Forking.{Forking}
 use Rattle.dpj_typed.specs.Plain.{PlainProgram}
 use Rattle.dpj_typed.specs.Scope.{Scope, variable}
@@ -15,20 +13,19 @@ use Rattle.dpj_typed.specs.WellTyped.{WellTyped}
 use Rattle.dpj_meaning.specs.Asking.{ask, does, ended, replied, told}
 use Rattle.dpj_meaning.specs.Core.{Goes_on, Returns, run}
 use Rattle.dpj_meaning.specs.Counts.{brought, assigned, slot_value}
-use Rattle.dpj_meaning.specs.Outcomes.{first_trap, all_locals, locals_of, joined_or}
+use Rattle.dpj_meaning.specs.Outcomes.{first_trap, all_locals, joined_or}
 use Rattle.dpj_meaning.specs.Statements.{begun}
 use Rattle.dpj_meaning.proofs.Tasks.{asks_disciplined}
-use Rattle.dpj_runs.specs.Actions.{Program, Task, Branches, Action, Do, Fork, Begin, Join, End, Ending, Returned, Assigned, Trapped, Answer}
-use Rattle.dpj_runs.specs.Blocks.{hold_after, hold}
+use Rattle.dpj_runs.specs.Actions.{Program, Task, Branches, Action, Do, Fork, Begin, Join, End, Ending, Returned, Assigned, Answer}
 use Rattle.dpj_runs.specs.Meaning.{Disciplined}
 use Rattle.dpj_runs.specs.Objects.{Path, same_path, Name, LocalRegion, Value, Null}
-use Rattle.dpj_runs.specs.Runs.{Event, Run, Upto, now, later, made_by, mine, answers, count, Begun, root, branch, Ended, Follows, Faithful, Right, Joins}
+use Rattle.dpj_runs.specs.Runs.{Event, Run, Upto, now, later, made_by, mine, answers, count, Ended, Follows, Faithful, Right, Joins}
 use Rattle.dpj_runs.proofs.Faithful.{follows_at, own_fork, one_fork}
-use Rattle.dpj_runs.proofs.Mine.{mine_same, mine_other, same_of, number_of, same_path_eq, test_same, found}
+use Rattle.dpj_runs.proofs.Mine.{mine_same, mine_other, number_of, same_path_eq, test_same, found}
 use Rattle.dpj_runs.proofs.Upto.{upto_trans, upto_tail}
 use Rattle.dpj_steps.specs.Steps.{named_by, stepped}
 use Rattle.dpj_sound.specs.Settings.{env_of}
-use Rattle.dpj_sound.specs.Shapes.{Shapes, Grows, FitsIn}
+use Rattle.dpj_sound.specs.Shapes.{Grows, FitsIn}
 use Rattle.dpj_sound.specs.Accesses.{Bounds, is_guarded}
 use Rattle.dpj_sound.specs.Frames.{State, Since}
 use Rattle.dpj_sound.specs.Branches.{BranchFits, Forks, Brings}
@@ -36,7 +33,7 @@ use Rattle.dpj_sound.specs.Laws.{Leaves, branch_bounds}
 use Rattle.dpj_sound.specs.Runs.{entries_then, own_entries}
 use Rattle.dpj_sound.specs.Soundness.{EndFits}
 use Rattle.dpj_sound.specs.Work.{Result, ReturnFits}
-use Rattle.dpj_sound.proofs.Acting.{held_by, Now, now_asked, own_stands, own_step, same_things, same_shaped, old_cells, stand, copies, replies, WroteFits}
+use Rattle.dpj_sound.proofs.Acting.{held_by, Now, now_asked, own_stands, own_step, same_things, same_shaped, old_cells, stand, replies, WroteFits}
 use Rattle.dpj_sound.proofs.Calm.{MustBeCalm, Back, CalmFork, IsCalm, task_calm}
 use Rattle.dpj_sound.proofs.Carried.{end_grows, Agrees, agrees_self, agrees_task, NewTask, Step}
 use Rattle.dpj_sound.proofs.Moments.{Moment, at, forked, state_of, having_left, MayDo, Comes, Goes, goes_same, told_on}

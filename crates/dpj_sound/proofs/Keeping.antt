@@ -7,9 +7,8 @@ use Rattle.dpj_typed.specs.Plain.{PlainProgram}
 use Rattle.dpj_typed.specs.WellTyped.{WellTyped}
 use Rattle.dpj_meaning.specs.Outcomes.{first_trap, all_locals, joined_or}
 use Rattle.dpj_moving.proofs.Rules.{faithful_rule}
-use Rattle.dpj_runs.specs.Actions.{Branches, Ending, Join}
+use Rattle.dpj_runs.specs.Actions.{Ending}
 use Rattle.dpj_runs.specs.Blocks.{with_rule}
-use Rattle.dpj_runs.specs.Objects.{Path}
 use Rattle.dpj_runs.specs.Runs.{Ended, Event, Faithful, Joins, Right, Run, Upto, count, mine}
 use Rattle.dpj_runs.proofs.Faithful.{follows_at}
 use Rattle.dpj_runs.proofs.Things.{same_some}

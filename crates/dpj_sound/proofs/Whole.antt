@@ -4,7 +4,6 @@ use Rattle.std.specs.Int.{w32}
 use Rattle.std.proofs.lemmas.Bool.{false≢true, cond-true, cond-false, cases_Bool}
 use Rattle.dpj_base.specs.Types.{PlainType, int, void}
 use Rattle.dpj_typed.specs.Plain.{PlainProgram, PlainMember}
-use Rattle.dpj_typed.specs.Scope.{Scope}
 use Rattle.dpj_typed.specs.WellTyped.{WellTyped}
 use Rattle.dpj_meaning.specs.Actions.{Work}
 use Rattle.dpj_meaning.specs.Asking.{does, ended}
@@ -19,7 +18,6 @@ use Rattle.dpj_runs.proofs.Mine.{mine_nil}
 use Rattle.dpj_runs.proofs.Upto.{upto_none}
 use Rattle.dpj_steps.specs.Steps.{named_by, first_name, stepped}
 use Rattle.dpj_sound.specs.Shapes.{Shape, object, FitsIn, Describes}
-use Rattle.dpj_sound.specs.Accesses.{Bounds}
 use Rattle.dpj_sound.specs.Frames.{State}
 use Rattle.dpj_sound.specs.Laws.{Leaves, start, main_scope, main_bounds}
 use Rattle.dpj_sound.specs.Settings.{env_of, class_setting}

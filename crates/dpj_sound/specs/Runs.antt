@@ -1,6 +1,6 @@
 -- What holds of a whole run of a well-typed program: what has been made and what stands in it, what each task keeps to, and that
 -- each action of a task is in order where the task stands and is answered by what fits there.
-use Rattle.std.specs.Prelude.{◌≡◌, ℕ, ℤ, pos, List, [], ◌∷◌, Some}
+use Rattle.std.specs.Prelude.{◌≡◌, ℕ, pos, List, [], ◌∷◌, Some}
 use Rattle.dpj_base.specs.declared.region.Rpl.{Rpl}
 use Rattle.dpj_base.specs.Matching.{Env}
 use Rattle.dpj_base.specs.Types.{PlainType}
