@@ -59,11 +59,14 @@ branch_ends : (P : PlainProgram) (b : Bounds) (L : Scope) (t : Task) (st : State
     Leaves P b L b.setting t.work.stmts st h r → EndFits P b L t.work.copies h.shapes (ended t.work r)
 branch_ends P b L t st below no_root none vs h (Returns v) y = absurd (subst (λ o. ReturnFits P h.shapes b.setting o v) none y.1)
 branch_ends P b L t st below no_root none vs h (Goes_on v f) y =
-    subst (λ c. EndFits P b L t.work.copies h.shapes (cond c (Returned Null) (Assigned (assigned t.work.copies f.values)))) (sym no_root)
-    (below, names_assigned t.work.copies f.values, λ x u c.
-        (let z = assigned_in t.work.copies f.values x u c in
-        let is = subst (IsVariable L) z.0.2 (vs z.0.0 x z.0.1) in
-        (is.0, is.1, subst (FitsIn P h.shapes (env_of b.setting) is.0) (sym z.1) (y.2.each x (variable is.0) is.1))))
+    subst (λ c. EndFits P b L t.work.copies h.shapes (cond c (Returned Null) (Assigned (assigned t.work.copies f.values)))) (sym no_root) (
+      below,
+      names_assigned t.work.copies f.values,
+      λ x u c.
+          (let z = assigned_in t.work.copies f.values x u c in
+          let is = subst (IsVariable L) z.0.2 (vs z.0.0 x z.0.1) in
+          (is.0, is.1, subst (FitsIn P h.shapes (env_of b.setting) is.0) (sym z.1) (y.2.each x (variable is.0) is.1))),
+    )
 
 -- what the branches of a new fork keep to
 abbrev pub extended : (Path → Kept) → Path → ℕ → (ℕ → Kept) → Path → Kept

@@ -30,6 +30,7 @@ pub mod Joining
 pub mod Keeping
 pub mod Levels
 pub mod Locals
+pub mod Looking
 pub mod Making
 pub mod Meeting
 pub mod Members

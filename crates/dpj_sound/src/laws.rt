@@ -1,11 +1,13 @@
 //! The laws of well-typed programs, each the clause of a function that does nothing.
 
-ghost use Rattle.dpj_sound.specs.Laws.{BranchesInOrder, BranchesQuiet, ExpressionsInOrder, ForkingInOrder, IterationsQuiet, NdBranchesQuiet, NdBranchesSeparate, NdIterationsQuiet, NdIterationsSeparate, RootInOrder, TasksInOrder};
+ghost use Rattle.dpj_sound.specs.Laws.{BranchesInOrder, BranchesQuiet, CallsEnterWhatTheySee, ExpressionsInOrder, ForkingInOrder, IterationsQuiet, NdBranchesQuiet, NdBranchesSeparate, NdIterationsQuiet, NdIterationsSeparate, RootInOrder, TasksInOrder};
 ghost use Rattle.dpj_sound.specs.RunLaws.{ConflictsAreGuarded, ConflictsAreLevelled, EntriesAreLet, NamesAreKnownByAnyRule, NdForksAreOutside, RunsAreFree, RunsAreSound};
 
-/// Each expression of a well-typed program is in order.
+/// Each expression of a well-typed program is in order. A call enters the class that it sees, which is that of its object's type or one
+/// below it.
 pub fn law_expressions()
-    ensures { ExpressionsInOrder }
+    ensures expressions { ExpressionsInOrder }
+    ensures calls { CallsEnterWhatTheySee }
 {}
 
 /// So are its statements, given that bodies that they call are; so is a task with all calls that it makes, so is each branch that
