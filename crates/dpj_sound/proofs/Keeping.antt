@@ -1,5 +1,5 @@
 -- What is said of whole runs, read off what holds of them.
-use Rattle.std.proofs.Common.{◌≡◌, ℕ, ℤ, FitsSigned, ◌∷◌, length, refl, sym, ap, subst, arith, Option, Some, None, slice_get}
+use Rattle.std.proofs.Common.{◌≡◌, ℕ, ℤ, FitsSigned, ◌∷◌, length, refl, sym, ap, subst, arith, length-append, Option, Some, None, slice_get}
 use Rattle.std.specs.Int.{w32}
 use Rattle.dpj_base.specs.declared.place.Place.{Place}
 use Rattle.dpj_base.specs.declared.value.Trap.{Trap}
@@ -86,6 +86,9 @@ module _ (P : PlainProgram) (wt : WellTyped P) (arg : ℤ) (small : FitsSigned w
       stands = j.stands;
       path = j.path;
       act = j.act;
+      number = (let a = ap length j.last in
+          let b = length-append j.since (j.fork ∷ mine j.before y.path) in
+          let c = j.all_begun in omega (arith, a, b, c));
       forked = forked;
       after = joined_at s.shapes forked.state;
       since = record { grows = forked.grown; made = omega arith; entries = refl };

@@ -1,6 +1,6 @@
 -- Soundness of a whole run, said at once: values have their types, each action is in order and answered by what fits, tasks end and are
 -- joined as they are to, and what conflicts is atomic.
-use Rattle.std.specs.Prelude.{◌≡◌, ◌≢◌, ℕ, pos, true, List, [], ◌∷◌, map, Some, Contains}
+use Rattle.std.specs.Prelude.{◌≡◌, ◌≢◌, ℕ, suc, ◌+◌, pos, true, List, [], ◌∷◌, length, map, Some, Contains}
 use Rattle.dpj_base.specs.Branches.{ends_atomic}
 use Rattle.dpj_base.specs.Matching.{put_in}
 use Rattle.dpj_base.specs.Types.{PlainType}
@@ -47,7 +47,7 @@ JoinFits P b st forking ts forks h (Class c rs) = ⊥
 JoinFits P b st forking ts forks h (Length len) = ⊥
 JoinFits P b st forking ts forks h (Named n) = ⊥
 
--- the join of a fork that was in order
+-- the join of a fork that was in order, since which its task has made the begins of the branches alone
 pub record JoinsFitting (P : PlainProgram) (bounds : Path → Bounds) (scopes : Path → Scope) (S : Shapes) (Y : Run) (p : Path) (x : Answer) : Type 0 where
   pub before : Run
   pub fork : Event
@@ -55,6 +55,7 @@ pub record JoinsFitting (P : PlainProgram) (bounds : Path → Bounds) (scopes : 
   pub stands : Upto (fork ∷ before) Y
   pub path : fork.path ≡ p
   pub act : fork.act ≡ Fork branches
+  pub number : count Y p ≡ suc (count before p + length branches.tasks)
   pub forked : ForkedInOrder P (bounds p) (λ i. bounds ((count before p, i) ∷ p)) (λ i. scopes ((count before p, i) ∷ p)) S (mine before p) (count before p) branches
   pub after : State
   pub since : Since forked.state after
