@@ -107,6 +107,11 @@ module _ (P : PlainProgram) (arg : ℤ) {N : ℕ} {R : Run} (l : Faithful (stepp
   pub path_of : (q : Path) {Y : Run} {y : Event} → Upto (y ∷ Y) R → y.path ≡ q → (s.keeping q).bounds.path ≡ q
   path_of q h e = (let a = follows_at Q h l in (s.tasks q a.task (subst (λ p. Begun Q R p a.task) e (begun_upto (upto_tail h) a.begun))).path)
 
+  -- and so has each above
+  pub path_up : (xs p : Path) {Y : Run} {y : Event} → Upto (y ∷ Y) R → y.path ≡ xs ++ p → (s.keeping p).bounds.path ≡ p
+  path_up [] p h e = path_of p h e
+  path_up (v ∷ xs) p h e = let f = fork_of_event [] (xs ++ p) v h e in path_up xs p f.stands f.path
+
   -- two accesses that meet do so as the fork of their branches lets them, and in no region that a task of these branches has made
   pub record Met (tasks : Branches) (p q : Path) (a c : Access) : Type 0 where
     pub calm : P.uses_nd ≡ false → tasks.kind ≡ Deterministic

@@ -151,12 +151,12 @@ module _ (P : PlainProgram) (arg : ℤ) {N : ℕ} {R : Run} (l : Faithful (stepp
       block_step q u t b k Es a h g e (λ h' g' e'. block_at q k.task k.begun (fork_sound P arg l s q u k.fork).state.entries a h' g' e')
 
   -- the block in which an event with a guarded access stands
-  record StandsAt (X : Run) (x : Event) (a : Access) : Type 0 where
-    block : InBlock X x.path
-    above_is : joined_by (above R x.path) x.path (hold (mine X x.path)) ≡ Inside block.opener block.effects
-    lies : LiesInEntry block.effects a ⊎ InOwnRegion block.opener a.region
+  pub record StandsAt (X : Run) (x : Event) (a : Access) : Type 0 where
+    pub block : InBlock X x.path
+    pub above_is : joined_by (above R x.path) x.path (hold (mine X x.path)) ≡ Inside block.opener block.effects
+    pub lies : LiesInEntry block.effects a ⊎ InOwnRegion block.opener a.region
 
-  stands_at : {X : Run} {x : Event} → Upto (x ∷ X) R → {n : Name} {i : ℤ} {write : Bool} (h : Accessed P (s.keeping x.path).bounds s.shapes (mine X x.path) n i write) → (access h).guarded ≡ true →
+  pub stands_at : {X : Run} {x : Event} → Upto (x ∷ X) R → {n : Name} {i : ℤ} {write : Bool} (h : Accessed P (s.keeping x.path).bounds s.shapes (mine X x.path) n i write) → (access h).guarded ≡ true →
       StandsAt X x (access h)
   stands_at {X} {x} hx h g =
       let f = follows_at Q hx l in
@@ -166,6 +166,15 @@ module _ (P : PlainProgram) (arg : ℤ) {N : ℕ} {R : Run} (l : Faithful (stepp
       let same : above X x.path ≡ above R x.path =
       above_same Q (faithful_upto Q (upto_tail hx) l) (record { each = λ p. mine_upto p (upto_tail hx) }) x.path f.begun in
       record { block = record { opener = z.opener; effects = z.effects; stands = ap (λ w. joined_by w x.path (hold (mine X x.path))) same ∙ is }; above_is = is; lies = z.lies }
+
+  -- where a task has entered none and was begun in none, it stands outside
+  pub stands_outside : {X : Run} {x : Event} → Upto (x ∷ X) R → (Es : List (List Effect)) → hold (mine X x.path) ≡ hold_of Es → is_guarded (s.keeping x.path).bounds Es ≡ false → standing X x.path ≡ Outside
+  stands_outside {X} {x} hx Es held out =
+      let z = or_parts (s.keeping x.path).bounds.inside (is_entered Es) out in
+      let f = follows_at Q hx l in
+      let same : above X x.path ≡ above R x.path =
+      above_same Q (faithful_upto Q (upto_tail hx) l) (record { each = λ p. mine_upto p (upto_tail hx) }) x.path f.begun in
+      ap (λ w. joined_by w x.path (hold (mine X x.path))) (same ∙ outside_at x.path f.task (begun_upto (upto_tail hx) f.begun) z.0) ∙ ap (joined_by Outside x.path) (held ∙ none_entered Es z.1)
 
   -- all tasks below a branch that was begun in a block stand in it
   inside_below : (xs q o : Path) (E : List Effect) → above R q ≡ Inside o E → above R (xs ++ q) ≡ Inside o E
@@ -285,13 +294,7 @@ nd_forks_are_outside P wt arg small R l F f ts u act kind = go (cases_Bool (is_g
 
     go : (is_guarded b ok.state.entries ≡ true) ⊎ (is_guarded b ok.state.entries ≡ false) → standing F f.path ≡ Outside
     go (inl t) = absurd (let z : ◌≡◌ {A = Forking} Deterministic Nondeterministic = sym (ok.calm.0 (inr t)) ∙ kind in cc)
-    go (inr n) =
-        let z = or_parts (s.keeping f.path).bounds.inside (is_entered ok.state.entries) n in
-        let a = follows_at (stepped P arg) u faithful in
-        let same : above F f.path ≡ above R f.path =
-        above_same (stepped P arg) (faithful_upto (stepped P arg) (upto_tail u) faithful) (record { each = λ p. mine_upto p (upto_tail u) }) f.path a.begun in
-        ap (λ w. joined_by w f.path (hold (mine F f.path))) (same ∙ outside_at P arg faithful s f.path a.task (begun_upto (upto_tail u) a.begun) z.0)
-        ∙ ap (joined_by Outside f.path) (ok.held ∙ none_entered P arg faithful s ok.state.entries z.1)
+    go (inr n) = stands_outside P arg faithful s u ok.state.entries ok.held n
 
 pub conflicts_are_guarded : ConflictsAreGuarded
 conflicts_are_guarded P wt arg small R l = record { each = λ Y X y x hy hx n c. (conflict_is_atomic P arg f s Y X y x hy hx n c).blocks }

@@ -23,6 +23,7 @@ use Rattle.dpj_sound.specs.Shapes.{Describes}
 use Rattle.dpj_sound.specs.Soundness.{IsSound, JoinFits, JoinsFitting}
 use Rattle.dpj_sound.proofs.Guarding.{conflict_is_atomic}
 use Rattle.dpj_sound.proofs.Joining.{all_returned, joined_at}
+use Rattle.dpj_sound.proofs.Lying.{access_lies_throughout}
 use Rattle.dpj_sound.proofs.Sound.{ActOk, EventOk, Kept, Sound, branch_kept, branches_of}
 use Rattle.dpj_sound.proofs.Whole.{Whole, whole}
 
@@ -101,6 +102,7 @@ module _ (P : PlainProgram) (wt : WellTyped P) (arg : ℤ) (small : FitsSigned w
   is_sound : IsSound P (stepped P arg) (main_bounds P wt) R
   is_sound = record {
     keeps = kept_to;
+    accesses = access_lies_throughout P arg l s;
     ends = λ y Y x u act. (let ok = subst (λ c. EventOk P (stepped P arg) (s.keeping y.path) (branches_of P (stepped P arg) s.keeping y.path) s.shapes Y y.path c) act (s.events y Y u) in
         record { task = ok.0; begun = ok.1; fits = ok.2 });
     joins = λ y Y u act. joins_fitting y Y u (subst (λ c. Right (stepped P arg) Y y.path c y.ans) act (follows_at (stepped P arg) u l).right);

@@ -31,6 +31,7 @@ pub mod Keeping
 pub mod Levels
 pub mod Locals
 pub mod Looking
+pub mod Lying
 pub mod Making
 pub mod Meeting
 pub mod Members
