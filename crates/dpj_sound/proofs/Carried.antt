@@ -27,7 +27,7 @@ grows_grows a b = λ n s e. b n s (a n s e)
 pub end_grows : (P : PlainProgram) (b : Bounds) (L : Scope) (copies : List ℕ) (S T : Shapes) → Grows S T → (x : Ending) → EndFits P b L copies S x → EndFits P b L copies T x
 end_grows P b L copies S T g (Assigned ls) h = (h.0, h.1, λ x v c. (let z = h.2 x v c in (z.0, z.1, fits_grows P S T g (env_of b.setting) z.0 v z.2)))
 end_grows P b L copies S T g (Returned v) h = h
-end_grows P b L copies S T g (Trapped trap place) h = tt
+end_grows P b L copies S T g (Trapped trap place) h = h
 
 accessed_grows : {P : PlainProgram} {b : Bounds} {S T : Shapes} {es : Run} {n : Name} {i : ℤ} {write : Bool} → Grows S T → Accessed P b S es n i write → Accessed P b T es n i write
 accessed_grows g a = record { state = a.state; reaches = a.reaches; grown = grows_grows a.grown g; held = a.held }

@@ -1,13 +1,13 @@
 -- Each access of a run lies in the effects of its task and of each above it, and in those of the block that its task stands inside.
-use Rattle.std.proofs.Common.{◌≡◌, ◌⊎◌, ⊎_elim, inl, inr, ℕ, ℤ, Bool, true, List, ◌∷◌, ◌++◌, sym, ap, ◌∙◌, subst}
+use Rattle.std.proofs.Common.{◌≡◌, ◌⊎◌, ⊎_elim, ℕ, ℤ, Bool, true, List, ◌∷◌, ◌++◌, sym, ap, ◌∙◌, subst}
 use Rattle.std.proofs.lemmas.Bool.{cases_Bool}
 use Rattle.dpj_typed.specs.Plain.{PlainProgram}
 use Rattle.dpj_runs.specs.Actions.{Program}
 use Rattle.dpj_runs.specs.Objects.{Effect, Name, Path}
 use Rattle.dpj_runs.specs.Runs.{Event, Faithful, Run, Upto, mine}
-use Rattle.dpj_runs.specs.Standing.{Inside, Outside, Standing, standing}
+use Rattle.dpj_runs.specs.Standing.{Inside, Outside, standing}
 use Rattle.dpj_steps.specs.Steps.{stepped}
-use Rattle.dpj_sound.specs.Accesses.{Access, Bounds, InOwnRegion, LiesIn, LiesInEntry, is_guarded}
+use Rattle.dpj_sound.specs.Accesses.{InOwnRegion, LiesIn, LiesInEntry, is_guarded}
 use Rattle.dpj_sound.specs.Soundness.{AccessLies, Accesses, LiesThroughout, is_inside, reads, writes}
 use Rattle.dpj_sound.proofs.Free.{Lies, access, access_lies, lies_up, path_up}
 use Rattle.dpj_sound.proofs.Guarding.{stands_at, stands_outside}
