@@ -3,12 +3,13 @@ use Rattle.std.proofs.Common.{◌∙◌, sym, subst, reverse}
 use Rattle.dpj_determined.specs.Laws.{RunsAreGathered}
 use Rattle.dpj_recorded.specs.Laws.{MachinesRecord, Records, limits}
 use Rattle.dpj_runs.proofs.Schedules.{ran_legal}
-use Rattle.dpj_sound.specs.RunLaws.{ConflictsAreGuarded, RunsKeepTo}
+use Rattle.dpj_sound.specs.RunLaws.{RunsAreSound}
+use Rattle.dpj_steps.specs.Interfering.{lets}
 use Rattle.dpj_steps.specs.Steps.{stepped}
 use Rattle.dpj_promise.specs.Reduced.{MachinesAreReduced}
 
-pub machines_are_reduced : MachinesRecord → RunsKeepTo → ConflictsAreGuarded → RunsAreGathered → MachinesAreReduced
-machines_are_reduced records sound guarded gathered P wt p o resolved main code_is small fits replayed came =
+pub machines_are_reduced : MachinesRecord → RunsAreSound → RunsAreGathered → MachinesAreReduced
+machines_are_reduced records sound gathered P wt p o resolved main code_is small fits replayed came =
     let ks = reverse p.schedule in
     let finished = subst (λ z. Records (stepped P p.argument) (limits p.limits) ks z) (sym replayed.outcome ∙ came)
     (records p.code P p.limits p.argument code_is resolved main small ks replayed.moment replayed.leads) in
@@ -18,5 +19,5 @@ machines_are_reduced records sound guarded gathered P wt p o resolved main code_
       is_told = finished.2;
       runs = λ ls R ran.
           let legal = ran_legal (stepped P p.argument) (limits p.limits) ls R ran in
-          record { legal = legal; sound = sound P wt p.argument fits R legal; guarded = guarded P wt p.argument fits R legal; gathered = gathered P wt p.argument fits R legal };
+          record { legal = legal; sound = sound P wt p.argument fits lets R legal; gathered = gathered P wt p.argument fits R legal };
     }

@@ -9,7 +9,6 @@ use Rattle.dpj_gen.specs.Resolved.{Resolved}
 use Rattle.dpj_gen.specs.Whole.{compiled}
 use Rattle.dpj_going.specs.Going.{HasMain}
 use Rattle.dpj_machine.specs.Keeping.{Played, IsReplayed}
-use Rattle.dpj_moving.specs.Guarded.{ConflictsGuarded}
 use Rattle.dpj_moving.specs.Laws.{IsGathered}
 use Rattle.dpj_recorded.specs.Laws.{limits, told}
 use Rattle.dpj_runs.specs.Blocks.{Legal}
@@ -17,16 +16,15 @@ use Rattle.dpj_runs.specs.Order.{Outcome}
 use Rattle.dpj_runs.specs.Runs.{Run}
 use Rattle.dpj_runs.specs.Schedules.{Finished, Ran}
 use Rattle.dpj_sound.specs.Laws.{main_bounds}
-use Rattle.dpj_sound.specs.Runs.{KeepsTo}
+use Rattle.dpj_sound.specs.Soundness.{IsSound}
 use Rattle.dpj_steps.specs.Steps.{stepped}
 
--- a legal run of the source, in which values have their types and tasks keep to their effects; of its unordered events that conflict
--- both lie in atomic blocks; and with each block's events gathered at its entry it is a legal run that costs the same and comes
--- out the same
+-- a legal run of the source that is sound: values have their types, each action is in order and answered by what fits, and unordered events
+-- that conflict lie in atomic blocks; and with each block's events gathered at its entry it is a legal run that costs the same and
+-- comes out the same
 pub record IsReduced (P : PlainProgram) (wt : WellTyped P) (argument : ℤ) (R : Run) : Type 0 where
   pub legal : Legal (stepped P argument) R
-  pub sound : KeepsTo P (stepped P argument) (main_bounds P wt) R
-  pub guarded : ConflictsGuarded (stepped P argument).rule R
+  pub sound : IsSound P (stepped P argument) (main_bounds P wt) R
   pub gathered : IsGathered (stepped P argument) R
 
 -- the schedule of a machine that tells this outcome has finished as a run of the source with the same outcome; and each run that

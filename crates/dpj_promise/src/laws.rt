@@ -9,7 +9,7 @@ use dpj_determined::laws::{law_moved, law_reduction, law_well_typed};
 use dpj_elided::laws::{law_greatest, law_names};
 use dpj_going::laws::law_going;
 use dpj_recorded::laws::{law_lively, law_recorded};
-use dpj_sound::laws::law_runs;
+use dpj_sound::laws::law_sound;
 use dpj_steps::laws::law_steps;
 
 /// A run of the code of a well-typed program without nd constructs comes out as the program's sequential elision, limits included,
@@ -32,13 +32,13 @@ pub fn law_elide()
     law_greatest();
 }
 
-/// A run of the code of a well-typed program, nd constructs or not, is a legal run of the source with the same outcome; its unordered
-/// events that conflict lie in atomic blocks, and gathered by blocks it comes out the same.
+/// A run of the code of a well-typed program, nd constructs or not, is a legal run of the source with the same outcome, which is sound: its
+/// unordered events that conflict lie in atomic blocks. Gathered by blocks it comes out the same.
 pub fn law_reduced()
     ensures { MachinesAreReduced }
 {
     law_recorded();
-    law_runs();
+    law_sound();
     law_reduction();
 }
 

@@ -6,7 +6,7 @@ use Rattle.dpj_meaning.specs.Asking.{ask, meaning, most_turns}
 use Rattle.dpj_meaning.specs.Elision.{elided, ran_through}
 use Rattle.dpj_meaning.specs.Values.{Int}
 use Rattle.dpj_moving.specs.Gathered.{gather}
-use Rattle.dpj_moving.specs.Guarded.{ConflictsGuarded, InBlock}
+use Rattle.dpj_moving.specs.Guarded.{InBlock}
 use Rattle.dpj_moving.specs.Insertion.{rearranged}
 use Rattle.dpj_moving.specs.Laws.{IsGathered}
 use Rattle.dpj_moving.proofs.Tests.{upto_without, without}
@@ -20,7 +20,7 @@ use Rattle.dpj_runs.specs.Standing.{above, first_of}
 use Rattle.dpj_runs.proofs.Play.{has_ended_with, play, played, run_of}
 use Rattle.dpj_runs.proofs.Written.{legal_from}
 use Rattle.dpj_sound.specs.Laws.{main_bounds}
-use Rattle.dpj_sound.specs.Runs.{KeepsTo}
+use Rattle.dpj_sound.specs.Soundness.{IsSound}
 use Rattle.dpj_steps.specs.Steps.{stepped}
 use Rattle.dpj_sample.specs.Laws.{ConflictInBlocks, SampleIsElided, SampleRuns}
 use Rattle.dpj_sample.specs.Sample.{sample}
@@ -127,15 +127,13 @@ unfolding ask meaning most_turns digits mine last_written things above first_of 
 gather_changes e = let k : false ≡ true = ap (λ R. is_path (fork 33 1 []) (slice_get R 42)) e in true≢false (sym k)
 
 -- with what the laws say of every legal run
-pub whole_run : Disciplined P → (Legal P a_run → (wt : WellTyped sample) → KeepsTo sample P (main_bounds sample wt) a_run)
-    → (Legal P a_run → ConflictsGuarded P.rule a_run) → (Legal P a_run → IsGathered P a_run) → SampleRuns
-whole_run D keeps guarded gathered = record {
+pub whole_run : Disciplined P → (Legal P a_run → (wt : WellTyped sample) → IsSound sample P (main_bounds sample wt) a_run) → (Legal P a_run → IsGathered P a_run) → SampleRuns
+whole_run D sound gathered = record {
   run = a_run;
   legal = legal D;
   ended = has_ended;
   conflict = conflict;
-  keeps_to = keeps (legal D);
-  guarded = guarded (legal D);
+  sound = sound (legal D);
   gathered = gathered (legal D);
   changed = gather_changes;
 }

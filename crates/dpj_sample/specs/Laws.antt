@@ -7,14 +7,14 @@ use Rattle.dpj_meaning.specs.Elision.{elided}
 use Rattle.dpj_meaning.specs.Outcomes.{Came}
 use Rattle.dpj_meaning.specs.Values.{Int}
 use Rattle.dpj_moving.specs.Gathered.{gather}
-use Rattle.dpj_moving.specs.Guarded.{ConflictsGuarded, InBlock}
+use Rattle.dpj_moving.specs.Guarded.{InBlock}
 use Rattle.dpj_moving.specs.Laws.{IsGathered}
 use Rattle.dpj_runs.specs.Actions.{Ending}
 use Rattle.dpj_runs.specs.Blocks.{Legal}
 use Rattle.dpj_runs.specs.Order.{Conflict, Unordered}
 use Rattle.dpj_runs.specs.Runs.{Ended, Event, Run, Upto}
 use Rattle.dpj_sound.specs.Laws.{main_bounds}
-use Rattle.dpj_sound.specs.Runs.{KeepsTo}
+use Rattle.dpj_sound.specs.Soundness.{IsSound}
 use Rattle.dpj_steps.specs.Steps.{stepped}
 use Rattle.dpj_sample.specs.Sample.{sample}
 
@@ -35,15 +35,13 @@ pub record ConflictInBlocks (R : Run) : Type 0 where
   pub former : InBlock before earlier.path
   pub latter : InBlock after later_one.path
 
--- a legal run whose root has ended so, with a conflict in blocks; it keeps to its types and effects, its conflicts are guarded, and it
--- can be gathered, which changes it
+-- a legal run whose root has ended so, with a conflict in blocks; it is sound, and it can be gathered, which changes it
 pub record WholeRun (P : PlainProgram) (arg : ℤ) (x : Ending) : Type 0 where
   pub run : Run
   pub legal : Legal (stepped P arg) run
   pub ended : Ended run [] x
   pub conflict : ConflictInBlocks run
-  pub keeps_to : (wt : WellTyped P) → KeepsTo P (stepped P arg) (main_bounds P wt) run
-  pub guarded : ConflictsGuarded (stepped P arg).rule run
+  pub sound : (wt : WellTyped P) → IsSound P (stepped P arg) (main_bounds P wt) run
   pub gathered : IsGathered (stepped P arg) run
   pub changed : gather run ≡ run → ⊥
 

@@ -6,7 +6,7 @@ ghost use Rattle.dpj_sample.specs.Sample.{sample};
 ghost use Rattle.dpj_typed.specs.WellTyped.{WellTyped};
 
 use dpj_determined::laws::law_reduction;
-use dpj_sound::laws::law_runs;
+use dpj_sound::laws::law_sound;
 use dpj_steps::laws::law_steps;
 
 /// There is a program with every construct of the language that is well typed, and a whole run of it that the laws of well-typed
@@ -18,6 +18,6 @@ pub fn law_sample()
     ensures runs { SampleRuns }
 {
     law_steps();
-    law_runs();
+    law_sound();
     law_reduction();
 }

@@ -8,7 +8,7 @@ use Rattle.dpj_base.specs.declared.region.Rpl.{Rpl}
 use Rattle.dpj_base.specs.Matching.{Env}
 use Rattle.dpj_base.specs.Types.{PlainType}
 use Rattle.dpj_typed.specs.Plain.{PlainProgram}
-use Rattle.dpj_runs.specs.Actions.{Program, Task, Own, Rest, Read, Write, Look, New, Print, Enter, Exit, Do, Answer, Went, Named, Reply}
+use Rattle.dpj_runs.specs.Actions.{Program, Task, Own, Rest, Read, Write, Look, New, Print, Enter, Exit, Action, Do, Fork, Begin, Join, End, Answer, Went, Named, Reply}
 use Rattle.dpj_runs.specs.Blocks.{Hold, Out_of, In_block, own_hold, hold_after, hold}
 use Rattle.dpj_runs.specs.Objects.{Path, Name, same_name, Thing, Effect, Cell, Value, or_else, size, first_value, slot_of}
 use Rattle.dpj_runs.specs.Order.{Writes}
@@ -18,12 +18,13 @@ use Rattle.dpj_runs.proofs.Mine.{mine_same, mine_other, path_cases, test_same}
 use Rattle.dpj_runs.proofs.Things.{thing_later, same_some, answering}
 use Rattle.dpj_sound.specs.Shapes.{Shape, Shapes, Grows, FitsIn, CellAt, Describes}
 use Rattle.dpj_sound.specs.Frames.{State}
+use Rattle.dpj_sound.specs.Runs.{entries_then, own_entries}
 use Rattle.dpj_sound.specs.Work.{Touches, Moves, ReadFits, WriteFits, LookFits, Answers, entries_after, After}
 use Rattle.dpj_sound.proofs.Calm.{MayLeave}
 use Rattle.dpj_sound.proofs.Carried.{grows_grows, agrees_self, NewTask, Step}
 use Rattle.dpj_sound.proofs.Cells.{one_cell, out_is_array, first_value_fits, look_fits}
 use Rattle.dpj_sound.proofs.Moments.{Moment, at, state_of, MayDo, Comes, Quietly, still, making, Here, Goes, goes_same}
-use Rattle.dpj_sound.proofs.Sound.{Kept, hold_of, OwnOk, EventOk, IsAt, Stands, branches_of, Sound}
+use Rattle.dpj_sound.proofs.Sound.{Kept, hold_of, OwnOk, EventOk, ActOk, IsAt, Stands, branches_of, Sound}
 use Rattle.dpj_sound.proofs.Types.{fits_grows}
 
 things_step : (e : Event) (es : Run) → things (e ∷ es) ≡ things es ++ made_by e.act
@@ -68,6 +69,21 @@ hold_own (Look n) Es = refl
 hold_own (New t c) Es = refl
 hold_own (Print bytes) Es = refl
 
+-- so a task holds what its entries say
+pub held_by : {Es : List (List Effect)} (es : Run) → Es ≡ own_entries es → hold es ≡ hold_of Es
+held_by es e = each es ∙ ap hold_of (sym e)
+  where
+    after : (a : Action) (Es : List (List Effect)) → hold_after a (hold_of Es) ≡ hold_of (entries_then a Es)
+    after (Do o) Es = hold_own o Es
+    after (Fork ts) Es = refl
+    after (Begin i) Es = refl
+    after Join Es = refl
+    after (End x) Es = refl
+
+    each : (es : Run) → hold es ≡ hold_of (own_entries es)
+    each [] = refl
+    each (y ∷ es) = ap (hold_after y.act) (each es) ∙ after y.act (own_entries es)
+
 pub answers_on : (x : Answer) (xs as' : List Answer) → reverse (x ∷ xs) ++ as' ≡ reverse xs ++ x ∷ as'
 answers_on x xs as' = ap (λ (l : List Answer). l ++ as') (reverse-append (x ∷ []) xs) ∙ append_assoc (reverse xs) (x ∷ []) as'
 
@@ -90,7 +106,7 @@ module _ (P : PlainProgram) (Q : Program) {N : ℕ} {R : Run} {e : Event} (l : F
     pub enough : suc N ≤ depth + length (e ∷ R)
     pub moment : Moment P kept.bounds
     pub grown : Grows (state_of moment).shapes s.shapes
-    pub held : hold (mine R e.path) ≡ hold_of (state_of moment).entries
+    pub entered : (state_of moment).entries ≡ own_entries (mine R e.path)
     pub is_at : IsAt P Q R e.path kept.bounds (branches_of P Q s.keeping e.path) moment
     pub may : MayDo P kept.bounds kept.scope copies moment e.act
     pub then : (x : Answer) (h : Moment P kept.bounds) → Comes P kept.bounds kept.scope copies moment e.act may x h → Goes P kept.bounds kept.scope copies depth h (λ xs. replies (x ∷ xs))
@@ -105,7 +121,7 @@ module _ (P : PlainProgram) (Q : Program) {N : ℕ} {R : Run} {e : Event} (l : F
         enough = let n = stand.enough in omega (arith, n, q);
         moment = h;
         grown = grown stand.moment h w stand.grown;
-        held = held stand.moment h w stand.held;
+        entered = entered stand.moment h w stand.entered;
         is_at = is_at stand.moment h w stand.is_at;
         may = may;
         then = then;
@@ -115,9 +131,9 @@ module _ (P : PlainProgram) (Q : Program) {N : ℕ} {R : Run} {e : Event} (l : F
           grown g _ still z = z
           grown _ _ (making n) z = z
 
-          held : (g h : Moment P kept.bounds) → Quietly P kept.bounds kept.scope copies g h → hold (mine R e.path) ≡ hold_of (state_of g).entries → hold (mine R e.path) ≡ hold_of (state_of h).entries
-          held g _ still z = z
-          held _ _ (making n) z = z
+          entered : (g h : Moment P kept.bounds) → Quietly P kept.bounds kept.scope copies g h → (state_of g).entries ≡ own_entries (mine R e.path) → (state_of h).entries ≡ own_entries (mine R e.path)
+          entered g _ still z = z
+          entered _ _ (making n) z = z
 
           is_at : (g h : Moment P kept.bounds) → Quietly P kept.bounds kept.scope copies g h → IsAt P Q R e.path kept.bounds (branches_of P Q s.keeping e.path) g →
               IsAt P Q R e.path kept.bounds (branches_of P Q s.keeping e.path) h
@@ -132,12 +148,12 @@ module _ (P : PlainProgram) (Q : Program) {N : ℕ} {R : Run} {e : Event} (l : F
 
   -- where it stands after its event
   pub own_stands : (d : ℕ) → suc N ≤ d + length (e ∷ R) → (h : Moment P kept.bounds) → Goes P kept.bounds kept.scope copies d h (λ xs. replies (e.ans ∷ xs)) → (S : Shapes) → Grows (state_of h).shapes S →
-      hold_after e.act (hold (mine R e.path)) ≡ hold_of (state_of h).entries → (branch : ℕ → ℕ → Kept) → IsAt P Q (e ∷ R) e.path kept.bounds branch h → Stands P Q N (e ∷ R) kept branch S e.path a.task
-  own_stands d en h goes S grown held branch is_at = record {
+      (state_of h).entries ≡ entries_then e.act (own_entries (mine R e.path)) → (branch : ℕ → ℕ → Kept) → IsAt P Q (e ∷ R) e.path kept.bounds branch h → Stands P Q N (e ∷ R) kept branch S e.path a.task
+  own_stands d en h goes S grown entered branch is_at = record {
     path = stand.path;
     moment = h;
     grown = grown;
-    held = ap hold (mine_same e R e.path refl) ∙ held;
+    entered = entered ∙ sym (ap own_entries (mine_same e R e.path refl));
     is_at = is_at;
     depth = d;
     enough = en;
@@ -208,14 +224,26 @@ module _ (P : PlainProgram) (Q : Program) {N : ℕ} {R : Run} {e : Event} (l : F
   abbrev state_after : State → Own → Shapes → State
   state_after st o S = record { shapes = S; made = st.made; entries = entries_after o st.entries }
 
-  module _ (d : ℕ) (en : suc N ≤ d + length (e ∷ R)) (st : State) (grown : Grows st.shapes s.shapes) (held : hold (mine R e.path) ≡ hold_of st.entries) (o : Own) (act : e.act ≡ Do o)
+  module _ (d : ℕ) (en : suc N ≤ d + length (e ∷ R)) (st : State) (grown : Grows st.shapes s.shapes) (entered : st.entries ≡ own_entries (mine R e.path)) (o : Own) (act : e.act ≡ Do o)
       (m : Moves P kept.bounds st o)
       (then : (x : Answer) (h : Moment P kept.bounds) → (u : State) × (h ≡ at u) × After o st u × Answers P kept.bounds st o m x u → Goes P kept.bounds kept.scope copies d h (λ xs. replies (x ∷ xs))) where
     comes : (S : Shapes) → Grows s.shapes S → Answers P kept.bounds st o m e.ans (state_after st o S) → Stands P Q N (e ∷ R) kept (branches_of P Q s.keeping e.path) S e.path a.task
     comes S g fits =
         own_stands d en (at (state_after st o S))
         (then e.ans (at (state_after st o S)) (state_after st o S, refl, record { grows = grows_grows grown g; made = refl; entries = refl }, fits))
-        S (λ n z q. q) (ap (λ c. hold_after c (hold (mine R e.path))) act ∙ ap (own_hold o) held ∙ hold_own o st.entries) (branches_of P Q s.keeping e.path) tt
+        S (λ n z q. q) (ap (entries_after o) entered ∙ sym (ap (λ c. entries_then c (own_entries (mine R e.path))) act)) (branches_of P Q s.keeping e.path) tt
+
+    -- it was in order, and answered by what fits
+    acted_on : (S : Shapes) → Grows s.shapes S → Answers P kept.bounds st o m e.ans (state_after st o S) → ActOk P kept S R e.path e.act e.ans
+    acted_on S g fits = subst (λ c. ActOk P kept S R e.path c e.ans) (sym act) (record {
+      state = st;
+      entries = entered;
+      moves = m;
+      after = state_after st o S;
+      comes = record { grows = grows_grows grown g; made = refl; entries = refl };
+      answered = fits;
+      grown = λ n z q. q;
+    })
 
     -- where nothing is made
     same_step : own_made o ≡ [] → Answers P kept.bounds st o m e.ans (state_after st o s.shapes) → OwnOk P Q kept s.shapes (mine R e.path) o → WroteFits → Step P Q N R e a.task s
@@ -229,6 +257,7 @@ module _ (P : PlainProgram) (Q : Program) {N : ℕ} {R : Run} {e : Event} (l : F
       shaped = same_shaped (ap made_by act ∙ nothing);
       cells = old_cells wrote;
       event = subst (λ c. EventOk P Q kept (branches_of P Q s.keeping e.path) s.shapes R e.path c) (sym act) ok;
+      acted = acted_on s.shapes (λ n z q. q) fits;
       own = comes s.shapes (λ n z q. q) fits;
       new = λ q z n. absurd (no_task o act q z n);
     }
@@ -270,12 +299,12 @@ module _ (P : PlainProgram) (Q : Program) {N : ℕ} {R : Run} {e : Event} (l : F
       (λ f. cond-false (same_name new_name n) (Some z) (s.shapes n) f ∙ q) (cases_Bool (same_name new_name n))
 
   -- a new object or array, and what is written at its making
-  made_step : (d : ℕ) → suc N ≤ d + length (e ∷ R) → (st : State) → Grows st.shapes s.shapes → hold (mine R e.path) ≡ hold_of st.entries → (t : Thing) (c : Bool) → e.act ≡ Do (New t c) →
+  made_step : (d : ℕ) → suc N ≤ d + length (e ∷ R) → (st : State) → Grows st.shapes s.shapes → st.entries ≡ own_entries (mine R e.path) → (t : Thing) (c : Bool) → e.act ≡ Do (New t c) →
       (m : Moves P kept.bounds st (New t c)) →
       ((x : Answer) (h : Moment P kept.bounds) → (u : State) × (h ≡ at u) × After (New t c) st u × Answers P kept.bounds st (New t c) m x u → Goes P kept.bounds kept.scope copies d h (λ xs. replies (x ∷ xs))) →
       e.ans ≡ Named new_name → Step P Q N R e a.task s
   unfolding same_things
-  made_step d en st grown held t c act m then ans = record {
+  made_step d en st grown entered t c act m then ans = record {
     shapes = with_new m.0;
     grows = old_shapes m.0;
     keeping = s.keeping;
@@ -286,7 +315,9 @@ module _ (P : PlainProgram) (Q : Program) {N : ℕ} {R : Run} {e : Event} (l : F
         (λ q. (let z = s.shaped n u q in (z.0, old_shapes m.0 n z.0 z.1))) (new_or_kept n u there (path_cases e.path n.maker));
     cells = λ n z u k env ty r q there cell. fits_grown n z u k env ty r (new_or_old m.0 n z q) there cell;
     event = subst (λ x. EventOk P Q kept (branches_of P Q s.keeping e.path) (with_new m.0) R e.path x) (sym act) tt;
-    own = comes d en st grown held (New t c) act m then (with_new m.0) (old_shapes m.0) (new_name, ans, cond-true (same_name new_name new_name) (Some m.0) (s.shapes new_name) (same_name_self new_name));
+    acted = acted_on d en st grown entered (New t c) act m then (with_new m.0) (old_shapes m.0)
+        (new_name, ans, cond-true (same_name new_name new_name) (Some m.0) (s.shapes new_name) (same_name_self new_name));
+    own = comes d en st grown entered (New t c) act m then (with_new m.0) (old_shapes m.0) (new_name, ans, cond-true (same_name new_name new_name) (Some m.0) (s.shapes new_name) (same_name_self new_name));
     new = λ q z n. absurd (no_task (New t c) act q z n);
   }
     where
@@ -319,17 +350,17 @@ module _ (P : PlainProgram) (Q : Program) {N : ℕ} {R : Run} {e : Event} (l : F
           (sym (value_unwritten (record { object = n; slot = k }) u (none_written (record { object = n; slot = k })) ∙ ap (λ o. or_else o (first_value u k)) empty)) first
 
   -- each action of a task's own
-  pub own_step : (d : ℕ) → suc N ≤ d + length (e ∷ R) → (st : State) → Grows st.shapes s.shapes → hold (mine R e.path) ≡ hold_of st.entries → (o : Own) → e.act ≡ Do o → (m : Moves P kept.bounds st o) → MayLeave o st.entries →
+  pub own_step : (d : ℕ) → suc N ≤ d + length (e ∷ R) → (st : State) → Grows st.shapes s.shapes → st.entries ≡ own_entries (mine R e.path) → (o : Own) → e.act ≡ Do o → (m : Moves P kept.bounds st o) → MayLeave o st.entries →
       ((x : Answer) (h : Moment P kept.bounds) → (u : State) × (h ≡ at u) × After o st u × Answers P kept.bounds st o m x u → Goes P kept.bounds kept.scope copies d h (λ xs. replies (x ∷ xs))) →
       reply Q R e.path o ≡ Some e.ans → Step P Q N R e a.task s
-  own_step d en st grown held (Read n i) act m leaves then r =
+  own_step d en st grown entered (Read n i) act m leaves then r =
       let z = answering (λ t. read_at R t n (slot_of i (size t))) (thing_of Q R n) e.ans r in
-      same_step d en st grown held (Read n i) act m then refl (subst (λ x. ReadFits m.cell s.shapes x) (sym z.answer) (read_fits st.shapes m.cell grown z.thing z.is_there))
-      (record { state = st; reaches = m; grown = grown; held = held }) (no_write (Read n i) act (λ x j v q. cc))
-  own_step d en st grown held (Write n i v) act m leaves then r =
+      same_step d en st grown entered (Read n i) act m then refl (subst (λ x. ReadFits m.cell s.shapes x) (sym z.answer) (read_fits st.shapes m.cell grown z.thing z.is_there))
+      (record { state = st; reaches = m; grown = grown; held = held_by (mine R e.path) entered }) (no_write (Read n i) act (λ x j v q. cc))
+  own_step d en st grown entered (Write n i v) act m leaves then r =
       let z = answering (λ t. wrote_at (slot_of i (size t))) (thing_of Q R n) e.ans r in
-      same_step d en st grown held (Write n i v) act m then refl (subst (λ x. WriteFits m.0.cell x) (sym z.answer) (write_fits st.shapes m.0.cell grown z.thing z.is_there))
-      (record { state = st; reaches = m.0; grown = grown; held = held }) wrote
+      same_step d en st grown entered (Write n i v) act m then refl (subst (λ x. WriteFits m.0.cell x) (sym z.answer) (write_fits st.shapes m.0.cell grown z.thing z.is_there))
+      (record { state = st; reaches = m.0; grown = grown; held = held_by (mine R e.path) entered }) wrote
     where
       wrote : WroteFits
       wrote c w z env ty x q cell =
@@ -342,15 +373,15 @@ module _ (P : PlainProgram) (Q : Program) {N : ℕ} {R : Run} {e : Event} (l : F
           subst (λ y. CellAt P y (pos c.slot) m.0.cell.env m.0.cell.ty m.0.cell.rpl) shape (subst (λ j. CellAt P m.0.cell.shape j m.0.cell.env m.0.cell.ty m.0.cell.rpl) i_is m.0.cell.cell) in
           subst (λ y. FitsIn P s.shapes env ty y) v_is
           (one_cell there cell (λ env ty rpl. FitsIn P s.shapes env ty v) (fits_grows P st.shapes s.shapes grown m.0.cell.env m.0.cell.ty v m.1))
-  own_step d en st grown held (Look n) act m leaves then r =
+  own_step d en st grown entered (Look n) act m leaves then r =
       let z = answering seen (thing_of Q R n) e.ans r in
-      same_step d en st grown held (Look n) act m then refl (subst (λ x. LookFits m.0 x) (sym z.answer) (look_fits P m.0 z.thing (thing_is n m.0 z.thing (grown n m.0 m.1) z.is_there))) tt
+      same_step d en st grown entered (Look n) act m then refl (subst (λ x. LookFits m.0 x) (sym z.answer) (look_fits P m.0 z.thing (thing_is n m.0 z.thing (grown n m.0 m.1) z.is_there))) tt
       (no_write (Look n) act (λ x j v q. cc))
-  own_step d en st grown held (New t c) act m leaves then r = made_step d en st grown held t c act m then (let k : Some (Named new_name) ≡ Some e.ans = r in cc)
-  own_step d en st grown held Rest act m leaves then r = same_step d en st grown held Rest act m then refl (let k : Some Went ≡ Some e.ans = r in cc) tt (no_write Rest act (λ x j v q. cc))
-  own_step d en st grown held (Print bytes) act m leaves then r =
-      same_step d en st grown held (Print bytes) act m then refl (let k : Some Went ≡ Some e.ans = r in cc) tt (no_write (Print bytes) act (λ x j v q. cc))
-  own_step d en st grown held (Enter E) act m leaves then r = same_step d en st grown held (Enter E) act m then refl (let k : Some Went ≡ Some e.ans = r in cc)
-      (record { state = st; may = m; grown = grown; held = held }) (no_write (Enter E) act (λ x j v q. cc))
-  own_step d en st grown held Exit act m leaves then r =
-      same_step d en st grown held Exit act m then refl (let k : Some Went ≡ Some e.ans = r in cc) (λ out. leaves_open st.entries leaves (sym held ∙ out)) (no_write Exit act (λ x j v q. cc))
+  own_step d en st grown entered (New t c) act m leaves then r = made_step d en st grown entered t c act m then (let k : Some (Named new_name) ≡ Some e.ans = r in cc)
+  own_step d en st grown entered Rest act m leaves then r = same_step d en st grown entered Rest act m then refl (let k : Some Went ≡ Some e.ans = r in cc) tt (no_write Rest act (λ x j v q. cc))
+  own_step d en st grown entered (Print bytes) act m leaves then r =
+      same_step d en st grown entered (Print bytes) act m then refl (let k : Some Went ≡ Some e.ans = r in cc) tt (no_write (Print bytes) act (λ x j v q. cc))
+  own_step d en st grown entered (Enter E) act m leaves then r = same_step d en st grown entered (Enter E) act m then refl (let k : Some Went ≡ Some e.ans = r in cc)
+      (record { state = st; may = m; grown = grown; held = held_by (mine R e.path) entered }) (no_write (Enter E) act (λ x j v q. cc))
+  own_step d en st grown entered Exit act m leaves then r =
+      same_step d en st grown entered Exit act m then refl (let k : Some Went ≡ Some e.ans = r in cc) (λ out. leaves_open st.entries leaves (sym (held_by (mine R e.path) entered) ∙ out)) (no_write Exit act (λ x j v q. cc))

@@ -1,12 +1,10 @@
 -- One more event at a fork, a begin, a join or an end: branches begin where their fork says, and a join brings what their ends fit.
-use Rattle.std.proofs.Common.{◌≡◌, ◌<◌, ◌≤◌, ◌+◌, ◌⊎◌, ⊎_elim, inl, inr, ℕ, zero, suc, ℤ, Bool, true, false, cond, ◌&&◌, ◌==◌, List, [], ◌∷◌, ◌++◌, length, reverse, refl, sym, ap, ◌∙◌, subst, arith, Option, Some, None, slice_get, append-nil}
+use Rattle.std.proofs.Common.{◌≡◌, ◌≢◌, ◌<◌, ◌≤◌, ◌+◌, ⊎_elim, inl, inr, ℕ, zero, suc, ℤ, Bool, true, false, cond, ◌&&◌, ◌==◌, List, [], ◌∷◌, ◌++◌, map, length, reverse, refl, sym, ap, ◌∙◌, subst, arith, Option, Some, None, slice_get, append-nil}
 use Rattle.std.specs.Prelude.{All, Contains}
 use Rattle.std.proofs.lemmas.Bool.{false≢true, or_cases, cond-true, cond-false, and_from, and_parts, eq-eqb, eqb-true, false_from_ne_true}
 use Rattle.std.proofs.lemmas.List.{reverse-reverse}
-use Rattle.std.proofs.lemmas.List.Elements.{Contains-append_cases}
 use Rattle.dpj_base.specs.declared.place.Place.{Place}
 use Rattle.dpj_base.specs.declared.value.Trap.{Trap}
-use Rattle.dpj_base.specs.Types.{PlainType}
 use Rattle.dpj_typed.specs.declared.stmt.Forking.{Forking}
 use Rattle.dpj_typed.specs.Plain.{PlainProgram}
 use Rattle.dpj_typed.specs.Scope.{Scope, variable}
@@ -15,30 +13,32 @@ use Rattle.dpj_typed.specs.WellTyped.{WellTyped}
 use Rattle.dpj_meaning.specs.Asking.{ask, does, ended, replied, told}
 use Rattle.dpj_meaning.specs.Core.{Goes_on, Returns, run}
 use Rattle.dpj_meaning.specs.Counts.{brought, assigned, slot_value}
-use Rattle.dpj_meaning.specs.Outcomes.{first_trap, all_locals, locals_of, joined_or}
+use Rattle.dpj_meaning.specs.Outcomes.{first_trap, all_locals, joined_or}
 use Rattle.dpj_meaning.specs.Statements.{begun}
 use Rattle.dpj_meaning.proofs.Tasks.{asks_disciplined}
-use Rattle.dpj_runs.specs.Actions.{Program, Task, Branches, Action, Do, Fork, Begin, Join, End, Ending, Returned, Assigned, Trapped, Answer}
-use Rattle.dpj_runs.specs.Blocks.{hold_after, hold}
+use Rattle.dpj_runs.specs.Actions.{Program, Task, Branches, Action, Do, Fork, Begin, Join, End, Ending, Returned, Assigned, Answer}
 use Rattle.dpj_runs.specs.Meaning.{Disciplined}
 use Rattle.dpj_runs.specs.Objects.{Path, same_path, Name, LocalRegion, Value, Null}
-use Rattle.dpj_runs.specs.Runs.{Event, Run, Upto, now, later, made_by, mine, answers, count, Begun, root, branch, Follows, Faithful, Right, Joins}
+use Rattle.dpj_runs.specs.Runs.{Event, Run, Upto, now, later, made_by, mine, answers, count, Ended, Follows, Faithful, Right, Joins}
 use Rattle.dpj_runs.proofs.Faithful.{follows_at, own_fork, one_fork}
-use Rattle.dpj_runs.proofs.Mine.{mine_same, mine_other, same_of, number_of, same_path_eq, test_same, found}
+use Rattle.dpj_runs.proofs.Mine.{mine_same, mine_other, number_of, same_path_eq, test_same, found}
 use Rattle.dpj_runs.proofs.Upto.{upto_trans, upto_tail}
 use Rattle.dpj_steps.specs.Steps.{named_by, stepped}
 use Rattle.dpj_sound.specs.Settings.{env_of}
-use Rattle.dpj_sound.specs.Shapes.{Shapes, Grows, FitsIn}
+use Rattle.dpj_sound.specs.Shapes.{Grows, FitsIn}
 use Rattle.dpj_sound.specs.Accesses.{Bounds, is_guarded}
 use Rattle.dpj_sound.specs.Frames.{State, Since}
-use Rattle.dpj_sound.specs.Branches.{Forks, Brings, Returned as ReturnedOf}
+use Rattle.dpj_sound.specs.Branches.{BranchFits, Forks, Brings}
 use Rattle.dpj_sound.specs.Laws.{Leaves, branch_bounds}
-use Rattle.dpj_sound.specs.Work.{Result}
-use Rattle.dpj_sound.proofs.Acting.{Now, now_asked, own_stands, own_step, same_things, same_shaped, old_cells, stand, copies, replies, WroteFits}
+use Rattle.dpj_sound.specs.Runs.{entries_then, own_entries}
+use Rattle.dpj_sound.specs.Soundness.{EndFits}
+use Rattle.dpj_sound.specs.Work.{Result, ReturnFits}
+use Rattle.dpj_sound.proofs.Acting.{held_by, Now, now_asked, own_stands, own_step, same_things, same_shaped, old_cells, stand, replies, WroteFits}
 use Rattle.dpj_sound.proofs.Calm.{MustBeCalm, Back, CalmFork, IsCalm, task_calm}
 use Rattle.dpj_sound.proofs.Carried.{end_grows, Agrees, agrees_self, agrees_task, NewTask, Step}
-use Rattle.dpj_sound.proofs.Moments.{Moment, at, forked, state_of, having_left, EndFits, MayDo, Comes, Goes, goes_same, told_on}
-use Rattle.dpj_sound.proofs.Sound.{Kept, branch_kept, hold_of, ForkedAt, EventOk, AtFork, IsAt, Stands, branches_of, Sound}
+use Rattle.dpj_sound.proofs.Moments.{Moment, at, forked, state_of, having_left, MayDo, Comes, Goes, goes_same, told_on}
+use Rattle.dpj_sound.proofs.Joining.{all_returned}
+use Rattle.dpj_sound.proofs.Sound.{Kept, branch_kept, ForkedAt, EventOk, ActOk, AtFork, IsAt, Stands, branches_of, Sound}
 use Rattle.dpj_sound.proofs.Tasks.{branches_in_order}
 use Rattle.dpj_sound.proofs.Walks.{task_goes}
 
@@ -50,24 +50,23 @@ assigned_in (y ∷ xs) vs x v (zero, l, e) =
     let w : slot_value vs y ≡ v = ap (λ z. z.1) e in ((0, omega arith, q), sym w ∙ ap (slot_value vs) q)
 assigned_in (y ∷ xs) vs x v (suc k, l, e) = let r = assigned_in xs vs x v (k, omega (arith, l), e) in ((suc r.0.0, (let m = r.0.1 in omega (arith, m)), r.0.2), r.1)
 
--- a task that ends with locals that fit ends as it is to
-pub ends_fit : (P : PlainProgram) (b : Bounds) (L : Scope) (t : Task) (st : State) → (t.work.is_root ≡ true) ⊎ All (IsVariable L) t.work.copies → (h : State) (r : Result) →
-    Leaves P b L b.setting t.work.stmts st h r → EndFits P b L t.work.copies h.shapes (ended t.work r)
-ends_fit P b L t st k h (Returns v) y = tt
-ends_fit P b L t st k h (Goes_on v f) y = go t.work.is_root k
-  where
-    go : (c : Bool) → (c ≡ true) ⊎ All (IsVariable L) t.work.copies → EndFits P b L t.work.copies h.shapes (cond c (Returned Null) (Assigned (assigned t.work.copies f.values)))
-    go true k = tt
-    go false (inl e) = absurd (let z : false ≡ true = e in cc)
-    go false (inr vs) = λ x u c.
-        (let z = assigned_in t.work.copies f.values x u c in
-        let is = subst (IsVariable L) z.0.2 (vs z.0.0 x z.0.1) in
-        (z.0, is.0, is.1, subst (FitsIn P h.shapes (env_of b.setting) is.0) (sym z.1) (y.2.each x (variable is.0) is.1)))
+names_assigned : (xs : List ℕ) (vs : List Value) → map (λ l. l.0) (assigned xs vs) ≡ xs
+names_assigned [] vs = refl
+names_assigned (x ∷ xs) vs = ap (λ ys. x ∷ ys) (names_assigned xs vs)
 
--- a local that a join brings is one that a branch ends with
-brought_by : (ends : List Ending) (x : ℕ) (v : Value) → Contains (all_locals ends) (x, v) → (i : ℕ) × (y : Ending) × (slice_get ends i ≡ Some y) × Contains (locals_of y) (x, v)
-brought_by [] x v c = let l = c.1 in absurd (omega (arith, l))
-brought_by (y ∷ ends) x v c = ⊎_elim (λ h. (0, y, refl, h)) (λ h. (let r = brought_by ends x v h in (suc r.0, r.1, r.2, r.3))) (Contains-append_cases (locals_of y) (all_locals ends) (x, v) c)
+-- a branch, in which no return stands, ends with the locals that it copies back
+branch_ends : (P : PlainProgram) (b : Bounds) (L : Scope) (t : Task) (st : State) → b.path ≢ [] → t.work.is_root ≡ false → L.result ≡ None → All (IsVariable L) t.work.copies → (h : State) (r : Result) →
+    Leaves P b L b.setting t.work.stmts st h r → EndFits P b L t.work.copies h.shapes (ended t.work r)
+branch_ends P b L t st below no_root none vs h (Returns v) y = absurd (subst (λ o. ReturnFits P h.shapes b.setting o v) none y.1)
+branch_ends P b L t st below no_root none vs h (Goes_on v f) y =
+    subst (λ c. EndFits P b L t.work.copies h.shapes (cond c (Returned Null) (Assigned (assigned t.work.copies f.values)))) (sym no_root) (
+      below,
+      names_assigned t.work.copies f.values,
+      λ x u c.
+          (let z = assigned_in t.work.copies f.values x u c in
+          let is = subst (IsVariable L) z.0.2 (vs z.0.0 x z.0.1) in
+          (is.0, is.1, subst (FitsIn P h.shapes (env_of b.setting) is.0) (sym z.1) (y.2.each x (variable is.0) is.1))),
+    )
 
 -- what the branches of a new fork keep to
 abbrev pub extended : (Path → Kept) → Path → ℕ → (ℕ → Kept) → Path → Kept
@@ -115,45 +114,6 @@ asks_at_first P b L t p e st d g = subst (λ q. Goes P b L t.work.copies d (at s
 not_itself : (p : Path) (u : ℕ × ℕ) → p ≡ u ∷ p → ⊥
 not_itself p u e = let n = ap length e in omega (arith, n)
 
--- the fork of a task that has begun
-record ForkOf (Y : Run) (p : Path) (u : ℕ × ℕ) (t : Task) : Type 0 where
-  before : Run
-  event : Event
-  stands : Upto (event ∷ before) Y
-  path : event.path ≡ p
-  number : count before p ≡ u.0
-  tasks : Branches
-  act : event.act ≡ Fork tasks
-  there : slice_get tasks.tasks u.1 ≡ Some t
-
-fork_of : {Q : Program} {Y : Run} {q : Path} {t : Task} → Begun Q Y q t → (p : Path) (u : ℕ × ℕ) → q ≡ u ∷ p → ForkOf Y p u t
-fork_of (root a b) p u e = absurd (let k : u ∷ p ≡ [] = sym e ∙ a in cc)
-fork_of {Y = Y} {t = t} (branch r v F f ts B g h fs fp fn fa there gs gp ga gn) p u e =
-    let k : u ∷ p ≡ v ∷ r = sym e ∙ h in
-    let uu : v ≡ u = cc in
-    let rr : r ≡ p = cc in
-    record {
-      before = F;
-      event = f;
-      stands = fs;
-      path = fp ∙ rr;
-      number = ap (count F) (sym rr) ∙ fn ∙ ap (λ w. w.0) uu;
-      tasks = ts;
-      act = fa;
-      there = ap (λ w. slice_get ts.tasks w.1) (sym uu) ∙ there;
-    }
-
--- a fork is of one list of branches
-same_tasks : (x y : Event) (a b : Branches) → x ≡ y → x.act ≡ Fork a → y.act ≡ Fork b → a ≡ b
-same_tasks x y a b e f g = let k : ◌≡◌ {A = Action} (Fork a) (Fork b) = sym f ∙ ap (λ (z : Event). z.act) e ∙ g in cc
-
--- of an end, what is said of its locals
-end_local : (P : PlainProgram) (b : Bounds) (L : Scope) (copies : List ℕ) (S : Shapes) (y : Ending) (x : ℕ) (v : Value) → EndFits P b L copies S y → Contains (locals_of y) (x, v) →
-    Contains copies x × (t : PlainType) × (L.local x ≡ Some (variable t)) × FitsIn P S (env_of b.setting) t v
-end_local P b L copies S (Assigned ls) x v h c = h x v c
-end_local P b L copies S (Returned w) x v h c = let l = c.1 in absurd (omega (arith, l))
-end_local P b L copies S (Trapped trap place) x v h c = let l = c.1 in absurd (omega (arith, l))
-
 module _ (P : PlainProgram) (wt : WellTyped P) (arg : ℤ) {N : ℕ} {R : Run} {e : Event} (l : Faithful (stepped P arg) R) (s : Sound P (stepped P arg) N R) (a : Follows (stepped P arg) R e)
     (room : length (e ∷ R) ≤ N) (members : (p : Path) → (s.keeping p).bounds.never_nd ≡ wt.never_nd) where
   abbrev Q : Program
@@ -170,9 +130,9 @@ module _ (P : PlainProgram) (wt : WellTyped P) (arg : ℤ) {N : ℕ} {R : Run} {
 
   -- what stays at an event that is no action of a task's own
   still_there : (K : Path → Kept) → Agrees P Q R s.keeping K → ((m : ℕ → Bool) → ((p : Path) → (s.keeping p).bounds.never_nd ≡ m) → (p : Path) → (K p).bounds.never_nd ≡ m) → made_by e.act ≡ [] → WroteFits P Q l s a room →
-      EventOk P Q (K e.path) (branches_of P Q K e.path) s.shapes R e.path e.act → Stands P Q N (e ∷ R) (K e.path) (branches_of P Q K e.path) s.shapes e.path a.task →
+      EventOk P Q (K e.path) (branches_of P Q K e.path) s.shapes R e.path e.act → ActOk P (K e.path) s.shapes R e.path e.act e.ans → Stands P Q N (e ∷ R) (K e.path) (branches_of P Q K e.path) s.shapes e.path a.task →
       ((q : Path) (z : Task) → NewTask R e q z → Stands P Q N (e ∷ R) (K q) (branches_of P Q K q) s.shapes q z) → Step P Q N R e a.task s
-  still_there K agrees never none wrote ok own new = record {
+  still_there K agrees never none wrote ok acted own new = record {
     shapes = s.shapes;
     grows = λ n z q. q;
     keeping = K;
@@ -182,19 +142,21 @@ module _ (P : PlainProgram) (wt : WellTyped P) (arg : ℤ) {N : ℕ} {R : Run} {
     shaped = same_shaped P Q l s a room none;
     cells = old_cells P Q l s a room wrote;
     event = ok;
+    acted = acted;
     own = own;
     new = new;
   }
 
-  fork_step : (d : ℕ) → suc N ≤ d + length (e ∷ R) → (st : State) → Grows st.shapes s.shapes → hold (mine R e.path) ≡ hold_of st.entries → (ts : Branches) → e.act ≡ Fork ts →
+  fork_step : (d : ℕ) → suc N ≤ d + length (e ∷ R) → (st : State) → Grows st.shapes s.shapes → st.entries ≡ own_entries (mine R e.path) → (ts : Branches) → e.act ≡ Fork ts →
       (forks : Forks P bounds st ts.kind ts.tasks) → CalmFork P (s.keeping e.path).bounds st.entries ts.kind ts.tasks → GoesOn d (forked st ts.kind ts.tasks forks 0) → Step P Q N R e a.task s
-  fork_step d en st grown held ts act forks calm goes =
+  fork_step d en st grown entered ts act forks calm goes =
       still_there K agrees (λ m h p. extended_never s.keeping e.path (count R e.path) new_kept m h (λ i. h e.path) p) (ap made_by act) (λ c w z env ty r q cell. absurd (let k : Fork ts ≡ Do _ = sym act ∙ w.act in cc))
       (subst (λ c. EventOk P Q (K e.path) (branches_of P Q K e.path) s.shapes R e.path c) (sym act)
       (subst (λ (k : Kept). EventOk P Q k (branches_of P Q K e.path) s.shapes R e.path (Fork ts)) (sym same)
-      (record { state = st; forks = forks; calm = calm; grown = grown; held = held; kept = λ i. extended_here s.keeping e.path (count R e.path) new_kept i })))
+      (record { state = st; forks = forks; calm = calm; grown = grown; held = held_by (mine R e.path) entered; entered = entered; kept = λ i. extended_here s.keeping e.path (count R e.path) new_kept i })))
+      (subst (λ c. ActOk P (K e.path) s.shapes R e.path c e.ans) (sym act) tt)
       (subst (λ (k : Kept). Stands P Q N (e ∷ R) k (branches_of P Q K e.path) s.shapes e.path a.task) (sym same)
-      (own_stands P Q l s a room d en (forked st ts.kind ts.tasks forks 0) goes s.shapes grown (ap (λ c. hold_after c (hold (mine R e.path))) act ∙ held) (branches_of P Q K e.path) (record {
+      (own_stands P Q l s a room d en (forked st ts.kind ts.tasks forks 0) goes s.shapes grown (entered ∙ sym (ap (λ c. entries_then c (own_entries (mine R e.path))) act)) (branches_of P Q K e.path) (record {
         before = R;
         event = e;
         stands = now;
@@ -234,7 +196,7 @@ module _ (P : PlainProgram) (wt : WellTyped P) (arg : ℤ) {N : ℕ} {R : Run} {
     path = ap (λ p. v ∷ p) (stand P Q l s a room).path ∙ sym q_is;
     moment = at h;
     grown = λ x y w. w;
-    held = ap hold nothing;
+    entered = sym (ap own_entries nothing);
     is_at = tt;
     depth = suc N;
     enough = omega arith;
@@ -243,7 +205,7 @@ module _ (P : PlainProgram) (wt : WellTyped P) (arg : ℤ) {N : ℕ} {R : Run} {
         (task_goes P bb (ok.forks.scope n.u.1) z.work.copies (Leaves P bb (ok.forks.scope n.u.1) (ok.forks.setting n.u.1) z.work.stmts h) (Back [] calm.0) z h
         (branches_in_order P wt bounds ok.state n.tasks.kind n.tasks.tasks ok.forks v z n.there h ok.grown refl)
         calm.1 refl
-        (ends_fit P bb (ok.forks.scope n.u.1) z h (inr (ok.forks.branch n.u.1 z n.there).copies)) (suc N)));
+        (branch_ends P bb (ok.forks.scope n.u.1) z h is_below fits.is_branch fits.no_return fits.copies) (suc N)));
   })
     where
       ok : ForkedAt P (s.keeping e.path).bounds (branches_of P Q s.keeping e.path (count n.before e.path)) s.shapes (mine n.before e.path) n.tasks
@@ -253,8 +215,14 @@ module _ (P : PlainProgram) (wt : WellTyped P) (arg : ℤ) {N : ℕ} {R : Run} {
       v : ℕ × ℕ
       v = (count n.before e.path, n.u.1)
 
+      fits : BranchFits P bounds ok.state n.u.1 z (ok.forks.scope n.u.1) (ok.forks.setting n.u.1) (ok.forks.effects n.u.1)
+      fits = ok.forks.branch n.u.1 z n.there
+
       bb : Bounds
       bb = branch_bounds bounds ok.state ok.forks v
+
+      is_below : v ∷ bounds.path ≢ []
+      is_below q = let k : v ∷ bounds.path ≡ [] = q in cc
 
       h : State
       h = record { shapes = s.shapes; made = 0; entries = [] }
@@ -274,12 +242,13 @@ module _ (P : PlainProgram) (wt : WellTyped P) (arg : ℤ) {N : ℕ} {R : Run} {
       nothing = mine_other e R q (λ x. not_itself e.path n.u (x ∙ n.is)) ∙ none_yet q z n (mine R q) refl
 
   begin_step : (d : ℕ) → suc N ≤ d + length (e ∷ R) → (st : State) (forking : Forking) (ts : List Task) (forks : Forks P (s.keeping e.path).bounds st forking ts) (n : ℕ) → Grows st.shapes s.shapes →
-      hold (mine R e.path) ≡ hold_of st.entries → AtFork P Q R e.path (s.keeping e.path).bounds (branches_of P Q s.keeping e.path) st forking ts forks n → (i : ℕ) → e.act ≡ Begin i →
+      st.entries ≡ own_entries (mine R e.path) → AtFork P Q R e.path (s.keeping e.path).bounds (branches_of P Q s.keeping e.path) st forking ts forks n → (i : ℕ) → e.act ≡ Begin i →
       GoesOn d (forked st forking ts forks (suc n)) → Step P Q N R e a.task s
-  begin_step d en st forking ts forks n grown held af i act goes =
+  begin_step d en st forking ts forks n grown entered af i act goes =
       still_there s.keeping (agrees_self P Q R s.keeping) (λ m h. h) (ap made_by act) (λ c w z env ty r q cell. absurd (let k : Begin i ≡ Do _ = sym act ∙ w.act in cc))
       (subst (λ c. EventOk P Q (s.keeping e.path) (branches_of P Q s.keeping e.path) s.shapes R e.path c) (sym act) tt)
-      (own_stands P Q l s a room d en (forked st forking ts forks (suc n)) goes s.shapes grown (ap (λ c. hold_after c (hold (mine R e.path))) act ∙ held) (branches_of P Q s.keeping e.path) (record {
+      (subst (λ c. ActOk P (s.keeping e.path) s.shapes R e.path c e.ans) (sym act) tt)
+      (own_stands P Q l s a room d en (forked st forking ts forks (suc n)) goes s.shapes grown (entered ∙ sym (ap (λ c. entries_then c (own_entries (mine R e.path))) act)) (branches_of P Q s.keeping e.path) (record {
         before = af.before;
         event = af.event;
         stands = later af.stands;
@@ -296,17 +265,19 @@ module _ (P : PlainProgram) (wt : WellTyped P) (arg : ℤ) {N : ℕ} {R : Run} {
       still_there s.keeping (agrees_self P Q R s.keeping) (λ m h. h) (ap made_by act) (λ c w z env ty r q cell. absurd (let k : End x ≡ Do _ = sym act ∙ w.act in cc))
       (subst (λ c. EventOk P Q (s.keeping e.path) (branches_of P Q s.keeping e.path) s.shapes R e.path c) (sym act)
       (a.task, a.begun, end_grows P bounds scope a.task.work.copies st.shapes s.shapes grown x fits))
-      (own_stands P Q l s a room d en (at (having_left st)) goes s.shapes grown (ap (λ c. hold_after c (hold (mine R e.path))) act) (branches_of P Q s.keeping e.path) tt)
+      (subst (λ c. ActOk P (s.keeping e.path) s.shapes R e.path c e.ans) (sym act) tt)
+      (own_stands P Q l s a room d en (at (having_left st)) goes s.shapes grown (sym (ap (λ c. entries_then c (own_entries (mine R e.path))) act)) (branches_of P Q s.keeping e.path) tt)
       (λ q z n. absurd (let k : End x ≡ Begin _ = sym act ∙ n.act in cc))
 
   join_step : (d : ℕ) → suc N ≤ d + length (e ∷ R) → (st : State) (forking : Forking) (ts : List Task) (forks : Forks P (s.keeping e.path).bounds st forking ts) (n : ℕ) → Grows st.shapes s.shapes →
-      hold (mine R e.path) ≡ hold_of st.entries → AtFork P Q R e.path (s.keeping e.path).bounds (branches_of P Q s.keeping e.path) st forking ts forks n → e.act ≡ Join → n ≡ length ts →
+      st.entries ≡ own_entries (mine R e.path) → AtFork P Q R e.path (s.keeping e.path).bounds (branches_of P Q s.keeping e.path) st forking ts forks n → e.act ≡ Join → n ≡ length ts →
       ((u : State) → Since st u → u.made ≡ st.made → Brings P (s.keeping e.path).bounds st forking ts forks u (brought e.ans) → GoesOn d (at u)) → Joins R e.path e.ans → Step P Q N R e a.task s
-  join_step d en st forking ts forks n grown held af act all goes j =
+  join_step d en st forking ts forks n grown entered af act all goes j =
       still_there s.keeping (agrees_self P Q R s.keeping) (λ m h. h) (ap made_by act) (λ c w z env ty r q cell. absurd (let k : Join ≡ Do _ = sym act ∙ w.act in cc))
       (subst (λ c. EventOk P Q (s.keeping e.path) (branches_of P Q s.keeping e.path) s.shapes R e.path c) (sym act) tt)
+      (subst (λ c. ActOk P (s.keeping e.path) s.shapes R e.path c e.ans) (sym act) tt)
       (own_stands P Q l s a room d en (at u) (goes u (record { grows = grown; made = omega arith; entries = refl }) refl (subst (λ x. Brings P bounds st forking ts forks u (brought x)) (sym j.answer) (brings (first_trap j.ends))))
-      s.shapes (λ x y w. w) (ap (λ c. hold_after c (hold (mine R e.path))) act ∙ held) (branches_of P Q s.keeping e.path) tt)
+      s.shapes (λ x y w. w) (entered ∙ sym (ap (λ c. entries_then c (own_entries (mine R e.path))) act)) (branches_of P Q s.keeping e.path) tt)
       (λ q z m. absurd (let k : Join ≡ Begin _ = sym act ∙ m.act in cc))
     where
       u : State
@@ -318,39 +289,20 @@ module _ (P : PlainProgram) (wt : WellTyped P) (arg : ℤ) {N : ℕ} {R : Run} {
       number : count j.before e.path ≡ count af.before e.path
       number = ap (λ Y. count Y e.path) one.1
 
-      returned : (x : ℕ) (v : Value) → Contains (all_locals j.ends) (x, v) → ReturnedOf P (s.keeping e.path).bounds st forking ts forks u x v
-      returned x v c =
-          let r = brought_by j.ends x v c in
-          let w : Path = (count j.before e.path, r.0) ∷ e.path in
-          let over = j.ended (count j.before e.path, r.0) r.1 refl r.2 in
-          let ok0 = subst (λ p. EventOk P Q (s.keeping p) (branches_of P Q s.keeping p) s.shapes over.before p over.event.act) over.path (s.events over.event over.before over.stands) in
-          let ok = subst (λ c. EventOk P Q (s.keeping w) (branches_of P Q s.keeping w) s.shapes over.before w c) over.act ok0 in
-          let keep : s.keeping w ≡ branch_kept bounds st forks (count af.before e.path) r.0 = ap (λ m. s.keeping ((m, r.0) ∷ e.path)) number ∙ af.kept r.0 in
-          let local = end_local P (s.keeping w).bounds (s.keeping w).scope ok.0.work.copies s.shapes r.1 x v ok.2 r.3 in
-          let f = fork_of ok.1 e.path (count j.before e.path, r.0) refl in
-          let same = same_of e.path (upto_trans {xs = f.event ∷ f.before} f.stands (upto_tail over.stands)) af.stands f.path af.path (f.number ∙ number) in
-          let is = same_tasks f.event af.event f.tasks (record { kind = forking; tasks = ts }) same.0 f.act af.act in
-          record {
-            number = r.0;
-            task = ok.0;
-            is = ap (λ (b : Branches). slice_get b.tasks r.0) (sym is) ∙ f.there;
-            copied = local.0;
-            ty = local.1;
-            local = subst (λ (k : Kept). k.scope.local x ≡ Some (variable local.1)) keep local.2;
-            fits = subst (λ (k : Kept). FitsIn P s.shapes (env_of k.bounds.setting) local.1 v) keep local.3;
-          }
+      ended_there : (v : ℕ × ℕ) (x : Ending) → v.0 ≡ count af.before e.path → slice_get j.ends v.1 ≡ Some x → Ended R (v ∷ e.path) x
+      ended_there v x q there = j.ended v x (q ∙ sym number) there
 
       brings : (o : Option (Trap × Place)) → Brings P bounds st forking ts forks u (brought {N = Name} {M = LocalRegion} (joined_or o (all_locals j.ends)))
-      brings None = returned
+      brings None = all_returned P Q s e.path af.before af.event af.stands af.path (record { kind = forking; tasks = ts }) af.act st forks af.kept j.ends ended_there
       brings (Some fell) = tt
 
   pub next_step : Step P Q N R e a.task s
-  next_step = by w.moment w.grown w.held w.is_at e.act refl w.may w.then a.right
+  next_step = by w.moment w.grown w.entered w.is_at e.act refl w.may w.then a.right
     where
       w : Now P Q l s a room
       w = now_asked P Q l s a room
 
-      by : (m : Moment P (s.keeping e.path).bounds) → Grows (state_of m).shapes s.shapes → hold (mine R e.path) ≡ hold_of (state_of m).entries →
+      by : (m : Moment P (s.keeping e.path).bounds) → Grows (state_of m).shapes s.shapes → (state_of m).entries ≡ own_entries (mine R e.path) →
           IsAt P Q R e.path (s.keeping e.path).bounds (branches_of P Q s.keeping e.path) m → (c : Action) → e.act ≡ c →
           (may : MayDo P (s.keeping e.path).bounds (s.keeping e.path).scope a.task.work.copies m c) →
           ((x : Answer) (h : Moment P (s.keeping e.path).bounds) → Comes P (s.keeping e.path).bounds (s.keeping e.path).scope a.task.work.copies m c may x h →

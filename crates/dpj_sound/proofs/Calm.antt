@@ -96,7 +96,7 @@ IsCalm P b E Q (Again t s f k) =
     × ((r : Result) → MayReturn c r → SmallResult r → IsCalm P b E Q (k r)) × AreSmall f.values
 IsCalm P b E Q (Split forking ts bs k) = CalmFork P b E forking ts × ((x : Brought) → SmallBrought x → IsCalm P b E Q (k x))
 
-below_from : (P : PlainProgram) (k d c : ℕ) → is_below (parent_of P) k d c ≡ true → IsBelow P d c
+pub below_from : (P : PlainProgram) (k d c : ℕ) → is_below (parent_of P) k d c ≡ true → IsBelow P d c
 below_from P zero d c h = subst (IsBelow P d) (eqb-true d c h) same
 below_from P (suc k) d c h = ⊎_elim (λ t. subst (IsBelow P d) (eqb-true d c t) same)
     (λ f. by (parent_of P d) refl (λ p z. below_from P k p.class c z) (sym (cond-false (d == c) true _ f) ∙ h)) (cases_Bool (d == c))

@@ -5,7 +5,7 @@ use Rattle.dpj_base.specs.Matching.{Env}
 use Rattle.dpj_base.specs.Types.{PlainType}
 use Rattle.dpj_typed.specs.Plain.{PlainProgram}
 use Rattle.dpj_typed.specs.Scope.{Scope}
-use Rattle.dpj_runs.specs.Actions.{Program, Task, Branches, Own, Rest, Read, Write, Look, New, Print, Enter, Exit, Action, Do, Fork, Begin, Join, End, Ending, Returned, Assigned, Trapped}
+use Rattle.dpj_runs.specs.Actions.{Answer, Program, Task, Branches, Own, Rest, Read, Write, Look, New, Print, Enter, Exit, Action, Do, Fork, Begin, Join, End, Ending, Returned, Assigned, Trapped}
 use Rattle.dpj_runs.specs.Objects.{Path, Name, Thing}
 use Rattle.dpj_runs.specs.Runs.{Event, Run, Upto, later, mine, answers, count, Begun, root, branch, Faithful, thing_of, value_in}
 use Rattle.dpj_runs.proofs.Faithful.{begun_upto, follows_at, same_task, agree_self}
@@ -14,19 +14,20 @@ use Rattle.dpj_runs.proofs.Upto.{upto_split, upto_tail}
 use Rattle.dpj_sound.specs.Settings.{env_of}
 use Rattle.dpj_sound.specs.Shapes.{Shape, Shapes, Grows, FitsIn, CellAt, Describes}
 use Rattle.dpj_sound.specs.Accesses.{Bounds}
-use Rattle.dpj_runs.specs.Blocks.{hold}
 use Rattle.std.specs.Prelude.{Bool}
-use Rattle.dpj_sound.proofs.Moments.{Moment, at, forked, EndFits, state_of, Goes}
-use Rattle.dpj_sound.proofs.Sound.{Kept, hold_of, Accessed, OwnOk, EventOk, IsAt, Stands, branches_of, Sound}
+use Rattle.dpj_sound.specs.Runs.{own_entries}
+use Rattle.dpj_sound.specs.Soundness.{EndFits}
+use Rattle.dpj_sound.proofs.Moments.{Moment, at, forked, state_of, Goes}
+use Rattle.dpj_sound.proofs.Sound.{Kept, Accessed, OwnOk, EventOk, ActOk, IsAt, Stands, branches_of, Sound}
 use Rattle.dpj_sound.proofs.Types.{fits_grows}
 
 pub grows_grows : {S T U : Shapes} → Grows S T → Grows T U → Grows S U
 grows_grows a b = λ n s e. b n s (a n s e)
 
 pub end_grows : (P : PlainProgram) (b : Bounds) (L : Scope) (copies : List ℕ) (S T : Shapes) → Grows S T → (x : Ending) → EndFits P b L copies S x → EndFits P b L copies T x
-end_grows P b L copies S T g (Assigned ls) h = λ x v c. (let z = h x v c in (z.0, z.1, z.2, fits_grows P S T g (env_of b.setting) z.1 v z.3))
-end_grows P b L copies S T g (Returned v) h = tt
-end_grows P b L copies S T g (Trapped trap place) h = tt
+end_grows P b L copies S T g (Assigned ls) h = (h.0, h.1, λ x v c. (let z = h.2 x v c in (z.0, z.1, fits_grows P S T g (env_of b.setting) z.0 v z.2)))
+end_grows P b L copies S T g (Returned v) h = h
+end_grows P b L copies S T g (Trapped trap place) h = h
 
 accessed_grows : {P : PlainProgram} {b : Bounds} {S T : Shapes} {es : Run} {n : Name} {i : ℤ} {write : Bool} → Grows S T → Accessed P b S es n i write → Accessed P b T es n i write
 accessed_grows g a = record { state = a.state; reaches = a.reaches; grown = grows_grows a.grown g; held = a.held }
@@ -79,11 +80,27 @@ module _ (P : PlainProgram) (Q : Program) where
     calm = h.calm;
     grown = grows_grows h.grown g;
     held = h.held;
+    entered = h.entered;
     kept = λ i. c i ∙ h.kept i;
   }
   event_later k B C S T Y p g c (Begin i) h = tt
   event_later k B C S T Y p g c Join h = tt
   event_later k B C S T Y p g c (End x) h = (h.0, h.1, end_grows P k.bounds k.scope h.0.work.copies S T g x h.2)
+
+  pub act_later : (k : Kept) (S T : Shapes) (Y : Run) (p : Path) → Grows S T → (a : Action) (x : Answer) → ActOk P k S Y p a x → ActOk P k T Y p a x
+  act_later k S T Y p g (Do o) x h = record {
+    state = h.state;
+    entries = h.entries;
+    moves = h.moves;
+    after = h.after;
+    comes = h.comes;
+    answered = h.answered;
+    grown = grows_grows h.grown g;
+  }
+  act_later k S T Y p g (Fork ts) x h = tt
+  act_later k S T Y p g (Begin i) x h = tt
+  act_later k S T Y p g Join x h = tt
+  act_later k S T Y p g (End y) x h = tt
 
   is_at_later : (R : Run) (e : Event) (q : Path) (b : Bounds) (B C : ℕ → ℕ → Kept) → (e.path ≡ q → ⊥) → ((n i : ℕ) → n < count R q → C n i ≡ B n i) → (m : Moment P b) →
       IsAt P Q R q b B m → IsAt P Q (e ∷ R) q b C m
@@ -105,7 +122,7 @@ module _ (P : PlainProgram) (Q : Program) where
     path = s.path;
     moment = s.moment;
     grown = grows_grows s.grown g;
-    held = subst (λ es. hold es ≡ hold_of (state_of s.moment).entries) (sym (mine_other e R q ne)) s.held;
+    entered = subst (λ es. (state_of s.moment).entries ≡ own_entries es) (sym (mine_other e R q ne)) s.entered;
     is_at = is_at_later R e q k.bounds B C ne c s.moment s.is_at;
     depth = s.depth;
     enough = let l = s.enough in omega (arith, l);
@@ -158,6 +175,7 @@ module _ (P : PlainProgram) (Q : Program) where
     pub cells : (n : Name) (z : Shape) (u : Thing) (k : ℕ) (env : Env) (ty : PlainType) (a : Rpl) → shapes n ≡ Some z → thing_of Q (e ∷ R) n ≡ Some u → CellAt P z (pos k) env ty a →
         FitsIn P shapes env ty (value_in (e ∷ R) u (record { object = n; slot = k }))
     pub event : EventOk P Q (keeping e.path) (branches_of P Q keeping e.path) shapes R e.path e.act
+    pub acted : ActOk P (keeping e.path) shapes R e.path e.act e.ans
     pub own : Stands P Q N (e ∷ R) (keeping e.path) (branches_of P Q keeping e.path) shapes e.path t
     pub new : (q : Path) (z : Task) → NewTask R e q z → Stands P Q N (e ∷ R) (keeping q) (branches_of P Q keeping q) shapes q z
 
@@ -170,6 +188,7 @@ module _ (P : PlainProgram) (Q : Program) where
     shaped = z.shaped;
     cells = z.cells;
     events = λ y Y u. ⊎_elim (λ q. here y Y q) (λ v. old y Y v) (upto_split u);
+    acted = λ y Y u. ⊎_elim (λ q. acted_here y Y q) (λ v. acted_old y Y v) (upto_split u);
     tasks = λ q u h. ⊎_elim (λ g. stood q u g (path_cases e.path q)) (λ n. z.new q u n) (begun_cases R e q u h);
   }
     where
@@ -183,6 +202,16 @@ module _ (P : PlainProgram) (Q : Program) where
           subst (λ k. EventOk P Q k (branches_of P Q z.keeping y.path) z.shapes Y y.path y.act) (sym (agrees_task z.agrees y.path a.task (begun_upto (upto_tail u) a.begun)))
           (event_later (s.keeping y.path) (branches_of P Q s.keeping y.path) (branches_of P Q z.keeping y.path) s.shapes z.shapes Y y.path z.grows
           (λ i. z.agrees.branch y.path (count Y y.path) i (number_of y.path u refl)) y.act (s.events y Y u))
+
+      acted_here : (y : Event) (Y : Run) → (y ≡ e) × (Y ≡ R) → ActOk P (z.keeping y.path) z.shapes Y y.path y.act y.ans
+      acted_here y Y q = subst (λ (x : Event). ActOk P (z.keeping x.path) z.shapes Y x.path x.act x.ans) (sym q.0)
+          (subst (λ X. ActOk P (z.keeping e.path) z.shapes X e.path e.act e.ans) (sym q.1) z.acted)
+
+      acted_old : (y : Event) (Y : Run) → Upto (y ∷ Y) R → ActOk P (z.keeping y.path) z.shapes Y y.path y.act y.ans
+      acted_old y Y u =
+          let a = follows_at Q u l in
+          subst (λ k. ActOk P k z.shapes Y y.path y.act y.ans) (sym (agrees_task z.agrees y.path a.task (begun_upto (upto_tail u) a.begun)))
+          (act_later (s.keeping y.path) s.shapes z.shapes Y y.path z.grows y.act y.ans (s.acted y Y u))
 
       stood : (q : Path) (u : Task) → Begun Q R q u → (e.path ≡ q) ⊎ (e.path ≡ q → ⊥) → Stands P Q N (e ∷ R) (z.keeping q) (branches_of P Q z.keeping q) z.shapes q u
       stood q u g (inl h) =

@@ -175,6 +175,7 @@ module _ (P : PlainProgram) (b : Bounds) (st : State) (L : Scope) (good : GoodSc
       let z : branch_of None copies s f ≡ t = cc in
       subst (λ y. BranchFits P b st (j + 0) y (in_branch copies (others ++ all_copies bs) L) g E) z (record {
         is_branch = refl;
+        no_return = refl;
         passes = p;
         scope = good_branch L copies (others ++ all_copies bs) (All-append (IsVariable L) others (all_copies bs) v (copies_variables rest)) good;
         fits = λ u. frame_below (u, j + 0) (f.left - 1) (frame_seen L copies (others ++ all_copies bs) ff);

@@ -257,6 +257,7 @@ module _ (P : PlainProgram) (b : Bounds) (st : State) (L : Scope) (good : GoodSc
     branch = λ i t e. subst (λ y. BranchFits P b st i y (with_local x (constant int) (in_loop_branch L)) (with_number x (number_at i) g) G)
         (sym (iteration_at None x s f start 0 n i t e ∙ (let k : 0 + i ≡ i = omega arith in ap (λ z. branch_of None [] s (numbered_frame x start z f)) k))) (record {
           is_branch = refl;
+          no_return = refl;
           passes = p;
           scope = good_declare (in_loop_branch L) (good_loop L good) x true int (free_in_loop L x free) tt;
           fits = λ u. iteration_frame x start i (u, i) free;

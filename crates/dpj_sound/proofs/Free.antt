@@ -21,6 +21,7 @@ use Rattle.dpj_sound.specs.Accesses.{Access, Allowed, LiesIn, InOwnRegion, Bound
 use Rattle.dpj_sound.specs.Branches.{Meet, MayMeet}
 use Rattle.dpj_sound.specs.RunLaws.{RunsAreFree}
 use Rattle.dpj_sound.specs.Shapes.{Shapes, CellAt}
+use Rattle.dpj_sound.specs.Soundness.{cell_of}
 use Rattle.dpj_sound.specs.Work.{access_of}
 use Rattle.dpj_sound.proofs.Branching.{stepped_disciplined}
 use Rattle.dpj_sound.proofs.Cells.{one_cell}
@@ -105,6 +106,11 @@ module _ (P : PlainProgram) (arg : ℤ) {N : ℕ} {R : Run} (l : Faithful (stepp
   -- a task that has made an event has its name
   pub path_of : (q : Path) {Y : Run} {y : Event} → Upto (y ∷ Y) R → y.path ≡ q → (s.keeping q).bounds.path ≡ q
   path_of q h e = (let a = follows_at Q h l in (s.tasks q a.task (subst (λ p. Begun Q R p a.task) e (begun_upto (upto_tail h) a.begun))).path)
+
+  -- and so has each above
+  pub path_up : (xs p : Path) {Y : Run} {y : Event} → Upto (y ∷ Y) R → y.path ≡ xs ++ p → (s.keeping p).bounds.path ≡ p
+  path_up [] p h e = path_of p h e
+  path_up (v ∷ xs) p h e = let f = fork_of_event [] (xs ++ p) v h e in path_up xs p f.stands f.path
 
   -- two accesses that meet do so as the fork of their branches lets them, and in no region that a task of these branches has made
   pub record Met (tasks : Branches) (p q : Path) (a c : Access) : Type 0 where
@@ -204,6 +210,12 @@ module _ (P : PlainProgram) (arg : ℤ) {N : ℕ} {R : Run} (l : Faithful (stepp
   clash_of hx hy (read_write c r w) = record { cell = c; left = false; right = true; first = read_ok hx c r; second = write_ok hy c w; write = refl }
   clash_of hx hy (write_read c w r) = record { cell = c; left = true; right = false; first = write_ok hx c w; second = read_ok hy c r; write = refl }
   clash_of hx hy (write_write c v w) = record { cell = c; left = true; right = true; first = write_ok hx c v; second = write_ok hy c w; write = refl }
+
+  pub clash_on : {X Y : Run} {x y : Event} (hx : Upto (x ∷ X) R) (hy : Upto (y ∷ Y) R) (c : Conflict x y) → (clash_of hx hy c).cell ≡ cell_of c
+  unfolding clash_of
+  clash_on hx hy (read_write c r w) = refl
+  clash_on hx hy (write_read c w r) = refl
+  clash_on hx hy (write_write c v w) = refl
 
   pub clash_met : {X Y : Run} {x y : Event} → (hx : Upto (x ∷ X) R) → Upto (y ∷ Y) R → (n : Unordered x.path y.path) → (k : Clash X x Y y) →
       Met (fork_of_event n.below_p n.above n.u hx n.p_is).tasks (n.u ∷ n.above) (n.v ∷ n.above) (access k.first) (access k.second)

@@ -2,6 +2,7 @@
 -- that was made inside; so unordered conflicts are guarded.
 use Rattle.std.proofs.Common.{◌≡◌, ◌⊎◌, ⊎_elim, inl, inr, ℕ, suc, ℤ, Bool, true, false, ◌||◌, List, [], ◌∷◌, ◌++◌, length, refl, sym, ap, ◌∙◌, subst, arith, append_assoc}
 use Rattle.std.proofs.lemmas.Bool.{false≢true, or_left, or_right, or_parts, cases_Bool}
+use Rattle.dpj_base.specs.Branches.{ends_atomic}
 use Rattle.dpj_typed.specs.declared.stmt.Forking.{Forking}
 use Rattle.dpj_typed.specs.declared.stmt.Forking.TheVariants.{Deterministic, Nondeterministic}
 use Rattle.dpj_typed.specs.Plain.{PlainProgram}
@@ -24,9 +25,10 @@ use Rattle.dpj_sound.specs.Settings.{local_code}
 use Rattle.dpj_sound.specs.Accesses.{Bounds, Access, LiesIn, InOwnRegion, LiesInEntry, is_entered, is_guarded, InEachEntry, Allowed}
 use Rattle.dpj_sound.specs.Branches.{MayMeet}
 use Rattle.dpj_sound.specs.RunLaws.{ConflictsAreGuarded, NdForksAreOutside}
+use Rattle.dpj_sound.specs.Soundness.{cell_of, ConflictIsAtomic}
 use Rattle.dpj_sound.proofs.Barred.{entries_barred}
 use Rattle.dpj_sound.proofs.Branching.{stepped_disciplined}
-use Rattle.dpj_sound.proofs.Free.{access, Met, fork_sound, Clash, clash_of, clash_met, one_place}
+use Rattle.dpj_sound.proofs.Free.{access, Met, fork_sound, Clash, clash_of, clash_on, clash_met, one_place}
 use Rattle.dpj_sound.proofs.Sound.{Kept, branch_kept, hold_of, Accessed, Sound, ForkedAt, EventOk, branches_of}
 use Rattle.dpj_sound.proofs.Whole.{sound}
 
@@ -149,12 +151,12 @@ module _ (P : PlainProgram) (arg : ℤ) {N : ℕ} {R : Run} (l : Faithful (stepp
       block_step q u t b k Es a h g e (λ h' g' e'. block_at q k.task k.begun (fork_sound P arg l s q u k.fork).state.entries a h' g' e')
 
   -- the block in which an event with a guarded access stands
-  record StandsAt (X : Run) (x : Event) (a : Access) : Type 0 where
-    block : InBlock X x.path
-    above_is : joined_by (above R x.path) x.path (hold (mine X x.path)) ≡ Inside block.opener block.effects
-    lies : LiesInEntry block.effects a ⊎ InOwnRegion block.opener a.region
+  pub record StandsAt (X : Run) (x : Event) (a : Access) : Type 0 where
+    pub block : InBlock X x.path
+    pub above_is : joined_by (above R x.path) x.path (hold (mine X x.path)) ≡ Inside block.opener block.effects
+    pub lies : LiesInEntry block.effects a ⊎ InOwnRegion block.opener a.region
 
-  stands_at : {X : Run} {x : Event} → Upto (x ∷ X) R → {n : Name} {i : ℤ} {write : Bool} (h : Accessed P (s.keeping x.path).bounds s.shapes (mine X x.path) n i write) → (access h).guarded ≡ true →
+  pub stands_at : {X : Run} {x : Event} → Upto (x ∷ X) R → {n : Name} {i : ℤ} {write : Bool} (h : Accessed P (s.keeping x.path).bounds s.shapes (mine X x.path) n i write) → (access h).guarded ≡ true →
       StandsAt X x (access h)
   stands_at {X} {x} hx h g =
       let f = follows_at Q hx l in
@@ -164,6 +166,15 @@ module _ (P : PlainProgram) (arg : ℤ) {N : ℕ} {R : Run} (l : Faithful (stepp
       let same : above X x.path ≡ above R x.path =
       above_same Q (faithful_upto Q (upto_tail hx) l) (record { each = λ p. mine_upto p (upto_tail hx) }) x.path f.begun in
       record { block = record { opener = z.opener; effects = z.effects; stands = ap (λ w. joined_by w x.path (hold (mine X x.path))) same ∙ is }; above_is = is; lies = z.lies }
+
+  -- where a task has entered none and was begun in none, it stands outside
+  pub stands_outside : {X : Run} {x : Event} → Upto (x ∷ X) R → (Es : List (List Effect)) → hold (mine X x.path) ≡ hold_of Es → is_guarded (s.keeping x.path).bounds Es ≡ false → standing X x.path ≡ Outside
+  stands_outside {X} {x} hx Es held out =
+      let z = or_parts (s.keeping x.path).bounds.inside (is_entered Es) out in
+      let f = follows_at Q hx l in
+      let same : above X x.path ≡ above R x.path =
+      above_same Q (faithful_upto Q (upto_tail hx) l) (record { each = λ p. mine_upto p (upto_tail hx) }) x.path f.begun in
+      ap (λ w. joined_by w x.path (hold (mine X x.path))) (same ∙ outside_at x.path f.task (begun_upto (upto_tail hx) f.begun) z.0) ∙ ap (joined_by Outside x.path) (held ∙ none_entered Es z.1)
 
   -- all tasks below a branch that was begun in a block stand in it
   inside_below : (xs q o : Path) (E : List Effect) → above R q ≡ Inside o E → above R (xs ++ q) ≡ Inside o E
@@ -238,6 +249,34 @@ module _ (P : PlainProgram) (arg : ℤ) {N : ℕ} {R : Run} (l : Faithful (stepp
       go Deterministic h = absurd h
       go Nondeterministic h = guarded_pair hx hy n k m h.0 h.1
 
+  -- what conflicts is guarded, and lies in a region that ends by an atomic name
+  atomic_region : {X Y : Run} {x y : Event} → {ts : Branches} (k : Clash P arg l s X x Y y) → {p q : Path} → Met P arg l s ts p q (access k.first) (access k.second) →
+      ends_atomic P.region_names (access k.first).region ≡ true
+  atomic_region {ts = ts} k m = go ts.kind m.may
+    where
+      go : (f : Forking) → MayMeet P f (access k.first) (access k.second) → ends_atomic P.region_names (access k.first).region ≡ true
+      go Deterministic h = absurd h
+      go Nondeterministic h = h.2
+
+  pub conflict_is_atomic : (Y X : Run) (y x : Event) → Upto (y ∷ Y) R → Upto (x ∷ X) Y → Unordered x.path y.path → (c : Conflict x y) → ConflictIsAtomic P lets s.shapes X x Y y (cell_of c)
+  conflict_is_atomic Y X y x hx hy n c =
+      let up = upto_trans hy (upto_tail hx) in
+      let k = clash_of P arg l s up hx c in
+      let m = clash_met P arg l s up hx n k in
+      let there = k.first.reaches.cell in
+      subst (λ z. ConflictIsAtomic P lets s.shapes X x Y y z) (clash_on P arg l s up hx c) (record {
+        blocks = by_kind up hx n k m;
+        cell = record {
+          shape = there.shape;
+          is = k.first.grown k.cell.object there.shape there.is;
+          env = there.env;
+          ty = there.ty;
+          rpl = there.rpl;
+          cell = there.cell;
+        };
+        atomic = atomic_region k m;
+      })
+
 pub nd_forks_are_outside : NdForksAreOutside
 nd_forks_are_outside P wt arg small R l F f ts u act kind = go (cases_Bool (is_guarded b ok.state.entries))
   where
@@ -255,25 +294,13 @@ nd_forks_are_outside P wt arg small R l F f ts u act kind = go (cases_Bool (is_g
 
     go : (is_guarded b ok.state.entries ≡ true) ⊎ (is_guarded b ok.state.entries ≡ false) → standing F f.path ≡ Outside
     go (inl t) = absurd (let z : ◌≡◌ {A = Forking} Deterministic Nondeterministic = sym (ok.calm.0 (inr t)) ∙ kind in cc)
-    go (inr n) =
-        let z = or_parts (s.keeping f.path).bounds.inside (is_entered ok.state.entries) n in
-        let a = follows_at (stepped P arg) u faithful in
-        let same : above F f.path ≡ above R f.path =
-        above_same (stepped P arg) (faithful_upto (stepped P arg) (upto_tail u) faithful) (record { each = λ p. mine_upto p (upto_tail u) }) f.path a.begun in
-        ap (λ w. joined_by w f.path (hold (mine F f.path))) (same ∙ outside_at P arg faithful s f.path a.task (begun_upto (upto_tail u) a.begun) z.0)
-        ∙ ap (joined_by Outside f.path) (ok.held ∙ none_entered P arg faithful s ok.state.entries z.1)
+    go (inr n) = stands_outside P arg faithful s u ok.state.entries ok.held n
 
 pub conflicts_are_guarded : ConflictsAreGuarded
-conflicts_are_guarded P wt arg small R l = record { each = each }
+conflicts_are_guarded P wt arg small R l = record { each = λ Y X y x hy hx n c. (conflict_is_atomic P arg f s Y X y x hy hx n c).blocks }
   where
     f : Faithful (stepped P arg) R
     f = legal_faithful (stepped P arg) R l
 
     s : Sound P (stepped P arg) (length R) R
     s = sound P wt arg small (length R) R f (omega arith)
-
-    each : (Y X : Run) (y x : Event) → Upto (y ∷ Y) R → Upto (x ∷ X) Y → Unordered x.path y.path → Conflict x y → Guarded lets X x Y y
-    each Y X y x hy hx n c =
-        let up = upto_trans hx (upto_tail hy) in
-        let k = clash_of P arg f s up hy c in
-        by_kind P arg f s up hy n k (clash_met P arg f s up hy n k)

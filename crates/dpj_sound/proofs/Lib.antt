@@ -26,9 +26,12 @@ pub mod InScope
 pub mod Including
 pub mod Indices
 pub mod Ints
+pub mod Joining
 pub mod Keeping
 pub mod Levels
 pub mod Locals
+pub mod Looking
+pub mod Lying
 pub mod Making
 pub mod Meeting
 pub mod Members

@@ -1,22 +1,19 @@
 -- What a task asks whose work is in order, followed so many answers deep: each action is in order where the task stands.
-use Rattle.std.proofs.Common.{◌≡◌, ℕ, zero, suc, ◌+◌, ◌-◌, ◌*◌, ◌<◌, ◌≤◌, Bool, true, false, List, [], ◌∷◌, length, refl, sym, ap, subst, arith, ◌==◌, Some}
-use Rattle.std.specs.Prelude.{Contains}
+use Rattle.std.proofs.Common.{◌≡◌, ℕ, zero, suc, ◌+◌, ◌-◌, ◌*◌, ◌<◌, ◌≤◌, Bool, true, false, List, [], ◌∷◌, length, refl, sym, ap, subst, arith, ◌==◌}
 use Rattle.std.proofs.lemmas.Bool.{eqb-false}
-use Rattle.dpj_base.specs.Types.{PlainType}
 use Rattle.dpj_typed.specs.declared.stmt.Forking.{Forking}
 use Rattle.dpj_typed.specs.Plain.{PlainProgram}
-use Rattle.dpj_typed.specs.Scope.{Scope, variable}
+use Rattle.dpj_typed.specs.Scope.{Scope}
 use Rattle.dpj_meaning.specs.Asking.{most_turns, Told as ToldOf, asked, turned, begins_then, told_join, ending}
 use Rattle.dpj_meaning.specs.Core.{Out as OutOf, Done, Trapped as Fallen, Stopped, Lost, bind}
 use Rattle.dpj_meaning.specs.Counts.{brought}
 use Rattle.dpj_meaning.proofs.Turns.{most_pos, turned_if}
-use Rattle.dpj_runs.specs.Actions.{Task, Own, Rest, Action, Do, Fork, Begin, Join, End, Ending, Returned, Assigned, Trapped, Answer, Reply, Next, Over, Unknown}
-use Rattle.dpj_runs.specs.Objects.{Name, LocalRegion, Value}
-use Rattle.dpj_sound.specs.Settings.{env_of}
-use Rattle.dpj_sound.specs.Shapes.{Shapes, FitsIn}
+use Rattle.dpj_runs.specs.Actions.{Task, Own, Rest, Action, Do, Fork, Begin, Join, End, Ending, Trapped, Answer, Reply, Next, Over, Unknown}
+use Rattle.dpj_runs.specs.Objects.{Name, LocalRegion}
 use Rattle.dpj_sound.specs.Accesses.{Bounds}
 use Rattle.dpj_sound.specs.Frames.{State, Since}
 use Rattle.dpj_sound.specs.Branches.{Forks, Brings}
+use Rattle.dpj_sound.specs.Soundness.{EndFits}
 use Rattle.dpj_sound.specs.Work.{Brought, Moves, Answers, After}
 use Rattle.dpj_sound.proofs.Calm.{CalmFork, MayLeave}
 use Rattle.dpj_sound.proofs.Work.{since_now, since_after}
@@ -59,13 +56,6 @@ finish_bind (Lost w) j K = refl
 pub data Moment (P : PlainProgram) (b : Bounds) : Type 0 where
   at : (st : State) → Moment P b
   forked : (st : State) (forking : Forking) (ts : List Task) (forks : Forks P b st forking ts) (begun : ℕ) → Moment P b
-
--- what a task ends with fits: locals that it copies back
-abbrev pub EndFits : PlainProgram → Bounds → Scope → List ℕ → Shapes → Ending → Type 0
-EndFits P b L copies S (Assigned ls) = (x : ℕ) (v : Value) → Contains ls (x, v) →
-    Contains copies x × (t : PlainType) × (L.local x ≡ Some (variable t)) × FitsIn P S (env_of b.setting) t v
-EndFits P b L copies S (Returned v) = Unit {0}
-EndFits P b L copies S (Trapped trap place) = Unit {0}
 
 -- the state in which it has made so many local regions
 abbrev pub having_made : ℕ → State → State

@@ -349,6 +349,7 @@ module _ (P : PlainProgram) (b : Bounds) (st : State) (L : Scope) (good : GoodSc
             (sym (iteration_at (Some k) (k + 4) body f (pos 0) 0 n i x e ∙ (let z : 0 + i ≡ i = omega arith in ap (λ z. branch_of (Some k) [] body (numbered_frame (k + 4) (pos 0) z f)) z)))
             (record {
               is_branch = refl;
+              no_return = refl;
               passes = p;
               scope = good_parts;
               fits = λ u. branch_frame i (u, i);

@@ -7,7 +7,7 @@ use Rattle.dpj_base.specs.Types.{PlainType}
 use Rattle.dpj_typed.specs.declared.stmt.Forking.{Forking}
 use Rattle.dpj_typed.specs.Plain.{PlainProgram}
 use Rattle.dpj_typed.specs.Scope.{Scope}
-use Rattle.dpj_runs.specs.Actions.{Program, Task, Branches, Own, Rest, Read, Write, Look, New, Print, Enter, Exit, Action, Do, Fork, Begin, Join, End}
+use Rattle.dpj_runs.specs.Actions.{Answer, Program, Task, Branches, Own, Rest, Read, Write, Look, New, Print, Enter, Exit, Action, Do, Fork, Begin, Join, End}
 use Rattle.dpj_runs.specs.Blocks.{Hold, Out_of, own_hold, hold}
 use Rattle.dpj_runs.specs.Objects.{Path, Name, Thing, Effect}
 use Rattle.dpj_runs.specs.Runs.{Event, Run, Upto, mine, answers, count, Begun, thing_of, value_in}
@@ -18,7 +18,9 @@ use Rattle.dpj_sound.specs.Branches.{Forks}
 use Rattle.dpj_sound.specs.Laws.{branch_bounds}
 use Rattle.dpj_sound.specs.Work.{Reaches}
 use Rattle.dpj_sound.proofs.Calm.{CalmFork}
-use Rattle.dpj_sound.proofs.Moments.{Moment, at, forked, EndFits, state_of, Goes}
+use Rattle.dpj_sound.specs.Runs.{own_entries, ActedInOrder}
+use Rattle.dpj_sound.specs.Soundness.{EndFits}
+use Rattle.dpj_sound.proofs.Moments.{Moment, at, forked, state_of, Goes}
 
 -- what a task keeps to, and the scope in which it began
 pub record Kept : Type 0 where
@@ -55,7 +57,16 @@ pub record ForkedAt (P : PlainProgram) (b : Bounds) (branch : ℕ → Kept) (S :
   pub calm : CalmFork P b state.entries ts.kind ts.tasks
   pub grown : Grows state.shapes S
   pub held : hold es ≡ hold_of state.entries
+  pub entered : state.entries ≡ own_entries es
   pub kept : (i : ℕ) → branch i ≡ branch_kept b state forks (length es) i
+
+-- an action of a task's own, with its answer
+abbrev pub ActOk : PlainProgram → Kept → Shapes → Run → Path → Action → Answer → Type 0
+ActOk P k S Y p (Do o) x = ActedInOrder P k.bounds S (mine Y p) o x
+ActOk P k S Y p (Fork ts) x = Unit {0}
+ActOk P k S Y p (Begin i) x = Unit {0}
+ActOk P k S Y p Join x = Unit {0}
+ActOk P k S Y p (End y) x = Unit {0}
 
 module _ (P : PlainProgram) (Q : Program) where
   abbrev pub OwnOk : Kept → Shapes → Run → Own → Type 0
@@ -95,7 +106,7 @@ module _ (P : PlainProgram) (Q : Program) where
     pub path : k.bounds.path ≡ p
     pub moment : Moment P k.bounds
     pub grown : Grows (state_of moment).shapes S
-    pub held : hold (mine R p) ≡ hold_of (state_of moment).entries
+    pub entered : (state_of moment).entries ≡ own_entries (mine R p)
     pub is_at : IsAt R p k.bounds branch moment
     pub depth : ℕ
     pub enough : suc N ≤ depth + length R
@@ -113,4 +124,5 @@ module _ (P : PlainProgram) (Q : Program) where
     pub cells : (n : Name) (s : Shape) (t : Thing) (k : ℕ) (env : Env) (ty : PlainType) (a : Rpl) → shapes n ≡ Some s → thing_of Q R n ≡ Some t → CellAt P s (pos k) env ty a →
         FitsIn P shapes env ty (value_in R t (record { object = n; slot = k }))
     pub events : (y : Event) (Y : Run) → Upto (y ∷ Y) R → EventOk (keeping y.path) (branches_of keeping y.path) shapes Y y.path y.act
+    pub acted : (y : Event) (Y : Run) → Upto (y ∷ Y) R → ActOk P (keeping y.path) shapes Y y.path y.act y.ans
     pub tasks : (p : Path) (t : Task) → Begun Q R p t → Stands N R (keeping p) (branches_of keeping p) shapes p t

@@ -14,10 +14,11 @@ use Rattle.dpj_steps.specs.Steps.{named_by}
 use Rattle.dpj_sound.specs.Settings.{Setting}
 use Rattle.dpj_sound.specs.Accesses.{Bounds}
 use Rattle.dpj_sound.specs.Frames.{Frame, State, Since, FrameFits}
+use Rattle.dpj_sound.specs.Soundness.{EndFits}
 use Rattle.dpj_sound.specs.Work.{Result, Prog, AfterMaking, Rounds, InOrder}
 use Rattle.dpj_sound.proofs.Calm.{Entries, Back, IsCalm}
 use Rattle.dpj_sound.proofs.Frames.{frame_since}
-use Rattle.dpj_sound.proofs.Moments.{Told, Out, finish, at, having_made, EndFits, Goes, goes_same, goes_making, told_on, Good, good_same, good_less, good_end, bind_bind, finish_bind, good_own, good_turn, good_fork}
+use Rattle.dpj_sound.proofs.Moments.{Told, Out, finish, at, having_made, Goes, goes_same, goes_making, told_on, Good, good_same, good_less, good_end, bind_bind, finish_bind, good_own, good_turn, good_fork}
 use Rattle.dpj_sound.proofs.Small.{AreSmall, small_answers, small_brings}
 use Rattle.dpj_sound.proofs.Work.{since_now, since_since}
 

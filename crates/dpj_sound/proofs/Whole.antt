@@ -2,15 +2,15 @@
 use Rattle.std.proofs.Common.{Bool, inl, inr, true, ◌≡◌, ◌≤◌, ⊎_elim, ℕ, suc, ℤ, FitsSigned, List, [], ◌∷◌, ◌++◌, length, reverse, refl, sym, ap, ◌∙◌, subst, arith, Option, Some, None, slice_get, zero}
 use Rattle.std.specs.Int.{w32}
 use Rattle.std.proofs.lemmas.Bool.{false≢true, cond-true, cond-false, cases_Bool}
+use Rattle.dpj_base.specs.Types.{PlainType, int, void}
 use Rattle.dpj_typed.specs.Plain.{PlainProgram, PlainMember}
-use Rattle.dpj_typed.specs.Scope.{Scope}
 use Rattle.dpj_typed.specs.WellTyped.{WellTyped}
+use Rattle.dpj_meaning.specs.Actions.{Work}
 use Rattle.dpj_meaning.specs.Asking.{does, ended}
 use Rattle.dpj_meaning.specs.Core.{Goes_on, Returns}
 use Rattle.dpj_meaning.specs.Elision.{enters_main, root_task}
 use Rattle.dpj_meaning.specs.Expressions.{entered}
 use Rattle.dpj_runs.specs.Actions.{Program, Task}
-use Rattle.dpj_runs.specs.Blocks.{hold}
 use Rattle.dpj_runs.specs.Objects.{Int, Name, Object, Path, Thing, first_value, or_else, same_name}
 use Rattle.dpj_runs.specs.Runs.{Run, at_start, things, mine, answers, Begun, root, branch, Faithful, thing_of}
 use Rattle.dpj_runs.proofs.Cells.{last_nil, same_name_eq}
@@ -18,28 +18,26 @@ use Rattle.dpj_runs.proofs.Mine.{mine_nil}
 use Rattle.dpj_runs.proofs.Upto.{upto_none}
 use Rattle.dpj_steps.specs.Steps.{named_by, first_name, stepped}
 use Rattle.dpj_sound.specs.Shapes.{Shape, object, FitsIn, Describes}
-use Rattle.dpj_sound.specs.Accesses.{Bounds}
 use Rattle.dpj_sound.specs.Frames.{State}
 use Rattle.dpj_sound.specs.Laws.{Leaves, start, main_scope, main_bounds}
-use Rattle.dpj_sound.specs.Settings.{class_setting}
+use Rattle.dpj_sound.specs.Settings.{env_of, class_setting}
 use Rattle.dpj_sound.specs.Work.{Result}
 use Rattle.dpj_sound.proofs.Branching.{asks_at_first, next_step}
 use Rattle.dpj_sound.proofs.Calm.{Back, IsCalm, task_calm}
 use Rattle.dpj_sound.proofs.Carried.{stepped_on}
 use Rattle.dpj_sound.proofs.Cells.{first_value_fits}
-use Rattle.dpj_sound.proofs.Moments.{at, EndFits, Goes}
+use Rattle.dpj_sound.specs.Runs.{own_entries}
+use Rattle.dpj_sound.specs.Soundness.{EndFits}
+use Rattle.dpj_sound.proofs.Moments.{at, Goes}
 use Rattle.dpj_sound.proofs.Root.{first_good, root_in_order}
 use Rattle.dpj_sound.proofs.Ints.{zero_fits}
 use Rattle.dpj_sound.proofs.Small.{small_cons, small_nil, small_padded}
 use Rattle.dpj_sound.proofs.Sound.{Kept, Stands, branches_of, Sound}
 use Rattle.dpj_sound.proofs.Walks.{task_goes}
 
-root_end : (P : PlainProgram) (b : Bounds) (L : Scope) (copies : List ℕ) (st : State) (first : Name) (arg : ℤ) (o : Option PlainMember) (r : Result) →
-    EndFits P b L copies st.shapes (ended (enters_main (named_by []) first arg o).work r)
-root_end P b L copies st first arg None (Goes_on v f) = tt
-root_end P b L copies st first arg None (Returns v) = tt
-root_end P b L copies st first arg (Some m) (Goes_on v f) = tt
-root_end P b L copies st first arg (Some m) (Returns v) = tt
+main_is_root : (first : Name) (arg : ℤ) (o : Option PlainMember) → (enters_main (named_by []) first arg o).work.is_root ≡ true
+main_is_root first arg None = refl
+main_is_root first arg (Some m) = refl
 
 module _ (P : PlainProgram) (wt : WellTyped P) (arg : ℤ) (small : FitsSigned w32 arg) where
   abbrev Q : Program
@@ -50,6 +48,14 @@ module _ (P : PlainProgram) (wt : WellTyped P) (arg : ℤ) (small : FitsSigned w
 
   abbrev main_task : Task
   main_task = root_task (named_by []) P first_name arg
+
+  -- the body of `main` doesn't complete normally, so the root ends with what it returns, an int
+  root_ends : (copies : List ℕ) (k : Work) → k.is_root ≡ true → (h : State) (r : Result) →
+      Leaves P (main_bounds P wt) (main_scope P wt) (class_setting []) wt.main.member.body (start P) h r → EndFits P (main_bounds P wt) (main_scope P wt) copies h.shapes (ended k r)
+  root_ends copies k of_root h (Returns v) y = (refl, subst (λ t. FitsIn P h.shapes (env_of (class_setting [])) t v) wt.main.result y.1)
+  root_ends copies k of_root h (Goes_on v f) y =
+      ⊎_elim (λ none. absurd (let z : ◌≡◌ {A = PlainType} int void = sym wt.main.result ∙ none in cc)) (λ e. absurd (false≢true (sym e ∙ y.0)))
+      (wt.members P.main_member wt.main.member wt.main.member_is).ends
 
   main_calm : (c : Bool) × IsCalm P (main_bounds P wt) [] (Back [] c) (does (named_by []) P (root_task (named_by []) P first_name arg))
   main_calm = subst (λ o. (c : Bool) × IsCalm P (main_bounds P wt) [] (Back [] c) (does (named_by []) P (enters_main (named_by []) first_name arg o))) (sym wt.main.member_is)
@@ -91,7 +97,7 @@ module _ (P : PlainProgram) (wt : WellTyped P) (arg : ℤ) (small : FitsSigned w
     path = refl;
     moment = at (start P);
     grown = λ n z q. q;
-    held = ap hold (mine_nil []);
+    entered = sym (ap own_entries (mine_nil []));
     is_at = tt;
     depth = suc N;
     enough = omega arith;
@@ -99,7 +105,7 @@ module _ (P : PlainProgram) (wt : WellTyped P) (arg : ℤ) (small : FitsSigned w
         (asks_at_first P (main_bounds P wt) (main_scope P wt) main_task [] refl (start P) (suc N)
         (task_goes P (main_bounds P wt) (main_scope P wt) main_task.work.copies (Leaves P (main_bounds P wt) (main_scope P wt) (class_setting []) wt.main.member.body (start P)) (Back [] main_calm.0) main_task (start P)
         (root_in_order P wt arg small) main_calm.1 refl
-        (λ h r y. root_end P (main_bounds P wt) (main_scope P wt) main_task.work.copies h first_name arg _ r) (suc N)));
+        (λ h r y. root_ends main_task.work.copies main_task.work (main_is_root first_name arg _) h r y) (suc N)));
   }
 
   at_the_start : (N : ℕ) → Sound P Q N []
@@ -117,6 +123,7 @@ module _ (P : PlainProgram) (wt : WellTyped P) (arg : ℤ) (small : FitsSigned w
         subst (λ o. FitsIn P (start P).shapes env ty (or_else o (first_value t k))) (sym (last_nil (record { object = n; slot = k })))
         (first_value_fits (start P).shapes cell t (subst (λ x. Describes P z x) is (subst (λ y. Describes P y Q.object) f.1 first_is))));
     events = λ y Y u. absurd (upto_none u);
+    acted = λ y Y u. absurd (upto_none u);
     tasks = λ p t b. begun p t b;
   }
     where

@@ -1,6 +1,6 @@
 -- Branches that are in order at their fork: each is typed and its frame fits, what its effects speak of is allowed, and no two
 -- of them touch one cell in a way that shows.
-use Rattle.std.specs.Prelude.{◌≡◌, ◌≢◌, ◌<◌, ℕ, true, false, ◌||◌, ◌&&◌, List, [], ◌∷◌, All, length, Some, slice_get, Contains}
+use Rattle.std.specs.Prelude.{◌≡◌, ◌≢◌, ◌<◌, ℕ, true, false, ◌||◌, ◌&&◌, List, [], ◌∷◌, All, length, None, Some, slice_get, Contains}
 use Rattle.dpj_base.specs.Apart.{apart}
 use Rattle.dpj_base.specs.Branches.{ends_atomic}
 use Rattle.dpj_base.specs.Types.{PlainType}
@@ -44,6 +44,7 @@ Separate g E k F = (a c : Access) → (a.write || c.write) ≡ true → (a.guard
 -- the branch of this number
 pub record BranchFits (P : PlainProgram) (b : Bounds) (st : State) (i : ℕ) (t : Task) (M : Scope) (k : Setting) (F : List Own) : Type 0 where
   pub is_branch : t.work.is_root ≡ false
+  pub no_return : M.result ≡ None
   pub passes : AllPass P M t.work.stmts F
   pub scope : GoodScope M
   pub fits : (u : ℕ) → FrameFits P ((u, i) ∷ b.path) (record { shapes = st.shapes; made = 0; entries = [] }) k M (begun t.work.takes t.frame)

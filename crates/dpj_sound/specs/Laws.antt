@@ -1,37 +1,39 @@
 -- What a well-typed program keeps to, as statements.
-use Rattle.std.specs.Prelude.{Bool, ◌≡◌, IsTrue, List, [], ◌∷◌, Option, Some, None, All, false, ℤ, FitsSigned, ◌≢◌, ℕ, cond, slice_get}
+use Rattle.std.specs.Prelude.{Bool, ◌≡◌, IsTrue, List, [], ◌∷◌, Option, Some, None, All, false, ℤ, FitsSigned, ◌≢◌, ℕ, cond, length, slice_get}
 use Rattle.std.specs.Int.{w32}
 use Rattle.dpj_base.specs.declared.elems.Elem.TheVariants.{At}
 use Rattle.dpj_base.specs.declared.elems.Index.TheVariants.{Literal}
 use Rattle.dpj_base.specs.declared.effect.Constraint.{Constraint}
 use Rattle.dpj_base.specs.Branches.{lists_clash, iterations_clash}
-use Rattle.dpj_base.specs.Matching.{Fits, IsEnv}
+use Rattle.dpj_base.specs.declared.region.Rpl.{Rpl}
+use Rattle.dpj_base.specs.Matching.{Env, Fits, IsEnv}
+use Rattle.dpj_base.specs.Types.{class}
 use Rattle.dpj_regions.specs.Laws.{HasNoCopies}
 use Rattle.dpj_typed.specs.declared.stmt.Forking.{Forking}
 use Rattle.dpj_typed.specs.declared.stmt.Forking.TheVariants.{Deterministic, Nondeterministic}
 use Rattle.dpj_typed.specs.Plain.{PlainProgram, TypedExpr, type_of, TypedStmts, PlainMember}
 use Rattle.dpj_typed.specs.Effects.{Own, effect_of, as_effects}
-use Rattle.dpj_typed.specs.Scope.{Scope, member_at}
+use Rattle.dpj_typed.specs.Scope.{IsBelow, Scope, member_at, parent_of}
 use Rattle.dpj_typed.specs.Statements.{AllPass, all_complete}
 use Rattle.dpj_typed.specs.Typing.{Has, index_elem}
 use Rattle.dpj_typed.specs.WellTyped.{WellTyped}
 use Rattle.dpj_meaning.specs.Core.{Goes_on, Returns}
-use Rattle.dpj_meaning.specs.Counts.{number}
+use Rattle.dpj_meaning.specs.Counts.{class_entered, class_seen, number}
 use Rattle.dpj_meaning.specs.Expressions.{Deeper as DeeperOf, of_expr}
 use Rattle.dpj_meaning.specs.Statements.{of_stmts}
-use Rattle.dpj_runs.specs.Actions.{Task}
-use Rattle.dpj_runs.specs.Objects.{Name, LocalRegion, same_name}
+use Rattle.dpj_runs.specs.Actions.{Answer, Class, Task}
+use Rattle.dpj_runs.specs.Objects.{Name, Object, LocalRegion, Region, same_name}
 use Rattle.dpj_steps.specs.Steps.{named_by, first_name}
 use Rattle.dpj_typed.specs.Table.{body_scope}
 use Rattle.dpj_meaning.specs.Asking.{meaning, does}
 use Rattle.dpj_meaning.specs.Elision.{root_task}
 use Rattle.dpj_sound.specs.Settings.{EndAtomic, Setting, env_of, with_number, class_setting}
-use Rattle.dpj_sound.specs.Shapes.{Grows, FitsIn, object}
+use Rattle.dpj_sound.specs.Shapes.{Shape, Shapes, Grows, FitsIn, object}
 use Rattle.dpj_sound.specs.Accesses.{Bounds, is_guarded, Within}
 use Rattle.dpj_sound.specs.Frames.{Frame, State, Since, FrameFits}
 use Rattle.dpj_sound.specs.Scopes.{PathInScope, GoodScope}
 use Rattle.dpj_sound.specs.Branches.{Quiet, Separate, Forks}
-use Rattle.dpj_sound.specs.Work.{Result, GoesFitting, InOrder}
+use Rattle.dpj_sound.specs.Work.{Result, GoesFitting, InOrder, LookFits}
 
 abbrev pub Deeper : Type 0
 Deeper = DeeperOf Name LocalRegion
@@ -65,6 +67,12 @@ ExpressionsInOrder = (P : PlainProgram) (wt : WellTyped P) (b : Bounds) (dp : Op
     (L : Scope) (e : TypedExpr) (E : List Own) → Has P L e E → GoodScope L → (g : Setting) (st : State) (f : Frame) → FrameFits P b.path st g L f →
     Within b st.entries g E →
     InOrder P b (Yields P L g e st f) st (of_expr (named_by b.path) P dp e f)
+
+-- a look at an object that has a class as its type sees that class or one below it, and a call enters what it sees, never another
+abbrev pub CallsEnterWhatTheySee : Type 0
+CallsEnterWhatTheySee = (P : PlainProgram) → WellTyped P → (S : Shapes) (env : Env) (c : ℕ) (args : List Rpl) (n : Name) → FitsIn P S env (class c args) (Object n) →
+    (s : Shape) (x : Answer) → S n ≡ Some s → LookFits s x →
+    (d : ℕ) × (rs : List Region) × (x ≡ Class d rs) × IsBelow P d c × (class_entered (parent_of P) (length P.classes) c (class_seen x) ≡ (d, rs))
 
 -- statements are in order: from locals that fit they make only accesses that their effects speak of, or in local regions that
 -- they make; branches are in order at their fork; and they leave locals that fit, or give a value of the type that a `return` gives

@@ -7,4 +7,5 @@ pub mod Runs
 pub mod Scopes
 pub mod Settings
 pub mod Shapes
+pub mod Soundness
 pub mod Work

@@ -13,16 +13,12 @@ use Rattle.dpj_runs.specs.Runs.{Event, Run, Upto}
 use Rattle.dpj_runs.specs.Standing.{Outside, standing}
 use Rattle.dpj_steps.specs.Steps.{stepped}
 use Rattle.dpj_sound.specs.Laws.{main_bounds}
-use Rattle.dpj_sound.specs.Runs.{KeepsTo}
+use Rattle.dpj_sound.specs.Soundness.{IsSound}
 
--- in each legal run values have their types and tasks keep to their effects
-abbrev pub RunsKeepTo : Type 0
-RunsKeepTo = (P : PlainProgram) (wt : WellTyped P) (arg : ℤ) → FitsSigned w32 arg → (R : Run) → Legal (stepped P arg) R → KeepsTo P (stepped P arg) (main_bounds P wt) R
-
--- and so in each run that is legal by any rule of open blocks
-abbrev pub RunsKeepToByAnyRule : Type 0
-RunsKeepToByAnyRule = (P : PlainProgram) (wt : WellTyped P) (arg : ℤ) → FitsSigned w32 arg → (rule : Rule) (R : Run) → Legal (with_rule rule (stepped P arg)) R →
-    KeepsTo P (stepped P arg) (main_bounds P wt) R
+-- each run that is legal by any rule of open blocks is sound
+abbrev pub RunsAreSound : Type 0
+RunsAreSound = (P : PlainProgram) (wt : WellTyped P) (arg : ℤ) → FitsSigned w32 arg → (rule : Rule) (R : Run) → Legal (with_rule rule (stepped P arg)) R →
+    IsSound P (stepped P arg) (main_bounds P wt) R
 
 -- no legal run of a program without nd constructs has two unordered events that conflict
 abbrev pub RunsAreFree : Type 0

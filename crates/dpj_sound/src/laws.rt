@@ -1,11 +1,13 @@
 //! The laws of well-typed programs, each the clause of a function that does nothing.
 
-ghost use Rattle.dpj_sound.specs.Laws.{BranchesInOrder, BranchesQuiet, ExpressionsInOrder, ForkingInOrder, IterationsQuiet, NdBranchesQuiet, NdBranchesSeparate, NdIterationsQuiet, NdIterationsSeparate, RootInOrder, TasksInOrder};
-ghost use Rattle.dpj_sound.specs.RunLaws.{ConflictsAreGuarded, ConflictsAreLevelled, EntriesAreLet, NamesAreKnownByAnyRule, NdForksAreOutside, RunsAreFree, RunsKeepTo, RunsKeepToByAnyRule};
+ghost use Rattle.dpj_sound.specs.Laws.{BranchesInOrder, BranchesQuiet, CallsEnterWhatTheySee, ExpressionsInOrder, ForkingInOrder, IterationsQuiet, NdBranchesQuiet, NdBranchesSeparate, NdIterationsQuiet, NdIterationsSeparate, RootInOrder, TasksInOrder};
+ghost use Rattle.dpj_sound.specs.RunLaws.{ConflictsAreGuarded, ConflictsAreLevelled, EntriesAreLet, NamesAreKnownByAnyRule, NdForksAreOutside, RunsAreFree, RunsAreSound};
 
-/// Each expression of a well-typed program is in order.
+/// Each expression of a well-typed program is in order. A call enters the class that it sees, which is that of its object's type or one
+/// below it.
 pub fn law_expressions()
-    ensures { ExpressionsInOrder }
+    ensures expressions { ExpressionsInOrder }
+    ensures calls { CallsEnterWhatTheySee }
 {}
 
 /// So are its statements, given that bodies that they call are; so is a task with all calls that it makes, so is each branch that
@@ -28,14 +30,18 @@ pub fn law_quiet()
     ensures nd_iterations_apart { NdIterationsSeparate }
 {}
 
-/// In each legal run of a well-typed program values have their types, and each access lies in what its task may do. So no legal run of
-/// a program without nd constructs has two unordered events that conflict; and of each program those that do stand inside blocks that
-/// are never open at once, or in one. No nd construct is forked inside a block. Marks are taken off behind deterministic constructs, so such
-/// blocks are on one level, and blocks on two levels let each other by. By whatever rule blocks are entered, values have their types and accesses
-/// lie in what tasks may do, and a task acts on what is there.
+/// Each run of a well-typed program is sound, by whatever rule blocks are entered: in each cell stands a value of its type, each action is in
+/// order where its task stands and is answered by what fits, tasks end with traps or with what has its type, joins bring what fits, and
+/// unordered events that conflict stand inside atomic blocks, on a cell of an atomic region.
+pub fn law_sound()
+    ensures { RunsAreSound }
+{}
+
+/// So no legal run of a program without nd constructs has two unordered events that conflict; and of each program those that do stand inside
+/// blocks that are never open at once, or in one. No nd construct is forked inside a block. Marks are taken off after deterministic constructs,
+/// so such blocks are on one level, and blocks on two levels let each other by. By whatever rule blocks are entered, a task acts on what is
+/// there.
 pub fn law_runs()
-    ensures keep_to { RunsKeepTo }
-    ensures by_any_rule { RunsKeepToByAnyRule }
     ensures free { RunsAreFree }
     ensures guarded { ConflictsAreGuarded }
     ensures outside { NdForksAreOutside }

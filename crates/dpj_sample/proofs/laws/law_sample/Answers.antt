@@ -1,5 +1,6 @@
 use Rattle.std.proofs.Common.{pos}
 use Rattle.std.proofs.Math.Facts.{sfits_lit}
+use Rattle.dpj_steps.specs.Interfering.{lets}
 use Rattle.dpj_sample.specs.Sample.{sample}
 use Rattle.dpj_sample.proofs.Every.{has_every}
 use Rattle.dpj_sample.proofs.Runs.{a_run, is_elided, whole_run}
@@ -12,7 +13,6 @@ returns c = record {
   every = has_every;
   elided = is_elided;
   runs = whole_run (c.law_steps.ensures.keeps sample (pos 2)).disciplined
-      (λ l wt. c.law_runs.ensures.keep_to sample wt (pos 2) (sfits_lit tt) a_run l)
-      (λ l. c.law_runs.ensures.guarded sample well_typed (pos 2) (sfits_lit tt) a_run l)
+      (λ l wt. c.law_sound.ensures sample wt (pos 2) (sfits_lit tt) lets a_run l)
       (λ l. c.law_reduction.ensures sample well_typed (pos 2) (sfits_lit tt) a_run l);
 }

@@ -1,14 +1,11 @@
 use Rattle.dpj_sound.proofs.Free.{runs_are_free}
 use Rattle.dpj_sound.proofs.Guarding.{conflicts_are_guarded, nd_forks_are_outside}
-use Rattle.dpj_sound.proofs.Keeping.{runs_keep_to, runs_keep_to_by_any_rule}
 use Rattle.dpj_sound.proofs.Levels.{conflicts_are_levelled, entries_are_let}
 use Rattle.dpj_sound.proofs.There.{names_are_known_by_any_rule}
 use Rattle.dpj_sound.proofs.laws.law_runs.Goals as goal
 
 pub returns : goal.returns
 returns c = record {
-  keep_to = runs_keep_to;
-  by_any_rule = runs_keep_to_by_any_rule;
   free = runs_are_free;
   guarded = conflicts_are_guarded;
   outside = nd_forks_are_outside;
