@@ -1,0 +1,4 @@
+mod Typed
+pub mod Marks
+pub mod Linked
+mod Fitting
