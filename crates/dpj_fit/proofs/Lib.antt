@@ -2,3 +2,5 @@ mod Typed
 pub mod Marks
 pub mod Linked
 mod Fitting
+mod Bodies
+mod Theorems
