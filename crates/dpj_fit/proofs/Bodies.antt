@@ -1,5 +1,5 @@
 -- Each body of the code is that of statements which fit, with room for its branches.
-use Rattle.std.proofs.Common.{◌≡◌, ◌<◌, ◌≤◌, ◌⊎◌, inl, inr, ℕ, zero, suc, ◌+◌, Bool, true, false, not, List, [], ◌∷◌, ◌++◌, All, length, refl, sym, ap, ◌∙◌, subst, arith, Option, Some, None, slice_get, slice_index_or, length-append}
+use Rattle.std.proofs.Common.{◌≡◌, ◌<◌, ◌≤◌, ◌⊎◌, inl, inr, ℕ, zero, suc, ◌+◌, Bool, true, false, not, List, [], ◌∷◌, ◌++◌, length, refl, sym, ap, ◌∙◌, subst, arith, Option, Some, None, slice_get, slice_index_or, length-append}
 use Rattle.std.proofs.lemmas.Option.{slice_get_within}
 use Rattle.dpj_base.specs.declared.place.Place.{Place}
 use Rattle.dpj_typed.specs.Plain.{of_array, of_part, TypedStmt, statement, TypedStmts, no_stmts, more_stmts, TypedBranches, no_branches, more_branches, PlainMember, PlainProgram}
@@ -14,13 +14,13 @@ use Rattle.dpj_gen.specs.Pieces.{Branch, Piece, Next, past, nothing, line, with_
 use Rattle.dpj_gen.specs.Scheme.{is_void, closes, after_stmts, stmt_piece, stmts_piece, branches_of}
 use Rattle.dpj_gen.specs.Stands.{LineAt, first_place, BeginsAt, StmtsAt, MemberEnds}
 use Rattle.dpj_gen.specs.Resolved.{gives_value, StmtFits, StmtsFit, BranchesFit, Resolved}
-use Rattle.dpj_gen.specs.Whole.{weight_all, place_of, branch_piece_of, branch_piece, closing, member_piece, body_of, generate, in_member, member_output, past_output, members_output, member_numbers, first, number_in, compiled}
+use Rattle.dpj_gen.specs.Whole.{weight_all, place_of, branch_piece_of, branch_piece, closing, member_piece, generate, in_member, member_output, past_output, members_output, member_numbers, first, number_in, compiled}
 use Rattle.dpj_gen.proofs.Closing.{leaves_nothing, never_ends}
 use Rattle.dpj_gen.proofs.Pieces.{Holds, split, all_of, Queued, queued, Laid}
 use Rattle.dpj_gen.proofs.Placed.{stmt_far, stmts_far}
 use Rattle.dpj_gen.proofs.Whole.{need, need_on, Needs, expr_needs, stmt_needs, branch_needs, member_needs, OutputAt, generated, member_queued, member_is, first_output, bodies_at}
 use Rattle.dpj_fit.specs.Room.{StmtWithin, StmtsWithin, BranchesWithin, Roomy}
-use Rattle.dpj_fit.proofs.Linked.{SameRoom, Rooted, rooted, Stands, cut_here, skip, Linked, AllLinked, linked, all_linked}
+use Rattle.dpj_fit.proofs.Linked.{Rooted, rooted, Stands, cut_here, skip, Linked, AllLinked, linked, all_linked}
 
 -- a branch that takes a part has slots for it
 abbrev pub TakesWithin : ℕ → Option ℕ → Type 0

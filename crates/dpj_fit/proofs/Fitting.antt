@@ -1,5 +1,5 @@
 -- The code of each construct fits its marks.
-use Rattle.std.proofs.Common.{◌≡◌, ◌⊎◌, inl, inr, ◌<◌, ◌≤◌, ℕ, zero, suc, ◌+◌, pos, Bool, true, false, IsTrue, cond, ◌&&◌, ◌||◌, nat_lt, ltb-true, ltb-false, List, [], ◌∷◌, All, refl, sym, ap, ◌∙◌, subst, arith, Option, Some, None, slice_get}
+use Rattle.std.proofs.Common.{◌≡◌, ◌⊎◌, inl, inr, ◌<◌, ◌≤◌, ℕ, suc, ◌+◌, pos, Bool, true, false, IsTrue, cond, ◌&&◌, ◌||◌, nat_lt, ltb-true, ltb-false, List, [], ◌∷◌, All, refl, sym, ap, ◌∙◌, subst, arith, Option, Some, None, slice_get}
 use Rattle.dpj_base.specs.declared.effect.Effect.{Effect}
 use Rattle.dpj_base.specs.declared.place.Place.{Place}
 use Rattle.dpj_base.specs.declared.region.Rpl.{Rpl}
@@ -19,12 +19,12 @@ use Rattle.dpj_code.specs.declared.instr.Instr.{Instr}
 use Rattle.dpj_code.specs.declared.instr.Instr.TheVariants as i
 use Rattle.dpj_code.specs.Plain.{Line, PlainCode, body_at, array_site}
 use Rattle.dpj_code.specs.Machine.{site_of}
-use Rattle.dpj_code.specs.Fit.{Mark, Path_to, Falls_to, puts_of, RowIs, left_by, site_at, Local}
+use Rattle.dpj_code.specs.Fit.{Mark, Falls_to, puts_of, RowIs, left_by, site_at, Local}
 use Rattle.dpj_gen.specs.Scheme.{is_void, many, after_expr, after_exprs, after_stmt, after_stmts, after_regions, instr_of, unary_instr, site_of_array}
 use Rattle.dpj_gen.specs.Resolved.{RowGives, ExprFits, ExprsFit, VoidCall, PerformFits, StmtFits, StmtsFit}
 use Rattle.dpj_gen.specs.Stands.{LineAt, ExprAt, ExprsAt, PoppedAt, RegionsAt, StmtAt, StmtsAt}
 use Rattle.dpj_fit.specs.Room.{ExprWithin, ExprsWithin, StmtWithin, StmtsWithin}
-use Rattle.dpj_fit.proofs.Marks.{mark, reached, Marked, cut, top_expr, top_exprs, high, high_is, expr_marks, exprs_marks, expr_reach, exprs_reach, top_perform, perform_marks, top_regions, region_marks, spread_marks, parts_marks, up_four, top_stmt, top_stmts, stmt_marks, stmts_marks, stmt_reach, stmts_reach}
+use Rattle.dpj_fit.proofs.Marks.{mark, reached, Marked, cut, top_expr, top_exprs, high, high_is, expr_marks, exprs_marks, expr_reach, exprs_reach, top_perform, perform_marks, top_regions, region_marks, spread_marks, parts_marks, top_stmt, top_stmts, stmt_marks, stmts_marks, stmt_reach, stmts_reach}
 use Rattle.dpj_fit.proofs.Linked.{ForkThere, SpreadThere, Linked, AllLinked}
 
 array_is : (t : PlainType) → (a : Rpl) × (first : Value) × (site_of_array t ≡ array_site a first)

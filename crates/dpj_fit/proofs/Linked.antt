@@ -1,16 +1,16 @@
 -- Branches that a body starts have its slots and local regions, and the texts that it prints are there.
-use Rattle.std.proofs.Common.{◌≡◌, ◌<◌, ℕ, zero, suc, ◌+◌, Bool, true, false, List, [], ◌∷◌, ◌++◌, length, refl, sym, ap, ◌∙◌, subst, arith, Option, Some, None, slice_get}
+use Rattle.std.proofs.Common.{◌≡◌, ◌<◌, ℕ, suc, ◌+◌, true, List, [], ◌∷◌, ◌++◌, length, refl, ap, ◌∙◌, subst, arith, Option, Some, None, slice_get}
 use Rattle.std.proofs.lemmas.Option.{slice_get_within}
 use Rattle.dpj_base.specs.declared.place.Place.{Place}
 use Rattle.dpj_typed.specs.declared.stmt.Forking.{Forking}
 use Rattle.dpj_typed.specs.declared.stmt.Forking.TheVariants.{Deterministic}
-use Rattle.dpj_typed.specs.Plain.{type_of, of_array, of_part, TypedStmt, statement, TypedStmts, no_stmts, more_stmts, TypedBranches, no_branches, more_branches}
+use Rattle.dpj_typed.specs.Plain.{of_array, of_part, TypedStmt, statement, TypedStmts, no_stmts, more_stmts, TypedBranches, no_branches, more_branches}
 use Rattle.dpj_typed.specs.Plain.{StmtForm as form}
 use Rattle.dpj_code.specs.declared.instr.Instr.{Instr}
 use Rattle.dpj_code.specs.declared.instr.Instr.TheVariants as i
-use Rattle.dpj_code.specs.Plain.{PlainBody, body_or_none, Site, fork_site, spread_site, of_branch, PlainCode, body_at}
+use Rattle.dpj_code.specs.Plain.{PlainBody, body_or_none, fork_site, spread_site, of_branch, PlainCode, body_at}
 use Rattle.dpj_code.specs.Fit.{is_branch, BranchBody, AllBranches}
-use Rattle.dpj_gen.specs.Pieces.{Branch, Piece, Next, past, nothing, line, with_site, with_branches, beside}
+use Rattle.dpj_gen.specs.Pieces.{Branch, Piece, Next, past, nothing, line, with_branches, beside}
 use Rattle.dpj_gen.specs.Scheme.{after_expr, after_stmt, stmt_piece, stmts_piece, spread_piece, numbers, copy_lists, branches_of}
 use Rattle.dpj_gen.specs.Stands.{LineAt}
 use Rattle.dpj_gen.proofs.Pieces.{Far, next, stop, sited, BranchStands, Queued, Laid, cut, here, here_texted, here_branched, one_line}

@@ -1,6 +1,6 @@
 -- The marks of compiled code: of each construct, from the height before it, the rank of the place after it and how many entries are open.
 -- Ranks count up from behind; before two targets stands more than the sum of theirs, and a loop's body ends over its head.
-use Rattle.std.proofs.Common.{◌≡◌, ◌<◌, ◌≤◌, ℕ, zero, suc, ◌+◌, Bool, true, false, cond, List, [], ◌∷◌, ◌++◌, length, refl, sym, ap, ◌∙◌, subst, arith, length-append, Option, Some, None}
+use Rattle.std.proofs.Common.{◌≡◌, ℕ, suc, ◌+◌, Bool, true, false, cond, List, [], ◌∷◌, ◌++◌, length, subst, arith, length-append, Option, Some, None}
 use Rattle.dpj_typed.specs.Plain.{TypedExpr, typed, type_of, TypedExprs, no_exprs, more_exprs, of_array, of_part, TypedStmt, statement, TypedStmts, no_stmts, more_stmts}
 use Rattle.dpj_typed.specs.Plain.{ExprForm as expr}
 use Rattle.dpj_typed.specs.Plain.{StmtForm as form}
@@ -268,7 +268,7 @@ mutual
       far (expr_reach start p _ _ _) (far (expr_reach count _ _ _ _) (next (next stop)))
   stmt_reach (statement at (form.foreach_parts x (of_array a) count s)) p r z =
       far (expr_reach a p _ _ _) (next (next (next (far (expr_reach count _ _ _ _)
-      (next (next (next (next (next (next (next (next stop)))))))))))) 
+      (next (next (next (next (next (next (next (next stop))))))))))))
   stmt_reach (statement at (form.foreach_parts x (of_part y) count s)) p r z =
       next (next (next (next (far (expr_reach count _ _ _ _) (next (next (next (next (next (next (next stop)))))))))))
 

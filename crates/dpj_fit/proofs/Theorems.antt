@@ -1,19 +1,20 @@
 -- The code of a resolved program with room for its bodies is fit.
-use Rattle.std.proofs.Common.{◌≡◌, ◌⊎◌, inl, inr, ◌<◌, ◌≤◌, ℕ, zero, suc, ◌+◌, Bool, true, false, nat_lt, ltb-true, ltb-false, List, [], ◌∷◌, ◌++◌, map, length, refl, sym, ap, ◌∙◌, subst, arith, Option, Some, None, option_map, option_and_then, slice_get}
+use Rattle.std.proofs.Common.{◌≡◌, ◌⊎◌, inl, inr, ◌<◌, ◌≤◌, ℕ, zero, suc, ◌+◌, Bool, true, false, nat_lt, ltb-true, ltb-false, List, [], ◌∷◌, ◌++◌, length, refl, sym, ap, ◌∙◌, subst, arith, Option, Some, None, option_map, option_and_then, slice_get}
 use Rattle.std.proofs.lemmas.Option.{slice_get-map}
 use Rattle.dpj_typed.specs.Plain.{PlainProgram, PlainClass, PlainParent, TypedStmts}
 use Rattle.dpj_typed.specs.Scope.{class_at, row_at}
 use Rattle.dpj_typed.specs.Scope as program
 use Rattle.dpj_typed.specs.Statements.{all_complete}
-use Rattle.dpj_code.specs.Plain.{Line, PlainCode, body_at, Method, ClassCode, parent_of, method_at, constructor_of}
-use Rattle.dpj_code.specs.Plain as code
-use Rattle.dpj_code.specs.Fit.{Mark, Falls_to, MemberBody, RowIs, Local, CodeFit}
+use Rattle.dpj_code.specs.Plain.{Line, PlainCode, body_at, parent_of, method_at, constructor_of}
+use Rattle.dpj_code.specs.Fit.{Mark, MemberBody, RowIs, Local, CodeFit}
 use Rattle.dpj_gen.specs.Scheme.{after_stmts, method_code, class_code}
-use Rattle.dpj_gen.specs.Stands.{first_place, BeginsAt, LaidOut}
+use Rattle.dpj_gen.specs.Stands.{first_place, BeginsAt}
 use Rattle.dpj_gen.specs.Resolved.{gives_value, RowGives, Resolved}
 use Rattle.dpj_gen.specs.Whole.{number_in, compiled}
 use Rattle.dpj_gen.proofs.Tables.{parents_are, method_is, constructor_is}
-use Rattle.dpj_gen.proofs.Whole.{laid_out}
+use Rattle.dpj_code.proofs.Safe.{fit_is_safe, members_are_safe}
+use Rattle.dpj_gen.proofs.Whole.{laid_out, members_at}
+use Rattle.dpj_fit.specs.Laws.{SafeCode}
 use Rattle.dpj_fit.specs.Room.{Roomy}
 use Rattle.dpj_fit.proofs.Marks.{mark, reached, Marked, Reach, far, next, stop, cut, top_stmts, stmts_marks, stmts_reach}
 use Rattle.dpj_fit.proofs.Fitting.{Fine, Covers, covers_then, covers_none, covers_if, covers_one, still, is_reached, some_is, none_is, stmts_first, fit_stmts}
@@ -99,7 +100,7 @@ module _ (C : PlainCode) (P : PlainProgram) (marks : ℕ → ℕ → Option Mark
     body_fits p m e =
         let n : p < length (body_marks K.takes K.stmts) = in_list (body_marks K.takes K.stmts) p m (sym (stand p) ∙ e) in
         let long : Reach 0 (body_marks K.takes K.stmts) (suc (after_stmts (first_place K.takes) K.stmts)) =
-            far (begin_reach K.takes (top_stmts 1 K.stmts)) (far (stmts_reach K.stmts (first_place K.takes) 1 0) (next stop)) in
+        far (begin_reach K.takes (top_stmts 1 K.stmts)) (far (stmts_reach K.stmts (first_place K.takes) 1 0) (next stop)) in
         let l = long.is in
         body_covers.each p (omega arith) (omega arith) m e
 
@@ -199,4 +200,14 @@ module _ (P : PlainProgram) where
       line = λ j p m e. lines_fit j p m e;
       rows = λ c r p y e g. rows_below resolved roomy c r p y e g;
       constructors = λ c j e. constructors_give_none resolved c j e;
+    }
+
+    -- and its members begin safe
+    pub code_is_safe : {N M : Type 0} → SafeCode N M P
+    unfolding code_is_fit
+    code_is_safe {N} {M} = record {
+      fit = code_is_fit;
+      begins = λ n m e f h k. (let b = members_at P n m e in
+          members_are_safe (compiled P) code_is_fit (number_in P n) (gives_value m) f (member_body P n m e) (h ∙ sym b.slots) (k ∙ sym b.local_regions));
+      goes_on = λ names r s h. fit_is_safe (compiled P) code_is_fit names r s h;
     }

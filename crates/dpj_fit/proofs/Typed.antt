@@ -1,12 +1,12 @@
 -- The bodies of a well-typed program keep to their slots and local regions, and its rows are members.
-use Rattle.std.proofs.Common.{◌≡◌, ◌⊎◌, inl, inr, ◌<◌, ℕ, zero, suc, ◌+◌, ◌==◌, Bool, true, false, cond, List, [], ◌∷◌, ◌++◌, All, length, slice_index_or, refl, sym, ap, ◌∙◌, subst, arith, Option, Some, None, slice_get, option_map, option_and_then}
+use Rattle.std.proofs.Common.{◌≡◌, inl, inr, ◌<◌, ℕ, zero, suc, ◌+◌, ◌==◌, Bool, true, false, cond, List, [], ◌∷◌, All, length, slice_index_or, refl, sym, ap, ◌∙◌, arith, Option, Some, None, slice_get, option_map, option_and_then}
 use Rattle.std.proofs.lemmas.Bool.{eqb-true}
 use Rattle.std.proofs.lemmas.Option.{slice_get_within}
 use Rattle.std.specs.List.{list_any}
-use Rattle.dpj_base.specs.Types.{PlainType, int, class}
+use Rattle.dpj_base.specs.Types.{PlainType, int}
 use Rattle.dpj_base.specs.declared.region.Rpl.{Rpl}
 use Rattle.dpj_typed.specs.Plain.{PlainProgram, PlainClass, PlainMember, TypedExpr, TypedExprs, Source, TypedStmt, TypedStmts, TypedBranches}
-use Rattle.dpj_typed.specs.Scope.{Scope, Local, variable, frozen, constant, part, reserved, with_local, with_regions, in_atomic_block, in_loop_branch, read_alone, seen_in_branch, in_branch, class_at, member_at, row_at}
+use Rattle.dpj_typed.specs.Scope.{Scope, Local, variable, frozen, constant, part, reserved, with_local, in_loop_branch, read_alone, seen_in_branch, class_at, member_at}
 use Rattle.dpj_typed.specs.Effects.{Own}
 use Rattle.dpj_typed.specs.Typing.{Holds, Has, Fit}
 use Rattle.dpj_typed.specs.Typing.{Has as has}
@@ -15,7 +15,7 @@ use Rattle.dpj_typed.specs.Statements.{declared_as, with_part, IsFree, Cuts, cut
 use Rattle.dpj_typed.specs.Statements.{Passes as passes}
 use Rattle.dpj_typed.specs.Statements.{AllPass as all}
 use Rattle.dpj_typed.specs.Statements.{BranchesPass as branches}
-use Rattle.dpj_typed.specs.Table.{first_locals, own_paths, body_scope}
+use Rattle.dpj_typed.specs.Table.{first_locals}
 use Rattle.dpj_typed.specs.WellTyped.{WellTyped}
 use Rattle.dpj_fit.specs.Room.{ExprWithin, ExprsWithin, SourceWithin, StmtWithin, StmtsWithin, BranchesWithin, Roomy}
 
@@ -165,9 +165,10 @@ module _ (P : PlainProgram) (n r : ℕ) where
     all_within u (all.declare {x = x} {t = t} {is_final = is_final} f g h s a) =
         let e = u.slots in let l = f.1 in let d = declared_room is_final t in
         ((omega arith, expr_within u h), all_within (with_one x (declared_as is_final t) (omega arith) u) a)
-    all_within u (all.declare_regions f a) =
-        (λ k d l. (let e = u.local_regions in let v = (f k d l).1 in omega arith),
-        all_within (record { slots = u.slots; local_regions = u.local_regions; locals = u.locals }) a)
+    all_within u (all.declare_regions f a) = (
+      λ k d l. (let e = u.local_regions in let v = (f k d l).1 in omega arith),
+      all_within (record { slots = u.slots; local_regions = u.local_regions; locals = u.locals }) a,
+    )
 
     branches_within : {L : Scope} {others : List ℕ} {bs : TypedBranches} {Es : List (List Own)} → Room n r L → BranchesPass P L others bs Es →
         BranchesWithin n r bs
