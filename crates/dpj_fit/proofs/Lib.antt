@@ -1,6 +1,6 @@
 mod Typed
-pub mod Marks
-pub mod Linked
+mod Marks
+mod Linked
 mod Fitting
 mod Bodies
-mod Theorems
+pub mod Theorems

@@ -5,6 +5,7 @@ use Rattle.dpj_typed.specs.Plain.{PlainProgram, PlainClass, PlainParent, TypedSt
 use Rattle.dpj_typed.specs.Scope.{class_at, row_at}
 use Rattle.dpj_typed.specs.Scope as program
 use Rattle.dpj_typed.specs.Statements.{all_complete}
+use Rattle.dpj_typed.specs.WellTyped.{WellTyped}
 use Rattle.dpj_code.specs.Plain.{Line, PlainCode, body_at, parent_of, method_at, constructor_of}
 use Rattle.dpj_code.specs.Fit.{Mark, MemberBody, RowIs, Local, CodeFit}
 use Rattle.dpj_gen.specs.Scheme.{after_stmts, method_code, class_code}
@@ -13,9 +14,11 @@ use Rattle.dpj_gen.specs.Resolved.{gives_value, RowGives, Resolved}
 use Rattle.dpj_gen.specs.Whole.{number_in, compiled}
 use Rattle.dpj_gen.proofs.Tables.{parents_are, method_is, constructor_is}
 use Rattle.dpj_code.proofs.Safe.{fit_is_safe, members_are_safe}
+use Rattle.dpj_gen.proofs.Typed.{typed_is_resolved}
 use Rattle.dpj_gen.proofs.Whole.{laid_out, members_at}
 use Rattle.dpj_fit.specs.Laws.{SafeCode}
 use Rattle.dpj_fit.specs.Room.{Roomy}
+use Rattle.dpj_fit.proofs.Typed.{typed_is_roomy}
 use Rattle.dpj_fit.proofs.Marks.{mark, reached, Marked, Reach, far, next, stop, cut, top_stmts, stmts_marks, stmts_reach}
 use Rattle.dpj_fit.proofs.Fitting.{Fine, Covers, covers_then, covers_none, covers_if, covers_one, still, is_reached, some_is, none_is, stmts_first, fit_stmts}
 use Rattle.dpj_fit.proofs.Bodies.{TakesWithin, Ends, Known, gives_in, body_known, member_body}
@@ -211,3 +214,6 @@ module _ (P : PlainProgram) where
           members_are_safe (compiled P) code_is_fit (number_in P n) (gives_value m) f (member_body P n m e) (h ∙ sym b.slots) (k ∙ sym b.local_regions));
       goes_on = λ names r s h. fit_is_safe (compiled P) code_is_fit names r s h;
     }
+
+pub typed_is_fit : (P : PlainProgram) → WellTyped P → CodeFit (compiled P)
+typed_is_fit P W = code_is_fit P (typed_is_resolved P W) (typed_is_roomy P W)

@@ -1,6 +1,5 @@
-use Rattle.dpj_gen.proofs.Typed.{typed_is_resolved}
 use Rattle.dpj_fit.proofs.Typed.{typed_is_roomy}
-use Rattle.dpj_fit.proofs.Theorems.{code_is_fit}
+use Rattle.dpj_fit.proofs.Theorems.{code_is_fit, typed_is_fit}
 use Rattle.dpj_fit.proofs.laws.law_fit.Goals as goal
 
 pub returns-clause-compiled : goal.returns-clause-compiled
@@ -10,4 +9,4 @@ pub returns-clause-roomy : goal.returns-clause-roomy
 returns-clause-roomy g P = λ W. typed_is_roomy P W
 
 pub returns-clause-typed : goal.returns-clause-typed
-returns-clause-typed g P = λ W. code_is_fit P (typed_is_resolved P W) (typed_is_roomy P W)
+returns-clause-typed g P = λ W. typed_is_fit P W
