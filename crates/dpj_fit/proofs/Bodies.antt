@@ -33,7 +33,7 @@ module _ (P : PlainProgram) (y : Bool) (n r : ℕ) where
     titled : is_branch b.title ≡ true
     takes : TakesWithin n b.takes
     fits : StmtFits P y b.stmt
-    within : StmtWithin n r b.stmt
+    within : StmtWithin n r false b.stmt
 
   abbrev AllGood : List Branch → Type 0
   AllGood [] = Unit {0}
@@ -81,46 +81,46 @@ module _ (P : PlainProgram) (y : Bool) (n r : ℕ) where
       (record { titled = refl; takes = tt; fits = ok.0; within = w.1 }, each_good s (suc k) bs ok.1 w.2)
 
   mutual
-    stmt_good : (k : Next) (p : ℕ) (s : TypedStmt) → StmtFits P y s → StmtWithin n r s → Goods (stmt_piece k p s)
-    stmt_good k p (statement at (form.block ss)) ok w = stmts_good k p ss ok w
-    stmt_good k p (statement at (form.choice e s)) ok w = good_after (expr_needs k p e) (good_line _ _ (stmt_good _ _ s ok.1 w.1))
-    stmt_good k p (statement at (form.choice_else e s t)) ok w =
-        good_after (expr_needs k p e) (good_line _ _ (good_both (stmt_good _ _ s ok.1 w.1) (good_line _ _ (stmt_good _ _ t ok.2 w.2))))
-    stmt_good k p (statement at (form.while_loop e s)) ok w =
-        good_after (expr_needs k p e) (good_line _ _ (good_line _ _ (good_both (stmt_good _ _ s ok.1 w.1) (good_line _ _ good_nothing))))
-    stmt_good k p (statement at (form.atomic effects ss)) ok w =
-        good_both (good_site _ _ (good_line _ _ good_nothing)) (good_both (stmts_good _ _ ss ok w) (good_line _ _ good_nothing))
-    stmt_good k p (statement at (form.cobegin forking bs)) ok w = good_branches _ _ (each_good _ 0 bs ok w)
-    stmt_good k p (statement at (form.foreach forking x start count s)) ok w =
+    stmt_good : (may : Bool) (k : Next) (p : ℕ) (s : TypedStmt) → StmtFits P y s → StmtWithin n r may s → Goods (stmt_piece k p s)
+    stmt_good may k p (statement at (form.block ss)) ok w = stmts_good may k p ss ok w
+    stmt_good may k p (statement at (form.choice e s)) ok w = good_after (expr_needs k p e) (good_line _ _ (stmt_good may _ _ s ok.1 w.1))
+    stmt_good may k p (statement at (form.choice_else e s t)) ok w =
+        good_after (expr_needs k p e) (good_line _ _ (good_both (stmt_good may _ _ s ok.1 w.1) (good_line _ _ (stmt_good may _ _ t ok.2 w.2))))
+    stmt_good may k p (statement at (form.while_loop e s)) ok w =
+        good_after (expr_needs k p e) (good_line _ _ (good_line _ _ (good_both (stmt_good may _ _ s ok.1 w.1) (good_line _ _ good_nothing))))
+    stmt_good may k p (statement at (form.atomic effects ss)) ok w =
+        good_both (good_site _ _ (good_line _ _ good_nothing)) (good_both (stmts_good false _ _ ss ok w) (good_line _ _ good_nothing))
+    stmt_good may k p (statement at (form.cobegin forking bs)) ok w = good_branches _ _ (each_good _ 0 bs ok w)
+    stmt_good may k p (statement at (form.foreach forking x start count s)) ok w =
         good_after (expr_needs k p start) (good_after (expr_needs _ _ count)
         (good_branches _ _ (record { titled = refl; takes = tt; fits = ok.2; within = w.3 }, tt)))
-    stmt_good k p (statement at (form.foreach_parts x (of_array a) count s)) ok w =
+    stmt_good may k p (statement at (form.foreach_parts x (of_array a) count s)) ok w =
         good_after (expr_needs k p a) (good_line _ _ (good_line _ _ (good_line _ _ (good_after (expr_needs _ _ count)
         (good_line _ _ (good_line _ _ (good_line _ _ (good_line _ _ (good_line _ _ (good_line _ _
         (good_branches _ _ (record { titled = refl; takes = w.0; fits = ok.2; within = w.3 }, tt))))))))))))
-    stmt_good k p (statement at (form.foreach_parts x (of_part z) count s)) ok w =
+    stmt_good may k p (statement at (form.foreach_parts x (of_part z) count s)) ok w =
         good_line _ _ (good_line _ _ (good_line _ _ (good_line _ _ (good_after (expr_needs _ _ count)
         (good_line _ _ (good_line _ _ (good_line _ _ (good_line _ _ (good_line _ _
         (good_branches _ _ (record { titled = refl; takes = w.0; fits = ok.1; within = w.3 }, tt)))))))))))
-    stmt_good k p s ok w = good_none (stmt_needs k p s)
+    stmt_good may k p s ok w = good_none (stmt_needs k p s)
 
-    stmts_good : (k : Next) (p : ℕ) (ss : TypedStmts) → StmtsFit P y ss → StmtsWithin n r ss → Goods (stmts_piece k p ss)
-    stmts_good k p no_stmts ok w = good_nothing
-    stmts_good k p (more_stmts s ss) ok w = good_both (stmt_good k p s ok.0 w.0) (stmts_good _ _ ss ok.2 w.1)
+    stmts_good : (may : Bool) (k : Next) (p : ℕ) (ss : TypedStmts) → StmtsFit P y ss → StmtsWithin n r may ss → Goods (stmts_piece k p ss)
+    stmts_good may k p no_stmts ok w = good_nothing
+    stmts_good may k p (more_stmts s ss) ok w = good_both (stmt_good may k p s ok.0 w.0) (stmts_good may _ _ ss ok.2 w.1)
 
-  branch_good : (k : Next) (at : Place) (s : TypedStmt) (takes : Option ℕ) → StmtFits P y s → StmtWithin n r s → Goods (branch_piece_of k at s takes)
-  branch_good k at s None ok w = good_both (stmt_good k 0 s ok w) (good_line _ _ good_nothing)
-  branch_good k at s (Some x) ok w = good_line _ _ (good_both (stmt_good k 1 s ok w) (good_line _ _ good_nothing))
+  branch_good : (k : Next) (at : Place) (s : TypedStmt) (takes : Option ℕ) → StmtFits P y s → StmtWithin n r false s → Goods (branch_piece_of k at s takes)
+  branch_good k at s None ok w = good_both (stmt_good false k 0 s ok w) (good_line _ _ good_nothing)
+  branch_good k at s (Some x) ok w = good_line _ _ (good_both (stmt_good false k 1 s ok w) (good_line _ _ good_nothing))
 
-  member_good : (k : Next) (ss : TypedStmts) (z : Bool) → StmtsFit P y ss → StmtsWithin n r ss → Goods (beside (stmts_piece k 0 ss) (closing z))
-  member_good k ss true ok w = good_both (stmts_good k 0 ss ok w) (good_line _ _ good_nothing)
-  member_good k ss false ok w = good_both (stmts_good k 0 ss ok w) good_nothing
+  member_good : (k : Next) (ss : TypedStmts) (z : Bool) → StmtsFit P y ss → StmtsWithin n r true ss → Goods (beside (stmts_piece k 0 ss) (closing z))
+  member_good k ss true ok w = good_both (stmts_good true k 0 ss ok w) (good_line _ _ good_nothing)
+  member_good k ss false ok w = good_both (stmts_good true k 0 ss ok w) good_nothing
 
 module _ (C : PlainCode) (P : PlainProgram) (gives : ℕ → Bool) where
   -- how a body ends, where it comes to its end
   abbrev pub Ends : ℕ → ℕ → TypedStmts → Type 0
   Ends j p ss =
-      ((at : Place) × LineAt (body_at C j).lines p i.Leave at × (gives j ≡ false)) ⊎
+      ((at : Place) × LineAt (body_at C j).lines p i.Leave at × (gives j ≡ false) × (is_branch (body_at C j).title ≡ false)) ⊎
       (((at : Place) × LineAt (body_at C j).lines p i.End at × (is_branch (body_at C j).title ≡ true)) ⊎ (all_complete ss ≡ false))
 
   -- a body is that of statements which fit
@@ -132,15 +132,17 @@ module _ (C : PlainCode) (P : PlainProgram) (gives : ℕ → Bool) where
     pub at : StmtsAt C (body_at C j).lines (first_place takes) stmts
     pub linked : AllLinked C (body_at C j) (first_place takes) stmts
     pub fits : StmtsFit P (gives j) stmts
-    pub within : StmtsWithin (body_at C j).slots (body_at C j).local_regions stmts
+    pub may : Bool
+    pub within : StmtsWithin (body_at C j).slots (body_at C j).local_regions may stmts
+    pub member : may ≡ true → is_branch (body_at C j).title ≡ false
     pub ends : Ends j (after_stmts (first_place takes) stmts) stmts
 
   is_body : (j : ℕ) {b : PlainBody} → slice_get C.bodies j ≡ Some b → body_at C j ≡ b
   is_body j h = ap body_or_none h
 
   -- the room of a body is that of its member
-  within_here : {n r s t : ℕ} (ss : TypedStmts) → n ≡ s → r ≡ t → StmtsWithin s t ss → StmtsWithin n r ss
-  within_here {n} {r} {s} {t} ss e f w = subst (λ z. StmtsWithin n z ss) (sym f) (subst (λ z. StmtsWithin z t ss) (sym e) w)
+  within_here : {n r s t : ℕ} (may : Bool) (ss : TypedStmts) → n ≡ s → r ≡ t → StmtsWithin s t may ss → StmtsWithin n r may ss
+  within_here {n} {r} {s} {t} may ss e f w = subst (λ z. StmtsWithin n z may ss) (sym f) (subst (λ z. StmtsWithin z t may ss) (sym e) w)
 
   -- the branches in the queue have the room of their member
   rooted_queue : (n j : ℕ) (m : PlainMember) (k : Next) (todo : List Branch) → need todo ≤ n → j + length todo ≡ k.body →
@@ -210,7 +212,9 @@ module _ (C : PlainCode) (P : PlainProgram) (gives : ℕ → Bool) where
         at = (x.stmt, tt);
         linked = (branch_linked (body_at C j) k (place_of b.stmt) b.stmt b.takes stands, tt);
         fits = subst (λ z. StmtsFit P z (more_stmts b.stmt no_stmts)) (sym same) (f.0.fits, inr refl, tt);
-        within = within_here (more_stmts b.stmt no_stmts) slots regions (f.0.within, tt);
+        may = false;
+        within = within_here false (more_stmts b.stmt no_stmts) slots regions (f.0.within, tt);
+        member = λ c. absurd (cc);
         ends = inr (inl (x.place, x.ends, ap is_branch x.title ∙ f.0.titled));
       })
   queue_known y (suc n) j m k (b ∷ todo) l e h f g (suc i) lt =
@@ -253,14 +257,16 @@ module _ (C : PlainCode) (P : PlainProgram) (gives : ℕ → Bool) where
         at = is.stmts;
         linked = all_linked C (body_at C k.body) (in_member k) 0 m.body (cut_here C (body_at C k.body) (stmts_far (in_member k) 0 m.body) stands).0;
         fits = subst (λ z. StmtsFit P z m.body) (sym same) (resolved.bodies n m e);
-        within = within_here m.body is.slots is.local_regions (roomy.bodies n m e);
-        ends = go (closes m) refl same is.ends;
+        may = true;
+        within = within_here true m.body is.slots is.local_regions (roomy.bodies n m e);
+        member = λ c. ap (λ z. is_branch z.title) (is_body k.body h.bodies.0);
+        ends = go (closes m) refl same (ap (λ z. is_branch z.title) (is_body k.body h.bodies.0)) is.ends;
       })
     where
-      go : (z : Bool) → closes m ≡ z → gives k.body ≡ gives_value m → MemberEnds C (body_at C k.body).lines (after_stmts 0 m.body) z →
+      go : (z : Bool) → closes m ≡ z → gives k.body ≡ gives_value m → is_branch (body_at C k.body).title ≡ false → MemberEnds C (body_at C k.body).lines (after_stmts 0 m.body) z →
           Ends k.body (after_stmts 0 m.body) m.body
-      go true q same x = inl (x.0, x.1, same ∙ ap not (leaves_nothing (is_void m.result) (all_complete m.body) q))
-      go false q same x = inr (inr (never_ends (is_void m.result) (all_complete m.body) q (λ v. resolved.ends n m e (ap not v))))
+      go true q same t x = inl (x.0, x.1, same ∙ ap not (leaves_nothing (is_void m.result) (all_complete m.body) q), t)
+      go false q same t x = inr (inr (never_ends (is_void m.result) (all_complete m.body) q (λ v. resolved.ends n m e (ap not v))))
   member_known resolved roomy k m n e h g (suc i) l =
       let a = member_piece (in_member k) m in
       let more = generate (weight_all m.body) m (past (in_member k) a) a.branches in

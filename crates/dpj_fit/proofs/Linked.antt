@@ -78,29 +78,27 @@ module _ (C : PlainCode) where
       pub stands : LineAt b.lines p (i.Text number) place
       pub is_there : number < length C.texts
 
-    pub record ForkThere (p : ℕ) : Type 0 where
+    pub record ForkThere (p : ℕ) (copies : List (List ℕ)) : Type 0 where
       pub number : ℕ
       pub place : Place
       pub forking : Forking
       pub bodies : List ℕ
-      pub copies : List (List ℕ)
       pub stands : LineAt b.lines p (i.Fork number) place
       pub site_is : slice_get C.sites number ≡ Some (fork_site forking bodies copies)
       pub many : length copies ≡ length bodies
       pub branches : AllBranches C b bodies
 
-    pub record SpreadThere (p : ℕ) : Type 0 where
+    pub record SpreadThere (p slot : ℕ) : Type 0 where
       pub number : ℕ
       pub place : Place
       pub forking : Forking
       pub body : ℕ
-      pub slot : ℕ
       pub stands : LineAt b.lines p (i.Spread number) place
       pub site_is : slice_get C.sites number ≡ Some (spread_site forking body slot)
       pub branch : BranchBody C b body
 
     spread_there : (k : Next) (p : ℕ) (at : Place) (forking : Forking) (x : ℕ) (takes : Option ℕ) (s : TypedStmt) →
-        Stands k p (spread_piece k at forking x takes s) → SpreadThere p
+        Stands k p (spread_piece k at forking x takes s) → SpreadThere p x
     spread_there k p at forking x takes s h =
         let g = here_branched C _ _ h.laid in
         let r = of_branches k.body _ _ h.branches in
@@ -109,7 +107,6 @@ module _ (C : PlainCode) where
           place = at;
           forking = forking;
           body = k.body;
-          slot = x;
           stands = (one_line b.lines p _ g.2).0;
           site_is = g.1;
           branch = branch_body k.site 0 k.body _ refl g.0.0 r.0;
@@ -124,12 +121,12 @@ module _ (C : PlainCode) where
       Linked p (statement at (form.while_loop e s)) = Linked (suc (suc (after_expr p e))) s
       Linked p (statement at (form.print_text text)) = TextThere p
       Linked p (statement at (form.atomic effects ss)) = AllLinked (suc p) ss
-      Linked p (statement at (form.cobegin forking bs)) = ForkThere p
-      Linked p (statement at (form.foreach forking x start count s)) = SpreadThere (after_expr (after_expr p start) count)
+      Linked p (statement at (form.cobegin forking bs)) = ForkThere p (copy_lists bs)
+      Linked p (statement at (form.foreach forking x start count s)) = SpreadThere (after_expr (after_expr p start) count) x
       Linked p (statement at (form.foreach_parts x (of_array a) count s)) =
-          SpreadThere (suc (suc (suc (suc (suc (suc (after_expr (suc (suc (suc (after_expr p a)))) count)))))))
+          SpreadThere (suc (suc (suc (suc (suc (suc (after_expr (suc (suc (suc (after_expr p a)))) count))))))) (x + 4)
       Linked p (statement at (form.foreach_parts x (of_part y) count s)) =
-          SpreadThere (suc (suc (suc (suc (suc (after_expr (suc (suc (suc (suc p)))) count))))))
+          SpreadThere (suc (suc (suc (suc (suc (after_expr (suc (suc (suc (suc p)))) count)))))) (x + 4)
       Linked p s = Unit {0}
 
       pub AllLinked : ℕ → TypedStmts → Type 0
@@ -157,7 +154,6 @@ module _ (C : PlainCode) where
             place = at;
             forking = forking;
             bodies = numbers k.body bs;
-            copies = copy_lists bs;
             stands = (one_line b.lines p _ g.2).0;
             site_is = g.1;
             many = copies_many bs k.body;

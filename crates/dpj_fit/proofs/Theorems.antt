@@ -1,14 +1,14 @@
 -- The code of a resolved program with room for its bodies is fit.
-use Rattle.std.proofs.Common.{◌≡◌, ◌⊎◌, inl, inr, ◌<◌, ◌≤◌, ℕ, zero, suc, ◌+◌, Bool, true, false, nat_lt, ltb-true, ltb-false, List, [], ◌∷◌, ◌++◌, length, refl, sym, ap, ◌∙◌, subst, arith, Option, Some, None, option_map, option_and_then, slice_get}
+use Rattle.std.proofs.Common.{◌≡◌, ◌⊎◌, inl, inr, ◌<◌, ◌≤◌, ℕ, zero, suc, ◌+◌, Bool, true, false, not, nat_lt, ltb-true, ltb-false, List, [], ◌∷◌, ◌++◌, length, refl, sym, ap, ◌∙◌, subst, arith, Option, Some, None, option_map, option_and_then, slice_get}
 use Rattle.std.proofs.lemmas.Option.{slice_get-map}
 use Rattle.dpj_typed.specs.Plain.{PlainProgram, PlainClass, PlainParent, TypedStmts}
 use Rattle.dpj_typed.specs.Scope.{class_at, row_at}
 use Rattle.dpj_typed.specs.Scope as program
 use Rattle.dpj_typed.specs.Statements.{all_complete}
 use Rattle.dpj_typed.specs.WellTyped.{WellTyped}
-use Rattle.dpj_code.specs.Plain.{Line, PlainCode, body_at, parent_of, method_at, constructor_of}
+use Rattle.dpj_code.specs.Plain.{Method, Line, PlainCode, body_at, parent_of, method_at, constructor_of}
 use Rattle.dpj_code.specs.Fit.{Mark, MemberBody, RowIs, Local, CodeFit}
-use Rattle.dpj_gen.specs.Scheme.{after_stmts, method_code, class_code}
+use Rattle.dpj_gen.specs.Scheme.{is_void, after_stmts, method_code, class_code}
 use Rattle.dpj_gen.specs.Stands.{first_place, BeginsAt}
 use Rattle.dpj_gen.specs.Resolved.{gives_value, RowGives, Resolved}
 use Rattle.dpj_gen.specs.Whole.{number_in, compiled}
@@ -16,9 +16,10 @@ use Rattle.dpj_gen.proofs.Tables.{parents_are, method_is, constructor_is}
 use Rattle.dpj_code.proofs.Safe.{fit_is_safe, members_are_safe}
 use Rattle.dpj_gen.proofs.Typed.{typed_is_resolved}
 use Rattle.dpj_gen.proofs.Whole.{laid_out, members_at}
+use Rattle.dpj_fit.specs.Closed.{Keeps, CodeClosed}
 use Rattle.dpj_fit.specs.Laws.{SafeCode}
 use Rattle.dpj_fit.specs.Room.{Roomy}
-use Rattle.dpj_fit.proofs.Typed.{typed_is_roomy}
+use Rattle.dpj_fit.proofs.Typed.{through, typed_is_roomy}
 use Rattle.dpj_fit.proofs.Marks.{mark, reached, Marked, Reach, far, next, stop, cut, top_stmts, stmts_marks, stmts_reach}
 use Rattle.dpj_fit.proofs.Fitting.{Fine, Covers, covers_then, covers_none, covers_if, covers_one, still, is_reached, some_is, none_is, stmts_first, fit_stmts}
 use Rattle.dpj_fit.proofs.Bodies.{TakesWithin, Ends, Known, gives_in, body_known, member_body}
@@ -59,7 +60,7 @@ module _ (C : PlainCode) (P : PlainProgram) (marks : ℕ → ℕ → Option Mark
   begin_fits : (takes : Option ℕ) (r : ℕ) → BeginsAt C (body_at C j).lines takes → TakesWithin (body_at C j).slots takes →
       Marked (marks j) 0 (begin_marks takes r) → marks j (first_place takes) ≡ Some (mark 0 r 0) → Covers C P marks gives calls j 0 (first_place takes)
   begin_fits None r b w x y = covers_none C P marks gives calls j
-  begin_fits (Some k) r b w x y = covers_one C P marks gives calls j b.stands x.0 (w, still C P marks gives calls j y)
+  begin_fits (Some k) r b w x y = covers_one C P marks gives calls j b.stands x.0 tt (w, still C P marks gives calls j y)
 
   begin_first : (takes : Option ℕ) (r : ℕ) → Marked (marks j) 0 (begin_marks takes r) → marks j (first_place takes) ≡ Some (mark 0 r 0) →
       (m : Mark) × (marks j 0 ≡ Some m) × (m.height ≡ 0) × (m.open_entries ≡ 0)
@@ -67,8 +68,8 @@ module _ (C : PlainCode) (P : PlainProgram) (marks : ℕ → ℕ → Option Mark
   begin_first (Some k) r x y = (_, x.0, refl, refl)
 
   end_fits : (p : ℕ) (ss : TypedStmts) → Ends C P gives j p ss → marks j p ≡ reached (all_complete ss) (mark 0 1 0) → Covers C P marks gives calls j p (suc p)
-  end_fits p ss (inl e) x = covers_if C P marks gives calls j _ (all_complete ss) e.1 x (λ c. e.2)
-  end_fits p ss (inr (inl e)) x = covers_if C P marks gives calls j _ (all_complete ss) e.1 x (λ c. e.2)
+  end_fits p ss (inl e) x = covers_if C P marks gives calls j _ (all_complete ss) e.1 x (λ c. (e.2, (e.3, refl)))
+  end_fits p ss (inr (inl e)) x = covers_if C P marks gives calls j _ (all_complete ss) e.1 x (λ c. (e.2, (e.2, refl)))
   end_fits p ss (inr (inr e)) x =
       record { each = λ q u v. subst (λ q. Fine C P marks gives calls j q) (omega arith) (λ m f. none_is (sym (x ∙ ap (λ t. reached t (mark 0 1 0)) e) ∙ f)) }
 
@@ -96,7 +97,7 @@ module _ (C : PlainCode) (P : PlainProgram) (marks : ℕ → ℕ → Option Mark
     body_covers =
         covers_then C P marks gives calls j (begin_fits K.takes (top_stmts 1 K.stmts) K.begins K.takes_within parts.0 begin)
         (covers_then C P marks gives calls j
-        (fit_stmts C P marks gives calls j K.stmts (first_place K.takes) 1 0 K.fits K.within K.at K.linked parts.1 after)
+        (fit_stmts C P marks gives calls j K.stmts K.may (first_place K.takes) 1 0 (λ c. (K.member c, refl)) K.fits K.within K.at K.linked parts.1 after)
         (end_fits (after_stmts (first_place K.takes) K.stmts) K.stmts K.ends parts.2))
 
     pub body_fits : (p : ℕ) → Fine C P marks gives calls j p
@@ -186,34 +187,74 @@ module _ (P : PlainProgram) where
         go (inl k) h = body_first (compiled P) P marks_in (gives_in P) row_is j (body_known P resolved roomy j k) h
         go (inr k) h = absurd (omega arith)
 
-    lines_fit : (j p : ℕ) (m : Mark) → marks_in j p ≡ Some m →
-        (l : Line) × (slice_get (body_at (compiled P) j).lines p ≡ Some l) × Local (compiled P) marks_in (gives_in P) j p m l.instr
+    lines_fit : (j p : ℕ) → Fine (compiled P) P marks_in (gives_in P) row_is j p
     lines_fit j p m e = go (decide (length (compiled P).bodies) j) (λ p. refl)
       where
         go : (d : Choice j) → ((p : ℕ) → marks_in j p ≡ marks_when j d p) →
-            (l : Line) × (slice_get (body_at (compiled P) j).lines p ≡ Some l) × Local (compiled P) marks_in (gives_in P) j p m l.instr
+            (l : Line) × (slice_get (body_at (compiled P) j).lines p ≡ Some l) × Local (compiled P) marks_in (gives_in P) j p m l.instr ×
+            Keeps (compiled P) (body_at (compiled P) j) m l.instr
         go (inl k) h = body_fits (compiled P) P marks_in (gives_in P) row_is j (body_known P resolved roomy j k) h p m e
         go (inr k) h = none_is (sym (h p) ∙ e)
+
+    lines_keep : (j p : ℕ) (m : Mark) (l : Line) → marks_in j p ≡ Some m → slice_get (body_at (compiled P) j).lines p ≡ Some l →
+        Keeps (compiled P) (body_at (compiled P) j) m l.instr
+    lines_keep j p m l e f =
+        let x = lines_fit j p m e in subst (λ z. Keeps (compiled P) (body_at (compiled P) j) m z.instr) (some_is (sym x.1 ∙ f)) x.3
 
     pub code_is_fit : CodeFit (compiled P)
     code_is_fit = record {
       marks = λ j p. marks_in j p;
       gives = λ j. gives_in P j;
       first = λ j l. begins_so j l;
-      line = λ j p m e. lines_fit j p m e;
+      line = λ j p m e. (let x = lines_fit j p m e in (x.0, x.1, x.2));
       rows = λ c r p y e g. rows_below resolved roomy c r p y e g;
       constructors = λ c j e. constructors_give_none resolved c j e;
     }
 
-    -- and its members begin safe
-    pub code_is_safe : {N M : Type 0} → SafeCode N M P
-    unfolding code_is_fit
-    code_is_safe {N} {M} = record {
-      fit = code_is_fit;
-      begins = λ n m e f h k. (let b = members_at P n m e in
-          members_are_safe (compiled P) code_is_fit (number_in P n) (gives_value m) f (member_body P n m e) (h ∙ sym b.slots) (k ∙ sym b.local_regions));
-      goes_on = λ names r s h. fit_is_safe (compiled P) code_is_fit names r s h;
-    }
+  row_member : Roomy P → (c r : ℕ) (m : Method) → method_at (compiled P) c r ≡ Some m → (y : Bool) × MemberBody (compiled P) (gives_in P) m.body y
+  row_member roomy c r m e = go (row_at P c r) refl (sym (method_all c r) ∙ e)
+    where
+      go : (o : Option ℕ) → row_at P c r ≡ o → option_map (method_code P (number_in P)) o ≡ Some m →
+          (y : Bool) × MemberBody (compiled P) (gives_in P) m.body y
+      go None q f = none_is f
+      go (Some n) q f =
+          let x = roomy.rows c r n q in
+          (gives_value x.0, subst (λ z. MemberBody (compiled P) (gives_in P) z (gives_value x.0)) (ap (λ z. z.body) (some_is f)) (member_body P n x.0 x.1))
 
-pub typed_is_fit : (P : PlainProgram) → WellTyped P → CodeFit (compiled P)
-typed_is_fit P W = code_is_fit P (typed_is_resolved P W) (typed_is_roomy P W)
+  main_is : number_in P P.main_member ≡ (compiled P).main_body
+  unfolding compiled
+  main_is = refl
+
+  main_member : WellTyped P → MemberBody (compiled P) (gives_in P) (compiled P).main_body true
+  main_member W =
+      subst (λ z. MemberBody (compiled P) (gives_in P) z true) main_is
+      (subst (λ y. MemberBody (compiled P) (gives_in P) (number_in P P.main_member) y) (ap (λ t. not (is_void t)) W.main.result)
+      (member_body P P.main_member W.main.member W.main.member_is))
+
+  parents_before : (W : WellTyped P) (c : ℕ) (p : PlainParent) → parent_of (compiled P) c ≡ Some p → W.rank p.class < W.rank c
+  parents_before W c p e =
+      let k = through (class_at P c) (λ k. k.parent) p (sym (ap (λ f. f c) (parents_are (compiled P) P (number_in P) (laid_out P))) ∙ e) in
+      ((W.classes c k.0 k.1).parent p k.2).before
+
+-- the code of a well-typed program is closed
+pub typed_is_closed : (P : PlainProgram) → WellTyped P → CodeClosed (compiled P)
+unfolding code_is_fit
+typed_is_closed P W = record {
+  fit = code_is_fit P (typed_is_resolved P W) (typed_is_roomy P W);
+  keeps = λ j p m l e f. lines_keep P (typed_is_resolved P W) (typed_is_roomy P W) j p m l e f;
+  main = main_member P W;
+  rows = λ c r m e. row_member P (typed_is_roomy P W) c r m e;
+  order = W.rank;
+  above = λ c p e. parents_before P W c p e;
+}
+
+-- and its members begin safe
+pub typed_is_safe : {N M : Type 0} (P : PlainProgram) → WellTyped P → SafeCode N M P
+unfolding typed_is_closed code_is_fit
+typed_is_safe P W = record {
+  closed = typed_is_closed P W;
+  begins = λ n m e f h k. (let b = members_at P n m e in
+      members_are_safe (compiled P) (typed_is_closed P W).fit (number_in P n) (gives_value m) f (member_body P n m e) (h ∙ sym b.slots)
+      (k ∙ sym b.local_regions));
+  goes_on = λ names r s h. fit_is_safe (compiled P) (typed_is_closed P W).fit names r s h;
+}

@@ -28,8 +28,9 @@ beside l = 0
 abbrev LocalsFit : ℕ → (ℕ → Option Local) → Type 0
 LocalsFit n local = (x : ℕ) (l : Local) → local x ≡ Some l → x + beside l < n
 
-record Room (n r : ℕ) (L : Scope) : Type 0 where
+record Room (n r : ℕ) (may : Bool) (L : Scope) : Type 0 where
   slots : L.slots ≡ n
+  returns : (t : PlainType) → L.result ≡ Some t → may ≡ true
   local_regions : L.local_regions ≡ r
   locals : LocalsFit n L.local
 
@@ -86,13 +87,13 @@ all_free : {n : ℕ} (k : ℕ) (L : Scope) → L.slots ≡ n → All (λ i. IsFr
 all_free {n} k L e free = let a = (free 4 0 (omega arith)).1 in omega arith
 
 module _ (P : PlainProgram) (n r : ℕ) where
-  readable : {L : Scope} → Room n r L → (x : ℕ) (t : PlainType) → Holds (L.local x) t → x < n
+  readable : {L : Scope} {may : Bool} → Room n r may L → (x : ℕ) (t : PlainType) → Holds (L.local x) t → x < n
   readable room x t (inl h) = let a = room.locals x _ h in omega arith
   readable room x t (inr (inl h)) = let a = room.locals x _ h in omega arith
   readable room x t (inr (inr h)) = let a = room.locals x _ h in omega arith
 
   mutual
-    expr_within : {L : Scope} {e : TypedExpr} {E : List Own} → Room n r L → Has P L e E → ExprWithin n e
+    expr_within : {L : Scope} {may : Bool} {e : TypedExpr} {E : List Own} → Room n r may L → Has P L e E → ExprWithin n e
     expr_within u (has.literal_int s) = tt
     expr_within u has.literal_boolean = tt
     expr_within u has.literal_null = tt
@@ -112,11 +113,11 @@ module _ (P : PlainProgram) (n r : ℕ) where
     expr_within u (has.length_of_part {k = k} l) = u.locals k _ l
     expr_within u (has.read_part {k = k} l i q) = (u.locals k _ l, expr_within u i)
 
-    exprs_within : {L : Scope} {es : TypedExprs} {ts : List PlainType} {F : List Own} → Room n r L → Fit P L es ts F → ExprsWithin n es
+    exprs_within : {L : Scope} {may : Bool} {es : TypedExprs} {ts : List PlainType} {F : List Own} → Room n r may L → Fit P L es ts F → ExprsWithin n es
     exprs_within u fit.none = tt
     exprs_within u (fit.one_more h s f) = (expr_within u h, exprs_within u f)
 
-  source_within : {L : Scope} {s : Source} {t : PlainType} {a : Rpl} {E : List Own} → Room n r L → Cuts P L s t a E → SourceWithin n s
+  source_within : {L : Scope} {may : Bool} {s : Source} {t : PlainType} {a : Rpl} {E : List Own} → Room n r may L → Cuts P L s t a E → SourceWithin n s
   source_within u (cuts_array h q w) = expr_within u h
   source_within u (cuts_part {k = k} l) = u.locals k _ l
 
@@ -124,19 +125,19 @@ module _ (P : PlainProgram) (n r : ℕ) where
   declared_room true t = refl
   declared_room false t = refl
 
-  in_loop : {L : Scope} → Room n r L → Room n r (in_loop_branch L)
-  in_loop {L} u = record { slots = u.slots; local_regions = u.local_regions; locals = read_fits L.local u.locals }
+  in_loop : {L : Scope} {may : Bool} → Room n r may L → Room n r false (in_loop_branch L)
+  in_loop {L} u = record { slots = u.slots; returns = λ t e. absurd (cc); local_regions = u.local_regions; locals = read_fits L.local u.locals }
 
-  with_one : {L : Scope} (x : ℕ) (l : Local) → x + beside l < n → Room n r L → Room n r (with_local x l L)
-  with_one {L} x l k u = record { slots = u.slots; local_regions = u.local_regions; locals = declare_fits x l L.local k u.locals }
+  with_one : {L : Scope} {may : Bool} (x : ℕ) (l : Local) → x + beside l < n → Room n r may L → Room n r may (with_local x l L)
+  with_one {L} x l k u = record { slots = u.slots; returns = u.returns; local_regions = u.local_regions; locals = declare_fits x l L.local k u.locals }
 
-  part_room : {L : Scope} (k : ℕ) (t : PlainType) (a : Rpl) → k + 4 < n → Room n r L → Room n r (with_part k t a L)
+  part_room : {L : Scope} {may : Bool} (k : ℕ) (t : PlainType) (a : Rpl) → k + 4 < n → Room n r may L → Room n r may (with_part k t a L)
   part_room k t a l u =
       with_one (k + 4) (constant int) (omega arith) (with_one (k + 3) reserved (omega arith) (with_one (k + 2) reserved (omega arith)
       (with_one (k + 1) reserved (omega arith) (with_one k (part t a) l u))))
 
   mutual
-    passes_within : {L : Scope} {s : TypedStmt} {E : List Own} → Room n r L → Passes P L s E → StmtWithin n r s
+    passes_within : {L : Scope} {may : Bool} {s : TypedStmt} {E : List Own} → Room n r may L → Passes P L s E → StmtWithin n r may s
     passes_within u (passes.store {x = x} l h t) = (let a = u.locals x _ l in omega arith, expr_within u h)
     passes_within u (passes.store_field h q f k i t) = (expr_within u h, expr_within u i)
     passes_within u (passes.store_element h q i s m j t) = (expr_within u h, expr_within u i, expr_within u j)
@@ -146,12 +147,12 @@ module _ (P : PlainProgram) (n r : ℕ) where
     passes_within u (passes.choice h q a) = (expr_within u h, (all_within u a).0)
     passes_within u (passes.choice_else h q a b) = (expr_within u h, (all_within u a).0, (all_within u b).0)
     passes_within u (passes.while_loop h q a) = (expr_within u h, (all_within u a).0)
-    passes_within u (passes.return_nothing q) = tt
-    passes_within u (passes.return_value q h s) = expr_within u h
+    passes_within u (passes.return_nothing q) = u.returns _ q
+    passes_within u (passes.return_value q h s) = (u.returns _ q, expr_within u h)
     passes_within u (passes.print_int h q) = expr_within u h
     passes_within u (passes.print_boolean h q) = expr_within u h
     passes_within u passes.print_text = tt
-    passes_within u (passes.atomic a s) = all_within (record { slots = u.slots; local_regions = u.local_regions; locals = u.locals }) a
+    passes_within u (passes.atomic a s) = all_within (record { slots = u.slots; returns = λ t e. absurd (cc); local_regions = u.local_regions; locals = u.locals }) a
     passes_within u (passes.cobegin c b d) = branches_within u b
     passes_within {L} u (passes.foreach {x = x} c h q i s f a d) =
         let l : x < n = let e = u.slots in let g = f.1 in omega arith in
@@ -159,7 +160,7 @@ module _ (P : PlainProgram) (n r : ℕ) where
     passes_within {L} u (passes.foreach_parts {k = k} {t = t} {a = rpl} c i s f a d g) =
         let l = all_free k L u.slots f in (l, source_within u c, expr_within u i, (all_within (part_room k t rpl l (in_loop u)) a).0)
 
-    all_within : {L : Scope} {ss : TypedStmts} {E : List Own} → Room n r L → AllPass P L ss E → StmtsWithin n r ss
+    all_within : {L : Scope} {may : Bool} {ss : TypedStmts} {E : List Own} → Room n r may L → AllPass P L ss E → StmtsWithin n r may ss
     all_within u all.no_more = tt
     all_within u (all.then' p c a) = (passes_within u p, all_within u a)
     all_within u (all.declare {x = x} {t = t} {is_final = is_final} f g h s a) =
@@ -167,20 +168,20 @@ module _ (P : PlainProgram) (n r : ℕ) where
         ((omega arith, expr_within u h), all_within (with_one x (declared_as is_final t) (omega arith) u) a)
     all_within u (all.declare_regions f a) = (
       λ k d l. (let e = u.local_regions in let v = (f k d l).1 in omega arith),
-      all_within (record { slots = u.slots; local_regions = u.local_regions; locals = u.locals }) a,
+      all_within (record { slots = u.slots; returns = u.returns; local_regions = u.local_regions; locals = u.locals }) a,
     )
 
-    branches_within : {L : Scope} {others : List ℕ} {bs : TypedBranches} {Es : List (List Own)} → Room n r L → BranchesPass P L others bs Es →
+    branches_within : {L : Scope} {may : Bool} {others : List ℕ} {bs : TypedBranches} {Es : List (List Own)} → Room n r may L → BranchesPass P L others bs Es →
         BranchesWithin n r bs
     branches_within u branches.no_branch = tt
     branches_within {L} u (branches.one_branch {copies = copies} c d a b) = (
       λ k e l. (let v = c k e l in let w = u.locals (slice_index_or copies k e) _ v.1 in omega arith),
-      (all_within (record { slots = u.slots; local_regions = u.local_regions; locals = branch_fits _ _ L.local u.locals }) a).0,
+      (all_within (record { slots = u.slots; local_regions = u.local_regions; returns = λ t e. absurd (cc); locals = branch_fits _ _ L.local u.locals }) a).0,
       branches_within u b,
     )
 
 -- what a class has that is found through its number
-through : {A : Type 0} (k : Option PlainClass) (f : PlainClass → Option A) (x : A) → option_and_then f k ≡ Some x →
+pub through : {A : Type 0} (k : Option PlainClass) (f : PlainClass → Option A) (x : A) → option_and_then f k ≡ Some x →
     (c : PlainClass) × (k ≡ Some c) × (f c ≡ Some x)
 through None f x e = absurd (cc)
 through (Some c) f x e = (c, refl, e)
@@ -193,7 +194,7 @@ index_is (y ∷ ys) (suc k) x e = index_is ys k x e
 pub typed_is_roomy : (P : PlainProgram) → WellTyped P → Roomy P
 typed_is_roomy P W = record {
   bodies = λ n m e. (let g = W.members n m e in
-      all_within P m.slots m.local_regions (record { slots = refl; local_regions = refl; locals = first_fit g.class m g.room }) g.passes);
+      all_within P m.slots m.local_regions (record { slots = refl; returns = λ t q. refl; local_regions = refl; locals = first_fit g.class m g.room }) g.passes);
   rows = λ c r n e. (let k = through (class_at P c) (λ k. slice_get k.rows r) n e in
       let x = (W.classes c k.0 k.1).rows r 0 (slice_get_within k.0.rows r n k.2) in
       (x.0, ap (λ z. member_at P z) (sym (index_is k.0.rows r n k.2)) ∙ x.1));

@@ -10,6 +10,7 @@ use Rattle.dpj_code.specs.Fit.{CodeFit}
 use Rattle.dpj_code.specs.Safe.{Safe, SafeStand}
 use Rattle.dpj_gen.specs.Resolved.{Resolved}
 use Rattle.dpj_gen.specs.Whole.{number_in, compiled}
+use Rattle.dpj_fit.specs.Closed.{CodeClosed}
 use Rattle.dpj_fit.specs.Room.{Roomy}
 
 -- the code of a resolved program with room for its bodies is fit
@@ -19,18 +20,19 @@ CompiledIsFit = (P : PlainProgram) → Resolved P → Roomy P → CodeFit (compi
 abbrev pub WellTypedIsRoomy : Type 0
 WellTypedIsRoomy = (P : PlainProgram) → WellTyped P → Roomy P
 
-abbrev pub WellTypedIsFit : Type 0
-WellTypedIsFit = (P : PlainProgram) → WellTyped P → CodeFit (compiled P)
+-- that of a well-typed program is closed, and with that fit
+abbrev pub WellTypedIsClosed : Type 0
+WellTypedIsClosed = (P : PlainProgram) → WellTyped P → CodeClosed (compiled P)
 
 pub record SafeCode (N M : Type 0) (P : PlainProgram) : Type 0 where
-  pub fit : CodeFit (compiled P)
+  pub closed : CodeClosed (compiled P)
   -- the body of each member begins safe, in each frame that has its slots and local regions
   pub begins :
       (n : ℕ) (m : PlainMember) → member_at P n ≡ Some m → (f : Frame N M) → length f.values ≡ m.slots → length f.locals ≡ m.local_regions →
-      (r : ℕ) × Safe (compiled P) fit r (begins_at (record { body = number_in P n; frame = f }))
+      (r : ℕ) × Safe (compiled P) closed.fit r (begins_at (record { body = number_in P n; frame = f }))
   -- a safe state isn't stuck, stays safe whatever it is answered, starts safe branches, and its local steps end
   pub goes_on :
-      (names : Naming N M) (r : ℕ) (s : State N M) → Safe (compiled P) fit r s → SafeStand (compiled P) fit r (step names (compiled P) s)
+      (names : Naming N M) (r : ℕ) (s : State N M) → Safe (compiled P) closed.fit r s → SafeStand (compiled P) closed.fit r (step names (compiled P) s)
 
 abbrev pub WellTypedIsSafe : Type 0 → Type 0 → Type 0
 WellTypedIsSafe N M = (P : PlainProgram) → WellTyped P → SafeCode N M P
