@@ -33,7 +33,7 @@ module _ (P : PlainProgram) (y : Bool) (n r : ℕ) where
     titled : is_branch b.title ≡ true
     takes : TakesWithin n b.takes
     fits : StmtFits P y b.stmt
-    within : StmtWithin n r false b.stmt
+    within : StmtWithin P n r false b.stmt
 
   abbrev AllGood : List Branch → Type 0
   AllGood [] = Unit {0}
@@ -75,13 +75,13 @@ module _ (P : PlainProgram) (y : Bool) (n r : ℕ) where
   unfolding with_site
   good_site s a f = record { is = f.is }
 
-  each_good : (s k : ℕ) (bs : TypedBranches) → BranchesFit P y bs → BranchesWithin n r bs → AllGood (branches_of s k bs)
+  each_good : (s k : ℕ) (bs : TypedBranches) → BranchesFit P y bs → BranchesWithin P n r bs → AllGood (branches_of s k bs)
   each_good s k no_branches ok w = tt
   each_good s k (more_branches copies t bs) ok w =
       (record { titled = refl; takes = tt; fits = ok.0; within = w.1 }, each_good s (suc k) bs ok.1 w.2)
 
   mutual
-    stmt_good : (may : Bool) (k : Next) (p : ℕ) (s : TypedStmt) → StmtFits P y s → StmtWithin n r may s → Goods (stmt_piece k p s)
+    stmt_good : (may : Bool) (k : Next) (p : ℕ) (s : TypedStmt) → StmtFits P y s → StmtWithin P n r may s → Goods (stmt_piece k p s)
     stmt_good may k p (statement at (form.block ss)) ok w = stmts_good may k p ss ok w
     stmt_good may k p (statement at (form.choice e s)) ok w = good_after (expr_needs k p e) (good_line _ _ (stmt_good may _ _ s ok.1 w.1))
     stmt_good may k p (statement at (form.choice_else e s t)) ok w =
@@ -104,15 +104,15 @@ module _ (P : PlainProgram) (y : Bool) (n r : ℕ) where
         (good_branches _ _ (record { titled = refl; takes = w.0; fits = ok.1; within = w.3 }, tt)))))))))))
     stmt_good may k p s ok w = good_none (stmt_needs k p s)
 
-    stmts_good : (may : Bool) (k : Next) (p : ℕ) (ss : TypedStmts) → StmtsFit P y ss → StmtsWithin n r may ss → Goods (stmts_piece k p ss)
+    stmts_good : (may : Bool) (k : Next) (p : ℕ) (ss : TypedStmts) → StmtsFit P y ss → StmtsWithin P n r may ss → Goods (stmts_piece k p ss)
     stmts_good may k p no_stmts ok w = good_nothing
     stmts_good may k p (more_stmts s ss) ok w = good_both (stmt_good may k p s ok.0 w.0) (stmts_good may _ _ ss ok.2 w.1)
 
-  branch_good : (k : Next) (at : Place) (s : TypedStmt) (takes : Option ℕ) → StmtFits P y s → StmtWithin n r false s → Goods (branch_piece_of k at s takes)
+  branch_good : (k : Next) (at : Place) (s : TypedStmt) (takes : Option ℕ) → StmtFits P y s → StmtWithin P n r false s → Goods (branch_piece_of k at s takes)
   branch_good k at s None ok w = good_both (stmt_good false k 0 s ok w) (good_line _ _ good_nothing)
   branch_good k at s (Some x) ok w = good_line _ _ (good_both (stmt_good false k 1 s ok w) (good_line _ _ good_nothing))
 
-  member_good : (k : Next) (ss : TypedStmts) (z : Bool) → StmtsFit P y ss → StmtsWithin n r true ss → Goods (beside (stmts_piece k 0 ss) (closing z))
+  member_good : (k : Next) (ss : TypedStmts) (z : Bool) → StmtsFit P y ss → StmtsWithin P n r true ss → Goods (beside (stmts_piece k 0 ss) (closing z))
   member_good k ss true ok w = good_both (stmts_good true k 0 ss ok w) (good_line _ _ good_nothing)
   member_good k ss false ok w = good_both (stmts_good true k 0 ss ok w) good_nothing
 
@@ -133,7 +133,7 @@ module _ (C : PlainCode) (P : PlainProgram) (gives : ℕ → Bool) where
     pub linked : AllLinked C (body_at C j) (first_place takes) stmts
     pub fits : StmtsFit P (gives j) stmts
     pub may : Bool
-    pub within : StmtsWithin (body_at C j).slots (body_at C j).local_regions may stmts
+    pub within : StmtsWithin P (body_at C j).slots (body_at C j).local_regions may stmts
     pub member : may ≡ true → is_branch (body_at C j).title ≡ false
     pub ends : Ends j (after_stmts (first_place takes) stmts) stmts
 
@@ -141,8 +141,8 @@ module _ (C : PlainCode) (P : PlainProgram) (gives : ℕ → Bool) where
   is_body j h = ap body_or_none h
 
   -- the room of a body is that of its member
-  within_here : {n r s t : ℕ} (may : Bool) (ss : TypedStmts) → n ≡ s → r ≡ t → StmtsWithin s t may ss → StmtsWithin n r may ss
-  within_here {n} {r} {s} {t} may ss e f w = subst (λ z. StmtsWithin n z may ss) (sym f) (subst (λ z. StmtsWithin z t may ss) (sym e) w)
+  within_here : {n r s t : ℕ} (may : Bool) (ss : TypedStmts) → n ≡ s → r ≡ t → StmtsWithin P s t may ss → StmtsWithin P n r may ss
+  within_here {n} {r} {s} {t} may ss e f w = subst (λ z. StmtsWithin P n z may ss) (sym f) (subst (λ z. StmtsWithin P z t may ss) (sym e) w)
 
   -- the branches in the queue have the room of their member
   rooted_queue : (n j : ℕ) (m : PlainMember) (k : Next) (todo : List Branch) → need todo ≤ n → j + length todo ≡ k.body →

@@ -4,6 +4,7 @@ use Rattle.dpj_base.specs.declared.effect.Effect.{Effect}
 use Rattle.dpj_base.specs.declared.place.Place.{Place}
 use Rattle.dpj_base.specs.declared.region.Rpl.{Rpl}
 use Rattle.dpj_base.specs.declared.value.Value.{Value}
+use Rattle.dpj_base.specs.Regions.{fully_specified}
 use Rattle.dpj_base.specs.Types.{PlainType}
 use Rattle.dpj_base.specs.Types.{PlainType as ty}
 use Rattle.dpj_typed.specs.declared.expr.BinaryOp.{BinaryOp}
@@ -11,30 +12,28 @@ use Rattle.dpj_typed.specs.declared.expr.BinaryOp.TheVariants as op
 use Rattle.dpj_typed.specs.declared.expr.UnaryOp.{UnaryOp}
 use Rattle.dpj_typed.specs.declared.expr.UnaryOp.TheVariants.{Negate, Not}
 use Rattle.dpj_typed.specs.declared.stmt.Forking.{Forking}
-use Rattle.dpj_typed.specs.Plain.{PlainProgram, TypedExpr, typed, type_of, TypedExprs, no_exprs, more_exprs, of_array, of_part, TypedStmt, statement, TypedStmts, no_stmts, more_stmts, TypedBranches, no_branches, more_branches}
+use Rattle.dpj_typed.specs.Scope.{class_at}
+use Rattle.dpj_typed.specs.Plain.{PlainProgram, PlainClass, TypedExpr, typed, type_of, TypedExprs, no_exprs, more_exprs, of_array, of_part, TypedStmt, statement, TypedStmts, no_stmts, more_stmts, TypedBranches, no_branches, more_branches}
 use Rattle.dpj_typed.specs.Plain.{ExprForm as expr}
 use Rattle.dpj_typed.specs.Plain.{StmtForm as form}
 use Rattle.dpj_typed.specs.Statements.{completes, all_complete}
 use Rattle.dpj_code.specs.declared.instr.Instr.{Instr}
 use Rattle.dpj_code.specs.declared.instr.Instr.TheVariants as i
-use Rattle.dpj_code.specs.Plain.{Line, PlainCode, body_at, array_site}
+use Rattle.dpj_code.specs.Plain as code
+use Rattle.dpj_code.specs.Plain.{ClassCode, Line, PlainCode, body_at, array_site}
 use Rattle.dpj_code.specs.Machine.{site_of}
 use Rattle.dpj_code.specs.Fit.{Mark, is_branch, Falls_to, puts_of, RowIs, left_by, site_at, Local}
 use Rattle.dpj_gen.specs.Scheme.{is_void, many, after_expr, after_exprs, after_stmt, after_stmts, after_regions, instr_of, unary_instr, site_of_array, copy_lists}
 use Rattle.dpj_gen.specs.Resolved.{RowGives, ExprFits, ExprsFit, VoidCall, PerformFits, StmtFits, StmtsFit}
 use Rattle.dpj_gen.specs.Stands.{LineAt, ExprAt, ExprsAt, PoppedAt, RegionsAt, StmtAt, StmtsAt}
 use Rattle.dpj_fit.specs.Closed.{Keeps}
-use Rattle.dpj_fit.specs.Room.{BranchesWithin, ExprWithin, ExprsWithin, StmtWithin, StmtsWithin}
+use Rattle.dpj_fit.specs.Room.{FullArray, BranchesWithin, ExprWithin, ExprsWithin, StmtWithin, StmtsWithin}
 use Rattle.dpj_fit.proofs.Marks.{mark, reached, Marked, cut, top_expr, top_exprs, high, high_is, expr_marks, exprs_marks, expr_reach, exprs_reach, top_perform, perform_marks, top_regions, region_marks, spread_marks, parts_marks, top_stmt, top_stmts, stmt_marks, stmts_marks, stmt_reach, stmts_reach}
 use Rattle.dpj_fit.proofs.Linked.{ForkThere, SpreadThere, Linked, AllLinked}
 
-array_is : (t : PlainType) → (a : Rpl) × (first : Value) × (site_of_array t ≡ array_site a first)
-array_is ty.int = (_, _, refl)
-array_is ty.boolean = (_, _, refl)
-array_is ty.void = (_, _, refl)
-array_is ty.null = (_, _, refl)
-array_is (ty.class c args) = (_, _, refl)
-array_is (ty.array t a named) = (_, _, refl)
+array_is : (t : PlainType) → FullArray t → (a : Rpl) × (first : Value) × (site_of_array t ≡ array_site a first) × IsTrue (fully_specified a)
+array_is (ty.array t a named) f = (_, _, refl, f)
+array_is t f = absurd f
 
 pub some_is : {A : Type 0} {x y : A} → Some x ≡ Some y → x ≡ y
 some_is e = cc
@@ -54,9 +53,14 @@ right_holds : (a b : Bool) → b ≡ true → a || b ≡ true
 right_holds true b h = refl
 right_holds false b h = h
 
--- body j of a code, whose rows are those of a program
+-- the tables of a code are those of a program
+pub record TablesFit (C : PlainCode) (P : PlainProgram) (gives : ℕ → Bool) : Type 0 where
+  pub calls : (c r : ℕ) (y : Bool) → RowGives P c r y → RowIs C gives c r y
+  pub classes : (c : ℕ) (k : PlainClass) → class_at P c ≡ Some k → (x : ClassCode) × (code.class_at C c ≡ Some x)
+
+-- body j of a code, whose tables are those of a program
 module _ (C : PlainCode) (P : PlainProgram) (marks : ℕ → ℕ → Option Mark) (gives : ℕ → Bool)
-    (calls : (c r : ℕ) (y : Bool) → RowGives P c r y → RowIs C gives c r y) (j : ℕ) where
+    (tables : TablesFit C P gives) (j : ℕ) where
   abbrev pub Fine : ℕ → Type 0
   Fine p = (m : Mark) → marks j p ≡ Some m → (l : Line) × (slice_get (body_at C j).lines p ≡ Some l) × Local C marks gives j p m l.instr ×
       Keeps C (body_at C j) m l.instr
@@ -184,7 +188,7 @@ module _ (C : PlainCode) (P : PlainProgram) (marks : ℕ → ℕ → Option Mark
   new_falls es {h} e = let u = high_is h es in falls (many es) 1 e (omega arith) (omega arith) (omega arith)
 
   mutual
-    fit_expr : (e : TypedExpr) (p h r z : ℕ) → ExprFits P e → ExprWithin (body_at C j).slots e → ExprAt C (body_at C j).lines p e →
+    fit_expr : (e : TypedExpr) (p h r z : ℕ) → ExprFits P e → ExprWithin P (body_at C j).slots e → ExprAt C (body_at C j).lines p e →
         Marked (marks j) p (expr_marks h r z e) → marks j (after_expr p e) ≡ Some (mark (suc h) r z) → Covers p (after_expr p e)
     fit_expr (typed at t (expr.int n)) p h r z ok w a x y = covers_one a x.0 tt (one_up y)
     fit_expr (typed at t (expr.boolean b)) p h r z ok w a x y = covers_one a x.0 tt (one_up y)
@@ -206,14 +210,16 @@ module _ (C : PlainCode) (P : PlainProgram) (marks : ℕ → ℕ → Option Mark
         let v = cut (marks j) _ (exprs_reach es _ _ _ _) u.1 in
         covers_then (fit_expr e p _ _ _ ok.0 w.0 a.0 u.0 (exprs_first es _ _ _ _ v.0 v.1.0))
         (covers_then (fit_exprs es _ _ _ _ ok.1 w.1 a.1 v.0 v.1.0)
-        (covers_one a.2.stands v.1.0 tt (c, k, many es, regions, true, a.2.site_is, calls c k true ok.2, call_falls true es h (suc h) y (omega arith))))
+        (covers_one a.2.stands v.1.0 (c, k, many es, regions, a.2.site_is, w.2) (c, k, many es, regions, true, a.2.site_is, tables.calls c k true ok.2, call_falls true es h (suc h) y (omega arith))))
     fit_expr (typed at t (expr.create es)) p h r z ok w a x y =
         let u = cut (marks j) _ (exprs_reach es p _ _ _) x in
-        covers_then (fit_exprs es p _ _ _ ok w a.0 u.0 u.1.0) (covers_one a.1.stands u.1.0 tt (_, many es, _, a.1.site_is, new_falls es y))
+        covers_then (fit_exprs es p _ _ _ ok w.0 a.0 u.0 u.1.0)
+        (covers_one a.1.stands u.1.0 (_, many es, _, a.1.site_is, tables.classes _ w.1.0 w.1.1, w.1.2) (_, many es, _, a.1.site_is, new_falls es y))
     fit_expr (typed at t (expr.create_array n)) p h r z ok w a x y =
         let u = cut (marks j) _ (expr_reach n p _ _ _) x in
-        let s = array_is t in
-        covers_then (fit_expr n p _ _ _ ok.0 w a.0 u.0 u.1.0) (covers_one a.1.stands u.1.0 tt (s.0, s.1, a.1.site_is ∙ ap Some s.2, one_for_one y))
+        let s = array_is t w.1 in
+        covers_then (fit_expr n p _ _ _ ok.0 w.0 a.0 u.0 u.1.0)
+        (covers_one a.1.stands u.1.0 (s.0, s.1, a.1.site_is ∙ ap Some s.2, s.3) (s.0, s.1, a.1.site_is ∙ ap Some s.2, one_for_one y))
     fit_expr (typed at t (expr.unary o e)) p h r z ok w a x y =
         let u = cut (marks j) _ (expr_reach e p _ _ _) x in
         covers_then (fit_expr e p _ _ _ ok w a.0 u.0 u.1.0) (covers_one a.1 u.1.0 (unary_keeps o (mark (suc h) (suc r) z)) (unary_fits o _ _ (one_for_one y)))
@@ -243,7 +249,7 @@ module _ (C : PlainCode) (P : PlainProgram) (marks : ℕ → ℕ → Option Mark
         covers_then (fit_expr b p _ _ _ ok w.1 a.0 u.0 u.1.0)
         (covers_then (covers_one a.1 u.1.0 tt (w.0, falls 1 2 u.1.1.0 (omega arith) (omega arith) (omega arith))) (covers_one a.2 u.1.1.0 tt (two_for_one y)))
 
-    fit_exprs : (es : TypedExprs) (p h r z : ℕ) → ExprsFit P es → ExprsWithin (body_at C j).slots es → ExprsAt C (body_at C j).lines p es →
+    fit_exprs : (es : TypedExprs) (p h r z : ℕ) → ExprsFit P es → ExprsWithin P (body_at C j).slots es → ExprsAt C (body_at C j).lines p es →
         Marked (marks j) p (exprs_marks h r z es) → marks j (after_exprs p es) ≡ Some (mark (high h es) r z) → Covers p (after_exprs p es)
     fit_exprs no_exprs p h r z ok w a x y = covers_none
     fit_exprs (more_exprs e es) p h r z ok w a x y =
@@ -251,17 +257,17 @@ module _ (C : PlainCode) (P : PlainProgram) (marks : ℕ → ℕ → Option Mark
         covers_then (fit_expr e p _ _ _ ok.0 w.0 a.0 u.0 (exprs_first es _ _ _ _ u.1 y)) (fit_exprs es _ _ _ _ ok.1 w.1 a.1 u.1 y)
 
   -- a value that isn't used is taken off; a void call leaves none
-  fit_void : (e : TypedExpr) (p r z : ℕ) → VoidCall P e → ExprWithin (body_at C j).slots e → ExprAt C (body_at C j).lines p e →
+  fit_void : (e : TypedExpr) (p r z : ℕ) → VoidCall P e → ExprWithin P (body_at C j).slots e → ExprAt C (body_at C j).lines p e →
       Marked (marks j) p (expr_marks 0 r z e) → marks j (after_expr p e) ≡ Some (mark 0 r z) → Covers p (after_expr p e)
   fit_void (typed at t (expr.call e c k regions es)) p r z ok w a x y =
       let u = cut (marks j) _ (expr_reach e p _ _ _) x in
       let v = cut (marks j) _ (exprs_reach es _ _ _ _) u.1 in
       covers_then (fit_expr e p _ _ _ ok.0 w.0 a.0 u.0 (exprs_first es _ _ _ _ v.0 v.1.0))
       (covers_then (fit_exprs es _ _ _ _ ok.1 w.1 a.1 v.0 v.1.0)
-      (covers_one a.2.stands v.1.0 tt (c, k, many es, regions, false, a.2.site_is, calls c k false ok.2, call_falls false es 0 0 y (omega arith))))
+      (covers_one a.2.stands v.1.0 (c, k, many es, regions, a.2.site_is, w.2) (c, k, many es, regions, false, a.2.site_is, tables.calls c k false ok.2, call_falls false es 0 0 y (omega arith))))
   fit_void (typed at t f) p r z ok w a x y = absurd ok
 
-  fit_unused : (e : TypedExpr) (at : Place) (v : Bool) (p r z : ℕ) → PerformFits P e v → ExprWithin (body_at C j).slots e →
+  fit_unused : (e : TypedExpr) (at : Place) (v : Bool) (p r z : ℕ) → PerformFits P e v → ExprWithin P (body_at C j).slots e →
       ExprAt C (body_at C j).lines p e → PoppedAt C (body_at C j).lines (after_expr p e) v at → Marked (marks j) p (perform_marks r z e v) →
       marks j (cond v (after_expr p e) (suc (after_expr p e))) ≡ Some (mark 0 r z) → Covers p (cond v (after_expr p e) (suc (after_expr p e)))
   fit_unused e at true p r z ok w a b x y = fit_void e p r z ok w a x y
@@ -320,7 +326,7 @@ module _ (C : PlainCode) (P : PlainProgram) (marks : ℕ → ℕ → Option Mark
         let u = cut (marks j) _ (stmt_reach s p _ _) x in
         stmt_first s p _ _ u.0 (λ c. stmts_first ss _ _ _ u.1 (λ d. y (both_hold (completes s) (all_complete ss) c d)))
 
-  copies_within : (n m : ℕ) (bs : TypedBranches) → BranchesWithin n m bs → All (λ xs. All (λ x. x < n) xs) (copy_lists bs)
+  copies_within : (n m : ℕ) (bs : TypedBranches) → BranchesWithin P n m bs → All (λ xs. All (λ x. x < n) xs) (copy_lists bs)
   copies_within n m no_branches w k d l = absurd (omega arith)
   copies_within n m (more_branches copies s bs) w zero d l = w.0
   copies_within n m (more_branches copies s bs) w (suc k) d l = copies_within n m bs w.2 k d (omega arith)
@@ -359,13 +365,13 @@ module _ (C : PlainCode) (P : PlainProgram) (marks : ℕ → ℕ → Option Mark
   -- the code of a statement fits its marks
   abbrev pub Fits : TypedStmt → Type 0
   Fits s =
-      (may : Bool) (p r z : ℕ) → Out may z → StmtFits P (gives j) s → StmtWithin (body_at C j).slots (body_at C j).local_regions may s → StmtAt C (body_at C j).lines p s →
+      (may : Bool) (p r z : ℕ) → Out may z → StmtFits P (gives j) s → StmtWithin P (body_at C j).slots (body_at C j).local_regions may s → StmtAt C (body_at C j).lines p s →
       Linked C (body_at C j) p s → Marked (marks j) p (stmt_marks r z s) → (completes s ≡ true → marks j (after_stmt p s) ≡ Some (mark 0 r z)) →
       Covers p (after_stmt p s)
 
   abbrev pub AllFit : TypedStmts → Type 0
   AllFit ss =
-      (may : Bool) (p r z : ℕ) → Out may z → StmtsFit P (gives j) ss → StmtsWithin (body_at C j).slots (body_at C j).local_regions may ss → StmtsAt C (body_at C j).lines p ss →
+      (may : Bool) (p r z : ℕ) → Out may z → StmtsFit P (gives j) ss → StmtsWithin P (body_at C j).slots (body_at C j).local_regions may ss → StmtsAt C (body_at C j).lines p ss →
       AllLinked C (body_at C j) p ss → Marked (marks j) p (stmts_marks r z ss) →
       (all_complete ss ≡ true → marks j (after_stmts p ss) ≡ Some (mark 0 r z)) → Covers p (after_stmts p ss)
 

@@ -1,14 +1,17 @@
 -- The code of a resolved program with room for its bodies is fit.
-use Rattle.std.proofs.Common.{◌≡◌, ◌⊎◌, inl, inr, ◌<◌, ◌≤◌, ℕ, zero, suc, ◌+◌, Bool, true, false, not, nat_lt, ltb-true, ltb-false, List, [], ◌∷◌, ◌++◌, length, refl, sym, ap, ◌∙◌, subst, arith, Option, Some, None, option_map, option_and_then, slice_get}
+use Rattle.std.proofs.Common.{◌≡◌, ◌⊎◌, inl, inr, ◌<◌, ◌≤◌, ℕ, zero, suc, ◌+◌, Bool, true, false, not, nat_lt, ltb-true, ltb-false, List, [], ◌∷◌, ◌++◌, map, length, length-append, refl, sym, ap, ◌∙◌, subst, arith, Option, Some, None, option_map, option_and_then, slice_get}
+use Rattle.std.proofs.lemmas.List.{length-map}
 use Rattle.std.proofs.lemmas.Option.{slice_get-map}
 use Rattle.dpj_typed.specs.Plain.{PlainProgram, PlainClass, PlainParent, TypedStmts}
-use Rattle.dpj_typed.specs.Scope.{class_at, row_at}
+use Rattle.dpj_typed.specs.Scope.{IsBelow, same, below, class_at, row_at}
 use Rattle.dpj_typed.specs.Scope as program
 use Rattle.dpj_typed.specs.Statements.{all_complete}
 use Rattle.dpj_typed.specs.WellTyped.{WellTyped}
-use Rattle.dpj_code.specs.Plain.{Method, Line, PlainCode, body_at, parent_of, method_at, constructor_of}
+use Rattle.dpj_code.specs.Plain as code
+use Rattle.dpj_code.specs.Plain.{ClassCode, fields_of, Method, Line, PlainCode, body_at, parent_of, method_at, constructor_of}
 use Rattle.dpj_code.specs.Fit.{Mark, MemberBody, RowIs, Local, CodeFit}
-use Rattle.dpj_gen.specs.Scheme.{is_void, after_stmts, method_code, class_code}
+use Rattle.dpj_typed.specs.Table.{field_with}
+use Rattle.dpj_gen.specs.Scheme.{first_constant, owner_of, is_void, after_stmts, method_code, class_code}
 use Rattle.dpj_gen.specs.Stands.{first_place, BeginsAt}
 use Rattle.dpj_gen.specs.Resolved.{gives_value, RowGives, Resolved}
 use Rattle.dpj_gen.specs.Whole.{number_in, compiled}
@@ -16,12 +19,12 @@ use Rattle.dpj_gen.proofs.Tables.{parents_are, method_is, constructor_is}
 use Rattle.dpj_code.proofs.Safe.{fit_is_safe, members_are_safe}
 use Rattle.dpj_gen.proofs.Typed.{typed_is_resolved}
 use Rattle.dpj_gen.proofs.Whole.{laid_out, members_at}
-use Rattle.dpj_fit.specs.Closed.{Keeps, CodeClosed}
+use Rattle.dpj_fit.specs.Closed.{Keeps, IsAbove, itself, through_parent, ExtendsCode, RowOf, CodeClosed}
 use Rattle.dpj_fit.specs.Laws.{SafeCode}
 use Rattle.dpj_fit.specs.Room.{Roomy}
-use Rattle.dpj_fit.proofs.Typed.{through, typed_is_roomy}
+use Rattle.dpj_fit.proofs.Typed.{through, row_there, typed_is_roomy}
 use Rattle.dpj_fit.proofs.Marks.{mark, reached, Marked, Reach, far, next, stop, cut, top_stmts, stmts_marks, stmts_reach}
-use Rattle.dpj_fit.proofs.Fitting.{Fine, Covers, covers_then, covers_none, covers_if, covers_one, still, is_reached, some_is, none_is, stmts_first, fit_stmts}
+use Rattle.dpj_fit.proofs.Fitting.{TablesFit, Fine, Covers, covers_then, covers_none, covers_if, covers_one, still, is_reached, some_is, none_is, stmts_first, fit_stmts}
 use Rattle.dpj_fit.proofs.Bodies.{TakesWithin, Ends, Known, gives_in, body_known, member_body}
 
 abbrev list_at : List (Option Mark) → ℕ → Option Mark
@@ -53,25 +56,25 @@ begin_reach (Some x) r = next stop
 
 -- one body
 module _ (C : PlainCode) (P : PlainProgram) (marks : ℕ → ℕ → Option Mark) (gives : ℕ → Bool)
-    (calls : (c r : ℕ) (y : Bool) → RowGives P c r y → RowIs C gives c r y) (j : ℕ) where
+    (tables : TablesFit C P gives) (j : ℕ) where
   First : ℕ → Type 0
   First r = marks j 0 ≡ Some (mark 0 r 0)
 
   begin_fits : (takes : Option ℕ) (r : ℕ) → BeginsAt C (body_at C j).lines takes → TakesWithin (body_at C j).slots takes →
-      Marked (marks j) 0 (begin_marks takes r) → marks j (first_place takes) ≡ Some (mark 0 r 0) → Covers C P marks gives calls j 0 (first_place takes)
-  begin_fits None r b w x y = covers_none C P marks gives calls j
-  begin_fits (Some k) r b w x y = covers_one C P marks gives calls j b.stands x.0 tt (w, still C P marks gives calls j y)
+      Marked (marks j) 0 (begin_marks takes r) → marks j (first_place takes) ≡ Some (mark 0 r 0) → Covers C P marks gives tables j 0 (first_place takes)
+  begin_fits None r b w x y = covers_none C P marks gives tables j
+  begin_fits (Some k) r b w x y = covers_one C P marks gives tables j b.stands x.0 tt (w, still C P marks gives tables j y)
 
   begin_first : (takes : Option ℕ) (r : ℕ) → Marked (marks j) 0 (begin_marks takes r) → marks j (first_place takes) ≡ Some (mark 0 r 0) →
       (m : Mark) × (marks j 0 ≡ Some m) × (m.height ≡ 0) × (m.open_entries ≡ 0)
   begin_first None r x y = (_, y, refl, refl)
   begin_first (Some k) r x y = (_, x.0, refl, refl)
 
-  end_fits : (p : ℕ) (ss : TypedStmts) → Ends C P gives j p ss → marks j p ≡ reached (all_complete ss) (mark 0 1 0) → Covers C P marks gives calls j p (suc p)
-  end_fits p ss (inl e) x = covers_if C P marks gives calls j _ (all_complete ss) e.1 x (λ c. (e.2, (e.3, refl)))
-  end_fits p ss (inr (inl e)) x = covers_if C P marks gives calls j _ (all_complete ss) e.1 x (λ c. (e.2, (e.2, refl)))
+  end_fits : (p : ℕ) (ss : TypedStmts) → Ends C P gives j p ss → marks j p ≡ reached (all_complete ss) (mark 0 1 0) → Covers C P marks gives tables j p (suc p)
+  end_fits p ss (inl e) x = covers_if C P marks gives tables j _ (all_complete ss) e.1 x (λ c. (e.2, (e.3, refl)))
+  end_fits p ss (inr (inl e)) x = covers_if C P marks gives tables j _ (all_complete ss) e.1 x (λ c. (e.2, (e.2, refl)))
   end_fits p ss (inr (inr e)) x =
-      record { each = λ q u v. subst (λ q. Fine C P marks gives calls j q) (omega arith) (λ m f. none_is (sym (x ∙ ap (λ t. reached t (mark 0 1 0)) e) ∙ f)) }
+      record { each = λ q u v. subst (λ q. Fine C P marks gives tables j q) (omega arith) (λ m f. none_is (sym (x ∙ ap (λ t. reached t (mark 0 1 0)) e) ∙ f)) }
 
   module _ (K : Known C P gives j) (stand : (p : ℕ) → marks j p ≡ list_at (body_marks K.takes K.stmts) p) where
     all_stand : Marked (marks j) 0 (body_marks K.takes K.stmts)
@@ -85,22 +88,22 @@ module _ (C : PlainCode) (P : PlainProgram) (marks : ℕ → ℕ → Option Mark
         (u.0, v.0, v.1.0)
 
     after : all_complete K.stmts ≡ true → marks j (after_stmts (first_place K.takes) K.stmts) ≡ Some (mark 0 1 0)
-    after c = is_reached C P marks gives calls j (all_complete K.stmts) _ parts.2 c
+    after c = is_reached C P marks gives tables j (all_complete K.stmts) _ parts.2 c
 
     begin : marks j (first_place K.takes) ≡ Some (mark 0 (top_stmts 1 K.stmts) 0)
-    begin = stmts_first C P marks gives calls j K.stmts _ _ _ parts.1 after
+    begin = stmts_first C P marks gives tables j K.stmts _ _ _ parts.1 after
 
     pub body_first : (m : Mark) × (marks j 0 ≡ Some m) × (m.height ≡ 0) × (m.open_entries ≡ 0)
     body_first = begin_first K.takes (top_stmts 1 K.stmts) parts.0 begin
 
-    body_covers : Covers C P marks gives calls j 0 (suc (after_stmts (first_place K.takes) K.stmts))
+    body_covers : Covers C P marks gives tables j 0 (suc (after_stmts (first_place K.takes) K.stmts))
     body_covers =
-        covers_then C P marks gives calls j (begin_fits K.takes (top_stmts 1 K.stmts) K.begins K.takes_within parts.0 begin)
-        (covers_then C P marks gives calls j
-        (fit_stmts C P marks gives calls j K.stmts K.may (first_place K.takes) 1 0 (λ c. (K.member c, refl)) K.fits K.within K.at K.linked parts.1 after)
+        covers_then C P marks gives tables j (begin_fits K.takes (top_stmts 1 K.stmts) K.begins K.takes_within parts.0 begin)
+        (covers_then C P marks gives tables j
+        (fit_stmts C P marks gives tables j K.stmts K.may (first_place K.takes) 1 0 (λ c. (K.member c, refl)) K.fits K.within K.at K.linked parts.1 after)
         (end_fits (after_stmts (first_place K.takes) K.stmts) K.stmts K.ends parts.2))
 
-    pub body_fits : (p : ℕ) → Fine C P marks gives calls j p
+    pub body_fits : (p : ℕ) → Fine C P marks gives tables j p
     body_fits p m e =
         let n : p < length (body_marks K.takes K.stmts) = in_list (body_marks K.takes K.stmts) p m (sym (stand p) ∙ e) in
         let long : Reach 0 (body_marks K.takes K.stmts) (suc (after_stmts (first_place K.takes) K.stmts)) =
@@ -117,10 +120,14 @@ decide n j = go (nat_lt j n) refl
 
 -- the rows of the code are those of the program
 module _ (P : PlainProgram) where
+  class_is : (c : ℕ) → code.class_at (compiled P) c ≡ option_map (class_code P (number_in P)) (class_at P c)
+  class_is c = ap (λ ks. slice_get ks c) (laid_out P).classes ∙ slice_get-map (class_code P (number_in P)) P.classes c
+
+  class_there : (c : ℕ) (k : PlainClass) → class_at P c ≡ Some k → (x : ClassCode) × (code.class_at (compiled P) c ≡ Some x)
+  class_there c k e = (_, class_is c ∙ ap (λ o. option_map (class_code P (number_in P)) o) e)
+
   method_all : (c r : ℕ) → method_at (compiled P) c r ≡ option_map (method_code P (number_in P)) (row_at P c r)
-  method_all c r =
-      ap (λ ks. option_and_then (λ k. slice_get k.methods r) (slice_get ks c)) (laid_out P).classes ∙
-      (ap (λ k. option_and_then (λ k. slice_get k.methods r) k) (slice_get-map (class_code P (number_in P)) P.classes c) ∙ go (class_at P c))
+  method_all c r = ap (λ k. option_and_then (λ k. slice_get k.methods r) k) (class_is c) ∙ go (class_at P c)
     where
       go : (k : Option PlainClass) →
           option_and_then (λ k. slice_get k.methods r) (option_map (class_code P (number_in P)) k) ≡
@@ -128,12 +135,18 @@ module _ (P : PlainProgram) where
       go None = refl
       go (Some k) = slice_get-map (method_code P (number_in P)) k.rows r
 
+  parent_is : (c : ℕ) (p : PlainParent) → parent_of (compiled P) c ≡ Some p → program.parent_of P c ≡ Some p
+  parent_is c p e = sym (ap (λ f. f c) (parents_are (compiled P) P (number_in P) (laid_out P))) ∙ e
+
   row_is : (c r : ℕ) (y : Bool) → RowGives P c r y → RowIs (compiled P) (gives_in P) c r y
   row_is c r y g = record {
     method = method_code P (number_in P) g.number;
     row = method_is (compiled P) P (number_in P) (laid_out P) c r g.number g.row;
     body = subst (λ z. MemberBody (compiled P) (gives_in P) (number_in P g.number) z) g.kind (member_body P g.number g.member g.is_there);
   }
+
+  tables_fit : TablesFit (compiled P) P (gives_in P)
+  tables_fit = record { calls = row_is; classes = class_there }
 
   -- and the other way, since each row is a member
   row_gives : Roomy P → (c r : ℕ) (y : Bool) → RowIs (compiled P) (gives_in P) c r y → RowGives P c r y
@@ -156,7 +169,7 @@ module _ (P : PlainProgram) where
   rows_below : Resolved P → Roomy P → (c r : ℕ) (p : PlainParent) (y : Bool) → parent_of (compiled P) c ≡ Some p →
       RowIs (compiled P) (gives_in P) p.class r y → RowIs (compiled P) (gives_in P) c r y
   rows_below resolved roomy c r p y e g =
-      row_is c r y (resolved.below c r p y (sym (ap (λ f. f c) (parents_are (compiled P) P (number_in P) (laid_out P))) ∙ e) (row_gives roomy p.class r y g))
+      row_is c r y (resolved.below c r p y (parent_is c p e) (row_gives roomy p.class r y g))
 
   constructors_give_none : Resolved P → (c j : ℕ) → constructor_of (compiled P) c ≡ Some j → MemberBody (compiled P) (gives_in P) j false
   constructors_give_none resolved c j e =
@@ -184,16 +197,16 @@ module _ (P : PlainProgram) where
     begins_so j l = go (decide (length (compiled P).bodies) j) (λ p. refl)
       where
         go : (d : Choice j) → ((p : ℕ) → marks_in j p ≡ marks_when j d p) → (m : Mark) × (marks_in j 0 ≡ Some m) × (m.height ≡ 0) × (m.open_entries ≡ 0)
-        go (inl k) h = body_first (compiled P) P marks_in (gives_in P) row_is j (body_known P resolved roomy j k) h
+        go (inl k) h = body_first (compiled P) P marks_in (gives_in P) tables_fit j (body_known P resolved roomy j k) h
         go (inr k) h = absurd (omega arith)
 
-    lines_fit : (j p : ℕ) → Fine (compiled P) P marks_in (gives_in P) row_is j p
+    lines_fit : (j p : ℕ) → Fine (compiled P) P marks_in (gives_in P) tables_fit j p
     lines_fit j p m e = go (decide (length (compiled P).bodies) j) (λ p. refl)
       where
         go : (d : Choice j) → ((p : ℕ) → marks_in j p ≡ marks_when j d p) →
             (l : Line) × (slice_get (body_at (compiled P) j).lines p ≡ Some l) × Local (compiled P) marks_in (gives_in P) j p m l.instr ×
             Keeps (compiled P) (body_at (compiled P) j) m l.instr
-        go (inl k) h = body_fits (compiled P) P marks_in (gives_in P) row_is j (body_known P resolved roomy j k) h p m e
+        go (inl k) h = body_fits (compiled P) P marks_in (gives_in P) tables_fit j (body_known P resolved roomy j k) h p m e
         go (inr k) h = none_is (sym (h p) ∙ e)
 
     lines_keep : (j p : ℕ) (m : Mark) (l : Line) → marks_in j p ≡ Some m → slice_get (body_at (compiled P) j).lines p ≡ Some l →
@@ -211,15 +224,24 @@ module _ (P : PlainProgram) where
       constructors = λ c j e. constructors_give_none resolved c j e;
     }
 
-  row_member : Roomy P → (c r : ℕ) (m : Method) → method_at (compiled P) c r ≡ Some m → (y : Bool) × MemberBody (compiled P) (gives_in P) m.body y
-  row_member roomy c r m e = go (row_at P c r) refl (sym (method_all c r) ∙ e)
+  above_is : {c d : ℕ} → IsBelow P c d → IsAbove (compiled P) c d
+  above_is same = itself
+  above_is {c} (below {p = p} e b) =
+      through_parent (ap (λ f. f c) (parents_are (compiled P) P (number_in P) (laid_out P)) ∙ e) (above_is b)
+
+  row_of : WellTyped P → (c r : ℕ) (m : Method) → method_at (compiled P) c r ≡ Some m → RowOf (compiled P) (gives_in P) c m
+  row_of W c r m e = go (row_at P c r) refl (sym (method_all c r) ∙ e)
     where
-      go : (o : Option ℕ) → row_at P c r ≡ o → option_map (method_code P (number_in P)) o ≡ Some m →
-          (y : Bool) × MemberBody (compiled P) (gives_in P) m.body y
+      go : (o : Option ℕ) → row_at P c r ≡ o → option_map (method_code P (number_in P)) o ≡ Some m → RowOf (compiled P) (gives_in P) c m
       go None q f = none_is f
       go (Some n) q f =
-          let x = roomy.rows c r n q in
-          (gives_value x.0, subst (λ z. MemberBody (compiled P) (gives_in P) z (gives_value x.0)) (ap (λ z. z.body) (some_is f)) (member_body P n x.0 x.1))
+          let x = row_there P W c r n q in
+          let owner : x.0.class ≡ m.owner = sym (ap owner_of x.1) ∙ ap (λ z. z.owner) (some_is f) in
+          record {
+            owner = subst (λ d. IsAbove (compiled P) c d) owner (above_is x.2);
+            kind = gives_value x.0;
+            body = subst (λ z. MemberBody (compiled P) (gives_in P) z (gives_value x.0)) (ap (λ z. z.body) (some_is f)) (member_body P n x.0 x.1);
+          }
 
   main_is : number_in P P.main_member ≡ (compiled P).main_body
   unfolding compiled
@@ -231,10 +253,23 @@ module _ (P : PlainProgram) where
       (subst (λ y. MemberBody (compiled P) (gives_in P) (number_in P P.main_member) y) (ap (λ t. not (is_void t)) W.main.result)
       (member_body P P.main_member W.main.member W.main.member_is))
 
-  parents_before : (W : WellTyped P) (c : ℕ) (p : PlainParent) → parent_of (compiled P) c ≡ Some p → W.rank p.class < W.rank c
-  parents_before W c p e =
-      let k = through (class_at P c) (λ k. k.parent) p (sym (ap (λ f. f c) (parents_are (compiled P) P (number_in P) (laid_out P))) ∙ e) in
-      ((W.classes c k.0 k.1).parent p k.2).before
+  extends : (W : WellTyped P) (c : ℕ) (p : PlainParent) → parent_of (compiled P) c ≡ Some p → ExtendsCode (compiled P) W.rank c p
+  extends W c p e =
+      let k = through (class_at P c) (λ k. k.parent) p (parent_is c p e) in
+      let x = (W.classes c k.0 k.1).parent p k.2 in
+      let own = ap (λ z. length (fields_of z)) (class_is c ∙ ap (λ o. option_map (class_code P (number_in P)) o) k.1) in
+      let l = length-map k.0.fields (λ f. first_constant f.ty) in
+      let m = length-map x.above.fields (λ f. first_constant f.ty) in
+      let a = length-map x.above.fields (field_with p.args) in
+      let n = ap length x.fields in
+      let s = length-append (map (field_with p.args) x.above.fields) x.own_fields in
+      record {
+        before = x.before;
+        above = class_code P (number_in P) x.above;
+        is = class_is p.class ∙ ap (λ o. option_map (class_code P (number_in P)) o) x.is;
+        full = x.full;
+        fields = omega arith;
+      }
 
 -- the code of a well-typed program is closed
 pub typed_is_closed : (P : PlainProgram) → WellTyped P → CodeClosed (compiled P)
@@ -243,9 +278,9 @@ typed_is_closed P W = record {
   fit = code_is_fit P (typed_is_resolved P W) (typed_is_roomy P W);
   keeps = λ j p m l e f. lines_keep P (typed_is_resolved P W) (typed_is_roomy P W) j p m l e f;
   main = main_member P W;
-  rows = λ c r m e. row_member P (typed_is_roomy P W) c r m e;
+  rows = λ c r m e. row_of P W c r m e;
   order = W.rank;
-  above = λ c p e. parents_before P W c p e;
+  parents = λ c p e. extends P W c p e;
 }
 
 -- and its members begin safe

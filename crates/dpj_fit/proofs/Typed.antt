@@ -1,12 +1,12 @@
 -- The bodies of a well-typed program keep to their slots and local regions, and its rows are members.
-use Rattle.std.proofs.Common.{◌≡◌, inl, inr, ◌<◌, ℕ, zero, suc, ◌+◌, ◌==◌, Bool, true, false, cond, List, [], ◌∷◌, All, length, slice_index_or, refl, sym, ap, ◌∙◌, arith, Option, Some, None, slice_get, option_map, option_and_then}
+use Rattle.std.proofs.Common.{◌≡◌, inl, inr, ◌<◌, ℕ, zero, suc, ◌+◌, ◌==◌, Bool, true, false, cond, List, [], ◌∷◌, All, length, slice_index_or, refl, ap, subst, arith, Option, Some, None, slice_get, option_map, option_and_then}
 use Rattle.std.proofs.lemmas.Bool.{eqb-true}
 use Rattle.std.proofs.lemmas.Option.{slice_get_within}
 use Rattle.std.specs.List.{list_any}
 use Rattle.dpj_base.specs.Types.{PlainType, int}
 use Rattle.dpj_base.specs.declared.region.Rpl.{Rpl}
 use Rattle.dpj_typed.specs.Plain.{PlainProgram, PlainClass, PlainMember, TypedExpr, TypedExprs, Source, TypedStmt, TypedStmts, TypedBranches}
-use Rattle.dpj_typed.specs.Scope.{Scope, Local, variable, frozen, constant, part, reserved, with_local, in_loop_branch, read_alone, seen_in_branch, class_at, member_at}
+use Rattle.dpj_typed.specs.Scope.{Scope, Local, variable, frozen, constant, part, reserved, with_local, in_loop_branch, read_alone, seen_in_branch, class_at, row_at}
 use Rattle.dpj_typed.specs.Effects.{Own}
 use Rattle.dpj_typed.specs.Typing.{Holds, Has, Fit}
 use Rattle.dpj_typed.specs.Typing.{Has as has}
@@ -15,7 +15,7 @@ use Rattle.dpj_typed.specs.Statements.{declared_as, with_part, IsFree, Cuts, cut
 use Rattle.dpj_typed.specs.Statements.{Passes as passes}
 use Rattle.dpj_typed.specs.Statements.{AllPass as all}
 use Rattle.dpj_typed.specs.Statements.{BranchesPass as branches}
-use Rattle.dpj_typed.specs.Table.{first_locals}
+use Rattle.dpj_typed.specs.Table.{RowIsThere, first_locals}
 use Rattle.dpj_typed.specs.WellTyped.{WellTyped}
 use Rattle.dpj_fit.specs.Room.{ExprWithin, ExprsWithin, SourceWithin, StmtWithin, StmtsWithin, BranchesWithin, Roomy}
 
@@ -93,7 +93,7 @@ module _ (P : PlainProgram) (n r : ℕ) where
   readable room x t (inr (inr h)) = let a = room.locals x _ h in omega arith
 
   mutual
-    expr_within : {L : Scope} {may : Bool} {e : TypedExpr} {E : List Own} → Room n r may L → Has P L e E → ExprWithin n e
+    expr_within : {L : Scope} {may : Bool} {e : TypedExpr} {E : List Own} → Room n r may L → Has P L e E → ExprWithin P n e
     expr_within u (has.literal_int s) = tt
     expr_within u has.literal_boolean = tt
     expr_within u has.literal_null = tt
@@ -101,10 +101,10 @@ module _ (P : PlainProgram) (n r : ℕ) where
     expr_within u (has.read_field h q f k t) = expr_within u h
     expr_within u (has.read_element h q i s k t) = (expr_within u h, expr_within u i)
     expr_within u (has.length_of_array h q) = expr_within u h
-    expr_within u (has.call_method h q row member above good full known readable actuals calm t) = (expr_within u h, exprs_within u actuals)
-    expr_within u (has.create_object k g a z) = tt
-    expr_within u (has.construct_object k g a z m f c) = exprs_within u f
-    expr_within u (has.make_array g a h q) = expr_within u h
+    expr_within u (has.call_method h q row member above good full known readable actuals calm t) = (expr_within u h, exprs_within u actuals, full)
+    expr_within u (has.create_object {k = class} k g a z) = (tt, (class, k, a))
+    expr_within u (has.construct_object {k = class} k g a z m f c) = (exprs_within u f, (class, k, a))
+    expr_within u (has.make_array g a h q) = (expr_within u h, a)
     expr_within u (has.negative h q) = expr_within u h
     expr_within u (has.negation h q) = expr_within u h
     expr_within u (has.operation h i o t) = (expr_within u h, expr_within u i)
@@ -113,11 +113,11 @@ module _ (P : PlainProgram) (n r : ℕ) where
     expr_within u (has.length_of_part {k = k} l) = u.locals k _ l
     expr_within u (has.read_part {k = k} l i q) = (u.locals k _ l, expr_within u i)
 
-    exprs_within : {L : Scope} {may : Bool} {es : TypedExprs} {ts : List PlainType} {F : List Own} → Room n r may L → Fit P L es ts F → ExprsWithin n es
+    exprs_within : {L : Scope} {may : Bool} {es : TypedExprs} {ts : List PlainType} {F : List Own} → Room n r may L → Fit P L es ts F → ExprsWithin P n es
     exprs_within u fit.none = tt
     exprs_within u (fit.one_more h s f) = (expr_within u h, exprs_within u f)
 
-  source_within : {L : Scope} {may : Bool} {s : Source} {t : PlainType} {a : Rpl} {E : List Own} → Room n r may L → Cuts P L s t a E → SourceWithin n s
+  source_within : {L : Scope} {may : Bool} {s : Source} {t : PlainType} {a : Rpl} {E : List Own} → Room n r may L → Cuts P L s t a E → SourceWithin P n s
   source_within u (cuts_array h q w) = expr_within u h
   source_within u (cuts_part {k = k} l) = u.locals k _ l
 
@@ -137,7 +137,7 @@ module _ (P : PlainProgram) (n r : ℕ) where
       (with_one (k + 1) reserved (omega arith) (with_one k (part t a) l u))))
 
   mutual
-    passes_within : {L : Scope} {may : Bool} {s : TypedStmt} {E : List Own} → Room n r may L → Passes P L s E → StmtWithin n r may s
+    passes_within : {L : Scope} {may : Bool} {s : TypedStmt} {E : List Own} → Room n r may L → Passes P L s E → StmtWithin P n r may s
     passes_within u (passes.store {x = x} l h t) = (let a = u.locals x _ l in omega arith, expr_within u h)
     passes_within u (passes.store_field h q f k i t) = (expr_within u h, expr_within u i)
     passes_within u (passes.store_element h q i s m j t) = (expr_within u h, expr_within u i, expr_within u j)
@@ -160,7 +160,7 @@ module _ (P : PlainProgram) (n r : ℕ) where
     passes_within {L} u (passes.foreach_parts {k = k} {t = t} {a = rpl} c i s f a d g) =
         let l = all_free k L u.slots f in (l, source_within u c, expr_within u i, (all_within (part_room k t rpl l (in_loop u)) a).0)
 
-    all_within : {L : Scope} {may : Bool} {ss : TypedStmts} {E : List Own} → Room n r may L → AllPass P L ss E → StmtsWithin n r may ss
+    all_within : {L : Scope} {may : Bool} {ss : TypedStmts} {E : List Own} → Room n r may L → AllPass P L ss E → StmtsWithin P n r may ss
     all_within u all.no_more = tt
     all_within u (all.then' p c a) = (passes_within u p, all_within u a)
     all_within u (all.declare {x = x} {t = t} {is_final = is_final} f g h s a) =
@@ -172,7 +172,7 @@ module _ (P : PlainProgram) (n r : ℕ) where
     )
 
     branches_within : {L : Scope} {may : Bool} {others : List ℕ} {bs : TypedBranches} {Es : List (List Own)} → Room n r may L → BranchesPass P L others bs Es →
-        BranchesWithin n r bs
+        BranchesWithin P n r bs
     branches_within u branches.no_branch = tt
     branches_within {L} u (branches.one_branch {copies = copies} c d a b) = (
       λ k e l. (let v = c k e l in let w = u.locals (slice_index_or copies k e) _ v.1 in omega arith),
@@ -191,11 +191,16 @@ index_is [] k x e = absurd (cc)
 index_is (y ∷ ys) zero x e = cc
 index_is (y ∷ ys) (suc k) x e = index_is ys k x e
 
+-- a row is a member of the class or one above it
+pub row_there : (P : PlainProgram) → WellTyped P → (c r n : ℕ) → row_at P c r ≡ Some n → RowIsThere P c n
+row_there P W c r n e =
+    let k = through (class_at P c) (λ k. slice_get k.rows r) n e in
+    subst (λ z. RowIsThere P c z) (index_is k.0.rows r n k.2) ((W.classes c k.0 k.1).rows r 0 (slice_get_within k.0.rows r n k.2))
+
 pub typed_is_roomy : (P : PlainProgram) → WellTyped P → Roomy P
 typed_is_roomy P W = record {
   bodies = λ n m e. (let g = W.members n m e in
-      all_within P m.slots m.local_regions (record { slots = refl; returns = λ t q. refl; local_regions = refl; locals = first_fit g.class m g.room }) g.passes);
-  rows = λ c r n e. (let k = through (class_at P c) (λ k. slice_get k.rows r) n e in
-      let x = (W.classes c k.0 k.1).rows r 0 (slice_get_within k.0.rows r n k.2) in
-      (x.0, ap (λ z. member_at P z) (sym (index_is k.0.rows r n k.2)) ∙ x.1));
+      all_within P m.slots m.local_regions
+      (record { slots = refl; returns = λ t q. refl; local_regions = refl; locals = first_fit g.class m g.room }) g.passes);
+  rows = λ c r n e. (let x = row_there P W c r n e in (x.0, x.1));
 }
