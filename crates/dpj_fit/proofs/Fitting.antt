@@ -63,7 +63,7 @@ module _ (C : PlainCode) (P : PlainProgram) (marks : ℕ → ℕ → Option Mark
     (tables : TablesFit C P gives) (j : ℕ) where
   abbrev pub Fine : ℕ → Type 0
   Fine p = (m : Mark) → marks j p ≡ Some m → (l : Line) × (slice_get (body_at C j).lines p ≡ Some l) × Local C marks gives j p m l.instr ×
-      Keeps C (body_at C j) m l.instr
+      Keeps C (body_at C j) p m l.instr
 
   pub record Covers (p q : ℕ) : Type 0 where
     pub each : (x : ℕ) → p ≤ x → x < q → Fine x
@@ -79,7 +79,7 @@ module _ (C : PlainCode) (P : PlainProgram) (marks : ℕ → ℕ → Option Mark
   covers_none {p} = record { each = λ x a b. absurd (omega arith) }
 
   pub covers_if : {p : ℕ} {x : Instr} {at : Place} (m : Mark) (b : Bool) → LineAt (body_at C j).lines p x at → marks j p ≡ reached b m →
-      (b ≡ true → Local C marks gives j p m x × Keeps C (body_at C j) m x) → Covers p (suc p)
+      (b ≡ true → Local C marks gives j p m x × Keeps C (body_at C j) p m x) → Covers p (suc p)
   covers_if {p} {x} {at} m b a e l = record { each = λ q u v. subst (λ q. Fine q) (omega arith) (go b refl) }
     where
       go : (t : Bool) → b ≡ t → Fine p
@@ -88,11 +88,11 @@ module _ (C : PlainCode) (P : PlainProgram) (marks : ℕ → ℕ → Option Mark
             record { instr = x; place = at },
             a,
             subst (λ w. Local C marks gives j p w x) same (l h).0,
-            subst (λ w. Keeps C (body_at C j) w x) same (l h).1,
+            subst (λ w. Keeps C (body_at C j) p w x) same (l h).1,
           )
       go false h n f = none_is (sym (e ∙ ap (λ t. reached t m) h) ∙ f)
 
-  pub covers_one : {p : ℕ} {x : Instr} {at : Place} {m : Mark} → LineAt (body_at C j).lines p x at → marks j p ≡ Some m → Keeps C (body_at C j) m x →
+  pub covers_one : {p : ℕ} {x : Instr} {at : Place} {m : Mark} → LineAt (body_at C j).lines p x at → marks j p ≡ Some m → Keeps C (body_at C j) p m x →
       Local C marks gives j p m x → Covers p (suc p)
   covers_one {m = m} a e k l = covers_if m true a e (λ h. (l, k))
 
@@ -162,22 +162,22 @@ module _ (C : PlainCode) (P : PlainProgram) (marks : ℕ → ℕ → Option Mark
   binary_fits op.Greater p m f = f
   binary_fits op.AtLeast p m f = f
 
-  unary_keeps : (o : UnaryOp) (m : Mark) → Keeps C (body_at C j) m (unary_instr o)
-  unary_keeps Negate m = tt
-  unary_keeps Not m = tt
+  unary_keeps : (o : UnaryOp) (p : ℕ) (m : Mark) → Keeps C (body_at C j) p m (unary_instr o)
+  unary_keeps Negate p m = tt
+  unary_keeps Not p m = tt
 
-  binary_keeps : (o : BinaryOp) (m : Mark) → Keeps C (body_at C j) m (instr_of o)
-  binary_keeps op.Add m = tt
-  binary_keeps op.Subtract m = tt
-  binary_keeps op.Multiply m = tt
-  binary_keeps op.Divide m = tt
-  binary_keeps op.Remainder m = tt
-  binary_keeps op.Equal m = tt
-  binary_keeps op.NotEqual m = tt
-  binary_keeps op.Less m = tt
-  binary_keeps op.AtMost m = tt
-  binary_keeps op.Greater m = tt
-  binary_keeps op.AtLeast m = tt
+  binary_keeps : (o : BinaryOp) (p : ℕ) (m : Mark) → Keeps C (body_at C j) p m (instr_of o)
+  binary_keeps op.Add p m = tt
+  binary_keeps op.Subtract p m = tt
+  binary_keeps op.Multiply p m = tt
+  binary_keeps op.Divide p m = tt
+  binary_keeps op.Remainder p m = tt
+  binary_keeps op.Equal p m = tt
+  binary_keeps op.NotEqual p m = tt
+  binary_keeps op.Less p m = tt
+  binary_keeps op.AtMost p m = tt
+  binary_keeps op.Greater p m = tt
+  binary_keeps op.AtLeast p m = tt
 
   call_falls : (y : Bool) (es : TypedExprs) (h k : ℕ) {r z q : ℕ} → marks j q ≡ Some (mark k r z) → k ≡ h + puts_of y →
       Falls_to (marks j) (mark (high (suc h) es) (suc r) z) q (suc (many es)) (puts_of y) 0 0
@@ -222,12 +222,12 @@ module _ (C : PlainCode) (P : PlainProgram) (marks : ℕ → ℕ → Option Mark
         (covers_one a.1.stands u.1.0 (s.0, s.1, a.1.site_is ∙ ap Some s.2, s.3) (s.0, s.1, a.1.site_is ∙ ap Some s.2, one_for_one y))
     fit_expr (typed at t (expr.unary o e)) p h r z ok w a x y =
         let u = cut (marks j) _ (expr_reach e p _ _ _) x in
-        covers_then (fit_expr e p _ _ _ ok w a.0 u.0 u.1.0) (covers_one a.1 u.1.0 (unary_keeps o (mark (suc h) (suc r) z)) (unary_fits o _ _ (one_for_one y)))
+        covers_then (fit_expr e p _ _ _ ok w a.0 u.0 u.1.0) (covers_one a.1 u.1.0 (unary_keeps o _ (mark (suc h) (suc r) z)) (unary_fits o _ _ (one_for_one y)))
     fit_expr (typed at t (expr.binary o b k)) p h r z ok w a x y =
         let u = cut (marks j) _ (expr_reach b p _ _ _) x in
         let v = cut (marks j) _ (expr_reach k _ _ _ _) u.1 in
         covers_then (fit_expr b p _ _ _ ok.0 w.0 a.0 u.0 (expr_first k _ _ _ _ v.0))
-        (covers_then (fit_expr k _ _ _ _ ok.1 w.1 a.1 v.0 v.1.0) (covers_one a.2 v.1.0 (binary_keeps o (mark (suc (suc h)) (suc r) z)) (binary_fits o _ _ (two_for_one y))))
+        (covers_then (fit_expr k _ _ _ _ ok.1 w.1 a.1 v.0 v.1.0) (covers_one a.2 v.1.0 (binary_keeps o _ (mark (suc (suc h)) (suc r) z)) (binary_fits o _ _ (two_for_one y))))
     fit_expr (typed at t (expr.both b k)) p h r z ok w a x y =
         let u = cut (marks j) _ (expr_reach b p _ _ _) x in
         let v = cut (marks j) _ (expr_reach k _ _ _ _) u.1.1 in
@@ -337,14 +337,14 @@ module _ (C : PlainCode) (P : PlainProgram) (marks : ℕ → ℕ → Option Mark
       marks j (suc p) ≡ Some (mark 1 (suc r) z) → marks j (suc (suc p)) ≡ Some (mark 0 r z) → Covers p (suc (suc p))
   fit_fork p r z at copies f w a x x1 y =
       covers_then
-      (covers_one f.stands x (f.forking, f.bodies, copies, f.site_is, w) (f.forking, f.bodies, copies, f.site_is, f.many, f.branches, one_up x1))
+      (covers_one f.stands x (f.forking, f.bodies, copies, f.site_is, w, (_, a, refl)) (f.forking, f.bodies, copies, f.site_is, f.many, f.branches, one_up x1))
       (covers_one a x1 tt (1, ap (λ o. left_by (site_at C (site_of o))) f.stands ∙ ap left_by f.site_is, one_down y))
 
   fit_spread : (p k r z : ℕ) (at : Place) → SpreadThere C (body_at C j) p k → k < (body_at C j).slots → LineAt (body_at C j).lines (suc p) i.Join at →
       Marked (marks j) p (spread_marks r z) → marks j (suc (suc p)) ≡ Some (mark 0 r z) → Covers p (suc (suc p))
   fit_spread p k r z at f w a x y =
       covers_then
-      (covers_one f.stands x.0 (f.forking, f.body, k, f.site_is, w)
+      (covers_one f.stands x.0 (f.forking, f.body, k, f.site_is, w, (_, a, refl))
       (f.forking, f.body, k, f.site_is, f.branch, falls 2 3 x.1.0 (omega arith) (omega arith) (omega arith)))
       (covers_one a x.1.0 tt
       (3, ap (λ o. left_by (site_at C (site_of o))) f.stands ∙ ap left_by f.site_is, falls 3 0 y (omega arith) (omega arith) (omega arith)))

@@ -205,14 +205,14 @@ module _ (P : PlainProgram) where
       where
         go : (d : Choice j) → ((p : ℕ) → marks_in j p ≡ marks_when j d p) →
             (l : Line) × (slice_get (body_at (compiled P) j).lines p ≡ Some l) × Local (compiled P) marks_in (gives_in P) j p m l.instr ×
-            Keeps (compiled P) (body_at (compiled P) j) m l.instr
+            Keeps (compiled P) (body_at (compiled P) j) p m l.instr
         go (inl k) h = body_fits (compiled P) P marks_in (gives_in P) tables_fit j (body_known P resolved roomy j k) h p m e
         go (inr k) h = none_is (sym (h p) ∙ e)
 
     lines_keep : (j p : ℕ) (m : Mark) (l : Line) → marks_in j p ≡ Some m → slice_get (body_at (compiled P) j).lines p ≡ Some l →
-        Keeps (compiled P) (body_at (compiled P) j) m l.instr
+        Keeps (compiled P) (body_at (compiled P) j) p m l.instr
     lines_keep j p m l e f =
-        let x = lines_fit j p m e in subst (λ z. Keeps (compiled P) (body_at (compiled P) j) m z.instr) (some_is (sym x.1 ∙ f)) x.3
+        let x = lines_fit j p m e in subst (λ z. Keeps (compiled P) (body_at (compiled P) j) p m z.instr) (some_is (sym x.1 ∙ f)) x.3
 
     pub code_is_fit : CodeFit (compiled P)
     code_is_fit = record {
@@ -253,6 +253,13 @@ module _ (P : PlainProgram) where
       (subst (λ y. MemberBody (compiled P) (gives_in P) (number_in P P.main_member) y) (ap (λ t. not (is_void t)) W.main.result)
       (member_body P P.main_member W.main.member W.main.member_is))
 
+  main_has_room : WellTyped P → 1 < (body_at (compiled P) (compiled P).main_body).slots
+  main_has_room W =
+      let slots = ap (λ n. (body_at (compiled P) n).slots) (sym main_is) ∙ (members_at P P.main_member W.main.member W.main.member_is).slots in
+      let room = (W.members P.main_member W.main.member W.main.member_is).room in
+      let many = ap length W.main.formals in
+      omega arith
+
   extends : (W : WellTyped P) (c : ℕ) (p : PlainParent) → parent_of (compiled P) c ≡ Some p → ExtendsCode (compiled P) W.rank c p
   extends W c p e =
       let k = through (class_at P c) (λ k. k.parent) p (parent_is c p e) in
@@ -278,6 +285,7 @@ typed_is_closed P W = record {
   fit = code_is_fit P (typed_is_resolved P W) (typed_is_roomy P W);
   keeps = λ j p m l e f. lines_keep P (typed_is_resolved P W) (typed_is_roomy P W) j p m l e f;
   main = main_member P W;
+  main_room = main_has_room P W;
   rows = λ c r m e. row_of P W c r m e;
   order = W.rank;
   parents = λ c p e. extends P W c p e;

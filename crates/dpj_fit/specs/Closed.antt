@@ -1,5 +1,5 @@
 -- When a code is closed, beside that it is fit: how its bodies are left, and that its classes and `main` name bodies of members.
-use Rattle.std.specs.Prelude.{◌≡◌, ◌<◌, ◌≤◌, ℕ, Bool, true, false, IsTrue, List, All, length, Some, slice_get}
+use Rattle.std.specs.Prelude.{◌≡◌, ◌<◌, ◌≤◌, ℕ, suc, Bool, true, false, IsTrue, List, All, length, Some, slice_get}
 use Rattle.dpj_base.specs.declared.region.Rpl.{Rpl}
 use Rattle.dpj_base.specs.declared.value.Value.{Value}
 use Rattle.dpj_base.specs.Regions.{fully_specified}
@@ -12,10 +12,13 @@ use Rattle.dpj_code.specs.Fit.{Mark, is_branch, MemberBody, CodeFit}
 use Rattle.dpj_fit.specs.Room.{AllFull}
 
 -- bodies are left with no open entry, those of members by a return or leave, those of branches by an end; regions of calls and creations
--- are fully specified, and classes there; what a join copies back, and the number of a spread, have slots
-module _ (C : PlainCode) (b : PlainBody) (m : Mark) where
+-- are fully specified, and classes there; a join stands after each fork and spread, whose copies and numbers have slots
+module _ (C : PlainCode) (b : PlainBody) (p : ℕ) (m : Mark) where
   abbrev pub Left : Bool → Type 0
   Left branch = (is_branch b.title ≡ branch) × (m.open_entries ≡ 0)
+
+  abbrev pub Joined : Type 0
+  Joined = (l : Line) × (slice_get b.lines (suc p) ≡ Some l) × (l.instr ≡ i.Join)
 
   abbrev pub Keeps : Instr → Type 0
   Keeps i.Return = Left false
@@ -28,8 +31,8 @@ module _ (C : PlainCode) (b : PlainBody) (m : Mark) where
   Keeps (i.Array s) = (a : Rpl) × (first : Value) × (slice_get C.sites s ≡ Some (array_site a first)) × IsTrue (fully_specified a)
   Keeps (i.Fork s) =
       (forking : Forking) × (bodies : List ℕ) × (copies : List (List ℕ)) × (slice_get C.sites s ≡ Some (fork_site forking bodies copies)) ×
-      All (λ xs. All (λ x. x < b.slots) xs) copies
-  Keeps (i.Spread s) = (forking : Forking) × (body x : ℕ) × (slice_get C.sites s ≡ Some (spread_site forking body x)) × (x < b.slots)
+      All (λ xs. All (λ x. x < b.slots) xs) copies × Joined
+  Keeps (i.Spread s) = (forking : Forking) × (body x : ℕ) × (slice_get C.sites s ≡ Some (spread_site forking body x)) × (x < b.slots) × Joined
   Keeps x = Unit {0}
 
 -- the second class is the first or stands above it
@@ -53,9 +56,10 @@ pub record RowOf (C : PlainCode) (gives : ℕ → Bool) (c : ℕ) (m : Method) :
 
 pub record CodeClosed (C : PlainCode) : Type 0 where
   pub fit : CodeFit C
-  pub keeps : (j p : ℕ) (m : Mark) (l : Line) → fit.marks j p ≡ Some m → slice_get (body_at C j).lines p ≡ Some l → Keeps C (body_at C j) m l.instr
-  -- `main` gives a value
+  pub keeps : (j p : ℕ) (m : Mark) (l : Line) → fit.marks j p ≡ Some m → slice_get (body_at C j).lines p ≡ Some l → Keeps C (body_at C j) p m l.instr
+  -- `main` gives a value, and has slots for its object and its argument
   pub main : MemberBody C fit.gives C.main_body true
+  pub main_room : 1 < (body_at C C.main_body).slots
   pub rows : (c r : ℕ) (m : Method) → method_at C c r ≡ Some m → RowOf C fit.gives c m
   pub order : ℕ → ℕ
   pub parents : (c : ℕ) (p : PlainParent) → parent_of C c ≡ Some p → ExtendsCode C order c p
