@@ -23,16 +23,25 @@ use Rattle.dpj_code.specs.Plain as code
 use Rattle.dpj_code.specs.Plain.{ClassCode, Line, PlainCode, body_at, array_site}
 use Rattle.dpj_code.specs.Machine.{site_of}
 use Rattle.dpj_code.specs.Fit.{Mark, is_branch, Falls_to, puts_of, RowIs, left_by, site_at, Local}
-use Rattle.dpj_gen.specs.Scheme.{is_void, many, after_expr, after_exprs, after_stmt, after_stmts, after_regions, instr_of, unary_instr, site_of_array, copy_lists}
+use Rattle.dpj_gen.specs.Scheme.{first_constant, is_void, many, after_expr, after_exprs, after_stmt, after_stmts, after_regions, instr_of, unary_instr, site_of_array, copy_lists}
 use Rattle.dpj_gen.specs.Resolved.{RowGives, ExprFits, ExprsFit, VoidCall, PerformFits, StmtFits, StmtsFit}
 use Rattle.dpj_gen.specs.Stands.{LineAt, ExprAt, ExprsAt, PoppedAt, RegionsAt, StmtAt, StmtsAt}
-use Rattle.dpj_fit.specs.Closed.{Keeps}
+use Rattle.dpj_fit.specs.Closed.{IsFirst, Keeps}
 use Rattle.dpj_fit.specs.Room.{FullArray, BranchesWithin, ExprWithin, ExprsWithin, StmtWithin, StmtsWithin}
 use Rattle.dpj_fit.proofs.Marks.{mark, reached, Marked, cut, top_expr, top_exprs, high, high_is, expr_marks, exprs_marks, expr_reach, exprs_reach, top_perform, perform_marks, top_regions, region_marks, spread_marks, parts_marks, top_stmt, top_stmts, stmt_marks, stmts_marks, stmt_reach, stmts_reach}
 use Rattle.dpj_fit.proofs.Linked.{ForkThere, SpreadThere, Linked, AllLinked}
 
-array_is : (t : PlainType) → FullArray t → (a : Rpl) × (first : Value) × (site_of_array t ≡ array_site a first) × IsTrue (fully_specified a)
-array_is (ty.array t a named) f = (_, _, refl, f)
+pub first_is : (t : PlainType) → IsFirst (first_constant t)
+first_is ty.int = tt
+first_is ty.boolean = tt
+first_is ty.void = tt
+first_is ty.null = tt
+first_is (ty.class c args) = tt
+first_is (ty.array t a named) = tt
+
+array_is : (t : PlainType) → FullArray t →
+    (a : Rpl) × (first : Value) × (site_of_array t ≡ array_site a first) × IsTrue (fully_specified a) × IsFirst first
+array_is (ty.array t a named) f = (_, _, refl, f, first_is t)
 array_is t f = absurd f
 
 pub some_is : {A : Type 0} {x y : A} → Some x ≡ Some y → x ≡ y
@@ -219,7 +228,7 @@ module _ (C : PlainCode) (P : PlainProgram) (marks : ℕ → ℕ → Option Mark
         let u = cut (marks j) _ (expr_reach n p _ _ _) x in
         let s = array_is t w.1 in
         covers_then (fit_expr n p _ _ _ ok.0 w.0 a.0 u.0 u.1.0)
-        (covers_one a.1.stands u.1.0 (s.0, s.1, a.1.site_is ∙ ap Some s.2, s.3) (s.0, s.1, a.1.site_is ∙ ap Some s.2, one_for_one y))
+        (covers_one a.1.stands u.1.0 (s.0, s.1, a.1.site_is ∙ ap Some s.2, s.3, s.4) (s.0, s.1, a.1.site_is ∙ ap Some s.2, one_for_one y))
     fit_expr (typed at t (expr.unary o e)) p h r z ok w a x y =
         let u = cut (marks j) _ (expr_reach e p _ _ _) x in
         covers_then (fit_expr e p _ _ _ ok w a.0 u.0 u.1.0) (covers_one a.1 u.1.0 (unary_keeps o _ (mark (suc h) (suc r) z)) (unary_fits o _ _ (one_for_one y)))

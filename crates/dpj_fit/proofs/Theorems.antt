@@ -1,8 +1,8 @@
 -- The code of a resolved program with room for its bodies is fit.
-use Rattle.std.proofs.Common.{◌≡◌, ◌⊎◌, inl, inr, ◌<◌, ◌≤◌, ℕ, zero, suc, ◌+◌, Bool, true, false, not, nat_lt, ltb-true, ltb-false, List, [], ◌∷◌, ◌++◌, map, length, length-append, refl, sym, ap, ◌∙◌, subst, arith, Option, Some, None, option_map, option_and_then, slice_get}
+use Rattle.std.proofs.Common.{◌≡◌, ◌⊎◌, inl, inr, ◌<◌, ◌≤◌, ℕ, zero, suc, ◌+◌, Bool, true, false, not, nat_lt, ltb-true, ltb-false, List, [], ◌∷◌, All, ◌++◌, map, length, length-append, refl, sym, ap, ◌∙◌, subst, arith, Option, Some, None, option_map, option_and_then, slice_get}
 use Rattle.std.proofs.lemmas.List.{length-map}
 use Rattle.std.proofs.lemmas.Option.{slice_get-map}
-use Rattle.dpj_typed.specs.Plain.{PlainProgram, PlainClass, PlainParent, TypedStmts}
+use Rattle.dpj_typed.specs.Plain.{PlainField, PlainProgram, PlainClass, PlainParent, TypedStmts}
 use Rattle.dpj_typed.specs.Scope.{IsBelow, same, below, class_at, row_at}
 use Rattle.dpj_typed.specs.Scope as program
 use Rattle.dpj_typed.specs.Statements.{all_complete}
@@ -19,12 +19,12 @@ use Rattle.dpj_gen.proofs.Tables.{parents_are, method_is, constructor_is}
 use Rattle.dpj_code.proofs.Safe.{fit_is_safe, members_are_safe}
 use Rattle.dpj_gen.proofs.Typed.{typed_is_resolved}
 use Rattle.dpj_gen.proofs.Whole.{laid_out, members_at}
-use Rattle.dpj_fit.specs.Closed.{Keeps, IsAbove, itself, through_parent, ExtendsCode, RowOf, CodeClosed}
+use Rattle.dpj_fit.specs.Closed.{IsFirst, Keeps, IsAbove, itself, through_parent, ExtendsCode, RowOf, CodeClosed}
 use Rattle.dpj_fit.specs.Laws.{SafeCode}
 use Rattle.dpj_fit.specs.Room.{Roomy}
 use Rattle.dpj_fit.proofs.Typed.{through, row_there, typed_is_roomy}
 use Rattle.dpj_fit.proofs.Marks.{mark, reached, Marked, Reach, far, next, stop, cut, top_stmts, stmts_marks, stmts_reach}
-use Rattle.dpj_fit.proofs.Fitting.{TablesFit, Fine, Covers, covers_then, covers_none, covers_if, covers_one, still, is_reached, some_is, none_is, stmts_first, fit_stmts}
+use Rattle.dpj_fit.proofs.Fitting.{first_is, TablesFit, Fine, Covers, covers_then, covers_none, covers_if, covers_one, still, is_reached, some_is, none_is, stmts_first, fit_stmts}
 use Rattle.dpj_fit.proofs.Bodies.{TakesWithin, Ends, Known, gives_in, body_known, member_body}
 
 abbrev list_at : List (Option Mark) → ℕ → Option Mark
@@ -243,6 +243,18 @@ module _ (P : PlainProgram) where
             body = subst (λ z. MemberBody (compiled P) (gives_in P) z (gives_value x.0)) (ap (λ z. z.body) (some_is f)) (member_body P n x.0 x.1);
           }
 
+  all_first : (fs : List PlainField) → All IsFirst (map (λ f. first_constant f.ty) fs)
+  all_first [] k d l = absurd (omega arith)
+  all_first (f ∷ fs) zero d l = first_is f.ty
+  all_first (f ∷ fs) (suc k) d l = all_first fs k d (omega arith)
+
+  firsts_are : (c : ℕ) → All IsFirst (fields_of (code.class_at (compiled P) c))
+  firsts_are c = subst (λ o. All IsFirst (fields_of o)) (sym (class_is c)) (go (class_at P c))
+    where
+      go : (o : Option PlainClass) → All IsFirst (fields_of (option_map (class_code P (number_in P)) o))
+      go None = λ k d l. absurd (omega arith)
+      go (Some k) = all_first k.fields
+
   main_is : number_in P P.main_member ≡ (compiled P).main_body
   unfolding compiled
   main_is = refl
@@ -287,6 +299,7 @@ typed_is_closed P W = record {
   main = main_member P W;
   main_room = main_has_room P W;
   rows = λ c r m e. row_of P W c r m e;
+  firsts = λ c. firsts_are P c;
   order = W.rank;
   parents = λ c p e. extends P W c p e;
 }

@@ -2,6 +2,7 @@
 use Rattle.std.specs.Prelude.{◌≡◌, ◌<◌, ◌≤◌, ℕ, suc, Bool, true, false, IsTrue, List, All, length, Some, slice_get}
 use Rattle.dpj_base.specs.declared.region.Rpl.{Rpl}
 use Rattle.dpj_base.specs.declared.value.Value.{Value}
+use Rattle.dpj_base.specs.declared.value.Value.TheVariants as constant
 use Rattle.dpj_base.specs.Regions.{fully_specified}
 use Rattle.dpj_typed.specs.declared.stmt.Forking.{Forking}
 use Rattle.dpj_typed.specs.Plain.{PlainParent}
@@ -10,6 +11,11 @@ use Rattle.dpj_code.specs.declared.instr.Instr.TheVariants as i
 use Rattle.dpj_code.specs.Plain.{Line, PlainBody, Method, ClassCode, fork_site, spread_site, call_site, new_site, array_site, PlainCode, body_at, class_at, parent_of, method_at, fields_of}
 use Rattle.dpj_code.specs.Fit.{Mark, is_branch, MemberBody, CodeFit}
 use Rattle.dpj_fit.specs.Room.{AllFull}
+
+-- a first value is no object
+abbrev pub IsFirst : Value → Type 0
+IsFirst (constant.Obj n) = ⊥
+IsFirst v = Unit {0}
 
 -- bodies are left with no open entry, those of members by a return or leave, those of branches by an end; regions of calls and creations
 -- are fully specified, and classes there; a join stands after each fork and spread, whose copies and numbers have slots
@@ -28,7 +34,7 @@ module _ (C : PlainCode) (b : PlainBody) (p : ℕ) (m : Mark) where
   Keeps (i.New s) =
       (c n : ℕ) × (regions : List Rpl) × (slice_get C.sites s ≡ Some (new_site c n regions)) × ((k : ClassCode) × (class_at C c ≡ Some k)) ×
       AllFull regions
-  Keeps (i.Array s) = (a : Rpl) × (first : Value) × (slice_get C.sites s ≡ Some (array_site a first)) × IsTrue (fully_specified a)
+  Keeps (i.Array s) = (a : Rpl) × (first : Value) × (slice_get C.sites s ≡ Some (array_site a first)) × IsTrue (fully_specified a) × IsFirst first
   Keeps (i.Fork s) =
       (forking : Forking) × (bodies : List ℕ) × (copies : List (List ℕ)) × (slice_get C.sites s ≡ Some (fork_site forking bodies copies)) ×
       All (λ xs. All (λ x. x < b.slots) xs) copies × Joined
@@ -61,5 +67,6 @@ pub record CodeClosed (C : PlainCode) : Type 0 where
   pub main : MemberBody C fit.gives C.main_body true
   pub main_room : 1 < (body_at C C.main_body).slots
   pub rows : (c r : ℕ) (m : Method) → method_at C c r ≡ Some m → RowOf C fit.gives c m
+  pub firsts : (c : ℕ) → All IsFirst (fields_of (class_at C c))
   pub order : ℕ → ℕ
   pub parents : (c : ℕ) (p : PlainParent) → parent_of C c ≡ Some p → ExtendsCode C order c p
