@@ -20,14 +20,14 @@ use Rattle.dpj_typed.specs.Statements.{completes, all_complete}
 use Rattle.dpj_code.specs.declared.instr.Instr.{Instr}
 use Rattle.dpj_code.specs.declared.instr.Instr.TheVariants as i
 use Rattle.dpj_code.specs.Plain as code
-use Rattle.dpj_code.specs.Plain.{ClassCode, Line, PlainCode, body_at, array_site}
+use Rattle.dpj_code.specs.Plain.{Method, method_at, ClassCode, Line, PlainCode, body_at, array_site}
 use Rattle.dpj_code.specs.Machine.{site_of}
 use Rattle.dpj_code.specs.Fit.{Mark, is_branch, Falls_to, puts_of, RowIs, left_by, site_at, Local}
 use Rattle.dpj_gen.specs.Scheme.{first_constant, is_void, many, after_expr, after_exprs, after_stmt, after_stmts, after_regions, instr_of, unary_instr, site_of_array, copy_lists}
 use Rattle.dpj_gen.specs.Resolved.{RowGives, ExprFits, ExprsFit, VoidCall, PerformFits, StmtFits, StmtsFit}
 use Rattle.dpj_gen.specs.Stands.{LineAt, ExprAt, ExprsAt, PoppedAt, RegionsAt, StmtAt, StmtsAt}
-use Rattle.dpj_fit.specs.Closed.{IsFirst, Keeps}
-use Rattle.dpj_fit.specs.Room.{FullArray, BranchesWithin, ExprWithin, ExprsWithin, StmtWithin, StmtsWithin}
+use Rattle.dpj_fit.specs.Closed.{IsAbove, IsFirst, Keeps}
+use Rattle.dpj_fit.specs.Room.{RowTakes, Constructs, FullArray, BranchesWithin, ExprWithin, ExprsWithin, StmtWithin, StmtsWithin}
 use Rattle.dpj_fit.proofs.Marks.{mark, reached, Marked, cut, top_expr, top_exprs, high, high_is, expr_marks, exprs_marks, expr_reach, exprs_reach, top_perform, perform_marks, top_regions, region_marks, spread_marks, parts_marks, top_stmt, top_stmts, stmt_marks, stmts_marks, stmt_reach, stmts_reach}
 use Rattle.dpj_fit.proofs.Linked.{ForkThere, SpreadThere, Linked, AllLinked}
 
@@ -65,6 +65,8 @@ right_holds false b h = h
 -- the tables of a code are those of a program
 pub record TablesFit (C : PlainCode) (P : PlainProgram) (gives : ℕ → Bool) : Type 0 where
   pub calls : (c r : ℕ) (y : Bool) → RowGives P c r y → RowIs C gives c r y
+  pub takes : (c r n : ℕ) → RowTakes P c r n → (d : ℕ) (m : Method) → IsAbove C d c → method_at C d r ≡ Some m → n < (body_at C m.body).slots
+  pub makes : (c n : ℕ) → Constructs P c n → (q : ℕ) → code.constructor_of C c ≡ Some q → n < (body_at C q).slots
   pub classes : (c : ℕ) (k : PlainClass) → class_at P c ≡ Some k → (x : ClassCode) × (code.class_at C c ≡ Some x)
 
 -- body j of a code, whose tables are those of a program
@@ -219,11 +221,11 @@ module _ (C : PlainCode) (P : PlainProgram) (marks : ℕ → ℕ → Option Mark
         let v = cut (marks j) _ (exprs_reach es _ _ _ _) u.1 in
         covers_then (fit_expr e p _ _ _ ok.0 w.0 a.0 u.0 (exprs_first es _ _ _ _ v.0 v.1.0))
         (covers_then (fit_exprs es _ _ _ _ ok.1 w.1 a.1 v.0 v.1.0)
-        (covers_one a.2.stands v.1.0 (c, k, many es, regions, a.2.site_is, w.2) (c, k, many es, regions, true, a.2.site_is, tables.calls c k true ok.2, call_falls true es h (suc h) y (omega arith))))
+        (covers_one a.2.stands v.1.0 (c, k, many es, regions, a.2.site_is, w.2, λ d m b e. tables.takes c k (many es) w.3 d m b e) (c, k, many es, regions, true, a.2.site_is, tables.calls c k true ok.2, call_falls true es h (suc h) y (omega arith))))
     fit_expr (typed at t (expr.create es)) p h r z ok w a x y =
         let u = cut (marks j) _ (exprs_reach es p _ _ _) x in
         covers_then (fit_exprs es p _ _ _ ok w.0 a.0 u.0 u.1.0)
-        (covers_one a.1.stands u.1.0 (_, many es, _, a.1.site_is, tables.classes _ w.1.0 w.1.1, w.1.2) (_, many es, _, a.1.site_is, new_falls es y))
+        (covers_one a.1.stands u.1.0 (_, many es, _, a.1.site_is, tables.classes _ w.1.0 w.1.1, w.1.2, λ q e. tables.makes _ (many es) w.2 q e) (_, many es, _, a.1.site_is, new_falls es y))
     fit_expr (typed at t (expr.create_array n)) p h r z ok w a x y =
         let u = cut (marks j) _ (expr_reach n p _ _ _) x in
         let s = array_is t w.1 in
@@ -273,7 +275,7 @@ module _ (C : PlainCode) (P : PlainProgram) (marks : ℕ → ℕ → Option Mark
       let v = cut (marks j) _ (exprs_reach es _ _ _ _) u.1 in
       covers_then (fit_expr e p _ _ _ ok.0 w.0 a.0 u.0 (exprs_first es _ _ _ _ v.0 v.1.0))
       (covers_then (fit_exprs es _ _ _ _ ok.1 w.1 a.1 v.0 v.1.0)
-      (covers_one a.2.stands v.1.0 (c, k, many es, regions, a.2.site_is, w.2) (c, k, many es, regions, false, a.2.site_is, tables.calls c k false ok.2, call_falls false es 0 0 y (omega arith))))
+      (covers_one a.2.stands v.1.0 (c, k, many es, regions, a.2.site_is, w.2, λ d m b e. tables.takes c k (many es) w.3 d m b e) (c, k, many es, regions, false, a.2.site_is, tables.calls c k false ok.2, call_falls false es 0 0 y (omega arith))))
   fit_void (typed at t f) p r z ok w a x y = absurd ok
 
   fit_unused : (e : TypedExpr) (at : Place) (v : Bool) (p r z : ℕ) → PerformFits P e v → ExprWithin P (body_at C j).slots e →

@@ -21,7 +21,7 @@ use Rattle.dpj_gen.proofs.Typed.{typed_is_resolved}
 use Rattle.dpj_gen.proofs.Whole.{laid_out, members_at}
 use Rattle.dpj_fit.specs.Closed.{IsFirst, Keeps, IsAbove, itself, through_parent, ExtendsCode, RowOf, CodeClosed}
 use Rattle.dpj_fit.specs.Laws.{SafeCode}
-use Rattle.dpj_fit.specs.Room.{Roomy}
+use Rattle.dpj_fit.specs.Room.{RowTakes, Constructs, Roomy}
 use Rattle.dpj_fit.proofs.Typed.{through, row_there, typed_is_roomy}
 use Rattle.dpj_fit.proofs.Marks.{mark, reached, Marked, Reach, far, next, stop, cut, top_stmts, stmts_marks, stmts_reach}
 use Rattle.dpj_fit.proofs.Fitting.{first_is, TablesFit, Fine, Covers, covers_then, covers_none, covers_if, covers_one, still, is_reached, some_is, none_is, stmts_first, fit_stmts}
@@ -145,8 +145,39 @@ module _ (P : PlainProgram) where
     body = subst (λ z. MemberBody (compiled P) (gives_in P) (number_in P g.number) z) g.kind (member_body P g.number g.member g.is_there);
   }
 
-  tables_fit : TablesFit (compiled P) P (gives_in P)
-  tables_fit = record { calls = row_is; classes = class_there }
+  takes_below : Roomy P → (r n : ℕ) {d c : ℕ} → IsAbove (compiled P) d c → RowTakes P c r n → RowTakes P d r n
+  takes_below roomy r n itself g = g
+  takes_below roomy r n {d} (through_parent {p = p} e a) g = roomy.takes d r n p (parent_is d p e) (takes_below roomy r n a g)
+
+  row_takes : Roomy P → (c r n : ℕ) → RowTakes P c r n → (d : ℕ) (m : Method) → IsAbove (compiled P) d c → method_at (compiled P) d r ≡ Some m →
+      n < (body_at (compiled P) m.body).slots
+  row_takes roomy c r n g d m a e =
+      let x = takes_below roomy r n a g in
+      let same = ap (λ z. z.body) (some_is (sym (method_is (compiled P) P (number_in P) (laid_out P) d r x.number x.row) ∙ e)) in
+      let slots = ap (λ z. (body_at (compiled P) z).slots) (sym same) ∙ (members_at P x.number x.member x.is_there).slots in
+      let room = roomy.room x.number x.member x.is_there in
+      let many = x.many in
+      omega arith
+
+  constructor_takes : Roomy P → (c n : ℕ) → Constructs P c n → (q : ℕ) → constructor_of (compiled P) c ≡ Some q → n < (body_at (compiled P) q).slots
+  constructor_takes roomy c n g q e = go (program.constructor_of P c) refl (sym (constructor_is (compiled P) P (number_in P) (laid_out P) c) ∙ e)
+    where
+      go : (o : Option ℕ) → program.constructor_of P c ≡ o → option_map (number_in P) o ≡ Some q → n < (body_at (compiled P) q).slots
+      go None h f = none_is f
+      go (Some i) h f =
+          let x = g i h in
+          let slots = ap (λ z. (body_at (compiled P) z).slots) (sym (some_is f)) ∙ (members_at P i x.0 x.1).slots in
+          let room = roomy.room i x.0 x.1 in
+          let many = x.2 in
+          omega arith
+
+  tables_fit : Roomy P → TablesFit (compiled P) P (gives_in P)
+  tables_fit roomy = record {
+    calls = row_is;
+    takes = λ c r n g d m a e. row_takes roomy c r n g d m a e;
+    makes = λ c n g q e. constructor_takes roomy c n g q e;
+    classes = class_there;
+  }
 
   -- and the other way, since each row is a member
   row_gives : Roomy P → (c r : ℕ) (y : Bool) → RowIs (compiled P) (gives_in P) c r y → RowGives P c r y
@@ -197,16 +228,16 @@ module _ (P : PlainProgram) where
     begins_so j l = go (decide (length (compiled P).bodies) j) (λ p. refl)
       where
         go : (d : Choice j) → ((p : ℕ) → marks_in j p ≡ marks_when j d p) → (m : Mark) × (marks_in j 0 ≡ Some m) × (m.height ≡ 0) × (m.open_entries ≡ 0)
-        go (inl k) h = body_first (compiled P) P marks_in (gives_in P) tables_fit j (body_known P resolved roomy j k) h
+        go (inl k) h = body_first (compiled P) P marks_in (gives_in P) (tables_fit roomy) j (body_known P resolved roomy j k) h
         go (inr k) h = absurd (omega arith)
 
-    lines_fit : (j p : ℕ) → Fine (compiled P) P marks_in (gives_in P) tables_fit j p
+    lines_fit : (j p : ℕ) → Fine (compiled P) P marks_in (gives_in P) (tables_fit roomy) j p
     lines_fit j p m e = go (decide (length (compiled P).bodies) j) (λ p. refl)
       where
         go : (d : Choice j) → ((p : ℕ) → marks_in j p ≡ marks_when j d p) →
             (l : Line) × (slice_get (body_at (compiled P) j).lines p ≡ Some l) × Local (compiled P) marks_in (gives_in P) j p m l.instr ×
             Keeps (compiled P) (body_at (compiled P) j) p m l.instr
-        go (inl k) h = body_fits (compiled P) P marks_in (gives_in P) tables_fit j (body_known P resolved roomy j k) h p m e
+        go (inl k) h = body_fits (compiled P) P marks_in (gives_in P) (tables_fit roomy) j (body_known P resolved roomy j k) h p m e
         go (inr k) h = none_is (sym (h p) ∙ e)
 
     lines_keep : (j p : ℕ) (m : Mark) (l : Line) → marks_in j p ≡ Some m → slice_get (body_at (compiled P) j).lines p ≡ Some l →

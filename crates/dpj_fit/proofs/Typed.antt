@@ -1,12 +1,14 @@
 -- The bodies of a well-typed program keep to their slots and local regions, and its rows are members.
-use Rattle.std.proofs.Common.{◌≡◌, inl, inr, ◌<◌, ℕ, zero, suc, ◌+◌, ◌==◌, Bool, true, false, cond, List, [], ◌∷◌, All, length, slice_index_or, refl, ap, subst, arith, Option, Some, None, slice_get, option_map, option_and_then}
+use Rattle.std.proofs.Common.{◌≡◌, inl, inr, ◌<◌, ℕ, zero, suc, ◌+◌, ◌==◌, Bool, true, false, cond, List, [], ◌∷◌, All, map, length, slice_index_or, refl, ap, subst, arith, Option, Some, None, slice_get, option_map, option_and_then, sym, ◌∙◌}
 use Rattle.std.proofs.lemmas.Bool.{eqb-true}
+use Rattle.std.proofs.lemmas.List.{length-map}
+use Rattle.std.proofs.lemmas.List.Elements.{length_all_zip}
 use Rattle.std.proofs.lemmas.Option.{slice_get_within}
 use Rattle.std.specs.List.{list_any}
-use Rattle.dpj_base.specs.Types.{PlainType, int}
+use Rattle.dpj_base.specs.Types.{type_with, PlainType, int}
 use Rattle.dpj_base.specs.declared.region.Rpl.{Rpl}
-use Rattle.dpj_typed.specs.Plain.{PlainProgram, PlainClass, PlainMember, TypedExpr, TypedExprs, Source, TypedStmt, TypedStmts, TypedBranches}
-use Rattle.dpj_typed.specs.Scope.{Scope, Local, variable, frozen, constant, part, reserved, with_local, in_loop_branch, read_alone, seen_in_branch, class_at, row_at}
+use Rattle.dpj_typed.specs.Plain.{PlainProgram, PlainClass, PlainParent, PlainMember, TypedExpr, TypedExprs, Source, TypedStmt, TypedStmts, TypedBranches}
+use Rattle.dpj_typed.specs.Scope.{Scope, Local, variable, frozen, constant, part, reserved, with_local, in_loop_branch, read_alone, seen_in_branch, class_at, row_at, member_at, parent_of, constructor_of}
 use Rattle.dpj_typed.specs.Effects.{Own}
 use Rattle.dpj_typed.specs.Typing.{Holds, Has, Fit}
 use Rattle.dpj_typed.specs.Typing.{Has as has}
@@ -15,9 +17,10 @@ use Rattle.dpj_typed.specs.Statements.{declared_as, with_part, IsFree, Cuts, cut
 use Rattle.dpj_typed.specs.Statements.{Passes as passes}
 use Rattle.dpj_typed.specs.Statements.{AllPass as all}
 use Rattle.dpj_typed.specs.Statements.{BranchesPass as branches}
-use Rattle.dpj_typed.specs.Table.{RowIsThere, first_locals}
+use Rattle.dpj_typed.specs.Table.{KeepsRow, RowIsThere, first_locals}
 use Rattle.dpj_typed.specs.WellTyped.{WellTyped}
-use Rattle.dpj_fit.specs.Room.{ExprWithin, ExprsWithin, SourceWithin, StmtWithin, StmtsWithin, BranchesWithin, Roomy}
+use Rattle.dpj_gen.specs.Scheme.{many}
+use Rattle.dpj_fit.specs.Room.{RowTakes, ExprWithin, ExprsWithin, SourceWithin, StmtWithin, StmtsWithin, BranchesWithin, Roomy}
 
 -- how many slots a local needs beside its own
 abbrev beside : Local → ℕ
@@ -92,6 +95,22 @@ module _ (P : PlainProgram) (n r : ℕ) where
   readable room x t (inr (inl h)) = let a = room.locals x _ h in omega arith
   readable room x t (inr (inr h)) = let a = room.locals x _ h in omega arith
 
+  fit_many : {L : Scope} {es : TypedExprs} {ts : List PlainType} {F : List Own} → Fit P L es ts F → many es ≡ length ts
+  fit_many fit.none = refl
+  fit_many (fit.one_more h s f) = ap suc (fit_many f)
+
+  constructor_is : (c : ℕ) (k : PlainClass) → class_at P c ≡ Some k → constructor_of P c ≡ k.constructor
+  constructor_is c k e = ap (λ o. option_and_then (λ k. k.constructor) o) e
+
+  none_made : (c : ℕ) (k : PlainClass) → class_at P c ≡ Some k → k.constructor ≡ None → (q : ℕ) → constructor_of P c ≡ Some q → ⊥
+  none_made c k e z q h = let i = constructor_is c k e in cc
+
+  made : {L : Scope} {n : ℕ} {es : TypedExprs} {m : PlainMember} {F : List Own} (c : ℕ) (args : List Rpl) (k : PlainClass) → class_at P c ≡ Some k →
+      k.constructor ≡ Some n → member_at P n ≡ Some m → Fit P L es (map (type_with args) m.formals) F → (q : ℕ) → constructor_of P c ≡ Some q →
+      (x : PlainMember) × (member_at P q ≡ Some x) × (length x.formals ≡ many es)
+  made {m = m} c args k e z there f q h =
+      let same = some_is (sym h ∙ (constructor_is c k e ∙ z)) in (m, ap (λ i. member_at P i) same ∙ there, sym (length-map _ _) ∙ sym (fit_many f))
+
   mutual
     expr_within : {L : Scope} {may : Bool} {e : TypedExpr} {E : List Own} → Room n r may L → Has P L e E → ExprWithin P n e
     expr_within u (has.literal_int s) = tt
@@ -101,9 +120,15 @@ module _ (P : PlainProgram) (n r : ℕ) where
     expr_within u (has.read_field h q f k t) = expr_within u h
     expr_within u (has.read_element h q i s k t) = (expr_within u h, expr_within u i)
     expr_within u (has.length_of_array h q) = expr_within u h
-    expr_within u (has.call_method h q row member above good full known readable actuals calm t) = (expr_within u h, exprs_within u actuals, full)
-    expr_within u (has.create_object {k = class} k g a z) = (tt, (class, k, a))
-    expr_within u (has.construct_object {k = class} k g a z m f c) = (exprs_within u f, (class, k, a))
+    expr_within u (has.call_method h q row member above good full known readable actuals calm t) = (
+      expr_within u h,
+      exprs_within u actuals,
+      full,
+      record { number = _; member = _; row = row; is_there = member; many = sym (length-map _ _) ∙ sym (fit_many actuals) },
+    )
+    expr_within u (has.create_object {c = c} {k = class} k g a z) = (tt, (class, k, a), λ n e. absurd (none_made c class k z n e))
+    expr_within u (has.construct_object {c = c} {args = args} {k = class} k g a z m f calm) =
+        (exprs_within u f, (class, k, a), λ q e. made c args class k z m f q e)
     expr_within u (has.make_array g a h q) = (expr_within u h, a)
     expr_within u (has.negative h q) = expr_within u h
     expr_within u (has.negation h q) = expr_within u h
@@ -197,10 +222,42 @@ row_there P W c r n e =
     let k = through (class_at P c) (λ k. slice_get k.rows r) n e in
     subst (λ z. RowIsThere P c z) (index_is k.0.rows r n k.2) ((W.classes c k.0 k.1).rows r 0 (slice_get_within k.0.rows r n k.2))
 
+-- a class below keeps how many arguments a row takes
+kept_takes : (P : PlainProgram) (c r q m n : ℕ) (k : PlainClass) (member : PlainMember) → class_at P c ≡ Some k → slice_get k.rows r ≡ Some m →
+    member_at P q ≡ Some member → length member.formals ≡ n → KeepsRow P c k q m → RowTakes P c r n
+kept_takes P c r q m n k member e row there many (inl same) = record {
+  number = m;
+  member = member;
+  row = ap (λ z. option_and_then (λ x. slice_get x.rows r) z) e ∙ row;
+  is_there = ap (λ z. member_at P z) same ∙ there;
+  many = many;
+}
+kept_takes P c r q m n k member e row there many (inr own) =
+    let o = own.4 in
+    let same : own.1 ≡ member = some_is (sym own.3 ∙ there) in
+    record {
+      number = m;
+      member = own.0;
+      row = ap (λ z. option_and_then (λ x. slice_get x.rows r) z) e ∙ row;
+      is_there = own.2;
+      many = length_all_zip _ _ _ o.formals ∙ (length-map _ _ ∙ (ap (λ z. length z.formals) same ∙ many));
+    }
+
+below_takes : (P : PlainProgram) → WellTyped P → (c r n : ℕ) (p : PlainParent) → parent_of P c ≡ Some p → RowTakes P p.class r n → RowTakes P c r n
+below_takes P W c r n p e g =
+    let k = through (class_at P c) (λ k. k.parent) p e in
+    let x = (W.classes c k.0 k.1).parent p k.2 in
+    let a = through (class_at P p.class) (λ k. slice_get k.rows r) g.number g.row in
+    let same : a.0 ≡ x.above = some_is (sym a.1 ∙ x.is) in
+    let row = x.rows r g.number (ap (λ z. slice_get z.rows r) (sym same) ∙ a.2) in
+    kept_takes P c r g.number row.0 n k.0 g.member k.1 row.1 g.is_there g.many row.2
+
 pub typed_is_roomy : (P : PlainProgram) → WellTyped P → Roomy P
 typed_is_roomy P W = record {
   bodies = λ n m e. (let g = W.members n m e in
       all_within P m.slots m.local_regions
       (record { slots = refl; returns = λ t q. refl; local_regions = refl; locals = first_fit g.class m g.room }) g.passes);
   rows = λ c r n e. (let x = row_there P W c r n e in (x.0, x.1));
+  takes = λ c r n p e g. below_takes P W c r n p e g;
+  room = λ n m e. (W.members n m e).room;
 }

@@ -8,9 +8,14 @@ use Rattle.dpj_typed.specs.declared.stmt.Forking.{Forking}
 use Rattle.dpj_typed.specs.Plain.{PlainParent}
 use Rattle.dpj_code.specs.declared.instr.Instr.{Instr}
 use Rattle.dpj_code.specs.declared.instr.Instr.TheVariants as i
-use Rattle.dpj_code.specs.Plain.{Line, PlainBody, Method, ClassCode, fork_site, spread_site, call_site, new_site, array_site, PlainCode, body_at, class_at, parent_of, method_at, fields_of}
+use Rattle.dpj_code.specs.Plain.{Line, PlainBody, Method, ClassCode, fork_site, spread_site, call_site, new_site, array_site, PlainCode, body_at, class_at, parent_of, method_at, constructor_of, fields_of}
 use Rattle.dpj_code.specs.Fit.{Mark, is_branch, MemberBody, CodeFit}
 use Rattle.dpj_fit.specs.Room.{AllFull}
+
+-- the second class is the first or stands above it
+pub data IsAbove (C : PlainCode) : ℕ → ℕ → Type 0 where
+  itself : {c : ℕ} → IsAbove C c c
+  through_parent : {c d : ℕ} {p : PlainParent} → parent_of C c ≡ Some p → IsAbove C p.class d → IsAbove C c d
 
 -- a first value is no object
 abbrev pub IsFirst : Value → Type 0
@@ -18,7 +23,7 @@ IsFirst (constant.Obj n) = ⊥
 IsFirst v = Unit {0}
 
 -- bodies are left with no open entry, those of members by a return or leave, those of branches by an end; regions of calls and creations
--- are fully specified, and classes there; a join stands after each fork and spread, whose copies and numbers have slots
+-- are fully specified, classes there, and the bodies that they may enter have slots for object and arguments; a join stands after each fork and spread, whose copies and numbers have slots
 module _ (C : PlainCode) (b : PlainBody) (p : ℕ) (m : Mark) where
   abbrev pub Left : Bool → Type 0
   Left branch = (is_branch b.title ≡ branch) × (m.open_entries ≡ 0)
@@ -30,21 +35,18 @@ module _ (C : PlainCode) (b : PlainBody) (p : ℕ) (m : Mark) where
   Keeps i.Return = Left false
   Keeps i.Leave = Left false
   Keeps i.End = Left true
-  Keeps (i.Call s) = (c r n : ℕ) × (regions : List Rpl) × (slice_get C.sites s ≡ Some (call_site c r n regions)) × AllFull regions
+  Keeps (i.Call s) =
+      (c r n : ℕ) × (regions : List Rpl) × (slice_get C.sites s ≡ Some (call_site c r n regions)) × AllFull regions ×
+      ((d : ℕ) (x : Method) → IsAbove C d c → method_at C d r ≡ Some x → n < (body_at C x.body).slots)
   Keeps (i.New s) =
       (c n : ℕ) × (regions : List Rpl) × (slice_get C.sites s ≡ Some (new_site c n regions)) × ((k : ClassCode) × (class_at C c ≡ Some k)) ×
-      AllFull regions
+      AllFull regions × ((j : ℕ) → constructor_of C c ≡ Some j → n < (body_at C j).slots)
   Keeps (i.Array s) = (a : Rpl) × (first : Value) × (slice_get C.sites s ≡ Some (array_site a first)) × IsTrue (fully_specified a) × IsFirst first
   Keeps (i.Fork s) =
       (forking : Forking) × (bodies : List ℕ) × (copies : List (List ℕ)) × (slice_get C.sites s ≡ Some (fork_site forking bodies copies)) ×
       All (λ xs. All (λ x. x < b.slots) xs) copies × Joined
   Keeps (i.Spread s) = (forking : Forking) × (body x : ℕ) × (slice_get C.sites s ≡ Some (spread_site forking body x)) × (x < b.slots) × Joined
   Keeps x = Unit {0}
-
--- the second class is the first or stands above it
-pub data IsAbove (C : PlainCode) : ℕ → ℕ → Type 0 where
-  itself : {c : ℕ} → IsAbove C c c
-  through_parent : {c d : ℕ} {p : PlainParent} → parent_of C c ≡ Some p → IsAbove C p.class d → IsAbove C c d
 
 -- a class extends one before it in some order, by regions that are fully specified, and has at least its fields
 pub record ExtendsCode (C : PlainCode) (order : ℕ → ℕ) (c : ℕ) (p : PlainParent) : Type 0 where

@@ -1,16 +1,17 @@
 -- What fit code asks of a program beside that it is resolved: each body keeps to the slots and local regions of its member, names
 -- regions that are fully specified and classes that are there, and returns neither from a branch nor from an atomic block; the rows of
 -- classes are members.
-use Rattle.std.specs.Prelude.{◌≡◌, ◌<◌, ℕ, ◌+◌, Bool, true, false, IsTrue, List, All, Some}
+use Rattle.std.specs.Prelude.{◌≡◌, ◌<◌, ℕ, ◌+◌, Bool, true, false, IsTrue, List, All, length, Some}
 use Rattle.dpj_base.specs.declared.region.Rpl.{Rpl}
 use Rattle.dpj_base.specs.Regions.{fully_specified}
 use Rattle.dpj_base.specs.Types.{PlainType}
 use Rattle.dpj_base.specs.Types.{PlainType as ty}
-use Rattle.dpj_typed.specs.Plain.{TypedExpr, typed, TypedExprs, no_exprs, more_exprs, Source, of_array, of_part, TypedStmt, statement, TypedStmts, no_stmts, more_stmts, TypedBranches, no_branches, more_branches, PlainClass, PlainMember, PlainProgram}
+use Rattle.dpj_typed.specs.Plain.{TypedExpr, typed, TypedExprs, no_exprs, more_exprs, Source, of_array, of_part, TypedStmt, statement, TypedStmts, no_stmts, more_stmts, TypedBranches, no_branches, more_branches, PlainClass, PlainParent, PlainMember, PlainProgram}
 use Rattle.dpj_typed.specs.Plain.{ExprForm as expr}
 use Rattle.dpj_typed.specs.Plain.{StmtForm as form}
-use Rattle.dpj_typed.specs.Scope.{class_at, member_at, row_at}
+use Rattle.dpj_typed.specs.Scope.{class_at, member_at, row_at, parent_of, constructor_of}
 use Rattle.dpj_meaning.specs.Expressions.{class_in}
+use Rattle.dpj_gen.specs.Scheme.{many}
 
 abbrev pub AllFull : List Rpl → Type 0
 AllFull rpls = All (λ a. IsTrue (fully_specified a)) rpls
@@ -23,6 +24,17 @@ abbrev pub FullArray : PlainType → Type 0
 FullArray (ty.array t a named) = IsTrue (fully_specified a)
 FullArray t = ⊥
 
+-- the row of a class, and its constructor, where it has one, is a member that takes so many arguments
+pub record RowTakes (P : PlainProgram) (c r n : ℕ) : Type 0 where
+  pub number : ℕ
+  pub member : PlainMember
+  pub row : row_at P c r ≡ Some number
+  pub is_there : member_at P number ≡ Some member
+  pub many : length member.formals ≡ n
+
+abbrev pub Constructs : PlainProgram → ℕ → ℕ → Type 0
+Constructs P c n = (number : ℕ) → constructor_of P c ≡ Some number → (m : PlainMember) × (member_at P number ≡ Some m) × (length m.formals ≡ n)
+
 -- of n slots: each local has one, and each part five
 abbrev mutual
   pub ExprWithin : PlainProgram → ℕ → TypedExpr → Type 0
@@ -33,8 +45,8 @@ abbrev mutual
   ExprWithin P n (typed at t (expr.field e c f)) = ExprWithin P n e
   ExprWithin P n (typed at t (expr.element a j)) = ExprWithin P n a × ExprWithin P n j
   ExprWithin P n (typed at t (expr.array_length a)) = ExprWithin P n a
-  ExprWithin P n (typed at t (expr.call e c r regions es)) = ExprWithin P n e × ExprsWithin P n es × AllFull regions
-  ExprWithin P n (typed at t (expr.create es)) = ExprsWithin P n es × Created P t
+  ExprWithin P n (typed at t (expr.call e c r regions es)) = ExprWithin P n e × ExprsWithin P n es × AllFull regions × RowTakes P c r (many es)
+  ExprWithin P n (typed at t (expr.create es)) = ExprsWithin P n es × Created P t × Constructs P (class_in t).0 (many es)
   ExprWithin P n (typed at t (expr.create_array e)) = ExprWithin P n e × FullArray t
   ExprWithin P n (typed at t (expr.unary o e)) = ExprWithin P n e
   ExprWithin P n (typed at t (expr.binary o a b)) = ExprWithin P n a × ExprWithin P n b
@@ -86,3 +98,6 @@ abbrev mutual
 pub record Roomy (P : PlainProgram) : Type 0 where
   pub bodies : (n : ℕ) (m : PlainMember) → member_at P n ≡ Some m → StmtsWithin P m.slots m.local_regions true m.body
   pub rows : (c r n : ℕ) → row_at P c r ≡ Some n → (m : PlainMember) × (member_at P n ≡ Some m)
+  -- a row takes as many arguments in each class below, and a member has slots for its object and its arguments
+  pub takes : (c r n : ℕ) (p : PlainParent) → parent_of P c ≡ Some p → RowTakes P p.class r n → RowTakes P c r n
+  pub room : (n : ℕ) (m : PlainMember) → member_at P n ≡ Some m → length m.formals < m.slots
