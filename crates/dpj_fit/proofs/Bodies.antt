@@ -20,6 +20,7 @@ use Rattle.dpj_gen.proofs.Pieces.{Holds, split, all_of, Queued, queued, Laid}
 use Rattle.dpj_gen.proofs.Placed.{stmt_far, stmts_far}
 use Rattle.dpj_gen.proofs.Whole.{need, need_on, Needs, expr_needs, stmt_needs, branch_needs, member_needs, OutputAt, generated, member_queued, member_is, first_output, bodies_at}
 use Rattle.dpj_fit.specs.Room.{StmtWithin, StmtsWithin, BranchesWithin, Roomy}
+use Rattle.dpj_fit.proofs.Lists.{index_is}
 use Rattle.dpj_fit.proofs.Linked.{Rooted, rooted, Stands, cut_here, skip, Linked, AllLinked, linked, all_linked}
 
 -- a branch that takes a part has slots for it
@@ -302,11 +303,6 @@ kinds k (m ∷ ms) = same (length (member_output k m).bodies) (gives_value m) ++
 pub gives_in : PlainProgram → ℕ → Bool
 gives_in P j = slice_index_or (kinds first P.members) j false
 
-index_is : (xs : List Bool) (k : ℕ) (x : Bool) → slice_get xs k ≡ Some x → slice_index_or xs k false ≡ x
-index_is [] k x e = absurd (cc)
-index_is (y ∷ ys) zero x e = cc
-index_is (y ∷ ys) (suc k) x e = index_is ys k x e
-
 -- a place is before n, or so far after it
 splits : (n m i : ℕ) → i < n + m → (i < n) ⊎ ((r : ℕ) × (i ≡ n + r) × (r < m))
 splits zero m i l = inr (i, omega arith, omega arith)
@@ -320,7 +316,7 @@ splits (suc n) m (suc i) l = go (splits n m i (omega arith))
 module _ (P : PlainProgram) where
   kind_is : (j : ℕ) (y : Bool) → slice_get (kinds first P.members) j ≡ Some y → gives_in P j ≡ y
   unfolding gives_in
-  kind_is j y e = index_is (kinds first P.members) j y e
+  kind_is j y e = index_is (kinds first P.members) j false y e
 
   first_kinds : (k : Next) (m : PlainMember) (ms : List PlainMember) → Holds (kinds first P.members) k.body (kinds k (m ∷ ms)) →
       ((i : ℕ) → i < length (member_output k m).bodies → gives_in P (k.body + i) ≡ gives_value m) ×

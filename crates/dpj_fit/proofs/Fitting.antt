@@ -1,5 +1,5 @@
 -- The code of each construct fits its marks.
-use Rattle.std.proofs.Common.{◌≡◌, ◌⊎◌, inl, inr, ◌<◌, ◌≤◌, ℕ, zero, suc, ◌+◌, pos, Bool, true, false, IsTrue, cond, ◌&&◌, ◌||◌, nat_lt, ltb-true, ltb-false, List, [], ◌∷◌, All, refl, sym, ap, ◌∙◌, subst, arith, Option, Some, None, slice_get}
+use Rattle.std.proofs.Common.{◌≡◌, ◌⊎◌, inl, inr, ◌<◌, ◌≤◌, ℕ, zero, suc, ◌+◌, pos, Bool, true, false, IsTrue, cond, ◌&&◌, ◌||◌, nat_lt, ltb-true, ltb-false, List, [], ◌∷◌, All, refl, sym, ap, ◌∙◌, subst, arith, Option, Some, slice_get}
 use Rattle.dpj_base.specs.declared.effect.Effect.{Effect}
 use Rattle.dpj_base.specs.declared.place.Place.{Place}
 use Rattle.dpj_base.specs.declared.region.Rpl.{Rpl}
@@ -28,6 +28,7 @@ use Rattle.dpj_gen.specs.Resolved.{RowGives, ExprFits, ExprsFit, VoidCall, Perfo
 use Rattle.dpj_gen.specs.Stands.{LineAt, ExprAt, ExprsAt, PoppedAt, RegionsAt, StmtAt, StmtsAt}
 use Rattle.dpj_fit.specs.Closed.{IsAbove, IsFirst, Keeps}
 use Rattle.dpj_fit.specs.Room.{RowTakes, Constructs, FullArray, BranchesWithin, ExprWithin, ExprsWithin, StmtWithin, StmtsWithin}
+use Rattle.dpj_fit.proofs.Lists.{some_is, none_is}
 use Rattle.dpj_fit.proofs.Marks.{mark, reached, Marked, cut, top_expr, top_exprs, high, high_is, expr_marks, exprs_marks, expr_reach, exprs_reach, top_perform, perform_marks, top_regions, region_marks, spread_marks, parts_marks, top_stmt, top_stmts, stmt_marks, stmts_marks, stmt_reach, stmts_reach}
 use Rattle.dpj_fit.proofs.Linked.{ForkThere, SpreadThere, Linked, AllLinked}
 
@@ -43,12 +44,6 @@ array_is : (t : PlainType) → FullArray t →
     (a : Rpl) × (first : Value) × (site_of_array t ≡ array_site a first) × IsTrue (fully_specified a) × IsFirst first
 array_is (ty.array t a named) f = (_, _, refl, f, first_is t)
 array_is t f = absurd f
-
-pub some_is : {A : Type 0} {x y : A} → Some x ≡ Some y → x ≡ y
-some_is e = cc
-
-pub none_is : {A B : Type 0} {x : A} → None ≡ Some x → B
-none_is e = absurd (cc)
 
 both_hold : (a b : Bool) → a ≡ true → b ≡ true → a && b ≡ true
 both_hold true b h k = k

@@ -1,3 +1,4 @@
+mod Lists
 mod Typed
 mod Marks
 mod Linked

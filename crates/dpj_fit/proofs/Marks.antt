@@ -1,5 +1,5 @@
 -- The marks of compiled code: of each construct, from the height before it, the rank of the place after it and how many entries are open.
--- Ranks count up from behind; before two targets stands more than the sum of theirs, and a loop's body ends over its head.
+-- Ranks count up from the end; before two targets stands more than the sum of theirs, and a loop's body ends over its head.
 use Rattle.std.proofs.Common.{◌≡◌, ℕ, suc, ◌+◌, Bool, true, false, cond, List, [], ◌∷◌, ◌++◌, length, subst, arith, length-append, Option, Some, None}
 use Rattle.dpj_typed.specs.Plain.{TypedExpr, typed, type_of, TypedExprs, no_exprs, more_exprs, of_array, of_part, TypedStmt, statement, TypedStmts, no_stmts, more_stmts}
 use Rattle.dpj_typed.specs.Plain.{ExprForm as expr}

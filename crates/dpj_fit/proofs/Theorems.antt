@@ -23,8 +23,9 @@ use Rattle.dpj_fit.specs.Closed.{IsFirst, Keeps, IsAbove, itself, through_parent
 use Rattle.dpj_fit.specs.Laws.{SafeCode}
 use Rattle.dpj_fit.specs.Room.{RowTakes, Constructs, Roomy}
 use Rattle.dpj_fit.proofs.Typed.{through, row_there, typed_is_roomy}
+use Rattle.dpj_fit.proofs.Lists.{some_is, none_is}
 use Rattle.dpj_fit.proofs.Marks.{mark, reached, Marked, Reach, far, next, stop, cut, top_stmts, stmts_marks, stmts_reach}
-use Rattle.dpj_fit.proofs.Fitting.{first_is, TablesFit, Fine, Covers, covers_then, covers_none, covers_if, covers_one, still, is_reached, some_is, none_is, stmts_first, fit_stmts}
+use Rattle.dpj_fit.proofs.Fitting.{first_is, TablesFit, Fine, Covers, covers_then, covers_none, covers_if, covers_one, still, is_reached, stmts_first, fit_stmts}
 use Rattle.dpj_fit.proofs.Bodies.{TakesWithin, Ends, Known, gives_in, body_known, member_body}
 
 abbrev list_at : List (Option Mark) → ℕ → Option Mark
@@ -42,7 +43,7 @@ in_list [] p m e = absurd (cc)
 in_list (x ∷ xs) zero m e = omega arith
 in_list (x ∷ xs) (suc p) m e = let r = in_list xs p m e in omega arith
 
--- a branch takes its part first; behind the statements stands an end, where they complete
+-- a branch takes its part first; after the statements stands an end, where they complete
 abbrev begin_marks : Option ℕ → ℕ → List (Option Mark)
 begin_marks None r = []
 begin_marks (Some x) r = Some (mark 0 (suc r) 0) ∷ []

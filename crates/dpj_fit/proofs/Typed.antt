@@ -20,6 +20,7 @@ use Rattle.dpj_typed.specs.Statements.{BranchesPass as branches}
 use Rattle.dpj_typed.specs.Table.{KeepsRow, RowIsThere, first_locals}
 use Rattle.dpj_typed.specs.WellTyped.{WellTyped}
 use Rattle.dpj_gen.specs.Scheme.{many}
+use Rattle.dpj_fit.proofs.Lists.{some_is, index_is}
 use Rattle.dpj_fit.specs.Room.{RowTakes, ExprWithin, ExprsWithin, SourceWithin, StmtWithin, StmtsWithin, BranchesWithin, Roomy}
 
 -- how many slots a local needs beside its own
@@ -36,9 +37,6 @@ record Room (n r : ℕ) (may : Bool) (L : Scope) : Type 0 where
   returns : (t : PlainType) → L.result ≡ Some t → may ≡ true
   local_regions : L.local_regions ≡ r
   locals : LocalsFit n L.local
-
-some_is : {A : Type 0} {x y : A} → Some x ≡ Some y → x ≡ y
-some_is e = cc
 
 declare_fits : {n : ℕ} (x : ℕ) (l : Local) (local : ℕ → Option Local) → x + beside l < n → LocalsFit n local →
     LocalsFit n (λ y. cond (y == x) (Some l) (local y))
@@ -211,16 +209,11 @@ pub through : {A : Type 0} (k : Option PlainClass) (f : PlainClass → Option A)
 through None f x e = absurd (cc)
 through (Some c) f x e = (c, refl, e)
 
-index_is : (xs : List ℕ) (k x : ℕ) → slice_get xs k ≡ Some x → slice_index_or xs k 0 ≡ x
-index_is [] k x e = absurd (cc)
-index_is (y ∷ ys) zero x e = cc
-index_is (y ∷ ys) (suc k) x e = index_is ys k x e
-
 -- a row is a member of the class or one above it
 pub row_there : (P : PlainProgram) → WellTyped P → (c r n : ℕ) → row_at P c r ≡ Some n → RowIsThere P c n
 row_there P W c r n e =
     let k = through (class_at P c) (λ k. slice_get k.rows r) n e in
-    subst (λ z. RowIsThere P c z) (index_is k.0.rows r n k.2) ((W.classes c k.0 k.1).rows r 0 (slice_get_within k.0.rows r n k.2))
+    subst (λ z. RowIsThere P c z) (index_is k.0.rows r 0 n k.2) ((W.classes c k.0 k.1).rows r 0 (slice_get_within k.0.rows r n k.2))
 
 -- a class below keeps how many arguments a row takes
 kept_takes : (P : PlainProgram) (c r q m n : ℕ) (k : PlainClass) (member : PlainMember) → class_at P c ≡ Some k → slice_get k.rows r ≡ Some m →

@@ -22,8 +22,9 @@ abbrev pub IsFirst : Value → Type 0
 IsFirst (constant.Obj n) = ⊥
 IsFirst v = Unit {0}
 
--- bodies are left with no open entry, those of members by a return or leave, those of branches by an end; regions of calls and creations
--- are fully specified, classes there, and the bodies that they may enter have slots for object and arguments; a join stands after each fork and spread, whose copies and numbers have slots
+-- what an instruction of a body keeps to, at its place with this mark: bodies are left with no open entry, those of members by a return or
+-- leave, those of branches by an end; regions of calls and creations are fully specified, classes are there, and each body that may be entered
+-- has more slots than it gets arguments; a join stands after each fork and spread, whose copies and numbers have slots
 module _ (C : PlainCode) (b : PlainBody) (p : ℕ) (m : Mark) where
   abbrev pub Left : Bool → Type 0
   Left branch = (is_branch b.title ≡ branch) × (m.open_entries ≡ 0)

@@ -1,6 +1,6 @@
 -- What fit code asks of a program beside that it is resolved: each body keeps to the slots and local regions of its member, names
--- regions that are fully specified and classes that are there, and returns neither from a branch nor from an atomic block; the rows of
--- classes are members.
+-- regions that are fully specified and classes that are there, calls with as many arguments as are taken, and returns neither from a
+-- branch nor from an atomic block; the rows of classes are members.
 use Rattle.std.specs.Prelude.{◌≡◌, ◌<◌, ℕ, ◌+◌, Bool, true, false, IsTrue, List, All, length, Some}
 use Rattle.dpj_base.specs.declared.region.Rpl.{Rpl}
 use Rattle.dpj_base.specs.Regions.{fully_specified}
@@ -16,7 +16,7 @@ use Rattle.dpj_gen.specs.Scheme.{many}
 abbrev pub AllFull : List Rpl → Type 0
 AllFull rpls = All (λ a. IsTrue (fully_specified a)) rpls
 
--- what is created: an object of a class that is there, or an array, in regions that are fully specified
+-- what is created: an object of a class that is there, by regions that are fully specified; or an array in such a region
 abbrev pub Created : PlainProgram → PlainType → Type 0
 Created P t = (k : PlainClass) × (class_at P (class_in t).0 ≡ Some k) × AllFull (class_in t).1
 
@@ -24,7 +24,7 @@ abbrev pub FullArray : PlainType → Type 0
 FullArray (ty.array t a named) = IsTrue (fully_specified a)
 FullArray t = ⊥
 
--- the row of a class, and its constructor, where it has one, is a member that takes so many arguments
+-- the row of a class is a member that takes so many arguments; and so is its constructor, where it has one
 pub record RowTakes (P : PlainProgram) (c r n : ℕ) : Type 0 where
   pub number : ℕ
   pub member : PlainMember
