@@ -2,7 +2,9 @@ ghost use Rattle.std.specs.List.{All};
 ghost use Rattle.std.specs.Prelude.{◌≡◌, IfOk, OnOk, map, slice_get};
 ghost use Rattle.dpj_typed.specs.Names.{names_of};
 ghost use Rattle.dpj_typed.specs.Plain.{plain_program, plain_member};
+ghost use Rattle.dpj_typed.specs.WellTyped.{WellTyped};
 ghost use Rattle.dpj_code.specs.Plain.{plain_code};
+ghost use Rattle.dpj_fit.specs.Closed.{CodeClosed};
 ghost use Rattle.dpj_gen.specs.Whole.{compiled, first, member_numbers, members_output};
 ghost use Rattle.dpj_compile.specs.Emitted.{emitted_of};
 ghost use Rattle.dpj_compile.specs.Bodies.{IsNew, output_of};
@@ -16,11 +18,12 @@ use dpj_code::{Body, Code};
 use dpj_typed::{Class, Member, Program};
 use std::alloc::Global;
 
-/// Compiles a typed program to the code that the scheme of `dpj_gen` says.
+/// Compiles a typed program to the code that the scheme of `dpj_gen` says, which is closed and fit where the program is well typed.
 pub fn compile(alloc: Global, program: &Program) -> Result<Code, NoMemory>
     ensures code { IfOk result (λ code. plain_code code ≡ compiled (plain_program program.now)) }
     ensures titles { IfOk result (λ code. map (λ body. body.title) code.bodies ≡ titles_of (plain_program program.now) (names_of program.now)) }
     ensures placed { IfOk result (λ code. All HasPlaces code.bodies) }
+    ensures closed { IfOk result (λ code. WellTyped (plain_program program.now) → CodeClosed (plain_code code)) }
 {
     let mut out = Emitter::new(alloc);
     let mut bodies = Items::new(alloc);

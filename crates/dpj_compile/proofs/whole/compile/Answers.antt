@@ -1,6 +1,8 @@
-use Rattle.std.proofs.Common.{map, refl}
+use Rattle.std.proofs.Common.{map, refl, sym, subst}
 use Rattle.dpj_typed.specs.Plain.{plain_program}
 use Rattle.dpj_code.specs.Plain.{plain_class}
+use Rattle.dpj_fit.specs.Closed.{CodeClosed}
+use Rattle.dpj_fit.proofs.Theorems.{typed_is_closed}
 use Rattle.dpj_compile.specs.Emitted.{emitted_of}
 use Rattle.dpj_compile.specs.Bodies.{output_of}
 use Rattle.dpj_compile.proofs.Members.{code_is}
@@ -18,3 +20,6 @@ returns-clause-titles c =
 
 pub returns-clause-placed : goal.returns-clause-placed
 returns-clause-placed c = all_placed _ c.members.new.bodies _ c.new-bodies.ensures c.in_ok-numbers.ensures.titled
+
+pub returns-clause-closed : goal.returns-clause-closed
+returns-clause-closed c = λ typed. subst (λ code. CodeClosed code) (sym (returns-clause-code c)) (typed_is_closed (plain_program c.args.program.now) typed)
