@@ -16,6 +16,9 @@ from random_scopes import READ
 # So many turns a task makes without an event at most.
 MOST_TURNS = 4096
 
+# Stands for the regions of all arrays that are cut into parts.
+PARTS = "parts"
+
 
 @dataclasses.dataclass(frozen=True)
 class Event:
@@ -55,32 +58,40 @@ class Program:
         every = [*classes, main]
         self.fields = {field.name: field for cls in every for field in cls.fields}
         self.rights = {method.name: method.rights for cls in every for method in cls.methods}
+        bodies = [method.body for cls in every for method in cls.methods]
+        self.parts = {node.part for node in nodes(bodies) if isinstance(node, elision.ForeachParts)}
         self.known = {}
 
-    def touched(self, node):
-        """The regions of fields that a node alone touches, or by its summary what it calls, each with whether it is written."""
-        if isinstance(node, elision.Assign) and isinstance(node.target, elision.Field):
-            return [(self.fields[node.target.name].region, True)]
+    def places(self, node):
+        """The region of a field, and that of all parts for an element of one."""
         if isinstance(node, elision.Field):
-            return [(self.fields[node.name].region, False)]
+            return [self.fields[node.name].region]
+        is_part = isinstance(node, elision.Element) and isinstance(node.array, elision.Local) and node.array.name in self.parts
+        return [PARTS] if is_part else []
+
+    def touched(self, node):
+        """The regions that a node alone touches, or by its summary what it calls, each with whether it is written."""
+        if isinstance(node, elision.Assign):
+            return [(region, True) for region in self.places(node.target)]
         if isinstance(node, elision.New) and node.cls.constructor:
             rights = node.cls.constructor.rights
         else:
             rights = self.rights[node.name] if isinstance(node, elision.Call) else {}
-        return [(region, right != READ) for region, right in rights.items()]
+        return [(region, False) for region in self.places(node)] + [(region, right != READ) for region, right in rights.items()]
 
     def effects(self, block):
-        """The atomic regions that a block touches, each with whether it is written."""
+        """What a block touches of atomic regions and of parts, each with whether it is written."""
         if id(block) not in self.known:
             found = [touch for node in nodes(block.body) for touch in self.touched(node)]
-            self.known[id(block)] = {(region, writes) for region, writes in found if last(region) in self.atomic_regions}
+            self.known[id(block)] = {(region, writes) for region, writes in found if region == PARTS or last(region) in self.atomic_regions}
         return self.known[id(block)]
 
     def clash(self, left, right):
         """Whether two blocks that run side by side interfere, and None where that isn't known here.
 
-        What isn't atomic never clashes, since else the program is refused. Regions with other names at their ends are disjoint; a region
-        of one name alone is itself, and of others it isn't looked at what their parameters stand for.
+        What isn't atomic never clashes, since else the program is refused; but what is done through a part counts as done to its whole array.
+        Regions with other names at their ends are disjoint. A region of one name alone is itself; of others it isn't looked at what their
+        parameters stand for, nor of parts at their arrays.
         """
         pairs = [
             (one, other)
@@ -88,7 +99,7 @@ class Program:
             for other, other_writes in self.effects(right)
             if last(one) == last(other) and (one_writes or other_writes)
         ]
-        if any(one == other and ":" not in one for one, other in pairs):
+        if any(one == other != PARTS and ":" not in one for one, other in pairs):
             return True
         return None if pairs else False
 
