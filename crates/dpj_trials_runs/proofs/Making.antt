@@ -1,6 +1,5 @@
 -- The plain forms of what the program is made of.
 use Rattle.std.proofs.Common.{◌≡◌, ◌∙◌, ℤ, Bool, false, List, [], ◌∷◌, Some, ap, map, rules}
-use Rattle.dpj_base.specs.declared.place.Place.{Place}
 use Rattle.dpj_base.specs.declared.ty.Ty.TheVariants as ty
 use Rattle.dpj_base.specs.declared.ty.Ty.{the_lemmas as ty_lemmas}
 use Rattle.dpj_base.specs.Types.{int, plain_type}

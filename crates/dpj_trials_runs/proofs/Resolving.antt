@@ -1,5 +1,5 @@
 -- The printing program is what the compiler asks for.
-use Rattle.std.proofs.Common.{◌≡◌, ℕ, zero, suc, true, false, [], ◌∷◌, Some, None, refl, subst, inl, inr, slice_get}
+use Rattle.std.proofs.Common.{◌≡◌, ℕ, zero, suc, true, false, Some, None, refl, subst, inl, inr}
 use Rattle.dpj_gen.specs.Resolved.{Resolved, StmtsFit, gives_value}
 use Rattle.dpj_going.specs.Going.{HasMain}
 use Rattle.dpj_typed.specs.Plain.{PlainMember, PlainParent}
