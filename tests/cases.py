@@ -11,8 +11,8 @@ must answer NAME.out, and where NAME.ran is there, `run` and `elide` on 10 what 
 writes NAME.ran on 40, elided, by 1, 4 and 64 workers, and by rounds; every program of README.md, docs/*.md
 and examples/README.md, which stands in a fence that begins with ```dpj check: ANSWER, ```dpj run: LINE, LINE or ```dpj elide: LINE, LINE;
 and prefixes of accepted programs (tests/prefixes.py), of three examples where the program is unproved. Where it is proved, random
-programs follow (tests/random_programs.py; `--only random` asks for them alone), each of which passes or fails. It is an error, and no
-pass, where a fence isn't understood or no case is left.
+programs follow (tests/random_programs.py), and programs with random schedules (tests/schedules.py), each of which passes or fails; `--only random`
+asks for these alone. It is an error, and no pass, where a fence isn't understood or no case is left.
 
 The program is out/dpj where ./build or the gate made it of these sources; else it is built once, unproved, by `rt try`.
 """
@@ -29,6 +29,7 @@ import tempfile
 
 import prefixes
 import random_programs
+import schedules
 
 TOP = pathlib.Path(__file__).resolve().parent.parent
 PROVED = TOP / "out" / "dpj"
@@ -229,11 +230,17 @@ def run_unproved(cases):
 
 
 def wants_random(options, is_proved):
-    """Whether random programs are to be tried. Each is asked for many times, so an unproved program is too slow."""
-    is_wanted = not options.files and re.search(options.only or "", "random programs")
+    """Whether random programs and schedules are to be tried. Each is asked for many times, so an unproved program is too slow."""
+    is_wanted = not options.files and re.search(options.only or "", "random programs and schedules")
     if is_wanted and not is_proved:
-        print("tests/run: the random programs are left out, since the sources run unproved")
+        print("tests/run: the random programs and schedules are left out, since the sources run unproved")
     return is_wanted and is_proved
+
+
+def random_campaigns(shows):
+    """How many random programs, and how many programs with random schedules, passed and how many failed."""
+    campaigns = random_programs.campaign(PROVED, shows=shows), schedules.campaign(PROVED)
+    return tuple(map(sum, zip(*campaigns)))
 
 
 def main():
@@ -256,7 +263,7 @@ def main():
     else:
         print("tests/run: the sources are newer than the proved program, so they run unproved")
         run_unproved(cases)
-    passed, failed = random_programs.campaign(PROVED, shows=options.show) if is_random else (0, 0)
+    passed, failed = random_campaigns(options.show) if is_random else (0, 0)
     for case in cases:
         wanted, got = (case["stdout"], case["status"]), case.get("got", (b"(not run)", None))
         if got != wanted:

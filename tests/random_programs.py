@@ -47,17 +47,22 @@ class Program:
     outcome: elision.Outcome
 
 
-def made(number):
-    """The program of a number, with no outcome where it takes too long."""
+def trees(number):
+    """The program of a number, with no outcome where it takes too long; its maker, and its class Main."""
     chance = random.Random(number)
     kind = chance.choice(("adding", "free")) if number % 6 == 0 else "plain"
     argument = chance.choice((0, 1, 2, 3, 7, -1, 2147483647, -2147483648))
-    main, source = random_trees.Maker(chance, kind != "plain", kind == "adding").program()
+    maker = random_trees.Maker(chance, kind != "plain", kind == "adding")
+    main, source = maker.program()
     try:
         outcome = elision.elision(main, argument)
     except elision.TooLong:
         outcome = None
-    return Program(number, kind, source, argument, outcome)
+    return Program(number, kind, source, argument, outcome), maker, main
+
+
+def made(number):
+    return trees(number)[0]
 
 
 def narrow(program):
