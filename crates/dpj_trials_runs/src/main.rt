@@ -14,6 +14,9 @@ use crate::by_turns::ByTurns;
 use crate::ends::{Ends, answered};
 use crate::told::recorded;
 use dpj_workers::NoGate;
+use std::alloc::Global;
+use std::sync::Wait;
+use std::thread::Threads;
 
 /// It is read in four pieces, and the end in a fifth.
 const FIRST: &str = "class Main { int main(int n) { print(1+2); return 7; } }\n";
@@ -21,15 +24,18 @@ const FIRST: &str = "class Main { int main(int n) { print(1+2); return 7; } }\n"
 const REFUSED: &str = "class Main { int main(int n) { print(1); } }";
 
 fn main(rt: HostRuntime) -> Result<(), anyhow::Error> {
-    by_turns(&rt)?;
+    tell_by_turns(&rt, rt.alloc())?;
     let alone = recorded(&rt, rt.alloc(), "run workers=1", &NoGate)?;
     println!(rt; "one worker: {alone}")?;
-    over_ends(&rt)
+    tell_over_ends(&rt, rt.alloc())
 }
 
-fn by_turns(rt: &HostRuntime) -> Result<(), anyhow::Error> {
+fn tell_by_turns<R: Threads + Wait + Sync + Print>(
+    rt: &R,
+    alloc: Global,
+) -> Result<(), anyhow::Error> {
     let gate = ByTurns::new();
-    let told = recorded(rt, rt.alloc(), "run workers=2", &gate)?;
+    let told = recorded(rt, alloc, "run workers=2", &gate)?;
     println!(rt; "two workers by turns: {told}")?;
     if gate.ran_out() {
         println!(rt; "a worker gave up waiting for its turn")?;
@@ -37,7 +43,10 @@ fn by_turns(rt: &HostRuntime) -> Result<(), anyhow::Error> {
     Ok(())
 }
 
-fn over_ends(rt: &HostRuntime) -> Result<(), anyhow::Error> {
+fn tell_over_ends<R: Threads + Wait + Sync + Print>(
+    rt: &R,
+    alloc: Global,
+) -> Result<(), anyhow::Error> {
     let trials = [
         ("run", FIRST, 0, 0),
         ("run", FIRST, 2, 0),
@@ -57,7 +66,7 @@ fn over_ends(rt: &HostRuntime) -> Result<(), anyhow::Error> {
         ("walk", FIRST, 1, 1),
     ];
     for (words, text, read, write) in trials {
-        let told = answered(rt, rt.alloc(), words, text, Ends { read, write })?;
+        let told = answered(rt, alloc, words, text, Ends { read, write })?;
         println!(rt; "{words}, read {read} and write {write} fail: {told}")?;
     }
     Ok(())
