@@ -1,40 +1,73 @@
-//! Trials of runs by workers: what no contract can say of threads.
+//! Trials of the whole call: what no contract can say of threads, and ends that fail at a given call.
 //!
 //! A program of two branches that print is run twice, and the records of both runs are told: by two workers that a gate lets pass by
 //! turns, and by one worker. That it is the workers who make the events, and neither their caller nor one worker after the other, shows
-//! in these alone.
+//! in these alone. Then come calls over ends in memory: of each the words, which call of the source and which of the sink fails, the
+//! status, and what the sink holds then.
 #![tactic(auto)]
 
 mod by_turns;
-mod printing;
+mod ends;
 mod told;
 
 use crate::by_turns::ByTurns;
-use crate::told::{Told, recorded};
-use dpj_base::NoMemory;
+use crate::ends::{Ends, answered};
+use crate::told::recorded;
 use dpj_workers::NoGate;
-use std::io;
+use std::alloc::Global;
+use std::sync::Wait;
+use std::thread::Threads;
 
-fn main(rt: HostRuntime) -> io::Result<()> {
+/// It is read in four pieces, and the end in a fifth.
+const FIRST: &str = "class Main { int main(int n) { print(1+2); return 7; } }\n";
+
+const REFUSED: &str = "class Main { int main(int n) { print(1); } }";
+
+fn main(rt: HostRuntime) -> Result<(), anyhow::Error> {
+    tell_by_turns(&rt, rt.alloc())?;
+    let alone = recorded(&rt, rt.alloc(), "run workers=1", &NoGate)?;
+    println!(rt; "one worker: {alone}")?;
+    tell_over_ends(&rt, rt.alloc())
+}
+
+fn tell_by_turns<R: Threads + Wait + Sync + Print>(
+    rt: &R,
+    alloc: Global,
+) -> Result<(), anyhow::Error> {
     let gate = ByTurns::new();
-    tell(
-        &rt,
-        "two workers by turns",
-        recorded(&rt, rt.alloc(), 2, &gate),
-    )?;
+    let told = recorded(rt, alloc, "run workers=2", &gate)?;
+    println!(rt; "two workers by turns: {told}")?;
     if gate.ran_out() {
         println!(rt; "a worker gave up waiting for its turn")?;
     }
-    tell(&rt, "one worker", recorded(&rt, rt.alloc(), 1, &NoGate))
+    Ok(())
 }
 
-fn tell(rt: &HostRuntime, whose: &str, told: Result<Option<Told>, NoMemory>) -> io::Result<()> {
-    match told {
-        Ok(Some(told)) => println!(rt;
-            "{whose}: schedule {:?}, shares {:?}, {} by the caller",
-            told.schedule, told.shares, told.own
-        ),
-        Ok(None) => println!(rt; "{whose}: no run"),
-        Err(NoMemory) => println!(rt; "{whose}: out of memory"),
+fn tell_over_ends<R: Threads + Wait + Sync + Print>(
+    rt: &R,
+    alloc: Global,
+) -> Result<(), anyhow::Error> {
+    let trials = [
+        ("run", FIRST, 0, 0),
+        ("run", FIRST, 2, 0),
+        ("run", FIRST, 5, 0),
+        ("run", FIRST, 6, 0),
+        ("run", FIRST, 0, 1),
+        ("run", FIRST, 0, 2),
+        ("run", FIRST, 0, 4),
+        ("run", FIRST, 0, 5),
+        ("run steps=1", FIRST, 0, 0),
+        ("run steps=1", FIRST, 0, 2),
+        ("run", REFUSED, 0, 0),
+        ("run", REFUSED, 1, 1),
+        ("check", FIRST, 0, 3),
+        ("check", FIRST, 0, 4),
+        ("walk", FIRST, 1, 0),
+        ("walk", FIRST, 1, 1),
+    ];
+    for (words, text, read, write) in trials {
+        let told = answered(rt, alloc, words, text, Ends { read, write })?;
+        println!(rt; "{words}, read {read} and write {write} fail: {told}")?;
     }
+    Ok(())
 }

@@ -1,2 +1,0 @@
-mod Making
-mod Resolving
