@@ -6,3 +6,6 @@ pub mod Ranges
 pub mod Replayed
 pub mod Owed
 pub mod Once
+pub mod Schedules
+pub mod Following
+pub mod OnTraces

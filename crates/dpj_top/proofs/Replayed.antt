@@ -1,8 +1,7 @@
 -- What a call owes to a replay of which a run is recorded.
-use Rattle.std.proofs.Common.{◌≡◌, ◌∙◌, ℕ, FitsSigned, List, Option, None, Some, cond, ap, subst, sym}
+use Rattle.std.proofs.Common.{◌≡◌, ◌∙◌, ℕ, List, Option, None, Some, cond, ap, subst, sym}
 use Rattle.dpj_history.specs.declared.record.Record.{Record}
 use Rattle.dpj_make.specs.Demo.{demo_text}
-use Rattle.std.specs.Int.{w32}
 use Rattle.dpj_trace.specs.Reading.{IsTrace}
 use Rattle.dpj_trace.specs.declared.reading.Trace.{Trace}
 use Rattle.dpj_words.specs.Reports.{report_of, status_of}
@@ -40,11 +39,11 @@ module _ (keeps : KeepsPromise) (words : List (List ℕ)) (held before after : O
   reported_so : (v : Verdict) → tells.answered.verdict ≡ v → IsReported v before after status
   reported_so v is = (tells.status_told ∙ ap status_of is, subst (λ v. Appends before after (report_of v)) is tells.report_told)
 
-  on_trace : (trace : Trace) → IsTrace bytes trace → FitsSigned w32 trace.arg → IsAnswerOnTrace bytes trace tells.answered → ReportsReplay bytes before after status r
-  on_trace trace is numbers (long_program long same) = absurd (no_record _ same)
-  on_trace trace is numbers (faulty refusal short fault same) = absurd (no_record _ same)
-  on_trace trace is numbers (followed place typed accepted (unfit at f same)) = absurd (no_record _ same)
-  on_trace trace is numbers (followed place typed accepted (ran made f same)) = record {
+  on_trace : (trace : Trace) → IsTrace bytes trace → IsAnswerOnTrace bytes trace tells.answered → ReportsReplay bytes before after status r
+  on_trace trace is (long_program long same) = absurd (no_record _ same)
+  on_trace trace is (faulty refusal short fault same) = absurd (no_record _ same)
+  on_trace trace is (followed place typed accepted (unfit at f same)) = absurd (no_record _ same)
+  on_trace trace is (followed place typed accepted (ran made f same)) = record {
     trace = trace;
     is_trace = is;
     place = place;
@@ -53,13 +52,13 @@ module _ (keeps : KeepsPromise) (words : List (List ℕ)) (held before after : O
     made = made;
     is = some_same (sym is_some ∙ ap (λ (a : Answered). a.recorded) same);
     reported = reported_so (Ran made.outcome) (ap (λ (a : Answered). a.verdict) same);
-    follows = keeps.replay (program_of bytes trace) place typed trace.limits trace.arg trace.schedule made accepted is.limits numbers f;
+    follows = keeps.replay (program_of bytes trace) place typed trace.limits trace.arg trace.schedule made accepted is.limits is.arg f;
   }
 
   by_answer : IsReplayed bytes tells.answered → ReportsReplay bytes before after status r
   by_answer (too_long long same) = absurd (no_record _ same)
   by_answer (no_trace line short misfit same) = absurd (no_record _ same)
-  by_answer (of_trace trace short is numbers on) = on_trace trace is numbers on
+  by_answer (of_trace trace short is on) = on_trace trace is on
 
   pub owed_replay : ReportsReplay bytes before after status r
   owed_replay = by_answer answer

@@ -1,6 +1,5 @@
 -- Answers to traces, over plain variables.
-use Rattle.std.proofs.Common.{◌≡◌, ◌∙◌, ◌≤◌, ℕ, ℤ, FitsSigned, List, length, IfOk, Result, Ok, Err, sym, ap, subst}
-use Rattle.std.specs.Int.{w32}
+use Rattle.std.proofs.Common.{◌≡◌, ◌∙◌, ◌≤◌, ℕ, ℤ, List, length, IfOk, Result, Ok, Err, sym, ap, subst}
 use Rattle.dpj_base.specs.declared.memory.NoMemory.{NoMemory}
 use Rattle.dpj_base.specs.declared.place.Place.{Place}
 use Rattle.dpj_base.specs.declared.refusal.Refusal.{Refusal}
@@ -33,13 +32,13 @@ on-trace-no-usage bytes trace answered (followed place typed accepted (unfit at 
 pub replay-no-usage : (bytes : List ℕ) (answered : Answered) → IsReplayed bytes answered → status_of answered.verdict ≡ ended.Usage → ⊥
 replay-no-usage bytes answered (too_long long is) e = let s = same-status answered _ is e in cc
 replay-no-usage bytes answered (no_trace line short misfit is) e = let s = same-status answered _ is e in cc
-replay-no-usage bytes answered (of_trace trace short is numbers on) e = on-trace-no-usage bytes trace answered on e
+replay-no-usage bytes answered (of_trace trace short is on) e = on-trace-no-usage bytes trace answered on e
 
 -- bytes that are a trace, and bytes that are none
-pub trace-answer : (bytes : List ℕ) (trace : Trace) (result : Result Answered NoMemory) → length bytes ≤ max_trace → IsTrace bytes trace → FitsSigned w32 trace.arg → IfOk result (IsAnswerOnTrace bytes trace)
+pub trace-answer : (bytes : List ℕ) (trace : Trace) (result : Result Answered NoMemory) → length bytes ≤ max_trace → IsTrace bytes trace → IfOk result (IsAnswerOnTrace bytes trace)
     → IfOk result (IsReplayed bytes)
-trace-answer bytes trace (Ok answered) short is numbers on = of_trace trace short is numbers on
-trace-answer bytes trace (Err none) short is numbers on = tt
+trace-answer bytes trace (Ok answered) short is on = of_trace trace short is on
+trace-answer bytes trace (Err none) short is on = tt
 
 pub misfit-answer : (bytes : List ℕ) (found told : ℕ) (answered : Answered) → found ≡ told → answered ≡ only (refused_at trace_kind told) → length bytes ≤ max_trace → IsMisfit bytes found
     → IsReplayed bytes answered

@@ -1,6 +1,5 @@
 -- What the tool answers to the text of a trace, and what it records.
-use Rattle.std.specs.Prelude.{ℕ, ◌≡◌, ◌<◌, ◌≤◌, FitsSigned, List, length, drop, Some}
-use Rattle.std.specs.Int.{w32}
+use Rattle.std.specs.Prelude.{ℕ, ◌≡◌, ◌<◌, ◌≤◌, List, length, drop, Some}
 use Rattle.dpj_base.specs.declared.place.Place.{Place}
 use Rattle.dpj_base.specs.declared.refusal.Kind.TheVariants.{TooLong, Schedule}
 use Rattle.dpj_base.specs.declared.refusal.Kind.TheVariants.{Trace as no_trace_kind}
@@ -38,4 +37,10 @@ pub data IsAnswerOnTrace (bytes : List ℕ) (trace : Trace) (answered : Answered
 pub data IsReplayed (bytes : List ℕ) (answered : Answered) : Type 0 where
   too_long : max_trace < length bytes → answered ≡ only (refused_at_start TooLong) → IsReplayed bytes answered
   no_trace : (line : ℕ) → length bytes ≤ max_trace → IsMisfit bytes line → answered ≡ only (refused_at no_trace_kind line) → IsReplayed bytes answered
-  of_trace : (trace : Trace) → length bytes ≤ max_trace → IsTrace bytes trace → FitsSigned w32 trace.arg → IsAnswerOnTrace bytes trace answered → IsReplayed bytes answered
+  of_trace : (trace : Trace) → length bytes ≤ max_trace → IsTrace bytes trace → IsAnswerOnTrace bytes trace answered → IsReplayed bytes answered
+
+-- there is one verdict at most on any bytes of which a replay is asked, and one answer for each run that was recorded
+abbrev pub OneReplay : Type 0
+OneReplay =
+    (bytes : List ℕ) (first second : Answered) → IsReplayed bytes first → IsReplayed bytes second
+    → (first.verdict ≡ second.verdict) × (first.recorded ≡ second.recorded → first ≡ second)

@@ -1,18 +1,28 @@
 //! What the definitions of the answer say of themselves, and what they come to.
 ghost use Rattle.dpj_top.specs.Answer.{OneAnswer};
 ghost use Rattle.dpj_top.specs.Promise.{KeepsPromise};
+ghost use Rattle.dpj_top.specs.Replaying.{OneReplay};
 
+use dpj_going::laws::law_going;
 use dpj_infer::laws::law_one_inferred;
 use dpj_passed::laws::{law_one_passing, law_passed};
 use dpj_promise::laws::{law_elide, law_goes_on, law_inside, law_promise, law_reduced};
+use dpj_steps::laws::law_steps;
+use dpj_trace::law_readings;
 
-/// There is at most one answer to a job on a text, for each run that was recorded.
+/// There is at most one answer to a job on a text, for each run that was recorded; and to any bytes of which a replay is asked, of which there is one
+/// verdict at all.
 pub fn one_answer()
-    ensures { OneAnswer }
+    ensures answer { OneAnswer }
+    ensures replay { OneReplay }
 {
     promise();
     law_one_passing();
     law_one_inferred();
+    law_passed();
+    law_going();
+    law_steps();
+    law_readings();
 }
 
 /// The promise of the language. What is accepted is well typed, and its runs come out. A run of an accepted program without nd constructs is answered by the

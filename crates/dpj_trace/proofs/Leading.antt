@@ -1,5 +1,7 @@
 -- What lines that fit say of the whole text, over plain variables.
-use Rattle.std.proofs.Common.{◌≡◌, ℕ, ℤ, suc, ◌+◌, ◌-◌, ◌*◌, ◌<◌, ◌≤◌, ◌^◌, inl, inr, List, [], ◌∷◌, ◌++◌, length, drop, replicate, codes, refl, sym, ap, ◌∙◌, subst, arith, append_assoc, append-nil, length-append}
+use Rattle.std.proofs.Common.{◌≡◌, ℕ, ℤ, zero, suc, ◌+◌, ◌-◌, ◌*◌, ◌<◌, ◌≤◌, ◌^◌, inl, inr, List, [], ◌∷◌, ◌++◌, length, drop, replicate, codes, FitsSigned, refl, sym, ap, ◌∙◌, subst, arith, append_assoc, append-nil, length-append}
+use Rattle.std.specs.Int.{w32}
+use Rattle.std.specs.List.{AllByRecursion}
 use Rattle.std.specs.Fmt.{decimal}
 use Rattle.std.specs.Str.Parse.{digits_value}
 use Rattle.std.proofs.lemmas.Fmt.{decimal-digits_value}
@@ -115,6 +117,37 @@ behind-is : (bytes front behind : List ℕ) → bytes ≡ front ++ behind → be
 behind-is bytes front behind is =
     rw is (sym (drop_at front behind (length (front ++ behind) - length behind) (omega (arith, length-append front behind))))
 
+small-append : (xs ys : List ℕ) → AllByRecursion (λ k. k < 2 ^ 32) xs → AllByRecursion (λ k. k < 2 ^ 32) ys → AllByRecursion (λ k. k < 2 ^ 32) (xs ++ ys)
+small-append [] ys a b = b
+small-append (x ∷ xs) ys a b = (a.0, small-append xs ys a.1 b)
+
+small-replicate : (n k : ℕ) → k < 2 ^ 32 → AllByRecursion (λ k. k < 2 ^ 32) (replicate n k)
+small-replicate zero k small = tt
+small-replicate (suc n) k small = (small, small-replicate n k small)
+
+-- what lines have told has numbers of 32 bits
+abbrev pub HasNumbers : Told → Type 0
+HasNumbers nothing = Unit {0}
+HasNumbers begun = Unit {0}
+HasNumbers (settings arg limits) = FitsSigned w32 arg
+HasNumbers (listing arg limits events schedule) = FitsSigned w32 arg × AllByRecursion (λ k. k < 2 ^ 32) schedule
+HasNumbers (whole arg limits schedule) = FitsSigned w32 arg × AllByRecursion (λ k. k < 2 ^ 32) schedule
+
+fits-numbers : (before : Told) (text : List ℕ) (after : Told) → HasNumbers before → Fits before text after → HasNumbers after
+fits-numbers nothing text after has f = subst HasNumbers (sym f.1) tt
+fits-numbers begun text after has (arg, limits, f, is) = subst HasNumbers (sym is) f.arg_allowed
+fits-numbers (settings arg limits) text after has (events, f, is) = subst HasNumbers (sym is) (has, tt)
+fits-numbers (listing arg limits events schedule) text after has (inl (longer, r, is)) =
+    let more = small-append schedule _ has.1 (small-replicate (digits_value 10 r.many) r.task r.tells.task_allowed) in
+    subst HasNumbers (sym is) (has.0, subst (AllByRecursion (λ k. k < 2 ^ 32)) (sym r.adds) more)
+fits-numbers (listing arg limits events schedule) text after has (inr (p, is)) = subst HasNumbers (sym is) has
+fits-numbers (whole arg limits schedule) text after has f = absurd f
+
+leads-numbers : (bytes : List ℕ) (n : ℕ) (told : Told) (rest : List ℕ) → Leads bytes n told rest → HasNumbers told
+leads-numbers bytes _ _ _ start = tt
+leads-numbers bytes _ _ _ (next {n} {before} {after} {rest} {text} {behind} leads cut fits) =
+    fits-numbers before text after (leads-numbers bytes n before rest leads) fits
+
 -- the line behind the schedule makes a trace
 pub trace-is : (bytes : List ℕ) (n : ℕ) (arg : ℤ) (limits : Limits) (events : ℕ) (schedule rest text behind : List ℕ)
     → Leads bytes n (listing arg limits events schedule) rest → AreLimits limits → events ≤ 2 * limits.steps + 2
@@ -123,8 +156,11 @@ pub trace-is : (bytes : List ℕ) (n : ℕ) (arg : ℤ) (limits : Limits) (event
 trace-is bytes n arg limits events schedule rest text behind leads allowed few cut program =
     let most : limits.steps ≤ 20000000 = allowed.steps_most in
     let right : length schedule ≡ events = program.right in
+    let numbers = leads-numbers bytes n (listing arg limits events schedule) rest leads in
     let all = leads-text bytes (suc n) (whole arg limits schedule) behind (next leads cut (inr (program, refl))) (omega (arith, right, few, most)) in record {
       limits = allowed;
+      arg = numbers.0;
+      tasks = numbers.1;
       events = omega (arith, right, few);
       within = omega arith;
       is = all ∙ ap (λ source. trace_text arg limits schedule source) (behind-is bytes (told_text (whole arg limits schedule)) behind all);

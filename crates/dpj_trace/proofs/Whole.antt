@@ -9,7 +9,6 @@ use Rattle.dpj_base.specs.declared.outcome.Limits.{Limits}
 use Rattle.dpj_trace.specs.declared.reading.Trace.{Trace}
 use Rattle.dpj_trace.specs.declared.runs.Run.{Run}
 use Rattle.dpj_trace.specs.Pieces.{IsCut}
-use Rattle.dpj_trace.specs.Laws.{HasNumbers}
 use Rattle.dpj_trace.specs.Runs.{put_first, runs_of, last_of}
 use Rattle.dpj_trace.specs.Text.{line, limits_text, settings_text, events_text, run_text, schedule_text, trace_text}
 use Rattle.dpj_trace.specs.Reading.{AreLimits, Told, nothing, begun, settings, listing, whole, TellsRun, IsRun, Leads, start, next, IsUnfinished, IsMisfit, IsTrace}
@@ -142,9 +141,9 @@ text-leads arg L s source fits allowed small events =
     let listed : Leads bytes all.0 (listing arg L (length s) s) p = subst (λ t. Leads bytes all.0 (listing arg L (length s) t) p) (expand-runs s) all.1 in
     (suc all.0, next listed (cut-line (codes "program") source (without-tested 10 (codes "program") refl)) (inr (record { is = refl; right = refl }, refl)))
 
-pub trace-leads : (bytes : List ℕ) (t : Trace) → IsTrace bytes t → HasNumbers t → (n : ℕ) × Leads bytes n (whole t.arg t.limits t.schedule) (drop t.from bytes)
-trace-leads bytes t is numbers =
-    let all = text-leads t.arg t.limits t.schedule (drop t.from bytes) numbers.arg is.limits numbers.tasks is.events in
+pub trace-leads : (bytes : List ℕ) (t : Trace) → IsTrace bytes t → (n : ℕ) × Leads bytes n (whole t.arg t.limits t.schedule) (drop t.from bytes)
+trace-leads bytes t is =
+    let all = text-leads t.arg t.limits t.schedule (drop t.from bytes) is.arg is.limits is.tasks is.events in
     (all.0, subst (λ b. Leads b all.0 (whole t.arg t.limits t.schedule) (drop t.from bytes)) (sym is.is) all.1)
 
 -- behind the last line there is none that fits
@@ -178,10 +177,10 @@ trace-same t u a l s f =
     ∙ ap (λ x. record { arg = u.arg; limits = u.limits; schedule = x; from = t.from }) s
     ∙ ap (λ x. record { arg = u.arg; limits = u.limits; schedule = u.schedule; from = x }) f
 
-pub one-reading : (bytes : List ℕ) (t u : Trace) → IsTrace bytes t → HasNumbers t → IsTrace bytes u → HasNumbers u → t ≡ u
-one-reading bytes t u ist hast isu hasu =
-    let l = trace-leads bytes t ist hast in
-    let k = trace-leads bytes u isu hasu in
+pub one-reading : (bytes : List ℕ) (t u : Trace) → IsTrace bytes t → IsTrace bytes u → t ≡ u
+one-reading bytes t u ist isu =
+    let l = trace-leads bytes t ist in
+    let k = trace-leads bytes u isu in
     let lines = same-lines bytes l.0 k.0 t.arg u.arg t.limits u.limits t.schedule u.schedule (drop t.from bytes) (drop u.from bytes) l.1 k.1 in
     let other : Leads bytes l.0 (whole u.arg u.limits u.schedule) (drop u.from bytes) = subst (λ n. Leads bytes n (whole u.arg u.limits u.schedule) (drop u.from bytes)) (sym lines) k.1 in
     let same = leads-unique bytes l.0 (whole t.arg t.limits t.schedule) (drop t.from bytes) (whole u.arg u.limits u.schedule) (drop u.from bytes) l.1 other in
@@ -190,9 +189,9 @@ one-reading bytes t u ist hast isu hasu =
     trace-same t u (ap (λ w. arg_in w t.arg) same.0) (ap (λ w. limits_in w t.limits) same.0) (ap schedule_in same.0)
     (omega (arith, ap length same.1, length-drop t.from bytes, length-drop u.from bytes, in_t, in_u))
 
-pub no-misfit : (bytes : List ℕ) (t : Trace) (line : ℕ) → IsTrace bytes t → HasNumbers t → IsMisfit bytes line → ⊥
-no-misfit bytes t line is has x =
-    let l = trace-leads bytes t is has in
+pub no-misfit : (bytes : List ℕ) (t : Trace) (line : ℕ) → IsTrace bytes t → IsMisfit bytes line → ⊥
+no-misfit bytes t line is x =
+    let l = trace-leads bytes t is in
     ⊎_elim (λ (less : x.before < l.0). misfit-not-passed bytes line x l.0 (whole t.arg t.limits t.schedule) (drop t.from bytes) l.1 less)
     (λ (le : l.0 ≤ x.before).
     ⊎_elim (λ (less : l.0 < x.before). no-further bytes l.0 t.arg t.limits t.schedule (drop t.from bytes) l.1 x.before x.told x.rest x.leads less)

@@ -2,6 +2,7 @@
 use Rattle.std.specs.Prelude.{◌≡◌, ℕ, suc, ℤ, ◌+◌, ◌*◌, ◌≤◌, ◌<◌, ◌^◌, ◌⊎◌, List, [], ◌++◌, length, drop, replicate, codes, Some, FitsSigned}
 use Rattle.std.specs.Fmt.{decimal}
 use Rattle.std.specs.Int.{w32}
+use Rattle.std.specs.List.{AllByRecursion}
 use Rattle.std.specs.Str.Parse.{digits_value}
 use Rattle.dpj_base.specs.declared.outcome.Limits.{Limits}
 use Rattle.dpj_trace.specs.declared.reading.Trace.{Trace}
@@ -89,9 +90,11 @@ pub record IsMisfit (bytes : List ℕ) (line : ℕ) : Type 0 where
   pub unfinished : IsUnfinished told
   pub unfit : (text behind : List ℕ) (after : Told) → IsCut 10 rest text behind → Fits told text after → ⊥
 
--- the bytes are the text of a trace, with the program from this place on
+-- the bytes are the text of a trace, with the program from this place on; and its numbers have 32 bits
 pub record IsTrace (bytes : List ℕ) (trace : Trace) : Type 0 where
   pub limits : AreLimits trace.limits
+  pub arg : FitsSigned w32 trace.arg
+  pub tasks : AllByRecursion (λ task. task < 2 ^ 32) trace.schedule
   pub events : length trace.schedule ≤ 2 * trace.limits.steps + 2
   pub within : trace.from ≤ length bytes
   pub is : bytes ≡ trace_text trace.arg trace.limits trace.schedule (drop trace.from bytes)

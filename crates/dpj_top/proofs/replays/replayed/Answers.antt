@@ -1,13 +1,9 @@
-use Rattle.std.proofs.Common.{rules, sym}
-use mir.Val.{SFits}
-use Rattle.std.specs.Int.{w32}
+use Rattle.std.proofs.Common.{sym}
 use Rattle.dpj_top.proofs.Traces.{misfit-answer, trace-answer}
 use Rattle.dpj_top.proofs.replays.replayed.Goals as goal
 
 pub returns-in-Ok : goal.returns-in-Ok
-returns-in-Ok c =
-    let numbers : SFits w32 c.in-Ok.trace.arg = search rules in
-    trace-answer c.args.bytes.now c.in-Ok.trace c.on_trace.result c.requires.short c.in-Ok.ensures.trace numbers c.on_trace.ensures
+returns-in-Ok c = trace-answer c.args.bytes.now c.in-Ok.trace c.on_trace.result c.requires.short c.in-Ok.ensures.trace c.on_trace.ensures
 
 pub returns-in-Err-Bad : goal.returns-in-Err-Bad
 returns-in-Err-Bad c =
