@@ -1,2 +1,3 @@
 pub mod Forms
-pub mod Heaps
+pub mod Costs
+pub mod Taken

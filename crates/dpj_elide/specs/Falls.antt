@@ -8,14 +8,14 @@ use Rattle.dpj_meaning.specs.Elision.{Store as Elided}
 use Rattle.dpj_meaning.specs.Outcomes.{Limits}
 use Rattle.dpj_walk.specs.Walk as walk
 use Rattle.dpj_walk.specs.Walk.{falls, branch_level, shortened}
-use Rattle.dpj_elide.specs.declared.halt.Halt.{Halt}
+use Rattle.dpj_store.specs.declared.halt.Halt.{Halt}
 use Rattle.dpj_elide.specs.declared.level.Level.{Level}
 use Rattle.dpj_elide.specs.declared.waiting.Fork.{Fork}
 use Rattle.dpj_elide.specs.declared.walker.Falling.{Falling}
 use Rattle.dpj_elide.specs.declared.walker.Falling.TheVariants.{On, Comes}
 use Rattle.dpj_elide.specs.declared.walker.Walker.{Walker}
 use Rattle.dpj_elide.specs.States.{plain_level, construct, plain_waiting, rest_of, work_of, ComesTo}
-use Rattle.dpj_elide.specs.Stores.{Holds}
+use Rattle.dpj_store.specs.Stores.{Holds}
 
 -- where a trap at this place went up past the innermost of what waited: it goes up from there as from here, or the walk has come
 -- to where it leads

@@ -1,18 +1,18 @@
--- The forms of expressions whose value needs no more than a frame and an operand.
+-- Which expressions and statements are simple.
 use Rattle.std.specs.Prelude.{Bool, true, false}
-use Rattle.dpj_typed.specs.Plain.{TypedStmt, statement}
+use Rattle.dpj_typed.specs.Plain.{TypedExpr, typed, TypedStmt, statement}
+use Rattle.dpj_typed.specs.Plain.{ExprForm as form}
 use Rattle.dpj_typed.specs.Plain.{StmtForm as stmt}
-use Rattle.dpj_typed.specs.declared.expr.ExprForm.{ExprForm}
-use Rattle.dpj_typed.specs.declared.expr.ExprForm.TheVariants.{Int, Bool, Null, Local, PartLength, Unary}
 
-abbrev pub IsOwn : ExprForm → Type 0
-IsOwn (Int n) = Unit {0}
-IsOwn (Bool b) = Unit {0}
-IsOwn Null = Unit {0}
-IsOwn (Local x) = Unit {0}
-IsOwn (PartLength part) = Unit {0}
-IsOwn (Unary o e) = Unit {0}
-IsOwn form = ⊥
+-- an expression whose value needs no more than a frame and an operand
+abbrev pub is_own : TypedExpr → Bool
+is_own (typed at t (form.int k)) = true
+is_own (typed at t (form.boolean b)) = true
+is_own (typed at t form.null) = true
+is_own (typed at t (form.local x)) = true
+is_own (typed at t (form.part_length k)) = true
+is_own (typed at t (form.unary o e)) = true
+is_own e = false
 
 -- a statement that holds no other
 abbrev pub is_simple : TypedStmt → Bool

@@ -19,8 +19,8 @@ use Rattle.dpj_frames.specs.Names.{plain_value, plain_frame}
 use Rattle.dpj_walk.specs.Agenda.{Item, evaluate, operate, carry_out, finish, counted, goes_on, test, turn, leave}
 use Rattle.dpj_walk.specs.Walk as walk
 use Rattle.dpj_walk.specs.Walk.{Construct, for_value, for_object, for_branch, State, At, Off}
-use Rattle.dpj_elide.specs.declared.halt.Halt.{Halt}
-use Rattle.dpj_elide.specs.declared.halt.Halt.TheVariants as halt
+use Rattle.dpj_store.specs.declared.halt.Halt.{Halt}
+use Rattle.dpj_store.specs.declared.halt.Halt.TheVariants as halt
 use Rattle.dpj_elide.specs.declared.item.Item.{Item as CodeItem}
 use Rattle.dpj_elide.specs.declared.item.Item.TheVariants as item
 use Rattle.dpj_elide.specs.declared.level.Level.{Level}
@@ -39,8 +39,8 @@ use Rattle.dpj_elide.specs.declared.item.StmtStage.TheVariants.{CarryOut, Finish
 use Rattle.dpj_elide.specs.declared.walker.Walker.{Walker}
 use Rattle.dpj_elide.specs.declared.walker.Over.{Over}
 use Rattle.dpj_elide.specs.declared.walker.Over.TheVariants as over
-use Rattle.dpj_elide.specs.Halts.{IsOver}
-use Rattle.dpj_elide.specs.Stores.{Holds}
+use Rattle.dpj_store.specs.Halts.{IsOver}
+use Rattle.dpj_store.specs.Stores.{Holds}
 
 -- a while loop has a test and a body, and no other statement is one
 abbrev pub in_loop : (TypedExpr → TypedStmt → Item) → TypedStmt → Item

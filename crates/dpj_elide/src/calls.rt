@@ -14,7 +14,7 @@ ghost use Rattle.dpj_frames.specs.Classes.{plain_seen};
 ghost use Rattle.dpj_walk.specs.Walk.{beginning, falls, or_null, calls, enters, creates, creates_with, lands, row_member, without};
 ghost use Rattle.dpj_elide.specs.States.{Does, plain_level};
 
-use crate::halt::Halt;
+use dpj_store::Halt;
 use crate::level::Level;
 use crate::waiting::{Awaited, Waiting};
 use crate::walker::{Over, Walker};

@@ -6,11 +6,11 @@ ghost use Rattle.dpj_meaning.specs.Outcomes.{Limits, joined_or};
 ghost use Rattle.dpj_walk.specs.Walk.{At, falls, ends, branches, noted, rejoins, for_branch};
 ghost use Rattle.dpj_elide.specs.Falls.{FallsOn, IsShorter, IsNoLonger};
 ghost use Rattle.dpj_elide.specs.States.{Does, end_of, construct, plain_given, plain_level, plain_waiting, rest_of, work_of};
-ghost use Rattle.dpj_elide.specs.Stores.{Holds};
+ghost use Rattle.dpj_store.specs.Stores.{Holds};
 ghost use Rattle.dpj_meaning.specs.Asking.{ended};
 
 use crate::copies::copy_back;
-use crate::halt::Halt;
+use dpj_store::Halt;
 use crate::level::Level;
 use crate::waiting::{Awaited, Fork, Waiting};
 use crate::walker::{Falling, Over, Walker};

@@ -8,14 +8,12 @@ mod branches;
 mod calls;
 mod copies;
 mod ends;
-mod halt;
 mod item;
 mod level;
 mod levels;
 mod operations;
 mod statements;
 mod steps;
-mod store;
 #[cfg(test)]
 mod trials;
 mod waiting;

@@ -11,7 +11,7 @@ ghost use Rattle.dpj_frames.specs.Names.{plain_value, plain_frame};
 ghost use Rattle.dpj_walk.specs.Walk.{At, lands};
 ghost use Rattle.dpj_elide.specs.States.{Does};
 
-use crate::halt::Halt;
+use dpj_store::Halt;
 use crate::walker::{Over, Walker};
 use dpj_base::{Place, Trap, Value};
 use dpj_frames::{number, operated, part_place, reference, slot};

@@ -10,7 +10,7 @@ ghost use Rattle.dpj_elide.specs.declared.item.StmtStage.TheVariants.{Counted, T
 ghost use Rattle.dpj_elide.specs.Forms.{is_simple};
 ghost use Rattle.dpj_elide.specs.States.{Does, plain_item, plain_branch, stmt_item, tasks_in};
 
-use crate::halt::Halt;
+use dpj_store::Halt;
 use crate::item::{ExprStage, Item, StmtStage};
 use crate::level::Level;
 use crate::waiting::{Fork, Numbers, Rest};
@@ -100,17 +100,22 @@ impl<'p> Walker<'p> {
             }
             StmtForm::StoreField { field, .. } => {
                 let value = self.level.operand(0);
-                self.write(place, self.level.operand(1), i64::from(field.number), value, 2)
+                let object = self.level.operand(1);
+                self.write(place, object, i64::from(field.number), value, 2)
             }
             StmtForm::StoreElement { .. } => {
                 let value = self.level.operand(0);
                 let index = number(self.level.operand(1));
-                self.write(place, self.level.operand(2), i64::from(index), value, 3)
+                let array = self.level.operand(2);
+                self.write(place, array, i64::from(index), value, 3)
             }
             StmtForm::StorePart { part, .. } => self.write_part(place, part.number as usize),
             StmtForm::Perform(_) => self.discard(1),
             StmtForm::Return(None) => self.end(Some(Value::Null)),
-            StmtForm::Return(Some(_)) => self.end(Some(self.level.operand(0))),
+            StmtForm::Return(Some(_)) => {
+                let value = self.level.operand(0);
+                self.end(Some(value))
+            }
             StmtForm::PrintInt(_) | StmtForm::PrintBool(_) => {
                 let line = value_line(self.alloc, self.level.operand(0))?;
                 self.print(line.as_slice(), 1)

@@ -1,15 +1,14 @@
-ghost use Rattle.std.specs.Prelude.{◌≡◌, ◌∷◌, cond, not, drop};
+ghost use Rattle.std.specs.Prelude.{◌∷◌, cond, not, drop, IsTrue};
 ghost use Rattle.dpj_typed.specs.Plain.{PlainProgram, plain_program, plain_expr};
-ghost use Rattle.dpj_typed.specs.declared.expr.Expr.{Expr};
 ghost use Rattle.dpj_meaning.specs.Counts.{slot_value, unary, truth};
 ghost use Rattle.dpj_meaning.specs.Values.{Boolean};
 ghost use Rattle.dpj_walk.specs.Walk.{At, step, does_item, operates, pushed, doing, without};
 ghost use Rattle.dpj_walk.specs.Agenda.{evaluate};
 ghost use Rattle.dpj_elide.specs.States.{Does, plain_item};
-ghost use Rattle.dpj_elide.specs.Forms.{IsOwn};
+ghost use Rattle.dpj_elide.specs.Forms.{is_own};
 
 use crate::calls::Call;
-use crate::halt::Halt;
+use dpj_store::Halt;
 use crate::item::{ExprStage, Item};
 use crate::walker::{Over, Walker};
 use dpj_base::Value;
@@ -53,11 +52,13 @@ impl<'p> Walker<'p> {
         let place = e.place;
         match &e.form {
             ExprForm::Field { field, .. } => {
-                self.read(place, self.level.operand(0), i64::from(field.number), 1)
+                let object = self.level.operand(0);
+                self.read(place, object, i64::from(field.number), 1)
             }
             ExprForm::Element { .. } => {
+                let array = self.level.operand(1);
                 let index = number(self.level.operand(0));
-                self.read(place, self.level.operand(1), i64::from(index), 2)
+                self.read(place, array, i64::from(index), 2)
             }
             ExprForm::Length(_) => self.length(place),
             ExprForm::PartElement { part, .. } => self.read_part(place, part.number as usize),
@@ -82,18 +83,28 @@ impl<'p> Walker<'p> {
                 };
                 self.call(program, call)
             }
-            _ => self.give_own(&e.form),
+            ExprForm::Int(_)
+            | ExprForm::Bool(_)
+            | ExprForm::Null
+            | ExprForm::Local(_)
+            | ExprForm::PartLength(_)
+            | ExprForm::Unary { .. } => self.give_own(e),
         }
     }
 
     /// The value that an expression has by its frame and its operand alone.
-    fn give_own(&mut self, form: &'p ExprForm) -> Result<Option<Over>, Halt>
-        ensures { IsOwn form.now → (e : Expr) → e.form ≡ form.now → (P : PlainProgram) → Does (operates P (plain_expr e)) self.old result self.new }
+    #[tactic(auto, using(crate::proofs::Forms::forms))]
+    fn give_own(&mut self, e: &'p Expr) -> Result<Option<Over>, Halt>
+        requires { IsTrue (is_own (plain_expr e.now)) }
+        ensures { (P : PlainProgram) → Does (operates P (plain_expr e.now)) self.old result self.new }
     {
-        match form {
+        match &e.form {
             ExprForm::Int(n) => self.give(0, Value::Int(*n)),
             ExprForm::Bool(b) => self.give(0, Value::Bool(*b)),
-            ExprForm::Local(x) => self.give(0, slot(&self.level.frame.values, x.number as usize)),
+            ExprForm::Local(x) => {
+                let value = slot(&self.level.frame.values, x.number as usize);
+                self.give(0, value)
+            }
             ExprForm::PartLength(part) => {
                 let len = slot_after(&self.level.frame.values, part.number as usize, 2);
                 self.give(0, len)

@@ -1,5 +1,5 @@
 use crate::level::Level;
-use crate::store::Store;
+use dpj_store::Store;
 use crate::waiting::Waiting;
 use dpj_base::{Place, Trap, Value};
 use dpj_frames::Stack;

@@ -4,9 +4,9 @@ ghost use Rattle.dpj_base.specs.declared.outcome.Ending.TheVariants.{Limited};
 ghost use Rattle.dpj_elide.specs.Outcome.{IsElided, Begun, Walked};
 
 use crate::calls::first_values;
-use crate::halt::Halt;
+use dpj_store::Halt;
 use crate::level::Level;
-use crate::store::Store;
+use dpj_store::Store;
 use crate::walker::{Over, Walker};
 use dpj_base::{Bytes, Ending, Items, Limits, NoMemory, Outcome, Value};
 use dpj_frames::{Frame, Stack, entered, number};

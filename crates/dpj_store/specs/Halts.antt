@@ -4,8 +4,8 @@ use Rattle.dpj_heap.specs.declared.stop.HeapStop.{HeapStop}
 use Rattle.dpj_heap.specs.declared.stop.HeapStop.TheVariants.{Full, NoMemory}
 use Rattle.dpj_meaning.specs.Elision.{Store}
 use Rattle.dpj_meaning.specs.Outcomes.{Limits}
-use Rattle.dpj_elide.specs.declared.halt.Halt.{Halt}
-use Rattle.dpj_elide.specs.declared.halt.Halt.TheVariants as halt
+use Rattle.dpj_store.specs.declared.halt.Halt.{Halt}
+use Rattle.dpj_store.specs.declared.halt.Halt.TheVariants as halt
 
 -- the heap is full, or out of memory
 abbrev pub IsOfHeap : HeapStop → Halt → Type 0

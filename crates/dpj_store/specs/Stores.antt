@@ -1,13 +1,15 @@
 -- The store of the code, as that of the elision.
 use Rattle.std.specs.Prelude.{◌≡◌, ◌<◌, ◌≤◌, ◌+◌, ℕ, suc, ◌-◌, All, List, map, length}
+use Rattle.dpj_base.specs.declared.place.Place.{Place}
+use Rattle.dpj_base.specs.declared.value.Trap.{Trap}
 use Rattle.dpj_heap.specs.Heap.{Object, instance, array, values_of}
 use Rattle.dpj_meaning.specs.Values.{Value}
 use Rattle.dpj_meaning.specs.Actions.{Answer, Class, Length}
-use Rattle.dpj_meaning.specs.Elision.{LocalRegion, Held, seen}
+use Rattle.dpj_meaning.specs.Elision.{LocalRegion, Held, seen, first_of}
 use Rattle.dpj_meaning.specs.Elision.{Store as Elided}
 use Rattle.dpj_meaning.specs.Outcomes.{Limits}
 use Rattle.dpj_frames.specs.Names.{plain_value, plain_region}
-use Rattle.dpj_elide.specs.declared.store.Store.{Store}
+use Rattle.dpj_store.specs.declared.store.Store.{Store}
 
 -- what a look and a read see of an object or an array
 abbrev pub Sight : Type 0
@@ -43,6 +45,10 @@ pub record Holds (L : Limits) (s : Store) (w : Elided) : Type 0 where
   pub cells_within : s.heap.used ≤ L.cells
   pub turns : L.steps < w.turns + w.steps
 
+-- the store with so many steps more
+abbrev pub counted : ℕ → Elided → Elided
+counted n w = record w { steps = n + w.steps }
+
 -- the store with a turn less, which costs a step
 abbrev pub turned : Elided → Elided
 turned w = record w { steps = suc w.steps; turns = w.turns - 1 }
@@ -50,3 +56,7 @@ turned w = record w { steps = suc w.steps; turns = w.turns - 1 }
 -- with one local region more, which costs a turn
 abbrev pub with_region : Elided → Elided
 with_region w = record w { regions = suc w.regions; steps = suc w.steps; turns = w.turns - 1 }
+
+-- with a trap noted, of which the first stays
+abbrev pub fallen : Trap → Place → Elided → Elided
+fallen t p w = record w { trap = first_of w.trap (t, p) }

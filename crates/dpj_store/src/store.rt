@@ -1,7 +1,8 @@
 ghost use Rattle.std.specs.Prelude.{◌≡◌, ◌<◌, ◌≤◌, ◌^◌, IfOk, pos, length};
+ghost use Rattle.dpj_base.specs.declared.value.Value.TheVariants.{Int};
 ghost use Rattle.dpj_heap.specs.Heap.{object_at, values_of};
 ghost use Rattle.dpj_meaning.specs.Elision.{at_index};
-ghost use Rattle.dpj_elide.specs.Cells.{has_index, cell_set, length_of};
+ghost use Rattle.dpj_store.specs.Cells.{has_index, cell_set, length_of};
 
 use crate::halt::Halt;
 use dpj_base::{Bytes, Items, NoMemory, Place, Plain, Region, Trap, Value};
@@ -26,18 +27,19 @@ pub struct Store {
 }
 
 impl Store {
-    ghost use Rattle.std.specs.Prelude.{◌≡◌, ◌<◌, ◌≤◌, ◌^◌, pos, map, option_map, IfOk, false};
-    ghost use Rattle.dpj_meaning.specs.Actions.{Read, Write, Look, New, Print, Rest};
+    ghost use Rattle.std.specs.Prelude.{◌≡◌, ◌<◌, ◌≤◌, ◌^◌, pos, map, option_map, IfOk, cond, false};
+    ghost use Rattle.dpj_meaning.specs.Actions.{Read, Write, Look, New, Print};
     ghost use Rattle.dpj_meaning.specs.Values.{An_object, An_array};
+    ghost use Rattle.dpj_meaning.specs.Values.{Int as Number};
     ghost use Rattle.dpj_meaning.specs.Counts.{value_read, is_out, length_seen, class_seen, name_made};
-    ghost use Rattle.dpj_meaning.specs.Elision.{answer, after, one_step, one_turn, new_region, LocalRegion};
+    ghost use Rattle.dpj_meaning.specs.Elision.{answer, after, one_step, LocalRegion};
     ghost use Rattle.dpj_meaning.specs.Elision.{Store as Elided};
     ghost use Rattle.dpj_meaning.specs.Outcomes.{Limits};
     ghost use Rattle.dpj_frames.specs.Names.{plain_value, plain_region};
     ghost use Rattle.dpj_frames.specs.Classes.{plain_seen};
-    ghost use Rattle.dpj_walk.specs.Walk.{fallen};
-    ghost use Rattle.dpj_elide.specs.Halts.{After};
-    ghost use Rattle.dpj_elide.specs.Stores.{Holds, turned, with_region};
+    ghost use Rattle.dpj_store.specs.Stores.{fallen};
+    ghost use Rattle.dpj_store.specs.Halts.{After};
+    ghost use Rattle.dpj_store.specs.Stores.{Holds, counted, turned, with_region};
 
     /// Counts a step.
     pub fn count(&mut self) -> Result<(), Halt>
@@ -47,6 +49,18 @@ impl Store {
             return Err(Halt::Limited);
         }
         self.steps += 1;
+        Ok(())
+    }
+
+    /// Counts the steps of a creation: a second one, where a constructor is entered.
+    fn count_creation(&mut self, constructor: bool) -> Result<(), Halt>
+        ensures { (L : Limits) (w : Elided) → Holds L self.old w → After L result (Holds L self.new) (counted (cond constructor 2 1) w) }
+    {
+        let steps = if constructor { 2 } else { 1 };
+        if self.limit - self.steps < steps {
+            return Err(Halt::Limited);
+        }
+        self.steps += steps;
         Ok(())
     }
 
@@ -110,13 +124,13 @@ impl Store {
     }
 
     /// The length of an array, and 0 of anything else. The look costs a step.
-    pub fn look_length(&mut self, object: u32) -> Result<i32, Halt>
+    pub fn look_length(&mut self, object: u32) -> Result<Value, Halt>
         ensures store { (L : Limits) (w : Elided) → Holds L self.old w → After L result (Holds L self.new) (after (Look object) w) }
-        ensures len { IfOk result (λ n. (L : Limits) (w : Elided) → Holds L self.old w → n ≡ pos (length_seen {M = LocalRegion} (answer w.heap (Look object)))) }
+        ensures len { IfOk result (λ v. (L : Limits) (w : Elided) → Holds L self.old w → plain_value v ≡ Number (pos (length_seen {M = LocalRegion} (answer w.heap (Look object))))) }
     {
         self.count()?;
         if object >= self.heap.count() {
-            return Ok(0);
+            return Ok(Value::Int(0));
         }
         Ok(array_length(&self.heap, object))
     }
@@ -130,11 +144,13 @@ impl Store {
         if object >= self.heap.count() {
             return Ok(None);
         }
-        let Some(class) = self.heap.class(object) else {
-            return Ok(None);
-        };
-        let regions = copied(alloc, self.heap.regions(object))?;
-        Ok(Some(Seen { class, regions }))
+        match self.heap.class(object) {
+            None => Ok(None),
+            Some(class) => {
+                let regions = copied(alloc, self.heap.regions(object))?;
+                Ok(Some(Seen { class, regions }))
+            }
+        }
     }
 
     /// A new object with these field values. It costs a step, and where its class declares a constructor a second one.
@@ -148,10 +164,7 @@ impl Store {
         ensures store { (L : Limits) (w : Elided) → Holds L self.old w → After L result (Holds L self.new) (after (New (An_object class (map plain_region regions) (map plain_value fields.now)) constructor) w) }
         ensures name { IfOk result (λ v. (L : Limits) (w : Elided) → Holds L self.old w → plain_value v ≡ name_made {M = LocalRegion} (answer w.heap (New (An_object class (map plain_region regions) (map plain_value fields.now)) constructor))) }
     {
-        self.count()?;
-        if constructor {
-            self.count()?;
-        }
+        self.count_creation(constructor)?;
         Ok(Value::Obj(self.heap.new_object(class, fields, regions)?))
     }
 
@@ -160,7 +173,7 @@ impl Store {
         ensures store { (L : Limits) (w : Elided) → Holds L self.old w → After L result (Holds L self.new) (after (New (An_array (plain_region region) len (plain_value first)) false) w) }
         ensures name { IfOk result (λ v. (L : Limits) (w : Elided) → Holds L self.old w → plain_value v ≡ name_made {M = LocalRegion} (answer w.heap (New (An_array (plain_region region) len (plain_value first)) false))) }
     {
-        self.count()?;
+        self.count_creation(false)?;
         Ok(Value::Obj(self.heap.new_array(len, first, region)?))
     }
 
@@ -203,14 +216,14 @@ fn set_cell(heap: &mut Heap, object: u32, index: i64, value: Value) -> bool
 }
 
 /// The length of an array, where the heap's lengths are small; 0 of an object.
-fn array_length(heap: &Heap, object: u32) -> i32
+fn array_length(heap: &Heap, object: u32) -> Value
     requires { object < length heap.now.objects }
-    ensures { length (values_of (object_at heap.now object)) ≤ 16777216 → result ≡ pos (length_of (object_at heap.now object)) }
+    ensures { length (values_of (object_at heap.now object)) ≤ 16777216 → result ≡ Int (pos (length_of (object_at heap.now object))) }
 {
     if heap.class(object).is_some() {
-        return 0;
+        return Value::Int(0);
     }
-    i32::try_from(heap.length(object)).unwrap_or(i32::MAX)
+    Value::Int(i32::try_from(heap.length(object)).unwrap_or(i32::MAX))
 }
 
 /// The same regions.

@@ -1,5 +1,7 @@
 -- A cell of the heap, by an index that may be out of bounds.
-use Rattle.std.specs.Prelude.{ℕ, ℤ, pos, negsuc, Bool, false, nat_lt, cond, List, length}
+use Rattle.std.specs.Prelude.{ℕ, ℤ, pos, negsuc, Bool, false, nat_lt, cond, List, length, Option, Some, None}
+use Rattle.dpj_meaning.specs.Values.{Region}
+use Rattle.dpj_meaning.specs.Elision.{LocalRegion}
 use Rattle.dpj_base.specs.declared.value.Value.{Value}
 use Rattle.dpj_heap.specs.Heap.{Object, instance, array, Contents, object_at, values_of, written}
 
@@ -15,3 +17,8 @@ cell_set heap n (negsuc k) v = heap
 abbrev pub length_of : Object → ℕ
 length_of (instance class regions fields) = 0
 length_of (array pattern elements) = length elements
+
+-- a class with its region arguments, where there is a class
+abbrev pub seen_of : Option ℕ → List (Region LocalRegion) → Option (ℕ × List (Region LocalRegion))
+seen_of None rs = None
+seen_of (Some c) rs = Some (c, rs)

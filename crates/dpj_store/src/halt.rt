@@ -14,7 +14,7 @@ pub enum Halt {
 
 impl From<NoMemory> for Halt {
     ghost use Rattle.std.specs.Prelude.{◌≡◌};
-    ghost use Rattle.dpj_elide.specs.declared.halt.Halt.TheVariants.{NoMemory};
+    ghost use Rattle.dpj_store.specs.declared.halt.Halt.TheVariants.{NoMemory};
 
     ghost from_gives = { λ _ halt. halt ≡ NoMemory };
 
@@ -24,7 +24,7 @@ impl From<NoMemory> for Halt {
 }
 
 impl From<HeapStop> for Halt {
-    ghost use Rattle.dpj_elide.specs.Halts.{IsOfHeap};
+    ghost use Rattle.dpj_store.specs.Halts.{IsOfHeap};
 
     ghost from_gives = { λ stop halt. IsOfHeap stop halt };
 
