@@ -1,3 +1,6 @@
 pub mod Forms
 pub mod Costs
 pub mod Taken
+pub mod Evaluating
+pub mod Beginning
+pub mod Programs

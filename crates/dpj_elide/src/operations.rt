@@ -85,7 +85,7 @@ impl<'p> Walker<'p> {
             return self.fall(Trap::Null, place);
         };
         let len = self.store.look_length(object)?;
-        self.give(1, Value::Int(len))
+        self.give(1, len)
     }
 
     /// A value at an index of an object or an array, which takes so many operands off.

@@ -218,7 +218,7 @@ impl<'p> Walker<'p> {
                     return self.fall(Trap::Null, s.place);
                 };
                 let len = self.store.look_length(array)?;
-                set_slot_after(&mut self.level.frame.values, first, 2, Value::Int(len));
+                set_slot_after(&mut self.level.frame.values, first, 2, len);
             }
             PartSource::Part(whole) => {
                 let len = slot_after(&self.level.frame.values, whole.number as usize, 2);
