@@ -1,12 +1,15 @@
 -- A state of the walk that has cost more than a limit allows leads to such states alone.
-use Rattle.std.proofs.Common.{◌≡◌, ◌<◌, ◌≤◌, ℕ, suc, List, [], ◌∷◌, arith, inl, inr, ◌⊎◌, Option, Some, None}
+use Rattle.std.proofs.Common.{◌≡◌, ◌<◌, ◌≤◌, ℕ, suc, List, [], ◌∷◌, arith, inl, inr, ◌⊎◌, Option, Some, None, Bool, true, false, cond}
 use Rattle.dpj_base.specs.declared.place.Place.{Place}
 use Rattle.dpj_base.specs.declared.value.Trap.{Trap}
-use Rattle.dpj_meaning.specs.Actions.{Task}
+use Rattle.dpj_meaning.specs.Actions.{Frame, Task, Work}
 use Rattle.dpj_meaning.specs.Counts.{Brought, Back, Trap_of_branch}
-use Rattle.dpj_meaning.specs.Elision.{LocalRegion, Store, one_step}
+use Rattle.dpj_meaning.specs.Elision.{LocalRegion, Store, one_step, sequential}
+use Rattle.dpj_meaning.specs.Core.{Traps, run}
+use Rattle.dpj_meaning.specs.Expressions.{gives, none}
+use Rattle.dpj_meaning.specs.Values.{Value}
 use Rattle.dpj_meaning.specs.Outcomes.{Limits}
-use Rattle.dpj_walk.specs.Walk.{Construct, Waiting, for_value, for_object, for_branch, falls, fallen, earlier, rejoins, branches}
+use Rattle.dpj_walk.specs.Walk.{Construct, Level, Waiting, lands, for_value, for_object, for_branch, falls, fallen, earlier, rejoins, branches}
 use Rattle.dpj_store.specs.Halts.{IsOver}
 use Rattle.dpj_elide.specs.States.{IsOverAt}
 
@@ -33,3 +36,22 @@ module _ (L : Limits) where
   pub branches_over : (c : Construct) (ts : List (Task ℕ LocalRegion)) (ws : List Waiting) (w : Store) → IsOver L (one_step w) → IsOverAt L (branches c ts ws w)
   branches_over c [] ws w h = rejoins_over c ws _ (one_step w) h
   branches_over c (t ∷ ts) ws w h = h
+
+  -- a trap that ends a branch
+  pub branch_over : (c : Construct) (k : Work) (rest : List (Task ℕ LocalRegion)) (ws : List Waiting) (t : Trap) (p : Place) (w : Store)
+      → IsOver L (one_step (fallen t p w)) → IsOverAt L (falls (for_branch c k rest ∷ ws) t p w)
+  branch_over c k [] ws t p w h = falls_over ws (earlier c.fell (t, p)).0 (earlier c.fell (t, p)).1 (one_step (fallen t p w)) h
+  branch_over c k (b ∷ rest) ws t p w h = h
+
+  -- where a value lands, or a trap
+  pub landed_over : (g : Level) (push : Value ℕ → List (Value ℕ)) (ws : List Waiting) (t : Trap) (p : Place) (f : Frame ℕ LocalRegion) (o : Option (Value ℕ))
+      (w : Store) → IsOver L w → IsOverAt L (lands g push ws (run sequential (elim o [ None ↦ Traps t p | Some v ↦ gives v f ]) w))
+  landed_over g push ws t p f None w h = falls_over ws t p w h
+  landed_over g push ws t p f (Some v) w h = h
+
+  pub written_over : (g : Level) (push : Value ℕ → List (Value ℕ)) (ws : List Waiting) (t : Trap) (p : Place) (f : Frame ℕ LocalRegion) (b : Bool)
+      (w : Store) → IsOver L w → IsOverAt L (lands g push ws (run sequential (cond b (Traps t p) (gives none f)) w))
+  written_over g push ws t p f true w h = falls_over ws t p w h
+  written_over g push ws t p f false w h = h
+
+pub ruleset overs = (falls_over, rejoins_over, branches_over, branch_over, landed_over, written_over)

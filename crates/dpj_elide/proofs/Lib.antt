@@ -4,3 +4,5 @@ pub mod Taken
 pub mod Evaluating
 pub mod Beginning
 pub mod Programs
+pub mod Falling
+pub mod Halting

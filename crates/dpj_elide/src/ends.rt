@@ -49,6 +49,7 @@ impl<'p> Walker<'p> {
     }
 
     /// A branch ends by a trap.
+    #[tactic(auto, using(crate::proofs::Costs::overs, crate::proofs::Falling::fallings))]
     fn branch_falls(
         &mut self,
         outer: Level<'p>,
@@ -97,6 +98,7 @@ impl<'p> Walker<'p> {
     }
 
     /// The next branch of a construct begins, or its branches join.
+    #[tactic(auto, using(crate::proofs::Costs::overs, crate::proofs::Falling::fallings))]
     pub fn branches(&mut self, outer: Level<'p>, fork: Fork<'p>) -> Result<Option<Over>, Halt>
         ensures { Does (λ g ws w. branches (construct fork.entry (plain_level outer.entry)) (rest_of fork.entry (plain_level outer.entry)) ws w) self.old result self.new }
     {

@@ -45,6 +45,7 @@ impl<'p> Walker<'p> {
     }
 
     /// The value at an index of an object or an array, in the place of so many operands.
+    #[tactic(auto, using(crate::proofs::Costs::overs))]
     pub fn read(
         &mut self,
         place: Place,
@@ -89,6 +90,7 @@ impl<'p> Walker<'p> {
     }
 
     /// A value at an index of an object or an array, which takes so many operands off.
+    #[tactic(auto, using(crate::proofs::Costs::overs))]
     pub fn write(
         &mut self,
         place: Place,

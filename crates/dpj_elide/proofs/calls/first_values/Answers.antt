@@ -12,4 +12,4 @@ returns c =
     sym (append-nil (map plain_value c.loop-field.values))
     ∙ ap (λ fs. map plain_value c.loop-field.values ++ map (λ f. first_of (plain_type f.ty)) fs) (sym (drop_all c.loop-field.field-index _ c.loop-field-test.false))
     ∙ c.loop-field.invariant ∙ ap (map (λ f. first_of (plain_type f.ty))) c.as_slice-field-items.ensures
-    ∙ first_values c.args.program.now c.args.class c.in-Some.row.now c.in-Some.ensures
+    ∙ first_values c.args.program.now c.args.class c.in-Some.row.now c.in-Some.ensures.value

@@ -7,5 +7,5 @@ use Rattle.dpj_elide.proofs.whole.walked.Given as goal
 
 abbrev pub invariant-loop : goal.invariant-loop
 invariant-loop l =
-    (n : ℕ) × (s : State) × (walk (plain_program l.program) n (start (plain_program l.program) l.argument (suc l.limits.steps)) ≡ s)
-    × StandsAt (limits l.limits) l.walker s
+    (n : ℕ) × (s : State) × (walk (plain_program l.program) n (start (plain_program l.program) l.fn.argument (suc l.fn.limits.steps)) ≡ s)
+    × StandsAt (limits l.fn.limits) l.walker s
