@@ -10,7 +10,7 @@ use Rattle.dpj_elide.specs.declared.walker.Walker.{Walker}
 use Rattle.dpj_elide.specs.States.{IsOverAt, ComesTo}
 
 -- a refused step, where what is over a limit leads to such states alone
-pub refused : {A : Type 0} (L : Limits) (x : Halt) (k : Walker) (s : State) (P : Store → Type 0) (w : Store)
+pub refused : (A : Type 0) (L : Limits) (x : Halt) (k : Walker) (s : State) (P : Store → Type 0) (w : Store)
     → After {A = A} L (Err x) P w → (IsOver L w → IsOverAt L s) → ComesTo L (Err x) k s
-refused L halt.Limited k s P w h over = over h
-refused L halt.NoMemory k s P w h over = tt
+refused A L halt.Limited k s P w h over = over h
+refused A L halt.NoMemory k s P w h over = tt

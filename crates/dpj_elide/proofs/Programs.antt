@@ -20,4 +20,4 @@ pub first_values : (P : Program) (c : ℕ) (k : Class) → Some k ≡ slice_get 
 first_values P c k e =
     firsts k.fields
     ∙ ap (λ o. map (λ f. first_of {N = ℕ} f.ty) (option_map_or (λ k. k.fields) o []))
-      (ap (option_map plain_class) e ∙ sym (slice_get-map plain_class P.classes c))
+    (ap (option_map plain_class) e ∙ sym (slice_get-map plain_class P.classes c))

@@ -14,7 +14,6 @@ ghost use Rattle.dpj_frames.specs.Classes.{plain_seen};
 ghost use Rattle.dpj_walk.specs.Walk.{beginning, falls, or_null, calls, enters, creates, creates_with, lands, row_member, without};
 ghost use Rattle.dpj_elide.specs.States.{Does, plain_level};
 
-use dpj_store::Halt;
 use crate::level::Level;
 use crate::waiting::{Awaited, Waiting};
 use crate::walker::{Over, Walker};
@@ -23,6 +22,7 @@ use dpj_frames::{
     Seen, class_entered, concrete, concrete_all, constructor_of, entered, is_long, number,
     reference, regions_above, some_long,
 };
+use dpj_store::Halt;
 use dpj_typed::{Member, Program};
 use std::alloc::Global;
 use std::mem;
@@ -118,7 +118,9 @@ impl<'p> Walker<'p> {
             Some(member) => self.construct(program, place, class, own, member, actuals),
             None => {
                 let fields = first_values(self.alloc, program, class)?;
-                let object = self.store.make_object(class, own, fields.as_slice(), false)?;
+                let object = self
+                    .store
+                    .make_object(class, own, fields.as_slice(), false)?;
                 self.give(actuals, object)
             }
         }

@@ -10,11 +10,11 @@ ghost use Rattle.dpj_store.specs.Stores.{Holds};
 ghost use Rattle.dpj_meaning.specs.Asking.{ended};
 
 use crate::copies::copy_back;
-use dpj_store::Halt;
 use crate::level::Level;
 use crate::waiting::{Awaited, Fork, Waiting};
 use crate::walker::{Falling, Over, Walker};
 use dpj_base::{Place, Trap, Value};
+use dpj_store::Halt;
 
 impl<'p> Walker<'p> {
     /// A trap ends the body at work and those that called it, up to a branch: the next branch begins, or after the last one the
@@ -118,7 +118,11 @@ impl<'p> Walker<'p> {
             return self.fall(trap, place);
         }
         self.level = outer;
-        copy_back(&mut self.level.frame.values, fork.branches, fork.back.as_slice());
+        copy_back(
+            &mut self.level.frame.values,
+            fork.branches,
+            fork.back.as_slice(),
+        );
         Ok(None)
     }
 

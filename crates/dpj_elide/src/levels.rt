@@ -86,7 +86,12 @@ impl<'p> Level<'p> {
     }
 
     /// A value and so many operands, the lowest first.
-    pub fn actuals(&self, alloc: Global, first: Value, many: usize) -> Result<Items<Value>, NoMemory>
+    pub fn actuals(
+        &self,
+        alloc: Global,
+        first: Value,
+        many: usize,
+    ) -> Result<Items<Value>, NoMemory>
         ensures { IfOk result (λ values. map plain_value values ≡ plain_value first ∷ reverse (take many (map plain_value self.now.operands))) }
     {
         let mut values = Items::new(alloc);
@@ -124,7 +129,10 @@ impl<'p> Level<'p> {
             | ExprForm::Unary { arg: one, .. }
             | ExprForm::And { left: one, .. }
             | ExprForm::Or { left: one, .. }
-            | ExprForm::PartElement { index: one, .. } => self.will(Item::Expr(ExprStage::Evaluate, one.get())),
+            | ExprForm::PartElement { index: one, .. } => self.will(Item::Expr(
+                ExprStage::Evaluate,
+                one.get(),
+            )),
             ExprForm::Element {
                 array: left,
                 index: right,

@@ -11,10 +11,10 @@ ghost use Rattle.dpj_frames.specs.Names.{plain_value, plain_frame};
 ghost use Rattle.dpj_walk.specs.Walk.{At, lands};
 ghost use Rattle.dpj_elide.specs.States.{Does};
 
-use dpj_store::Halt;
 use crate::walker::{Over, Walker};
 use dpj_base::{Place, Trap, Value};
 use dpj_frames::{number, operated, part_place, reference, slot};
+use dpj_store::Halt;
 use dpj_typed::BinaryOp;
 
 impl<'p> Walker<'p> {

@@ -10,15 +10,16 @@ ghost use Rattle.dpj_elide.specs.declared.item.StmtStage.TheVariants.{Counted, T
 ghost use Rattle.dpj_elide.specs.Forms.{is_simple};
 ghost use Rattle.dpj_elide.specs.States.{Does, plain_item, plain_branch, stmt_item, tasks_in};
 
-use dpj_store::Halt;
 use crate::item::{ExprStage, Item, StmtStage};
 use crate::level::Level;
 use crate::waiting::{Fork, Numbers, Rest};
 use crate::walker::{Over, Walker};
 use dpj_base::{Items, Place, Trap, Value};
 use dpj_frames::{
-    how_many, number, reference, set_slot, set_slot_after, slot, slot_after, text_line, truth, value_line,
+    how_many, number, reference, set_slot, set_slot_after, slot, slot_after, text_line, truth,
+    value_line,
 };
+use dpj_store::Halt;
 use dpj_typed::{Branch, LocalRegion, PartSource, Slot, Stmt, StmtForm};
 use std::mem;
 
@@ -69,15 +70,25 @@ impl<'p> Walker<'p> {
                 self.next(0, Item::GoesOn(body.as_slice()))
             }
             StmtForm::Cobegin { branches, .. } => self.cobegin(s.place, branches.as_slice()),
-            StmtForm::Foreach {
-                slot, body, ..
-            } => {
+            StmtForm::Foreach { slot, body, .. } => {
                 let count = number(self.level.operand(0));
                 let start = number(self.level.operand(1));
                 self.level.operands.drop_top(2);
-                self.numbers(s.place, None, slot.number as usize, body.get(), start, count)
+                self.numbers(
+                    s.place,
+                    None,
+                    slot.number as usize,
+                    body.get(),
+                    start,
+                    count,
+                )
             }
-            StmtForm::ForeachParts { part, source, count, .. } => {
+            StmtForm::ForeachParts {
+                part,
+                source,
+                count,
+                ..
+            } => {
                 self.begin_part(part.number as usize, source);
                 self.level.will(Item::Stmt(StmtStage::Counted, s))?;
                 self.next(0, Item::Expr(ExprStage::Evaluate, count))
@@ -182,8 +193,7 @@ impl<'p> Walker<'p> {
     }
 
     /// The slots of a part, up to its count.
-    fn begin_part(&mut self, part: usize, source: &PartSource)
-    {
+    fn begin_part(&mut self, part: usize, source: &PartSource) {
         match source {
             PartSource::Array(_) => {
                 let array = self.level.operand(0);
@@ -207,7 +217,13 @@ impl<'p> Walker<'p> {
     {
         let count = self.level.operand(0);
         self.level.operands.drop_top(1);
-        let StmtForm::ForeachParts { part, source, body, .. } = &s.form else {
+        let StmtForm::ForeachParts {
+            part,
+            source,
+            body,
+            ..
+        } = &s.form
+        else {
             return Ok(None);
         };
         let first = part.number as usize;

@@ -8,11 +8,11 @@ ghost use Rattle.dpj_elide.specs.States.{Does, plain_item};
 ghost use Rattle.dpj_elide.specs.Forms.{is_own};
 
 use crate::calls::Call;
-use dpj_store::Halt;
 use crate::item::{ExprStage, Item};
 use crate::walker::{Over, Walker};
 use dpj_base::Value;
 use dpj_frames::{inverted, negated, number, slot, slot_after, truth};
+use dpj_store::Halt;
 use dpj_typed::{Expr, ExprForm, Program, UnaryOp};
 
 impl<'p> Walker<'p> {

@@ -1,8 +1,8 @@
 use crate::level::Level;
-use dpj_store::Store;
 use crate::waiting::Waiting;
 use dpj_base::{Place, Trap, Value};
 use dpj_frames::Stack;
+use dpj_store::Store;
 use std::alloc::Global;
 
 /// A walk: the body at work, what waits for it, and what they share.

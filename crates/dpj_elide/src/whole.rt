@@ -4,13 +4,12 @@ ghost use Rattle.dpj_base.specs.declared.outcome.Ending.TheVariants.{Limited};
 ghost use Rattle.dpj_elide.specs.Outcome.{IsElided, Begun, Walked};
 
 use crate::calls::first_values;
-use dpj_store::Halt;
 use crate::level::Level;
-use dpj_store::Store;
 use crate::walker::{Over, Walker};
 use dpj_base::{Bytes, Ending, Items, Limits, NoMemory, Outcome, Value};
 use dpj_frames::{Frame, Stack, entered, number};
 use dpj_heap::Heap;
+use dpj_store::{Halt, Store};
 use dpj_typed::Program;
 use std::alloc::Global;
 
@@ -36,12 +35,7 @@ pub fn elide(
 }
 
 /// The outcome of a walk that is over within the limits.
-fn walked(
-    alloc: Global,
-    program: &Program,
-    argument: i32,
-    limits: Limits,
-) -> Result<Outcome, Halt>
+fn walked(alloc: Global, program: &Program, argument: i32, limits: Limits) -> Result<Outcome, Halt>
     requires steps { limits.steps < 2 ^ 32 }
     requires cells { limits.cells ≤ 16777216 }
     ensures { Walked (plain_program program.now) argument limits result }

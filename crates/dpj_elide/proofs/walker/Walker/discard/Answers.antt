@@ -5,6 +5,9 @@ use Rattle.dpj_elide.proofs.Taken.{map_drop}
 use Rattle.dpj_elide.proofs.walker.Walker.discard.Goals as goal
 
 pub returns : goal.returns
-returns c = λ L w h.
-    (ap (λ vs. record (plain_level c.args.self.now.level) { operands = vs })
-     (ap (map plain_value) c.drop_top.ensures ∙ map_drop plain_value c.args.many c.args.self.now.level.operands), refl, h)
+returns c = λ L w h. (
+  ap (λ vs. record (plain_level c.args.self.now.level) { operands = vs })
+      (ap (map plain_value) c.drop_top.ensures ∙ map_drop plain_value c.args.many c.args.self.now.level.operands),
+  refl,
+  h,
+)
