@@ -6,3 +6,4 @@ pub mod Beginning
 pub mod Programs
 pub mod Falling
 pub mod Halting
+pub mod Reading

@@ -2,6 +2,10 @@
 //!
 //! `elide` takes the steps of `dpj_walk` over a heap of its own. Its pending work stands on stacks, and nothing recurses: a body
 //! at work has an agenda and operands, and calls, creations and constructs of branches wait for it.
+//!
+//! The walker's state is that of the walk (`specs/States.antt`), and each function has the clause of one of its equations: it
+//! takes the walker where the equation leads, or is refused by a limit that the state there is over. Not all of these clauses
+//! are proved yet, so nothing calls this crate.
 #![tactic(auto)]
 
 mod branches;
