@@ -31,7 +31,7 @@ module _ (g : Level) (push : Value ℕ → List (Value ℕ)) (ws : List Waiting)
   read_lands u e same is =
       ap (λ k. At (record g { operands = push u; frame = f }) ws (after (Read n k) w)) same
       ∙ ap (λ o. lands g push ws (run sequential (elim o [ None ↦ Traps trap.Index at | Some v ↦ gives v f ]) (after (Read n i) w)))
-        (is ∙ ap (λ k. value_read {M = LocalRegion} (answer w.heap (Read n k))) same)
+      (is ∙ ap (λ k. value_read {M = LocalRegion} (answer w.heap (Read n k))) same)
       ∙ ap (λ o. lands g push ws (run sequential (elim o [ None ↦ Traps trap.Null at | Some m ↦ read_cell at m i f ]) w)) e
 
   pub write_refused : (A : Type 0) (L : Limits) (x : Halt) (k : Walker) (P : Store → Type 0) (v : Value ℕ) → Some n ≡ reference of

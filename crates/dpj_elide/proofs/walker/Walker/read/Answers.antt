@@ -23,5 +23,5 @@ returns-in-Some-2 c = λ L w h.
     let value = rw c.in-Some-2.is at (c.in_ok-value.ensures.value L w h) in
     subst (λ s. ComesTo L c.give.result c.give.new.self s)
     (read_lands g (λ v. v ∷ drop c.args.many g.operands) (map plain_waiting c.args.self.now.waiting) c.args.place (plain_value c.args.of) c.in-Some.object c.args.index _
-     g.frame w (plain_value c.in-Some-2.value) c.in-Some.ensures again value)
+    g.frame w (plain_value c.in-Some-2.value) c.in-Some.ensures again value)
     (c.give.ensures L _ (c.in_ok-value.ensures.store L w h))
