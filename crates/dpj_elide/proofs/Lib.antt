@@ -7,3 +7,4 @@ pub mod Programs
 pub mod Falling
 pub mod Halting
 pub mod Reading
+pub mod Forking
