@@ -8,3 +8,4 @@ pub mod Falling
 pub mod Halting
 pub mod Reading
 pub mod Forking
+pub mod Calling

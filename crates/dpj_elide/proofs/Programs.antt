@@ -7,7 +7,9 @@ use Rattle.dpj_base.specs.Types.{plain_type}
 use Rattle.dpj_typed.specs.declared.program.Class.{Class}
 use Rattle.dpj_typed.specs.declared.program.Field.{Field}
 use Rattle.dpj_typed.specs.declared.program.Program.{Program}
-use Rattle.dpj_typed.specs.Plain.{plain_program, plain_class, plain_field}
+use Rattle.dpj_typed.specs.declared.program.Member.{Member}
+use Rattle.dpj_typed.specs.Plain.{plain_program, plain_class, plain_field, plain_member}
+use Rattle.dpj_typed.specs.Scope.{member_at}
 use Rattle.dpj_meaning.specs.Values.{Value}
 use Rattle.dpj_meaning.specs.Expressions.{class_fields, first_of}
 
@@ -21,3 +23,9 @@ first_values P c k e =
     firsts k.fields
     ∙ ap (λ o. map (λ f. first_of {N = ℕ} f.ty) (option_map_or (λ k. k.fields) o []))
     (ap (option_map plain_class) e ∙ sym (slice_get-map plain_class P.classes c))
+
+pub member_is : (P : Program) (n : ℕ) (m : Member) → Some m ≡ slice_get P.members n → Some (plain_member m) ≡ member_at (plain_program P) n
+member_is P n m e = ap (option_map plain_member) e ∙ sym (slice_get-map plain_member P.members n)
+
+pub no_member : (P : Program) (n : ℕ) → None ≡ slice_get P.members n → None ≡ member_at (plain_program P) n
+no_member P n e = ap (option_map plain_member) e ∙ sym (slice_get-map plain_member P.members n)
