@@ -1,7 +1,9 @@
 -- A state of the walk that has cost more than a limit allows leads to such states alone.
-use Rattle.std.proofs.Common.{◌≡◌, ◌<◌, ◌≤◌, ℕ, suc, List, [], ◌∷◌, arith, inl, inr, ◌⊎◌, Option, Some, None, Bool, true, false, cond}
+use Rattle.std.proofs.Common.{◌≡◌, ◌<◌, ◌≤◌, ℕ, zero, suc, List, [], ◌∷◌, arith, inl, inr, ◌⊎◌, Option, Some, None, Bool, true, false, cond}
 use Rattle.dpj_base.specs.declared.place.Place.{Place}
 use Rattle.dpj_base.specs.declared.value.Trap.{Trap}
+use Rattle.dpj_base.specs.declared.value.Trap.TheVariants as trap
+use Rattle.dpj_typed.specs.Plain.{TypedStmt}
 use Rattle.dpj_meaning.specs.Actions.{Frame, Task, Work}
 use Rattle.dpj_meaning.specs.Counts.{Brought, Back, Trap_of_branch}
 use Rattle.dpj_meaning.specs.Elision.{LocalRegion, Store, one_step, sequential}
@@ -9,7 +11,7 @@ use Rattle.dpj_meaning.specs.Core.{Traps, run}
 use Rattle.dpj_meaning.specs.Expressions.{gives, none}
 use Rattle.dpj_meaning.specs.Values.{Value}
 use Rattle.dpj_meaning.specs.Outcomes.{Limits}
-use Rattle.dpj_walk.specs.Walk.{Construct, Level, Waiting, lands, for_value, for_object, for_branch, falls, fallen, earlier, rejoins, branches}
+use Rattle.dpj_walk.specs.Walk.{Construct, Level, Waiting, forks_at, parts_at, lands, for_value, for_object, for_branch, falls, fallen, earlier, rejoins, branches}
 use Rattle.dpj_store.specs.Halts.{IsOver}
 use Rattle.dpj_elide.specs.States.{IsOverAt}
 
@@ -36,6 +38,14 @@ module _ (L : Limits) where
   pub branches_over : (c : Construct) (ts : List (Task ℕ LocalRegion)) (ws : List Waiting) (w : Store) → IsOver L (one_step w) → IsOverAt L (branches c ts ws w)
   branches_over c [] ws w h = rejoins_over c ws _ (one_step w) h
   branches_over c (t ∷ ts) ws w h = h
+
+  pub forks_over : (n : ℕ) (at : Place) (g : Level) (copies : List ℕ) (ts : List (Task ℕ LocalRegion)) (ws : List Waiting) (w : Store)
+      → IsOver L w → IsOverAt L (forks_at n at g copies ts ws w)
+  forks_over zero at g copies ts ws w h = falls_over ws trap.Stack at w h
+  forks_over (suc d) at g copies ts ws w h = branches_over _ ts ws (one_step w) (over_step (one_step w) (over_step w h))
+
+  pub parts_over : (at : Place) (k : ℕ) (s : TypedStmt) (g : Level) (ws : List Waiting) (w : Store) → IsOver L w → IsOverAt L (parts_at at k s g ws w)
+  parts_over at k s g ws w h = forks_over g.left at g [] _ ws w h
 
   -- a trap that ends a branch
   pub branch_over : (c : Construct) (k : Work) (rest : List (Task ℕ LocalRegion)) (ws : List Waiting) (t : Trap) (p : Place) (w : Store)

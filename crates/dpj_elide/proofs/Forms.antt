@@ -1,5 +1,5 @@
 -- The forms of the code's expressions and statements.
-use Rattle.std.proofs.Common.{◌≡◌, ◌∙◌, ℕ, ℤ, Bool, List, Some, None, map, ap, rules}
+use Rattle.std.proofs.Common.{◌≡◌, ◌∙◌, ℕ, suc, ℤ, Bool, List, [], ◌∷◌, Some, None, map, length, refl, ap, rules}
 use Rattle.dpj_base.specs.declared.effect.Effect.{Effect}
 use Rattle.dpj_base.specs.declared.region.Rpl.{Rpl}
 use Rattle.dpj_base.specs.declared.ty.Ty.{Ty}
@@ -25,6 +25,7 @@ use Rattle.dpj_typed.specs.Plain.{of_array, of_part}
 use Rattle.dpj_typed.specs.Plain.{TypedExpr, typed, type_of, plain_expr, exprs_of, expr_form, expr_node, TypedStmt, TypedBranch, statement, plain_stmt, stmts_of, branches_of, stmt_form, branch_node, stmt_node}
 use Rattle.dpj_typed.specs.Plain.{StmtForm as made}
 use Rattle.dpj_typed.specs.Plain.{ExprForm as form}
+use Rattle.dpj_walk.specs.Agenda.{count}
 use Rattle.dpj_elide.specs.States.{plain_branch}
 
 abbrev pub plain_form : ExprForm → form
@@ -298,6 +299,11 @@ shape_PartsOfPart part whole count body = search (rules, stmt_lemmas)
 pub at_PartsOfPart : (s : Stmt) (part whole : Slot) (count : Expr) (body : Stmt) → s.form ≡ stmt_kind.ForeachParts part (source.Part whole) count body →
     plain_stmt s ≡ statement s.place (made.foreach_parts part.number (of_part whole.number) (plain_expr count) (plain_stmt body))
 at_PartsOfPart s part whole count body is = of_shape s _ _ is (shape_PartsOfPart part whole count body)
+
+-- how many they are
+pub count_exprs : (es : List Expr) → count (exprs_of (map plain_expr es)) ≡ length es
+count_exprs [] = refl
+count_exprs (e ∷ es) = ap suc (count_exprs es)
 
 pub ruleset forms = (at_Int, at_Bool, at_Null, at_Local, at_PartLength, at_Field, at_Element, at_Length, at_Call, at_New, at_NewArray, at_Unary, at_Binary, at_And, at_Or, at_PartElement)
 

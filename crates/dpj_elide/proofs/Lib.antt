@@ -9,3 +9,6 @@ pub mod Halting
 pub mod Reading
 pub mod Forking
 pub mod Calling
+pub mod Arrays
+pub mod Making
+pub mod Starting

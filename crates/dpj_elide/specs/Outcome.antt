@@ -1,5 +1,5 @@
 -- How a walk comes out.
-use Rattle.std.specs.Prelude.{◌≡◌, ℕ, suc, ℤ, pos, [], map, Result, Ok, Err}
+use Rattle.std.specs.Prelude.{◌≡◌, ℕ, suc, ℤ, pos, [], None, Result, Ok, Err}
 use Rattle.dpj_base.specs.declared.outcome.Ending.{Ending as Came}
 use Rattle.dpj_base.specs.declared.outcome.Ending.TheVariants as came
 use Rattle.dpj_base.specs.declared.outcome.Limits.{Limits}
@@ -7,7 +7,7 @@ use Rattle.dpj_base.specs.declared.outcome.Outcome.{Outcome}
 use Rattle.dpj_typed.specs.Plain.{PlainProgram}
 use Rattle.dpj_meaning.specs.Actions.{Ending, Returned, Assigned, Trapped}
 use Rattle.dpj_meaning.specs.Counts.{number}
-use Rattle.dpj_meaning.specs.Elision.{elided}
+use Rattle.dpj_meaning.specs.Elision.{Store, elided}
 use Rattle.dpj_meaning.specs.Outcomes.{Outcome as ElidedOutcome}
 use Rattle.dpj_meaning.specs.Outcomes.{Came as came_out, Limited}
 use Rattle.dpj_meaning.specs.Outcomes.{Limits as MeaningLimits}
@@ -39,6 +39,10 @@ abbrev pub Walked : PlainProgram → ℤ → Limits → Result Outcome Halt → 
 Walked P argument L (Ok o) = IsElided P argument L o
 Walked P argument L (Err halt.Limited) = elided P argument (limits L) ≡ Limited L.steps L.cells
 Walked P argument L (Err halt.NoMemory) = Unit {0}
+
+-- a store in which nothing was made, with so many turns
+abbrev pub nothing : ℕ → Store
+nothing n = record { heap = []; regions = 0; output = []; trap = None; steps = 0; cells = 0; turns = n }
 
 -- the walker stands at the start of the walk
 abbrev pub Begun : PlainProgram → ℤ → Limits → Result Walker Halt → Type 0

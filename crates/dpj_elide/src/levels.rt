@@ -1,7 +1,8 @@
-ghost use Rattle.std.specs.Prelude.{◌≡◌, ◌∷◌, List, map, take, drop, reverse, OnOk, IfOk};
+ghost use Rattle.std.specs.Prelude.{◌≡◌, ◌+◌, ◌∷◌, List, map, take, drop, reverse, OnOk, IfOk};
 ghost use Rattle.dpj_typed.specs.Plain.{PlainProgram, plain_expr, plain_stmt, exprs_of, stmts_of};
 ghost use Rattle.dpj_meaning.specs.Counts.{slot_value};
 ghost use Rattle.dpj_meaning.specs.Elision.{Store};
+ghost use Rattle.dpj_meaning.specs.Statements.{part_begun, part_taken_over, with_value};
 ghost use Rattle.dpj_frames.specs.Names.{plain_value, plain_frame};
 ghost use Rattle.dpj_walk.specs.Agenda.{evaluate, goes_on, operate, finish, operands_of, needs};
 ghost use Rattle.dpj_walk.specs.Walk.{Waiting, At, does_item, beginning, each};
@@ -10,7 +11,7 @@ ghost use Rattle.dpj_elide.specs.States.{plain_item, plain_level};
 use crate::item::{ExprStage, Item, StmtStage};
 use crate::level::Level;
 use dpj_base::{Items, NoMemory, Value};
-use dpj_frames::{Frame, Stack};
+use dpj_frames::{Frame, Stack, set_slot, set_slot_after, slot, slot_after};
 use dpj_typed::{Expr, ExprForm, PartSource, Stmt, StmtForm};
 use std::alloc::Global;
 
@@ -104,6 +105,43 @@ impl<'p> Level<'p> {
             values.push(*value)?;
         }
         Ok(values)
+    }
+
+    /// The slots of a part of the array on top, up to its count.
+    pub fn begin_part(&mut self, part: usize)
+        ensures { plain_level self.new ≡ record (plain_level self.old) { operands = drop 1 (plain_level self.old).operands; frame = part_begun part (slot_value (plain_level self.old).operands 0) (plain_level self.old).frame } }
+    {
+        let array = self.operand(0);
+        self.operands.drop_top(1);
+        set_slot(&mut self.frame.values, part, array);
+        set_slot_after(&mut self.frame.values, part, 1, Value::Int(0));
+    }
+
+    /// The slots of a part of a part, up to its count.
+    pub fn take_over_part(&mut self, part: usize, whole: usize)
+        ensures { plain_level self.new ≡ record (plain_level self.old) { frame = part_taken_over part whole (plain_level self.old).frame } }
+    {
+        let array = slot(&self.frame.values, whole);
+        set_slot(&mut self.frame.values, part, array);
+        let first = slot_after(&self.frame.values, whole, 1);
+        set_slot_after(&mut self.frame.values, part, 1, first);
+    }
+
+    /// The count of the parts, which is on top.
+    pub fn take_count(&mut self, part: usize)
+        ensures { plain_level self.new ≡ record (plain_level self.old) { operands = drop 1 (plain_level self.old).operands; frame = with_value (plain_level self.old).frame (part + 3) (slot_value (plain_level self.old).operands 0) } }
+    {
+        let count = self.operand(0);
+        self.operands.drop_top(1);
+        set_slot_after(&mut self.frame.values, part, 3, count);
+    }
+
+    /// The length of the whole.
+    pub fn take_length(&mut self, part: usize, whole: usize)
+        ensures { plain_level self.new ≡ record (plain_level self.old) { frame = with_value (plain_level self.old).frame (part + 2) (slot_value (plain_level self.old).frame.values (whole + 2)) } }
+    {
+        let len = slot_after(&self.frame.values, whole, 2);
+        set_slot_after(&mut self.frame.values, part, 2, len);
     }
 
     /// The values of expressions come next, from the first on.

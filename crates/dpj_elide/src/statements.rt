@@ -1,11 +1,13 @@
-ghost use Rattle.std.specs.Prelude.{[], map, IsTrue};
-ghost use Rattle.dpj_typed.specs.Plain.{PlainProgram, plain_stmt, branches_of};
+ghost use Rattle.std.specs.Prelude.{◌≡◌, [], map, slice_set, IsTrue};
+ghost use Rattle.dpj_typed.specs.Plain.{PlainProgram, plain_expr, plain_stmt, branches_of};
 ghost use Rattle.dpj_meaning.specs.Core.{run};
-ghost use Rattle.dpj_meaning.specs.Counts.{how_many};
-ghost use Rattle.dpj_meaning.specs.Elision.{after, sequential};
-ghost use Rattle.dpj_meaning.specs.Actions.{Exit};
+ghost use Rattle.dpj_meaning.specs.Counts.{how_many, reference, slot_value};
+ghost use Rattle.dpj_meaning.specs.Elision.{Made, after, sequential};
+ghost use Rattle.dpj_meaning.specs.Actions.{Exit, Look};
 ghost use Rattle.dpj_meaning.specs.Statements.{makes, all_copies, tasks_of, iterations};
-ghost use Rattle.dpj_walk.specs.Walk.{At, does_item, doing, finishes, forks_at, parts_at, lands, without};
+ghost use Rattle.dpj_walk.specs.Agenda.{evaluate, counted};
+ghost use Rattle.dpj_walk.specs.Walk.{At, does_item, doing, finishes, forks_at, or_null, parts_at, lands, with_length, without};
+ghost use Rattle.dpj_frames.specs.Names.{plain_local};
 ghost use Rattle.dpj_elide.specs.declared.item.StmtStage.TheVariants.{Counted, Test, Turn};
 ghost use Rattle.dpj_elide.specs.Forms.{is_simple};
 ghost use Rattle.dpj_elide.specs.States.{Does, plain_item, plain_branch, stmt_item, tasks_in};
@@ -20,7 +22,7 @@ use dpj_frames::{
     value_line,
 };
 use dpj_store::Halt;
-use dpj_typed::{Branch, LocalRegion, PartSource, Slot, Stmt, StmtForm};
+use dpj_typed::{Branch, Expr, LocalRegion, PartSource, Slot, Stmt, StmtForm};
 use std::mem;
 
 impl<'p> Walker<'p> {
@@ -49,6 +51,7 @@ impl<'p> Walker<'p> {
     }
 
     /// A statement whose operands are on top.
+    #[tactic(auto, using(crate::proofs::Forms::shapes))]
     fn finish(&mut self, s: &'p Stmt) -> Result<Option<Over>, Halt>
         ensures { (P : PlainProgram) → Does (finishes P (plain_stmt s.now)) self.old result self.new }
     {
@@ -85,19 +88,29 @@ impl<'p> Walker<'p> {
             }
             StmtForm::ForeachParts {
                 part,
-                source,
+                source: PartSource::Array(_),
                 count,
                 ..
             } => {
-                self.begin_part(part.number as usize, source);
-                self.level.will(Item::Stmt(StmtStage::Counted, s))?;
-                self.next(0, Item::Expr(ExprStage::Evaluate, count))
+                self.level.begin_part(part.number as usize);
+                self.count_parts(s, count)
+            }
+            StmtForm::ForeachParts {
+                part,
+                source: PartSource::Part(whole),
+                count,
+                ..
+            } => {
+                self.level
+                    .take_over_part(part.number as usize, whole.number as usize);
+                self.count_parts(s, count)
             }
             _ => self.finish_simple(s),
         }
     }
 
     /// A statement that holds no other.
+    #[tactic(auto, using(crate::proofs::Forms::shapes))]
     fn finish_simple(&mut self, s: &'p Stmt) -> Result<Option<Over>, Halt>
         requires { IsTrue (is_simple (plain_stmt s.now)) }
         ensures { (P : PlainProgram) → Does (finishes P (plain_stmt s.now)) self.old result self.new }
@@ -155,10 +168,7 @@ impl<'p> Walker<'p> {
     {
         for region in made.as_slice() {
             let number = self.store.make_region()?;
-            let at = region.number as usize;
-            if at < self.level.frame.locals.len() {
-                self.level.frame.locals.set(at, (number, 1));
-            }
+            set_local(&mut self.level.frame.locals, region.number as usize, number);
         }
         Ok(None)
     }
@@ -192,56 +202,60 @@ impl<'p> Walker<'p> {
         self.next(0, Item::Stmt(StmtStage::CarryOut, body.get()))
     }
 
-    /// The slots of a part, up to its count.
-    fn begin_part(&mut self, part: usize, source: &PartSource) {
-        match source {
-            PartSource::Array(_) => {
-                let array = self.level.operand(0);
-                self.level.operands.drop_top(1);
-                set_slot(&mut self.level.frame.values, part, array);
-                set_slot_after(&mut self.level.frame.values, part, 1, Value::Int(0));
-            }
-            PartSource::Part(whole) => {
-                let values = &mut self.level.frame.values;
-                let array = slot(values, whole.number as usize);
-                set_slot(values, part, array);
-                let first = slot_after(values, whole.number as usize, 1);
-                set_slot_after(values, part, 1, first);
-            }
-        }
+    /// The count of the parts comes next, and then the loop over them.
+    fn count_parts(&mut self, s: &'p Stmt, count: &'p Expr) -> Result<Option<Over>, Halt>
+        ensures { Does (λ g ws w. At (doing (evaluate (plain_expr count.now)) (doing (counted (plain_stmt s.now)) g)) ws w) self.old result self.new }
+    {
+        self.level.will(Item::Stmt(StmtStage::Counted, s))?;
+        self.next(0, Item::Expr(ExprStage::Evaluate, count))
     }
 
     /// A loop over parts whose count is on top.
+    #[tactic(auto, using(crate::proofs::Forms::shapes))]
     fn counted(&mut self, s: &'p Stmt) -> Result<Option<Over>, Halt>
         ensures { (P : PlainProgram) → Does (does_item P (stmt_item Counted (plain_stmt s.now))) self.old result self.new }
     {
-        let count = self.level.operand(0);
-        self.level.operands.drop_top(1);
-        let StmtForm::ForeachParts {
-            part,
-            source,
-            body,
-            ..
-        } = &s.form
-        else {
-            return Ok(None);
-        };
-        let first = part.number as usize;
-        set_slot_after(&mut self.level.frame.values, first, 3, count);
-        match source {
-            PartSource::Array(_) => {
-                let Some(array) = reference(slot(&self.level.frame.values, first)) else {
-                    return self.fall(Trap::Null, s.place);
-                };
-                let len = self.store.look_length(array)?;
-                set_slot_after(&mut self.level.frame.values, first, 2, len);
+        match &s.form {
+            StmtForm::ForeachParts {
+                part,
+                source: PartSource::Array(_),
+                body,
+                ..
+            } => {
+                self.level.take_count(part.number as usize);
+                self.parts_of_array(s.place, *part, body.get())
             }
-            PartSource::Part(whole) => {
-                let len = slot_after(&self.level.frame.values, whole.number as usize, 2);
-                set_slot_after(&mut self.level.frame.values, first, 2, len);
+            StmtForm::ForeachParts {
+                part,
+                source: PartSource::Part(whole),
+                body,
+                ..
+            } => {
+                self.level.take_count(part.number as usize);
+                self.level
+                    .take_length(part.number as usize, whole.number as usize);
+                self.parts(s.place, *part, body.get())
             }
+            _ => self.discard(1),
         }
-        self.parts(s.place, *part, body.get())
+    }
+
+    /// A branch for each part of an array.
+    fn parts_of_array(
+        &mut self,
+        place: Place,
+        part: Slot,
+        body: &'p Stmt,
+    ) -> Result<Option<Over>, Halt>
+        ensures { Does (λ g ws w. or_null place (reference (slot_value g.frame.values part.number)) ws w (λ n. parts_at place part.number (plain_stmt body.now) (with_length part.number n w g) ws (after (Look n) w))) self.old result self.new }
+    {
+        let first = part.number as usize;
+        let Some(array) = reference(slot(&self.level.frame.values, first)) else {
+            return self.fall(Trap::Null, place);
+        };
+        let len = self.store.look_length(array)?;
+        set_slot_after(&mut self.level.frame.values, first, 2, len);
+        self.parts(place, part, body)
     }
 
     /// A branch for each part.
@@ -305,5 +319,14 @@ impl<'p> Walker<'p> {
             rest,
         };
         self.branches(outer, fork)
+    }
+}
+
+/// A local region is made, where a frame has a place for it.
+fn set_local(locals: &mut Items<(u32, u32)>, at: usize, number: u32)
+    ensures { map plain_local locals.new ≡ slice_set (map plain_local locals.old) at (Made number) }
+{
+    if at < locals.len() {
+        locals.set(at, (number, 1));
     }
 }

@@ -1,7 +1,15 @@
 ghost use Rattle.std.specs.Prelude.{◌≡◌, ◌<◌, ◌≤◌, ◌^◌, [], IfOk};
 ghost use Rattle.dpj_typed.specs.Plain.{plain_program};
 ghost use Rattle.dpj_base.specs.declared.outcome.Ending.TheVariants.{Limited};
-ghost use Rattle.dpj_elide.specs.Outcome.{IsElided, Begun, Walked};
+ghost use Rattle.std.specs.Prelude.{suc};
+ghost use Rattle.dpj_meaning.specs.Elision.{in_order, root_task};
+ghost use Rattle.dpj_meaning.specs.Outcomes.{Came};
+ghost use Rattle.dpj_frames.specs.Names.{plain_frame};
+ghost use Rattle.dpj_store.specs.Stores.{Holds};
+ghost use Rattle.dpj_walk.specs.Walk.{root_level};
+ghost use Rattle.dpj_elide.specs.Outcome.{IsElided, Begun, Walked, ending_of, nothing, outcome_of};
+ghost use Rattle.dpj_elide.specs.Outcome.{limits as plain_limits};
+ghost use Rattle.dpj_elide.specs.States.{plain_level, plain_over};
 
 use crate::calls::first_values;
 use crate::level::Level;
@@ -11,6 +19,7 @@ use dpj_frames::{Frame, Stack, entered, number};
 use dpj_heap::Heap;
 use dpj_store::{Halt, Store};
 use dpj_typed::Program;
+use dpj_walk::laws::law_walk;
 use std::alloc::Global;
 
 /// How many calls deeper `main` may go.
@@ -40,9 +49,11 @@ fn walked(alloc: Global, program: &Program, argument: i32, limits: Limits) -> Re
     requires cells { limits.cells ≤ 16777216 }
     ensures { Walked (plain_program program.now) argument limits result }
 {
+    law_walk();
     let mut walker = begun(alloc, program, argument, limits)?;
     for _ in 0..u64::MAX {
-        if let Some(over) = walker.step(program)? {
+        let came = walker.step(program)?;
+        if let Some(over) = came {
             return Ok(outcome(walker, over));
         }
     }
@@ -60,63 +71,85 @@ fn begun<'p>(
     requires cells { limits.cells ≤ 16777216 }
     ensures { Begun (plain_program program.now) argument limits result }
 {
-    let fields = first_values(alloc, program, program.main_class.number)?;
-    let mut store = Store {
+    let mut store = empty_store(alloc, limits);
+    let class = program.main_class.number;
+    let fields = first_values(alloc, program, class)?;
+    store.make_object(class, Items::new(alloc), fields.as_slice(), false)?;
+    Ok(Walker {
+        alloc,
+        level: main_level(alloc, program, argument)?,
+        waiting: Stack::new(alloc),
+        store,
+    })
+}
+
+/// A store in which nothing was made yet.
+fn empty_store(alloc: Global, limits: Limits) -> Store
+    requires steps { limits.steps < 2 ^ 32 }
+    requires cells { limits.cells ≤ 16777216 }
+    ensures { Holds (plain_limits limits) result (nothing (suc limits.steps)) }
+{
+    Store {
         heap: Heap::new(alloc, limits.cells),
         output: Bytes::new(alloc),
         trap: None,
         steps: 0,
         regions: 0,
         limit: limits.steps,
-    };
-    let class = program.main_class.number;
-    let object = store.make_object(class, Items::new(alloc), fields.as_slice(), false)?;
-    Ok(Walker {
-        alloc,
-        level: main_level(alloc, program, object, argument)?,
-        waiting: Stack::new(alloc),
-        store,
-    })
+    }
 }
 
-/// The body of `main`.
+/// The body of `main`, on the first object.
 fn main_level<'p>(
     alloc: Global,
     program: &'p Program,
-    object: Value,
     argument: i32,
-) -> Result<Level<'p>, NoMemory> {
-    let regions = Items::new(alloc);
+) -> Result<Level<'p>, NoMemory>
+    ensures { IfOk result (λ g. plain_level g ≡ root_level (root_task in_order (plain_program program.now) 0 argument)) }
+{
     let Some(member) = program.members.get(program.main_member.number as usize) else {
-        let frame = Frame {
-            values: Items::new(alloc),
-            regions,
-            locals: Items::new(alloc),
-            left: MOST_CALLS,
-        };
-        return Level::beginning(alloc, &[], frame);
+        return Level::beginning(alloc, &[], empty_frame(alloc));
     };
     let mut values = Items::new(alloc);
-    values.push(object)?;
+    values.push(Value::Obj(0))?;
     values.push(Value::Int(argument))?;
-    let frame = entered(alloc, member, values, regions, MOST_CALLS)?;
+    let frame = entered(alloc, member, values, Items::new(alloc), MOST_CALLS)?;
     Level::beginning(alloc, member.body.as_slice(), frame)
 }
 
+/// The frame of a `main` that is missing.
+fn empty_frame(alloc: Global) -> Frame
+    ensures { plain_frame result ≡ record { values = []; regions = []; locals = []; left = 499 } }
+{
+    Frame {
+        values: Items::new(alloc),
+        regions: Items::new(alloc),
+        locals: Items::new(alloc),
+        left: MOST_CALLS,
+    }
+}
+
 /// The outcome of a walk that is over.
-fn outcome(walker: Walker, over: Over) -> Outcome {
+fn outcome(walker: Walker, over: Over) -> Outcome
+    ensures { result ≡ outcome_of (Came (plain_over over) walker.entry.store.output walker.entry.store.steps walker.entry.store.heap.used) }
+{
     let Walker { store, .. } = walker;
     let steps = store.steps;
     let cells = store.heap.cells();
-    let ending = match over {
-        Over::Returned(value) => Ending::Done(number(value)),
-        Over::Trapped(trap, place) => Ending::Trapped(trap, place),
-    };
     Outcome {
-        ending,
+        ending: ending_of(over),
         out: store.output,
         steps,
         cells,
+    }
+}
+
+fn ending_of(over: Over) -> Ending
+    ensures { result ≡ ending_of (plain_over over) }
+{
+    match over {
+        Over::Returned(value) => Ending::Done(number(value)),
+        Over::Trapped(trap, place) => Ending::Trapped(trap, place),
     }
 }
 
