@@ -1,6 +1,7 @@
 -- An array that is made.
-use Rattle.std.proofs.Common.{◌≡◌, ◌∙◌, ℕ, ℤ, pos, negsuc, ◌≤ℤ◌, List, sym, ap, arith, rules, Bool, false, cond}
+use Rattle.std.proofs.Common.{◌≡◌, ◌∙◌, ℕ, ℤ, pos, negsuc, List, sym, ap, rules, Bool, false, cond}
 use Rattle.std.proofs.Math.IntN.{nat_abs}
+use Rattle.std.specs.Int.Signed.{lt_z}
 use Rattle.dpj_base.specs.declared.place.Place.{Place}
 use Rattle.dpj_base.specs.declared.region.Rpl.{Rpl}
 use Rattle.dpj_base.specs.declared.ty.Ty.{Ty, the_lemmas}
@@ -36,6 +37,6 @@ module _ (g : Level) (push : Value ℕ → List (Value ℕ)) (ws : List Waiting)
       ∙ ap (λ j. lands g push ws (run sequential (made_array in_order at (array elem a named) j f) w)) (sym len)
       ∙ ap (λ y. lands g push ws (run sequential (made_array in_order at y i f) w)) (sym type)
 
-pub counts_len : (i j : ℤ) → j ≡ i → pos 0 ≤ℤ i → i ≡ pos (nat_abs j)
-counts_len (pos k) j e h = ap (λ x. pos (nat_abs x)) (sym e)
-counts_len (negsuc k) j e h = absurd (omega arith)
+pub counts_len : (i j : ℤ) → j ≡ i → lt_z j (pos 0) ≡ false → i ≡ pos (nat_abs j)
+counts_len i (pos k) e h = sym e
+counts_len i (negsuc k) e h = absurd (cc)

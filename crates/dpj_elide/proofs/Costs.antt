@@ -42,7 +42,7 @@ module _ (L : Limits) where
   pub forks_over : (n : ℕ) (at : Place) (g : Level) (copies : List ℕ) (ts : List (Task ℕ LocalRegion)) (ws : List Waiting) (w : Store)
       → IsOver L w → IsOverAt L (forks_at n at g copies ts ws w)
   forks_over zero at g copies ts ws w h = falls_over ws trap.Stack at w h
-  forks_over (suc d) at g copies ts ws w h = branches_over _ ts ws (one_step w) (over_step (one_step w) (over_step w h))
+  forks_over (suc d) at g copies ts ws w h = branches_over (record { outer = g; back = []; fell = None; copies = copies; left = d }) ts ws (one_step w) (over_step (one_step w) (over_step w h))
 
   pub parts_over : (at : Place) (k : ℕ) (s : TypedStmt) (g : Level) (ws : List Waiting) (w : Store) → IsOver L w → IsOverAt L (parts_at at k s g ws w)
   parts_over at k s g ws w h = forks_over g.left at g [] _ ws w h
