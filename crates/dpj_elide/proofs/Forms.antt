@@ -20,7 +20,6 @@ use Rattle.dpj_typed.specs.declared.ids.FieldSlot.{FieldSlot}
 use Rattle.dpj_typed.specs.declared.ids.Row.{Row}
 use Rattle.dpj_typed.specs.declared.ids.Slot.{Slot}
 use Rattle.dpj_typed.specs.declared.ids.LocalRegion.{LocalRegion}
-use Rattle.dpj_typed.specs.declared.stmt.PartSource.{PartSource}
 use Rattle.dpj_typed.specs.declared.stmt.PartSource.TheVariants as source
 use Rattle.dpj_typed.specs.Plain.{of_array, of_part}
 use Rattle.dpj_typed.specs.Plain.{TypedExpr, typed, type_of, plain_expr, exprs_of, expr_form, expr_node, TypedStmt, TypedBranch, statement, plain_stmt, stmts_of, branches_of, stmt_form, branch_node, stmt_node}
@@ -292,11 +291,6 @@ shape_PartsOfArray part array count body = search (rules, stmt_lemmas)
 pub at_PartsOfArray : (s : Stmt) (part : Slot) (array count : Expr) (body : Stmt) → s.form ≡ stmt_kind.ForeachParts part (source.Array array) count body →
     plain_stmt s ≡ statement s.place (made.foreach_parts part.number (of_array (plain_expr array)) (plain_expr count) (plain_stmt body))
 at_PartsOfArray s part array count body is = of_shape s _ _ is (shape_PartsOfArray part array count body)
-
-pub at_PartsFrom : (s : Stmt) (part : Slot) (from : PartSource) (array count : Expr) (body : Stmt) → s.form ≡ stmt_kind.ForeachParts part from count body →
-    from ≡ source.Array array →
-    plain_stmt s ≡ statement s.place (made.foreach_parts part.number (of_array (plain_expr array)) (plain_expr count) (plain_stmt body))
-at_PartsFrom s part from array count body is of = at_PartsOfArray s part array count body (is ∙ ap (λ x. stmt_kind.ForeachParts part x count body) of)
 
 shape_PartsOfPart : (part whole : Slot) (count : Expr) (body : Stmt) →
     plain_shape (stmt_kind.ForeachParts part (source.Part whole) count body) ≡ made.foreach_parts part.number (of_part whole.number) (plain_expr count) (plain_stmt body)

@@ -227,3 +227,9 @@ less_work L j (At g ws v) n w x (inr h) k =
     let less = h.1 in
     omega (arith, same, less)
 less_work L j (Off o) n w x h k = absurd x
+
+-- costs are not given back
+pub no_less : (L : Limits) (j : Walker) (s : State) (n : ℕ) (w : Store) → StandsAt L j s → Lessens n w s → w.steps ≤ j.store.steps
+no_less L j (At g ws v) n w x (inl h) = let steps = x.2.steps in omega (arith, steps)
+no_less L j (At g ws v) n w x (inr h) = let steps = x.2.steps in let later = h.0 in omega (arith, steps, later)
+no_less L j (Off o) n w x h = absurd x

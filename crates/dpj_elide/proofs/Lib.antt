@@ -12,3 +12,5 @@ pub mod Calling
 pub mod Arrays
 pub mod Making
 pub mod Starting
+pub mod Lessening
+pub mod Walking

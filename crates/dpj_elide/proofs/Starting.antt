@@ -5,17 +5,18 @@ use Rattle.std.proofs.lemmas.Bool.{lt-ltb, le-ltb}
 use Rattle.std.proofs.lemmas.List.Elements.{All-nil}
 use Rattle.dpj_base.specs.declared.outcome.Limits.{Limits}
 use Rattle.dpj_heap.specs.Heap.{Contents}
-use Rattle.dpj_typed.specs.Plain.{PlainProgram}
-use Rattle.dpj_meaning.specs.Actions.{Ending, New}
+use Rattle.dpj_typed.specs.Plain.{PlainProgram, PlainMember, TypedStmts, no_stmts}
+use Rattle.dpj_meaning.specs.Actions.{Ending, Frame, New}
 use Rattle.dpj_meaning.specs.Core.{Done, Stopped, Lost}
 use Rattle.dpj_meaning.specs.Core.{Out as out}
 use Rattle.dpj_meaning.specs.Costs.{size}
-use Rattle.dpj_meaning.specs.Elision.{LocalRegion, Store, after, at_start, elided, judged, main_object}
+use Rattle.dpj_meaning.specs.Elision.{LocalRegion, Store, after, at_start, elided, enters_main, in_order, main_object}
+use Rattle.dpj_meaning.specs.Expressions.{entered}
 use Rattle.dpj_meaning.specs.Outcomes.{Came, Limited}
 use Rattle.dpj_meaning.specs.Outcomes.{Limits as MeaningLimits}
-use Rattle.dpj_meaning.specs.Values.{Thing}
+use Rattle.dpj_meaning.specs.Values.{Int, Object, Thing}
 use Rattle.dpj_walk.specs.Laws.{TellsElision, StaysOver}
-use Rattle.dpj_walk.specs.Walk.{State, At, Off, start, step, walk}
+use Rattle.dpj_walk.specs.Walk.{State, At, Off, beginning, root_level, start, walk}
 use Rattle.dpj_store.specs.declared.halt.Halt.{Halt}
 use Rattle.dpj_store.specs.declared.halt.Halt.TheVariants as halt
 use Rattle.dpj_store.specs.declared.store.Store.{Store as CodeStore}
@@ -24,7 +25,8 @@ use Rattle.dpj_store.specs.Stores.{Holds, IsSmall, object_seen}
 use Rattle.dpj_elide.specs.declared.walker.Over.{Over}
 use Rattle.dpj_elide.specs.declared.walker.Walker.{Walker}
 use Rattle.dpj_elide.specs.Outcome.{Begun, Walked, limits, nothing, outcome_of}
-use Rattle.dpj_elide.specs.States.{ComesTo, EndsAt, IsOverAt, StandsAt, plain_level, plain_over, plain_waiting}
+use Rattle.dpj_elide.specs.Walks.{Walks}
+use Rattle.dpj_elide.specs.States.{EndsAt, IsOverAt, StandsAt, plain_level, plain_over, plain_waiting}
 
 or_true : (b : Bool) → (b || true) ≡ true
 or_true true = refl
@@ -59,9 +61,18 @@ module _ (P : PlainProgram) where
   start_refused A arg L halt.Limited Q w e h = subst (IsOver (limits L)) e h
   start_refused A arg L halt.NoMemory Q w e h = tt
 
-  walk_more : (n : ℕ) (s : State) → walk P (suc n) s ≡ step P (walk P n s)
-  walk_more zero s = refl
-  walk_more (suc n) s = walk_more n (step P s)
+  pub main_is : (arg : ℤ) (o : Option PlainMember) (m : PlainMember) (ss : TypedStmts) (f : Frame ℕ LocalRegion) → Some m ≡ o → ss ≡ m.body
+      → f ≡ entered in_order m (Object 0 ∷ Int arg ∷ []) [] 499 → beginning ss f f.left ≡ root_level (enters_main in_order 0 arg o)
+  main_is arg o m ss f is body frame =
+      ap (λ x. beginning x f f.left) body ∙ ap (λ k. beginning m.body k k.left) frame ∙ ap (λ x. root_level (enters_main in_order 0 arg x)) is
+
+  pub no_main : (arg : ℤ) (o : Option PlainMember) (f : Frame ℕ LocalRegion) → None ≡ o → f ≡ record { values = []; regions = []; locals = []; left = 499 }
+      → beginning no_stmts f f.left ≡ root_level (enters_main in_order 0 arg o)
+  no_main arg o f is frame = ap (λ k. beginning no_stmts k k.left) frame ∙ ap (λ x. root_level (enters_main in_order 0 arg x)) is
+
+  walk_sum : (n m : ℕ) (s : State) → walk P (n + m) s ≡ walk P m (walk P n s)
+  walk_sum zero m s = let e : zero + m ≡ m = omega arith in ap (λ k. walk P k s) e
+  walk_sum (suc n) m s = let e : suc n + m ≡ suc (n + m) = omega arith in ap (λ k. walk P k s) e ∙ walk_sum n m (step P s)
 
   module _ (arg : ℤ) (L : Limits) where
     -- the walk has come to where the walker is
@@ -77,11 +88,12 @@ module _ (P : PlainProgram) where
     pub reached_first : (k : Walker) → Begun P arg L (Ok k) → Reached k
     reached_first k x = reached k 0 (start P arg (suc L.steps)) refl x
 
-    next_is : (k : Walker) (x : Reached k) → walk P (suc x.0) (start P arg (suc L.steps)) ≡ step P (At (plain_level k.level) (map plain_waiting k.waiting) x.1)
-    next_is k x = walk_more x.0 (start P arg (suc L.steps)) ∙ ap (step P) x.2
+    next_is : (k : Walker) (x : Reached k) (m : ℕ)
+        → walk P (x.0 + m) (start P arg (suc L.steps)) ≡ walk P m (At (plain_level k.level) (map plain_waiting k.waiting) x.1)
+    next_is k x m = walk_sum x.0 m (start P arg (suc L.steps)) ∙ ap (walk P m) x.2
 
-    pub reached_next : (k j : Walker) (x : Reached k) → ComesTo (limits L) (Ok None) j (step P (At (plain_level k.level) (map plain_waiting k.waiting) x.1)) → Reached j
-    reached_next k j x c = reached j (suc x.0) _ (next_is k x) c
+    pub reached_next : (k j : Walker) (x : Reached k) → Walks P k (Ok None) j → Reached j
+    reached_next k j x c = let there = c (limits L) x.1 x.3 in reached j (x.0 + there.0) _ (next_is k x there.0) there.1
 
     -- a walk that is over a limit, and one that is over
     limited_at : TellsElision → StaysOver → (n : ℕ) (s : State) → walk P n (start P arg (suc L.steps)) ≡ s → IsOverAt (limits L) s
@@ -102,10 +114,10 @@ module _ (P : PlainProgram) where
     limited_first tells stays halt.Limited h = limited_at tells stays 0 (start P arg (suc L.steps)) refl h
     limited_first tells stays halt.NoMemory h = tt
 
-    pub limited_next : TellsElision → StaysOver → (x : Halt) (k j : Walker) (r : Reached k)
-        → ComesTo (limits L) (Err x) j (step P (At (plain_level k.level) (map plain_waiting k.waiting) r.1)) → Walked P arg L (Err x)
-    limited_next tells stays halt.Limited k j r h = limited_at tells stays (suc r.0) _ (next_is k r) h
-    limited_next tells stays halt.NoMemory k j r h = tt
+    pub limited_next : TellsElision → StaysOver → (x : Halt) (k j : Walker) (r : Reached k) → Walks P k (Err x) j → Walked P arg L (Err x)
+    limited_next tells stays halt.Limited k j r c =
+        let there = c (limits L) r.1 r.3 in limited_at tells stays (r.0 + there.0) _ (next_is k r there.0) there.1
+    limited_next tells stays halt.NoMemory k j r c = tt
 
     over_at : TellsElision → (x : Over) (k : Walker) (n : ℕ) (s : State) → walk P n (start P arg (suc L.steps)) ≡ s → EndsAt (limits L) x k s → k.store.steps ≤ k.store.limit
         → outcome_of (Came (plain_over x) k.store.output k.store.steps k.store.heap.used) ≡ outcome_of (elided P arg (limits L))
@@ -124,7 +136,6 @@ module _ (P : PlainProgram) where
     over_at tells x k n (Off (Stopped m a)) e h few = absurd h
     over_at tells x k n (Off (Lost w)) e h few = absurd h
 
-    pub over_next : TellsElision → (x : Over) (k j : Walker) (r : Reached k)
-        → ComesTo (limits L) (Ok (Some x)) j (step P (At (plain_level k.level) (map plain_waiting k.waiting) r.1)) → j.store.steps ≤ j.store.limit
+    pub over_next : TellsElision → (x : Over) (k j : Walker) (r : Reached k) → Walks P k (Ok (Some x)) j → j.store.steps ≤ j.store.limit
         → outcome_of (Came (plain_over x) j.store.output j.store.steps j.store.heap.used) ≡ outcome_of (elided P arg (limits L))
-    over_next tells x k j r h few = over_at tells x j (suc r.0) _ (next_is k r) h few
+    over_next tells x k j r c few = let there = c (limits L) r.1 r.3 in over_at tells x j (r.0 + there.0) _ (next_is k r there.0) there.1 few

@@ -149,7 +149,21 @@ impl<'p> Walker<'p> {
                 self.print(line.as_slice(), 0)
             }
             StmtForm::Regions(made) => self.make_regions(made),
-            _ => Ok(None),
+            StmtForm::Block(_)
+            | StmtForm::If { other: None, .. }
+            | StmtForm::If { other: Some(_), .. }
+            | StmtForm::While { .. }
+            | StmtForm::Atomic { .. }
+            | StmtForm::Cobegin { .. }
+            | StmtForm::Foreach { .. }
+            | StmtForm::ForeachParts {
+                source: PartSource::Array(_),
+                ..
+            }
+            | StmtForm::ForeachParts {
+                source: PartSource::Part(_),
+                ..
+            } => Ok(None),
         }
     }
 

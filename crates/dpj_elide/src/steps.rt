@@ -6,6 +6,7 @@ ghost use Rattle.dpj_walk.specs.Walk.{At, step, does_item, operates, pushed, doi
 ghost use Rattle.dpj_walk.specs.Agenda.{evaluate};
 ghost use Rattle.dpj_elide.specs.States.{Does, plain_item};
 ghost use Rattle.dpj_elide.specs.Forms.{is_own};
+ghost use Rattle.dpj_elide.specs.Walks.{CostsMore, IsHolding, Walks};
 
 use crate::calls::Call;
 use crate::item::{ExprStage, Item};
@@ -16,8 +17,25 @@ use dpj_store::Halt;
 use dpj_typed::{Expr, ExprForm, Program, UnaryOp};
 
 impl<'p> Walker<'p> {
+    /// Steps up to one that costs something, or to the end. Those before it leave less work each.
+    pub fn to_next_cost(&mut self, program: &'p Program) -> Result<Option<Over>, Halt>
+        requires { IsHolding self.old }
+        ensures walks { Walks (plain_program program.now) self.old result self.new }
+        ensures costs { CostsMore self.old result self.new }
+    {
+        let before = self.store.steps;
+        loop {
+            if let Some(over) = self.step(program)? {
+                return Ok(Some(over));
+            }
+            if self.store.steps > before {
+                return Ok(None);
+            }
+        }
+    }
+
     /// One step of the walk.
-    pub fn step(&mut self, program: &'p Program) -> Result<Option<Over>, Halt>
+    fn step(&mut self, program: &'p Program) -> Result<Option<Over>, Halt>
         ensures { Does (λ g ws w. step (plain_program program.now) (At g ws w)) self.old result self.new }
     {
         match self.level.items.pop() {

@@ -51,13 +51,11 @@ fn walked(alloc: Global, program: &Program, argument: i32, limits: Limits) -> Re
 {
     law_walk();
     let mut walker = begun(alloc, program, argument, limits)?;
-    for _ in 0..u64::MAX {
-        let came = walker.step(program)?;
-        if let Some(over) = came {
+    loop {
+        if let Some(over) = walker.to_next_cost(program)? {
             return Ok(outcome(walker, over));
         }
     }
-    Err(Halt::NoMemory)
 }
 
 /// The walk at its start: `main` entered on the first object.

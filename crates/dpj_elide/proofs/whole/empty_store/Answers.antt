@@ -3,4 +3,4 @@ use Rattle.dpj_elide.proofs.Starting.{holds_nothing}
 use Rattle.dpj_elide.proofs.whole.empty_store.Goals as goal
 
 pub returns : goal.returns
-returns c = holds_nothing c.args.limits _ c.new-heap.ensures c.new-output.ensures refl refl refl refl c.requires.cells
+returns c = holds_nothing c.args.limits _ c.new.ensures c.new-2.ensures refl refl refl refl c.requires.cells
