@@ -1,23 +1,25 @@
 -- A step of the walk costs a step, or leaves less work.
-use Rattle.std.proofs.Common.{◌≡◌, ◌∙◌, ◌<◌, ◌≤◌, ◌+◌, ℕ, zero, suc, List, [], ◌∷◌, map, drop, take, reverse, ap, arith, ◌⊎◌, inl, inr, Option, Some, None, Bool, true, false, cond}
+use Rattle.std.proofs.Common.{◌≡◌, ◌∙◌, ◌<◌, ◌≤◌, ◌+◌, ℕ, zero, suc, List, [], ◌∷◌, map, drop, take, reverse, ap, pos, arith, ◌⊎◌, inl, inr, Option, Some, None, Bool, true, false, cond}
 use Rattle.dpj_base.specs.declared.place.Place.{Place}
 use Rattle.dpj_base.specs.declared.value.Trap.{Trap}
 use Rattle.dpj_base.specs.declared.value.Trap.TheVariants as trap
 use Rattle.dpj_typed.specs.Plain.{PlainProgram, PlainMember, of_array, of_part, TypedExpr, typed, TypedExprs, no_exprs, more_exprs, TypedStmt, statement, TypedStmts, no_stmts, more_stmts}
 use Rattle.dpj_typed.specs.Plain.{ExprForm as form}
 use Rattle.dpj_typed.specs.Plain.{StmtForm as stmt}
-use Rattle.dpj_typed.specs.Scope.{constructor_of}
+use Rattle.dpj_typed.specs.Scope.{constructor_of, member_at, row_at}
 use Rattle.dpj_meaning.specs.Actions.{Task, Look, New}
+use Rattle.dpj_meaning.specs.Asking.{ended}
 use Rattle.dpj_meaning.specs.Core.{Result, Goes_on, Returns, Done, Stopped, Lost, run}
 use Rattle.dpj_meaning.specs.Core.{Out as out}
-use Rattle.dpj_meaning.specs.Counts.{Brought, Back, Trap_of_branch, reference, slot_value, truth}
-use Rattle.dpj_meaning.specs.Elision.{LocalRegion, Store, after, one_step, sequential}
-use Rattle.dpj_meaning.specs.Expressions.{none, new_object}
-use Rattle.dpj_meaning.specs.Outcomes.{Limits}
-use Rattle.dpj_meaning.specs.Regions.{some_long}
-use Rattle.dpj_meaning.specs.Values.{Value}
-use Rattle.dpj_walk.specs.Agenda.{Item, evaluate, operate, carry_out, finish, counted, goes_on, test, turn, leave, operands_of, needs, applied, finished}
-use Rattle.dpj_walk.specs.Walk.{Level, Construct, Waiting, for_value, for_object, for_branch, State, At, Off, falls, fallen, earlier, branches, rejoins, ends, lands, forks_at, or_null, enters, calls, constructs, creates, creates_with, each, operates, finishes, counts, turns, does_item, next_item, step}
+use Rattle.dpj_meaning.specs.Counts.{Brought, Back, Trap_of_branch, brought, how_many, name_made, number, reference, slot_value, truth}
+use Rattle.dpj_meaning.specs.Elision.{LocalRegion, in_order, Store, answer, after, one_step, sequential}
+use Rattle.dpj_meaning.specs.Expressions.{none, new_object, class_in}
+use Rattle.dpj_meaning.specs.Outcomes.{Limits, joined_or}
+use Rattle.dpj_meaning.specs.Regions.{around, concrete, some_long}
+use Rattle.dpj_meaning.specs.Statements.{all_copies, iterations, tasks_of}
+use Rattle.dpj_meaning.specs.Values.{Value, Boolean, Object}
+use Rattle.dpj_walk.specs.Agenda.{Item, evaluate, operate, carry_out, finish, counted, goes_on, test, turn, leave, operands_of, count, needs, applied, finished, counts_to}
+use Rattle.dpj_walk.specs.Walk.{Level, Construct, Waiting, for_value, for_object, for_branch, State, At, Off, falls, fallen, earlier, noted, branches, rejoins, ends, lands, forks_at, parts_at, or_null, pushed, doing, without, with_length, row_member, seen_at, enters, calls, constructs, creates, creates_with, each, operates, finishes, counts, turns, does_item, next_item, step}
 use Rattle.dpj_walk.proofs.Loops.{Leaves, run_leaves}
 use Rattle.dpj_elide.specs.declared.walker.Walker.{Walker}
 use Rattle.dpj_elide.specs.States.{StandsAt, plain_waiting}
@@ -59,7 +61,7 @@ rejoins_cost c ws (Back ls) w = omega arith
 rejoins_cost c ws (Trap_of_branch t p) w = costs_later w (one_step w) (falls ws t p (one_step w)) (omega arith) (falls_cost ws t p (one_step w))
 
 branches_cost : (c : Construct) (ts : List (Task ℕ LocalRegion)) (ws : List Waiting) (w : Store) → Costs w (branches c ts ws w)
-branches_cost c [] ws w = rejoins_cost c ws _ w
+branches_cost c [] ws w = rejoins_cost c ws (brought {M = LocalRegion} (joined_or c.fell c.back)) w
 branches_cost c (t ∷ ts) ws w = omega arith
 
 forks_cost : (n : ℕ) (at : Place) (g : Level) (copies : List ℕ) (ts : List (Task ℕ LocalRegion)) (ws : List Waiting) (w : Store) → Costs w (forks_at n at g copies ts ws w)
@@ -72,7 +74,7 @@ ends_less : (n : ℕ) (ws : List Waiting) (r : Result ℕ LocalRegion) (w : Stor
 ends_less n [] r w h = tt
 ends_less n (for_value g ∷ ws) r w h = inr (omega arith, omega arith)
 ends_less n (for_object m g ∷ ws) r w h = inr (omega arith, omega arith)
-ends_less n (for_branch c k rest ∷ ws) r w h = costs_less n w w _ (omega arith) (branches_cost _ rest ws w)
+ends_less n (for_branch c k rest ∷ ws) r w h = costs_less n w w (branches (noted c (ended k r)) rest ws w) (omega arith) (branches_cost (noted c (ended k r)) rest ws w)
 
 lands_less : (n : ℕ) (g : Level) (push : Value ℕ → List (Value ℕ)) (ws : List Waiting) (w : Store) (o : out ℕ LocalRegion (Result ℕ LocalRegion) Store)
     → Leaves w o → items_work g.items + waiting_work ws < n → Lessens n w (lands g push ws o)
@@ -140,7 +142,10 @@ module _ (P : PlainProgram) where
 
   calls_cost : (d : ℕ) (at : Place) (c r : ℕ) (own : Regions) (n : ℕ) (vs : List (Value ℕ)) (g : Level) (ws : List Waiting) (w : Store) → Costs w (calls P d at c r own n vs g ws w)
   calls_cost zero at c r own n vs g ws w = falls_cost ws trap.Stack at w
-  calls_cost (suc d) at c r own n vs g ws w = called_cost (some_long own) _ at ws w (enters_cost d _ _ _ own g ws n w)
+  calls_cost (suc d) at c r own n vs g ws w =
+      (let o : Option PlainMember = row_member P (row_at P (seen_at P c n w).0 r) in
+      called_cost (some_long own) (enters P d o (seen_at P c n w) (Object n ∷ vs) own g ws (after (Look n) w)) at ws w
+      (enters_cost d o (seen_at P c n w) (Object n ∷ vs) own g ws n w))
 
   constructs_cost : (d c : ℕ) (o : Option PlainMember) (own : Regions) (v : Value ℕ) (vs : List (Value ℕ)) (g : Level) (ws : List Waiting) (w : Store)
       → Costs w (constructs P d o own v vs g ws (after (New (new_object P c own) true) w))
@@ -150,7 +155,7 @@ module _ (P : PlainProgram) where
   creates_cost : (d : ℕ) (at : Place) (c : ℕ) (o : Option ℕ) (own : Regions) (vs : List (Value ℕ)) (g : Level) (ws : List Waiting) (w : Store) → Costs w (creates P d at c o own vs g ws w)
   creates_cost d at c None own vs g ws w = omega arith
   creates_cost zero at c (Some n) own vs g ws w = falls_cost ws trap.Stack at w
-  creates_cost (suc d) at c (Some n) own vs g ws w = constructs_cost d c _ own _ vs g ws w
+  creates_cost (suc d) at c (Some n) own vs g ws w = constructs_cost d c (member_at P n) own (name_made {M = LocalRegion} (answer w.heap (New (new_object P c own) true))) vs g ws w
 
   or_null_less : (n : ℕ) (at : Place) (o : Option ℕ) (ws : List Waiting) (w : Store) (k : ℕ → State) → ((m : ℕ) → Costs w (k m)) → Lessens n w (or_null at o ws w k)
   or_null_less n at None ws w k h = costs_less n w w (falls ws trap.Null at w) (omega arith) (falls_cost ws trap.Null at w)
@@ -162,34 +167,59 @@ module _ (P : PlainProgram) where
 
   operates_less : (n : ℕ) (e : TypedExpr) (g : Level) (ws : List Waiting) (w : Store) → operation_work e + (items_work g.items + waiting_work ws) ≤ n
       → Lessens n w (operates P e g ws w)
-  operates_less n (typed at t (form.call e c r regions es)) g ws w h = or_null_less n at _ ws w _ (λ m. calls_cost g.left at c r _ m _ _ ws w)
+  operates_less n (typed at t (form.call e c r regions es)) g ws w h =
+      (let own : Regions = map (concrete in_order (around g.frame)) regions in
+      or_null_less n at (reference (slot_value g.operands (count es))) ws w
+      (λ m. calls P g.left at c r own m (reverse (take (count es) g.operands)) (without (suc (count es)) g) ws w)
+      (λ m. calls_cost g.left at c r own m (reverse (take (count es) g.operands)) (without (suc (count es)) g) ws w))
   operates_less n (typed at t (form.create es)) g ws w h =
-      costs_less n w w _ (omega arith) (called_cost (some_long _) _ at ws w (creates_cost g.left at _ (constructor_of P _) _ _ _ ws w))
+      (let own : Regions = map (concrete in_order (around g.frame)) (class_in t).1 in
+      let k : ℕ = (class_in t).0 in
+      let s : State = creates P g.left at k (constructor_of P k) own (reverse (take (count es) g.operands)) (without (count es) g) ws w in
+      costs_less n w w (cond (some_long own) (falls ws trap.Stack at w) s) (omega arith)
+      (called_cost (some_long own) s at ws w (creates_cost g.left at k (constructor_of P k) own (reverse (take (count es) g.operands)) (without (count es) g) ws w)))
   operates_less n (typed at t (form.both a b)) g ws w h =
-      cond_less n w (truth (slot_value g.operands 0)) _ _ (inr (omega arith, omega arith)) (inr (omega arith, omega arith))
+      cond_less n w (truth (slot_value g.operands 0)) (At (doing (evaluate b) (without 1 g)) ws w) (At (pushed (Boolean false) (without 1 g)) ws w)
+      (inr (omega arith, omega arith)) (inr (omega arith, omega arith))
   operates_less n (typed at t (form.either a b)) g ws w h =
-      cond_less n w (truth (slot_value g.operands 0)) _ _ (inr (omega arith, omega arith)) (inr (omega arith, omega arith))
-  operates_less n e g ws w h = lands_less n g _ ws w _ (run_leaves (applied P g.left e g.operands g.frame) w) (omega arith)
+      cond_less n w (truth (slot_value g.operands 0)) (At (pushed (Boolean true) (without 1 g)) ws w) (At (doing (evaluate b) (without 1 g)) ws w)
+      (inr (omega arith, omega arith)) (inr (omega arith, omega arith))
+  operates_less n e g ws w h =
+      lands_less n g (λ v. v ∷ drop (count (operands_of e)) g.operands) ws w (run sequential (applied P g.left e g.operands g.frame) w)
+      (run_leaves (applied P g.left e g.operands g.frame) w) (omega arith)
 
   finishes_less : (n : ℕ) (s : TypedStmt) (g : Level) (ws : List Waiting) (w : Store) → finish_work s + (items_work g.items + waiting_work ws) ≤ n
       → Lessens n w (finishes P s g ws w)
   finishes_less n (statement at (stmt.block ss)) g ws w h = inr (omega arith, omega arith)
   finishes_less n (statement at (stmt.choice e s)) g ws w h =
-      cond_less n w (truth (slot_value g.operands 0)) _ _ (inr (omega arith, omega arith)) (inr (omega arith, omega arith))
+      cond_less n w (truth (slot_value g.operands 0)) (At (doing (carry_out s) (without 1 g)) ws w) (At (without 1 g) ws w)
+      (inr (omega arith, omega arith)) (inr (omega arith, omega arith))
   finishes_less n (statement at (stmt.choice_else e s t)) g ws w h =
-      cond_less n w (truth (slot_value g.operands 0)) _ _ (inr (omega arith, omega arith)) (inr (omega arith, omega arith))
+      cond_less n w (truth (slot_value g.operands 0)) (At (doing (carry_out s) (without 1 g)) ws w) (At (doing (carry_out t) (without 1 g)) ws w)
+      (inr (omega arith, omega arith)) (inr (omega arith, omega arith))
   finishes_less n (statement at (stmt.while_loop e s)) g ws w h = inr (omega arith, omega arith)
   finishes_less n (statement at (stmt.atomic effects ss)) g ws w h = inl (omega arith)
-  finishes_less n (statement at (stmt.cobegin forking bs)) g ws w h = costs_less n w w _ (omega arith) (forks_cost g.left at _ _ _ ws w)
-  finishes_less n (statement at (stmt.foreach forking x start many s)) g ws w h = costs_less n w w _ (omega arith) (forks_cost g.left at _ _ _ ws w)
+  finishes_less n (statement at (stmt.cobegin forking bs)) g ws w h =
+      costs_less n w w (forks_at g.left at g (all_copies bs) (tasks_of bs g.frame) ws w) (omega arith) (forks_cost g.left at g (all_copies bs) (tasks_of bs g.frame) ws w)
+  finishes_less n (statement at (stmt.foreach forking x start many s)) g ws w h =
+      (let ts : List (Task ℕ LocalRegion) = iterations None x s g.frame (number (slot_value g.operands 1)) 0 (how_many (number (slot_value g.operands 0))) in
+      costs_less n w w (forks_at g.left at (without 2 g) [] ts ws w) (omega arith) (forks_cost g.left at (without 2 g) [] ts ws w))
   finishes_less n (statement at (stmt.foreach_parts k (of_array a) many s)) g ws w h = inr (omega arith, omega arith)
   finishes_less n (statement at (stmt.foreach_parts k (of_part j) many s)) g ws w h = inr (omega arith, omega arith)
-  finishes_less n s g ws w h = lands_less n g _ ws w _ (run_leaves (finished P g.left s g.operands g.frame) w) (omega arith)
+  finishes_less n s g ws w h =
+      lands_less n g (λ v. drop (count (needs s)) g.operands) ws w (run sequential (finished P g.left s g.operands g.frame) w)
+      (run_leaves (finished P g.left s g.operands g.frame) w) (omega arith)
+
+  parts_cost : (at : Place) (k : ℕ) (s : TypedStmt) (g : Level) (ws : List Waiting) (w : Store) → Costs w (parts_at at k s g ws w)
+  parts_cost at k s g ws w =
+      forks_cost g.left at g [] (iterations (Some k) (k + 4) s g.frame (pos 0) 0 (how_many (number (slot_value g.frame.values (k + 3))))) ws w
 
   counts_less : (n : ℕ) (s : TypedStmt) (g : Level) (ws : List Waiting) (w : Store) → items_work g.items + waiting_work ws < n → Lessens n w (counts s g ws w)
   counts_less n (statement at (stmt.foreach_parts k (of_array a) many s)) g ws w h =
-      or_null_less n at _ ws w _ (λ m. costs_later w (after (Look m) w) _ (omega arith) (forks_cost g.left at _ [] _ ws (after (Look m) w)))
-  counts_less n (statement at (stmt.foreach_parts k (of_part j) many s)) g ws w h = costs_less n w w _ (omega arith) (forks_cost g.left at g [] _ ws w)
+      or_null_less n at (reference (slot_value g.frame.values k)) ws w (λ m. parts_at at k s (with_length k m w g) ws (after (Look m) w))
+      (λ m. costs_later w (after (Look m) w) (parts_at at k s (with_length k m w g) ws (after (Look m) w)) (omega arith)
+      (parts_cost at k s (with_length k m w g) ws (after (Look m) w)))
+  counts_less n (statement at (stmt.foreach_parts k (of_part j) many s)) g ws w h = costs_less n w w (parts_at at k s g ws w) (omega arith) (parts_cost at k s g ws w)
   counts_less n s g ws w h = inr (omega arith, h)
 
   turns_cost : (t : ℕ) (e : TypedExpr) (s : TypedStmt) (g : Level) (ws : List Waiting) (w : Store) → Costs w (turns t e s g ws w)
@@ -203,12 +233,13 @@ module _ (P : PlainProgram) where
   item_less n (carry_out s) g ws w h =
       let parts = stmt_parts s in let all = each_work (needs s) (finish s ∷ g.items) in inr (omega arith, omega (arith, parts, all))
   item_less n (finish s) g ws w h = finishes_less n s g ws w h
-  item_less n (counted s) g ws w h = counts_less n s _ ws w (omega arith)
+  item_less n (counted s) g ws w h = counts_less n s (record (without 1 g) { frame = counts_to s (slot_value g.operands 0) g.frame }) ws w (omega arith)
   item_less n (goes_on no_stmts) g ws w h = inr (omega arith, omega arith)
   item_less n (goes_on (more_stmts s ss)) g ws w h = inr (omega arith, omega arith)
   item_less n (test e s) g ws w h = inr (omega arith, omega arith)
   item_less n (turn e s) g ws w h =
-      cond_less n w (truth (slot_value g.operands 0)) _ _ (costs_less n w w _ (omega arith) (turns_cost w.turns e s _ ws w)) (inr (omega arith, omega arith))
+      cond_less n w (truth (slot_value g.operands 0)) (turns w.turns e s (without 1 g) ws w) (At (without 1 g) ws w)
+      (costs_less n w w (turns w.turns e s (without 1 g) ws w) (omega arith) (turns_cost w.turns e s (without 1 g) ws w)) (inr (omega arith, omega arith))
   item_less n leave g ws w h = inl (omega arith)
 
   next_less : (n : ℕ) (is : List Item) (g : Level) (ws : List Waiting) (w : Store) → items_work is + waiting_work ws ≤ n → Lessens n w (next_item P is g ws w)

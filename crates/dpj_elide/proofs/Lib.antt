@@ -14,3 +14,4 @@ pub mod Making
 pub mod Starting
 pub mod Lessening
 pub mod Walking
+pub mod Parting

@@ -16,7 +16,7 @@ use Rattle.dpj_meaning.specs.Outcomes.{Came, Limited}
 use Rattle.dpj_meaning.specs.Outcomes.{Limits as MeaningLimits}
 use Rattle.dpj_meaning.specs.Values.{Int, Object, Thing}
 use Rattle.dpj_walk.specs.Laws.{TellsElision, StaysOver}
-use Rattle.dpj_walk.specs.Walk.{State, At, Off, beginning, root_level, start, walk}
+use Rattle.dpj_walk.specs.Walk.{State, At, Off, beginning, root_level, start, step, walk}
 use Rattle.dpj_store.specs.declared.halt.Halt.{Halt}
 use Rattle.dpj_store.specs.declared.halt.Halt.TheVariants as halt
 use Rattle.dpj_store.specs.declared.store.Store.{Store as CodeStore}

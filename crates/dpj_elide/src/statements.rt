@@ -9,7 +9,7 @@ ghost use Rattle.dpj_walk.specs.Agenda.{evaluate, counted};
 ghost use Rattle.dpj_walk.specs.Walk.{At, does_item, doing, finishes, forks_at, or_null, parts_at, lands, with_length, without};
 ghost use Rattle.dpj_frames.specs.Names.{plain_local};
 ghost use Rattle.dpj_elide.specs.declared.item.StmtStage.TheVariants.{Counted, Test, Turn};
-ghost use Rattle.dpj_elide.specs.Forms.{is_simple};
+ghost use Rattle.dpj_elide.specs.Forms.{is_simple, parts_from};
 ghost use Rattle.dpj_elide.specs.States.{Does, plain_item, plain_branch, stmt_item, tasks_in};
 
 use crate::item::{ExprStage, Item, StmtStage};
@@ -232,25 +232,34 @@ impl<'p> Walker<'p> {
         match &s.form {
             StmtForm::ForeachParts {
                 part,
-                source: PartSource::Array(_),
+                source,
                 body,
                 ..
             } => {
                 self.level.take_count(part.number as usize);
-                self.parts_of_array(s.place, *part, body.get())
-            }
-            StmtForm::ForeachParts {
-                part,
-                source: PartSource::Part(whole),
-                body,
-                ..
-            } => {
-                self.level.take_count(part.number as usize);
-                self.level
-                    .take_length(part.number as usize, whole.number as usize);
-                self.parts(s.place, *part, body.get())
+                self.parts_from(s.place, *part, source, body.get())
             }
             _ => self.discard(1),
+        }
+    }
+
+    /// A branch for each part of an array, or of a part.
+    fn parts_from(
+        &mut self,
+        place: Place,
+        part: Slot,
+        source: &PartSource,
+        body: &'p Stmt,
+    ) -> Result<Option<Over>, Halt>
+        ensures { Does (parts_from place part.number source.now (plain_stmt body.now)) self.old result self.new }
+    {
+        match source {
+            PartSource::Array(_) => self.parts_of_array(place, part, body),
+            PartSource::Part(whole) => {
+                self.level
+                    .take_length(part.number as usize, whole.number as usize);
+                self.parts(place, part, body)
+            }
         }
     }
 

@@ -34,10 +34,8 @@ returns c =
     let x = An_object class (map plain_region c.new.result) (map plain_value c.as_slice.result.now) in
     let thing = ap (λ rs. An_object class (map plain_region rs) (map plain_value c.as_slice.result.now)) c.new.ensures
         ∙ ap (An_object class []) (ap (map plain_value) c.as_slice.ensures ∙ c.in_ok-fields.ensures) in
-    let level : plain_level c.in_ok-main_level.field-0 ≡ root_level (root_task in_order P 0 c.args.argument) = first_of (
-      c.in_ok-main_level.ensures ∙ ap (λ a. root_level (root_task in_order P 0 a)) (to_z-of_z w32 c.args.argument c.ranges.argument),
-      c.in_ok-main_level.ensures,
-    ) in
+    let level : plain_level c.in_ok-main_level.field-0 ≡ root_level (root_task in_order P 0 c.args.argument) =
+        c.in_ok-main_level.ensures ∙ ap (λ a. root_level (root_task in_order P 0 a)) (to_z-of_z w32 c.args.argument c.ranges.argument) in
     (
       level,
       ap (map plain_waiting) c.new-2.ensures,
