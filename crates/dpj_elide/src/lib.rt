@@ -4,8 +4,8 @@
 //! at work has an agenda and operands, and calls, creations and constructs of branches wait for it.
 //!
 //! The walker's state is that of the walk (`specs/States.antt`), and each function has the clause of one of its equations: it
-//! takes the walker where the equation leads, or is refused by a limit that the state there is over. Not all of these clauses
-//! are proved yet, so nothing calls this crate.
+//! takes the walker where the equation leads, or is refused by a limit that the state there is over. So `elide` gives the
+//! outcome of the sequential elision, for every typed program, or wants memory.
 #![tactic(auto)]
 
 mod branches;
