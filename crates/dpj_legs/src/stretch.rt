@@ -32,7 +32,8 @@ pub fn stretch(way: &mut Way) -> Result<(), NoMemory>
         return Ok(());
     }
     while way.task.level.at < instrs.len() {
-        let instr = instrs[way.task.level.at];
+        let at = way.task.level.at;
+        let instr = instrs[at];
         match way.task.level.pace(instr) {
             Pace::Goes => (),
             Pace::Turns => {
