@@ -1,6 +1,5 @@
 -- One step in a stretch of instructions of values and jumps, over the code of the body in which the task stands.
-use Rattle.std.proofs.Common.{arith, ◌≡◌, ◌<◌, ◌≤◌, ◌+◌, ℕ, refl, sym, ap, ◌∙◌, subst, false, List, map, length, get_or, Option, Some, None}
-use Rattle.std.proofs.lemmas.Option.{slice_get_read}
+use Rattle.std.proofs.Common.{arith, ◌≡◌, ◌<◌, ◌≤◌, ◌+◌, ℕ, refl, sym, ap, ◌∙◌, subst, false, List, map, Option, Some, None}
 use Rattle.std.specs.Prelude.{slice_get}
 use Rattle.dpj_base.specs.declared.place.Place.{Place}
 use Rattle.dpj_base.specs.declared.value.Trap.TheVariants as trap
@@ -133,9 +132,8 @@ reaches_on C a b c r s = record {
   again = λ z. s.again (subst (λ t. IsAsking (front_of C t)) (sym (r.again z)) z) ∙ r.again z;
 }
 
--- what was read of a list
-pub read_there : (xs ys : List Instr) (n k : ℕ) (x : Instr) → xs ≡ ys → n ≡ length xs → k < n → x ≡ get_or xs k x → Some x ≡ slice_get ys k
-read_there xs ys n k x e h l i = sym (ap (λ zs. slice_get zs k) (sym e) ∙ slice_get_read xs n k x h l i)
+pub nearer_by : {K C : Code} {a new : Task} {n m : ℕ} → Stepped K C a n new → n ≤ m → (k : Least (plain_code K) new) → k.0 ≤ m
+nearer_by s l k = let h = s.less k in omega (arith, l, h)
 
-pub nearer_still : (k m n : ℕ) → k < m → m ≤ n → k ≤ n
-nearer_still k m n h l = omega arith
+pub kept_by : {K C : Code} {a new : Task} {n m : ℕ} → Stayed K C a n new → n ≤ m → (k : Least (plain_code K) new) → k.0 ≤ m
+kept_by s l k = let e = s.same k in omega (arith, l, e)

@@ -32,9 +32,10 @@ pub fn stretch(way: &mut Way) -> Result<(), NoMemory>
         return Ok(());
     }
     while way.task.level.at < instrs.len() {
-        let at = way.task.level.at;
-        let instr = instrs[at];
-        match way.task.level.pace(instr) {
+        let Some(instr) = body.instrs.get(way.task.level.at) else {
+            return Ok(());
+        };
+        match way.task.level.pace(*instr) {
             Pace::Goes => (),
             Pace::Turns => {
                 way.task.turns += 1;
