@@ -1,6 +1,6 @@
 //! The code of a typed program.
 //!
-//! No executable compiler stands here yet: the crate says which code it is to give, and what that code is worth.
+//! The crate has no compiler (`dpj_compile` is that): it says which code a compiler is to give, and what that code is worth.
 //! `specs/Scheme.antt` has one equation a construct, and `specs/Whole.antt` puts members and branches in their order.
 //! `specs/Resolved.antt` is what the code asks of a program: rows and members are there, and what is called as a value
 //! gives one. Every well-typed program has that.

@@ -26,7 +26,7 @@ pub fn one_fault()
     ensures { OneFault }
 {}
 
-/// A text is refused for its syntax at one place at most, and a program nowhere.
+/// Each text is read within the limits or refused, not both, and refused at one place at most.
 pub fn one_refusal()
     ensures { OneRefusal }
 {}
