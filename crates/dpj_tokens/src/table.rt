@@ -100,7 +100,11 @@ pub fn keyword_of(word: &[u8]) -> Option<Keyword>
 fn begins(bytes: &[u8], symbol: Symbol) -> bool
     ensures { result ≡ starts_with nat_eq bytes.now (symbol_text symbol) }
 {
-    bytes.starts_with(symbol.text().as_bytes())
+    match (symbol.text().as_bytes(), bytes) {
+        ([only], [first, ..]) => *first == *only,
+        ([one, other], [first, second, ..]) => *first == *one && *second == *other,
+        (text, _) => bytes.starts_with(text),
+    }
 }
 
 fn spells(keyword: Keyword, word: &[u8]) -> bool
