@@ -7,7 +7,7 @@ ghost use Rattle.dpj_tokens.specs.declared.token.Symbol.{Symbol};
 
 use crate::token::{Keyword, Symbol};
 
-/// The longer ones first, so that the first that fits is the longest.
+/// The longer ones first, so that the first that fits is the longest; then those that programs use most.
 const SYMBOLS: [Symbol; 28] = [
     Symbol::AtMost,
     Symbol::AtLeast,
@@ -15,24 +15,24 @@ const SYMBOLS: [Symbol; 28] = [
     Symbol::NotEqual,
     Symbol::And,
     Symbol::Or,
-    Symbol::OpenBrace,
-    Symbol::CloseBrace,
+    Symbol::Semicolon,
+    Symbol::Dot,
     Symbol::OpenParen,
     Symbol::CloseParen,
-    Symbol::OpenBracket,
-    Symbol::CloseBracket,
-    Symbol::Less,
-    Symbol::Greater,
     Symbol::Assign,
+    Symbol::OpenBrace,
+    Symbol::CloseBrace,
+    Symbol::Comma,
     Symbol::Plus,
     Symbol::Minus,
     Symbol::Star,
+    Symbol::Less,
+    Symbol::Greater,
+    Symbol::Not,
+    Symbol::OpenBracket,
+    Symbol::CloseBracket,
     Symbol::Slash,
     Symbol::Percent,
-    Symbol::Not,
-    Symbol::Semicolon,
-    Symbol::Comma,
-    Symbol::Dot,
     Symbol::Colon,
     Symbol::Hash,
     Symbol::Bar,
