@@ -11,6 +11,7 @@ use Rattle.dpj_tokens.specs.Spelling.{symbol_text, keyword_text}
 use Rattle.dpj_tokens.specs.declared.table.TheConstants.{SYMBOLS, KEYWORDS}
 use Rattle.dpj_tokens.specs.declared.token.Symbol.{Symbol}
 use Rattle.dpj_tokens.specs.declared.token.Symbol.TheVariants as symbol
+use Rattle.dpj_tokens.specs.declared.token.Keyword.{Keyword}
 use Rattle.dpj_tokens.specs.declared.token.Keyword.TheVariants as keyword
 
 -- where a symbol stands in its table
@@ -86,3 +87,13 @@ keywords-table = refl
 -- where none of the table is the word, no keyword is
 pub keywords-none : (word : List ℕ) (n : ℕ) → 28 ≤ n → ((k : ℕ) → k < n → keyword_text (get_or KEYWORDS k keyword.Class) ≢ word) → ¬ (Contains keywords word)
 keywords-none word n all none (k, lt, is) = none k (omega arith) (sym (get_or-map keyword_text KEYWORDS k keyword.Class word lt) ∙ is)
+
+keyword-long : (k : Keyword) → 1 < length (keyword_text k)
+keyword-long k = elim k as (λ k. 1 < length (keyword_text k)) [ keyword.Class ↦ lit< tt | _ ↦ lit< tt ]
+
+-- no keyword has a single letter
+pub keywords-short : (word : List ℕ) → length word < 2 → ¬ (Contains keywords word)
+keywords-short word short (k, lt, is) =
+    let spelling = get_or KEYWORDS k keyword.Class in
+    let spelled = sym (get_or-map keyword_text KEYWORDS k keyword.Class word lt) ∙ is in
+    omega (arith, keyword-long spelling, ap length spelled, short)

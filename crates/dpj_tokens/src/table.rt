@@ -89,6 +89,10 @@ pub fn keyword_of(word: &[u8]) -> Option<Keyword>
     ensures found { IfSome result (λ k. word.now ≡ keyword_text k) }
     ensures none { IfNone result (¬ (Contains keywords word.now)) }
 {
+    // Most names are short, and no keyword has a single letter.
+    if word.len() < 2 {
+        return None;
+    }
     for keyword in KEYWORDS {
         if spells(keyword, word) {
             return Some(keyword);
