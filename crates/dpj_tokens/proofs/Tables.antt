@@ -11,6 +11,7 @@ use Rattle.dpj_tokens.specs.Spelling.{symbol_text, keyword_text}
 use Rattle.dpj_tokens.specs.declared.table.TheConstants.{SYMBOLS, KEYWORDS}
 use Rattle.dpj_tokens.specs.declared.token.Symbol.{Symbol}
 use Rattle.dpj_tokens.specs.declared.token.Symbol.TheVariants as symbol
+use Rattle.dpj_tokens.specs.declared.token.Keyword.{Keyword}
 use Rattle.dpj_tokens.specs.declared.token.Keyword.TheVariants as keyword
 
 -- where a symbol stands in its table
@@ -21,24 +22,24 @@ place_of symbol.Equal = 2
 place_of symbol.NotEqual = 3
 place_of symbol.And = 4
 place_of symbol.Or = 5
-place_of symbol.OpenBrace = 6
-place_of symbol.CloseBrace = 7
+place_of symbol.Semicolon = 6
+place_of symbol.Dot = 7
 place_of symbol.OpenParen = 8
 place_of symbol.CloseParen = 9
-place_of symbol.OpenBracket = 10
-place_of symbol.CloseBracket = 11
-place_of symbol.Less = 12
-place_of symbol.Greater = 13
-place_of symbol.Assign = 14
-place_of symbol.Plus = 15
-place_of symbol.Minus = 16
-place_of symbol.Star = 17
-place_of symbol.Slash = 18
-place_of symbol.Percent = 19
-place_of symbol.Not = 20
-place_of symbol.Semicolon = 21
-place_of symbol.Comma = 22
-place_of symbol.Dot = 23
+place_of symbol.Assign = 10
+place_of symbol.OpenBrace = 11
+place_of symbol.CloseBrace = 12
+place_of symbol.Comma = 13
+place_of symbol.Plus = 14
+place_of symbol.Minus = 15
+place_of symbol.Star = 16
+place_of symbol.Less = 17
+place_of symbol.Greater = 18
+place_of symbol.Not = 19
+place_of symbol.OpenBracket = 20
+place_of symbol.CloseBracket = 21
+place_of symbol.Slash = 22
+place_of symbol.Percent = 23
 place_of symbol.Colon = 24
 place_of symbol.Hash = 25
 place_of symbol.Bar = 26
@@ -86,3 +87,13 @@ keywords-table = refl
 -- where none of the table is the word, no keyword is
 pub keywords-none : (word : List ℕ) (n : ℕ) → 28 ≤ n → ((k : ℕ) → k < n → keyword_text (get_or KEYWORDS k keyword.Class) ≢ word) → ¬ (Contains keywords word)
 keywords-none word n all none (k, lt, is) = none k (omega arith) (sym (get_or-map keyword_text KEYWORDS k keyword.Class word lt) ∙ is)
+
+keyword-long : (k : Keyword) → 1 < length (keyword_text k)
+keyword-long k = elim k as (λ k. 1 < length (keyword_text k)) [ keyword.Class ↦ lit< tt | _ ↦ lit< tt ]
+
+-- no keyword has a single letter
+pub keywords-short : (word : List ℕ) → length word < 2 → ¬ (Contains keywords word)
+keywords-short word short (k, lt, is) =
+    let spelling = get_or KEYWORDS k keyword.Class in
+    let spelled = sym (get_or-map keyword_text KEYWORDS k keyword.Class word lt) ∙ is in
+    omega (arith, keyword-long spelling, ap length spelled, short)

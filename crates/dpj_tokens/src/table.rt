@@ -7,7 +7,7 @@ ghost use Rattle.dpj_tokens.specs.declared.token.Symbol.{Symbol};
 
 use crate::token::{Keyword, Symbol};
 
-/// The longer ones first, so that the first that fits is the longest.
+/// The longer ones first, so that the first that fits is the longest; then those that programs use most.
 const SYMBOLS: [Symbol; 28] = [
     Symbol::AtMost,
     Symbol::AtLeast,
@@ -15,24 +15,24 @@ const SYMBOLS: [Symbol; 28] = [
     Symbol::NotEqual,
     Symbol::And,
     Symbol::Or,
-    Symbol::OpenBrace,
-    Symbol::CloseBrace,
+    Symbol::Semicolon,
+    Symbol::Dot,
     Symbol::OpenParen,
     Symbol::CloseParen,
-    Symbol::OpenBracket,
-    Symbol::CloseBracket,
-    Symbol::Less,
-    Symbol::Greater,
     Symbol::Assign,
+    Symbol::OpenBrace,
+    Symbol::CloseBrace,
+    Symbol::Comma,
     Symbol::Plus,
     Symbol::Minus,
     Symbol::Star,
+    Symbol::Less,
+    Symbol::Greater,
+    Symbol::Not,
+    Symbol::OpenBracket,
+    Symbol::CloseBracket,
     Symbol::Slash,
     Symbol::Percent,
-    Symbol::Not,
-    Symbol::Semicolon,
-    Symbol::Comma,
-    Symbol::Dot,
     Symbol::Colon,
     Symbol::Hash,
     Symbol::Bar,
@@ -89,6 +89,10 @@ pub fn keyword_of(word: &[u8]) -> Option<Keyword>
     ensures found { IfSome result (λ k. word.now ≡ keyword_text k) }
     ensures none { IfNone result (¬ (Contains keywords word.now)) }
 {
+    // Most names are short, and no keyword has a single letter.
+    if word.len() < 2 {
+        return None;
+    }
     for keyword in KEYWORDS {
         if spells(keyword, word) {
             return Some(keyword);
@@ -100,7 +104,11 @@ pub fn keyword_of(word: &[u8]) -> Option<Keyword>
 fn begins(bytes: &[u8], symbol: Symbol) -> bool
     ensures { result ≡ starts_with nat_eq bytes.now (symbol_text symbol) }
 {
-    bytes.starts_with(symbol.text().as_bytes())
+    match (symbol.text().as_bytes(), bytes) {
+        ([only], [first, ..]) => *first == *only,
+        ([one, other], [first, second, ..]) => *first == *one && *second == *other,
+        (text, _) => bytes.starts_with(text),
+    }
 }
 
 fn spells(keyword: Keyword, word: &[u8]) -> bool

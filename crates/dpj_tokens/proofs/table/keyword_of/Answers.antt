@@ -1,6 +1,6 @@
 use Rattle.std.proofs.Common.{arith, below_more}
 use Rattle.std.proofs.lemmas.Bool.{false≢true}
-use Rattle.dpj_tokens.proofs.Tables.{keywords-none}
+use Rattle.dpj_tokens.proofs.Tables.{keywords-none, keywords-short}
 use Rattle.dpj_tokens.proofs.table.keyword_of.Goals as goal
 
 pub loop-keyword-preserved : goal.loop-keyword-preserved
@@ -8,3 +8,6 @@ loop-keyword-preserved c = below_more _ _ c.loop-keyword.invariant (λ e. false�
 
 pub returns-clause-none : goal.returns-clause-none
 returns-clause-none c = keywords-none _ c.loop-keyword.keyword-index (omega arith) c.loop-keyword.invariant
+
+pub returns-then-word-lt2-clause-none : goal.returns-then-word-lt2-clause-none
+returns-then-word-lt2-clause-none c = keywords-short _ (omega arith)
