@@ -15,7 +15,7 @@ invariant_of-way c =
     let i = c.loop-way.invariant in
     let x = c.in-Some-get.ensures.value in
     let is = rw c.in-Goes.is at c.pace.ensures.pace w.task.number (plain_code w.code.now) in
-    record { ends = (goes w.code.now c.args.way.now.code.now i.code c.args.way.now.task w.task i.reaches w.ends c.in-Some.body.now c.in-Some-get.instr.now i.at i.going i.body c.in-Some.ensures.value x c.pace.new.self is).least; }
+    record { ends = (goes w.code.now c.args.way.now.code.now i.code c.args.way.now.task w.task i.reaches w.ends c.in-Some.body.now c.in-Some-get.instr.now i.at i.going i.body c.in-Some.ensures.value x c.pace.new.self is).least }
 
 pub loop-way-smaller-in-Goes : goal.loop-way-smaller-in-Goes
 loop-way-smaller-in-Goes c =
@@ -48,7 +48,7 @@ invariant_of-way-in-Turns c =
     let i = c.loop-way.invariant in
     let x = c.in-Some-get.ensures.value in
     let is = rw c.in-Turns.is at c.pace.ensures.pace w.task.number (plain_code w.code.now) in
-    record { ends = (turns w.code.now c.args.way.now.code.now i.code c.args.way.now.task w.task i.reaches w.ends c.in-Some.body.now c.in-Some-get.instr.now i.at i.going i.body c.in-Some.ensures.value x c.pace.new.self is).least; }
+    record { ends = (turns w.code.now c.args.way.now.code.now i.code c.args.way.now.task w.task i.reaches w.ends c.in-Some.body.now c.in-Some-get.instr.now i.at i.going i.body c.in-Some.ensures.value x c.pace.new.self is).least }
 
 pub returns-then-way-eq4096-clause-reaches : goal.returns-then-way-eq4096-clause-reaches
 returns-then-way-eq4096-clause-reaches c =
@@ -97,7 +97,7 @@ invariant_of-way-in-Divides c =
     let i = c.loop-way.invariant in
     let x = c.in-Some-get.ensures.value in
     let is = rw c.in-Divides.is at c.pace.ensures.pace w.task.number (plain_code w.code.now) in
-    record { ends = (divides w.code.now c.args.way.now.code.now i.code c.args.way.now.task w.task i.reaches w.ends c.in-Some.body.now c.in-Some-get.instr.now i.at i.going i.body c.in-Some.ensures.value x c.pace.new.self (plain_line c.in-Some-line.line) (subst (λ D. Some (plain_line c.in-Some-line.line) ≡ slice_get (body_at (plain_code D) w.task.level.body).lines w.task.level.at) (sym i.code) (subst (λ g. Some (plain_line c.in-Some-line.line) ≡ slice_get (body_at (plain_code c.args.way.now.code.now) g.body).lines g.at) is.1 c.in-Some-line.ensures.line)) is.0).least; }
+    record { ends = (divides w.code.now c.args.way.now.code.now i.code c.args.way.now.task w.task i.reaches w.ends c.in-Some.body.now c.in-Some-get.instr.now i.at i.going i.body c.in-Some.ensures.value x c.pace.new.self (plain_line c.in-Some-line.line) (subst (λ D. Some (plain_line c.in-Some-line.line) ≡ slice_get (body_at (plain_code D) w.task.level.body).lines w.task.level.at) (sym i.code) (subst (λ g. Some (plain_line c.in-Some-line.line) ≡ slice_get (body_at (plain_code c.args.way.now.code.now) g.body).lines g.at) is.1 c.in-Some-line.ensures.line)) is.0).least }
 
 pub returns-in-Divides-clause-reaches : goal.returns-in-Divides-clause-reaches
 returns-in-Divides-clause-reaches c =
@@ -138,7 +138,7 @@ invariant_of-way-in-Full c =
     let i = c.loop-way.invariant in
     let x = c.in-Some-get.ensures.value in
     let is = rw c.in-Full.is at c.pace.ensures.pace w.task.number (plain_code w.code.now) in
-    record { ends = (stays w.code.now c.args.way.now.code.now i.code c.args.way.now.task w.task i.reaches w.ends c.pace.new.self is).least; }
+    record { ends = (stays w.code.now c.args.way.now.code.now i.code c.args.way.now.task w.task i.reaches w.ends c.pace.new.self is).least }
 
 pub returns-in-Full-clause-reaches : goal.returns-in-Full-clause-reaches
 returns-in-Full-clause-reaches c =
@@ -162,7 +162,7 @@ invariant_of-way-in-Other c =
     let i = c.loop-way.invariant in
     let x = c.in-Some-get.ensures.value in
     let is = rw c.in-Other.is at c.pace.ensures.pace w.task.number (plain_code w.code.now) in
-    record { ends = (stays w.code.now c.args.way.now.code.now i.code c.args.way.now.task w.task i.reaches w.ends c.pace.new.self is).least; }
+    record { ends = (stays w.code.now c.args.way.now.code.now i.code c.args.way.now.task w.task i.reaches w.ends c.pace.new.self is).least }
 
 pub returns-in-Other-clause-reaches : goal.returns-in-Other-clause-reaches
 returns-in-Other-clause-reaches c =

@@ -1,8 +1,9 @@
-use Rattle.std.proofs.Common.{◌<◌, ◌∙◌, arith, subst, sym}
+use Rattle.std.proofs.Common.{◌<◌, ◌∙◌, arith, rules, subst, sym}
 use Rattle.dpj_code.specs.Plain.{plain_code}
 use Rattle.dpj_legs.specs.declared.action.Action.TheVariants as action
 use Rattle.dpj_legs.specs.Advances.{step_at, Advances}
 use Rattle.dpj_legs.specs.Halts.{Reaches, Halts, front_of, stands, Tells, IsAsking}
+use Rattle.dpj_legs.specs.Paces.{IsAtOther}
 use Rattle.dpj_legs.proofs.Stretching.{reaches_on}
 use Rattle.dpj_legs.proofs.Walking.{next_less, not_stuck, least_after, tells_front, halts_front, halts_rest, tells_rest, reaches_next}
 use Rattle.dpj_legs.proofs.walk.walk.Goals as goal
@@ -39,9 +40,10 @@ returns-in-Some-clause-tells c =
 pub loop-way-smaller : goal.loop-way-smaller
 loop-way-smaller c =
     let o = rw c.in_default.is at c.in_ok-action.ensures.ok in
-    let less = next_less (plain_code c.loop-way.way.code.now) c.loop-way.way.task c.advance.new.self c.loop-way-test.true o c.loop-way.way.ends
-    (invariant_of-way c).ends in
-    omega (arith, less, c.stretch-in-loop-way.ensures.nearer)
+    let less = next_less (plain_code c.loop-way.way.code.now) c.loop-way.way.task c.advance.new.self c.loop-way-test.true o c.loop-way.way.ends c.way-1.given.0 in
+    let near = c.stretch-in-loop-way.ensures.nearer in
+    let both : c.stretch-in-loop-way.new.way.ends.0 < c.loop-way.way.ends.0 = omega (arith, less, near) in
+    search (rules, both)
 
 -- a step, and the stretch behind it
 goes_on : (c : After-stretch-in-loop-way) → Reaches (plain_code c.args.way.now.code.now) c.args.way.now.task c.stretch-in-loop-way.new.way.task
@@ -49,10 +51,10 @@ goes_on c =
     let o = rw c.in_default.is at c.in_ok-action.ensures.ok in
     let m = rw c.in_default.is at c.in_ok-action.ensures.moved in
     let r = reaches_next (plain_code c.args.way.now.code.now) c.args.way.now.task c.loop-way.way.task c.advance.new.self c.loop-way.invariant.reaches
-        c.loop-way-test.true (subst (λ k. Advances (plain_code k) c.loop-way.way.task c.advance.new.self) c.loop-way.invariant.code o)
-        c.advance.ensures.number c.advance.ensures.paced
-        (subst (λ k. IsAsking (stands c.loop-way.way.task.turns c.loop-way.way.task.made (step_at (plain_code k) c.loop-way.way.task)) → ⊥)
-        c.loop-way.invariant.code m) in
+    c.loop-way-test.true (subst (λ k. Advances (plain_code k) c.loop-way.way.task c.advance.new.self) c.loop-way.invariant.code o)
+    c.advance.ensures.number c.advance.ensures.paced
+    (subst (λ k. IsAsking (stands c.loop-way.way.task.turns c.loop-way.way.task.made (step_at (plain_code k) c.loop-way.way.task)) → ⊥)
+    c.loop-way.invariant.code m) in
     reaches_on (plain_code c.args.way.now.code.now) c.args.way.now.task c.advance.new.self c.stretch-in-loop-way.new.way.task r
     (subst (λ k. Reaches (plain_code k) c.advance.new.self c.stretch-in-loop-way.new.way.task) c.loop-way.invariant.code c.stretch-in-loop-way.ensures.reaches)
 
@@ -60,7 +62,8 @@ pub loop-way-preserved : goal.loop-way-preserved
 loop-way-preserved c = record {
   reaches = goes_on (goal.at.loop-way-preserved c).After-stretch-in-loop-way;
   code = c.stretch-in-loop-way.ensures.code ∙ c.loop-way.invariant.code;
-  other = c.in_ok-stretch-2.ensures.other;
+  other = subst (λ k. c.stretch-in-loop-way.new.way.task.turns < 4096 → IsAtOther (plain_code k) c.stretch-in-loop-way.new.way.task)
+      (sym c.stretch-in-loop-way.ensures.code) c.in_ok-stretch-2.ensures.other;
 }
 
 pub returns-in_err-stretch-2-clause-reaches : goal.returns-in_err-stretch-2-clause-reaches
