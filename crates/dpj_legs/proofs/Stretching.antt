@@ -6,7 +6,7 @@ use Rattle.dpj_base.specs.declared.value.Trap.TheVariants as trap
 use Rattle.dpj_code.specs.declared.code.Body.{Body}
 use Rattle.dpj_code.specs.declared.code.Code.{Code}
 use Rattle.dpj_code.specs.declared.instr.Instr.{Instr}
-use Rattle.dpj_code.specs.Machine.{Stand, Goes, Turns, Stuck, On, Off, exec}
+use Rattle.dpj_code.specs.Machine.{Goes, Turns, Stuck, On, Off, exec}
 use Rattle.dpj_code.specs.Plain.{PlainCode, Line, plain_code, body_at}
 use Rattle.dpj_legs.specs.declared.action.Ending.TheVariants as ending
 use Rattle.dpj_legs.specs.declared.task.Level.{Level}
@@ -17,8 +17,8 @@ use Rattle.dpj_legs.specs.Fuel.{Least, one_least}
 use Rattle.dpj_legs.specs.Halts.{Paced, Reaches, IsAsking, stands, front_of}
 use Rattle.dpj_legs.specs.Names.{names_of}
 use Rattle.dpj_legs.specs.Paces.{is_own, IsAtOther}
-use Rattle.dpj_legs.specs.Tasks.{plain_level, plain_ending, state_of}
-use Rattle.dpj_legs.proofs.Bodies.{no_body, without_place, without_instr, with_both}
+use Rattle.dpj_legs.specs.Tasks.{plain_level, plain_ending}
+use Rattle.dpj_legs.proofs.Bodies.{without_place, with_both}
 use Rattle.dpj_legs.proofs.Stepping.{run_short, run_at, goes_by_itself, turns_by_itself, by_going, by_turning}
 use Rattle.dpj_legs.proofs.Walking.{next_less, least_next, not_stuck, reaches_next}
 

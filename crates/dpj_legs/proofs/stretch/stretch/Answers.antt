@@ -1,8 +1,7 @@
-use Rattle.std.proofs.Common.{rules, Some, ◌≡◌, ◌≤◌, ◌∙◌, None, length, ap, refl, sym, subst, arith}
+use Rattle.std.proofs.Common.{rules, Some, ◌≡◌, ◌∙◌, None, length, ap, sym, subst, arith}
 use Rattle.std.specs.Prelude.{slice_get}
 use Rattle.std.proofs.lemmas.Option.{slice_get_past}
 use Rattle.dpj_code.specs.Plain.{plain_code, body_at}
-use Rattle.dpj_legs.specs.Halts.{Reaches}
 use Rattle.dpj_legs.specs.Paces.{IsAtOther}
 use Rattle.dpj_legs.specs.Steps.{plain_line}
 use Rattle.dpj_legs.proofs.Bodies.{without_instr}
