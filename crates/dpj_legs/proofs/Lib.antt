@@ -12,4 +12,5 @@ pub mod Padding
 pub mod Dropped
 pub mod Leading
 pub mod Idle
+pub mod Stretching
 mod Spots

@@ -1,4 +1,4 @@
-ghost use Rattle.std.specs.Prelude.{◌≡◌, ◌<◌, ◌+◌, ◌^◌, true, false, suc, IfOk, OnErr, MatchOption};
+ghost use Rattle.std.specs.Prelude.{◌≡◌, ◌<◌, ◌+◌, ◌^◌, suc, IfOk, OnErr, MatchOption};
 ghost use Rattle.dpj_code.specs.Machine.{Stuck};
 ghost use Rattle.dpj_code.specs.Plain.{plain_code};
 ghost use Rattle.dpj_legs.specs.Advances.{step_at, Kept, StepsTo, Advances, StandsAt};
@@ -10,10 +10,9 @@ ghost use Rattle.dpj_legs.specs.Tasks.{plain_level};
 use crate::action::{Action, Ending};
 use crate::exec::exec;
 use crate::lines::line;
-use crate::pace::Pace;
 use crate::step::Step;
 use crate::task::{Standing, Task};
-use dpj_base::{NoMemory, Trap};
+use dpj_base::NoMemory;
 use dpj_code::Code;
 use std::alloc::Global;
 
@@ -45,37 +44,6 @@ impl Task {
             return Ok(Step::Stuck);
         };
         exec(alloc, code, line, &mut self.level, &mut self.callers)
-    }
-
-    /// One step, where it is one of values and jumps; whether it was made. Most steps are such, and this one is quick.
-    pub fn pace(&mut self, code: &Code) -> Result<bool, NoMemory>
-        requires paced { Paced self.old }
-        requires going { self.old.turns < 4096 }
-        requires alive { step_at (plain_code code.now) self.old ≡ Stuck → ⊥ }
-        ensures went { IfOk result (λ went. went ≡ true → Advances (plain_code code.now) self.old self.new) }
-        ensures moved { IfOk result (λ went. went ≡ true → IsAsking (stands self.old.turns self.old.made (step_at (plain_code code.now) self.old)) → ⊥) }
-        ensures stayed { IfOk result (λ went. went ≡ false → (self.new ≡ self.old) × IsAtOther (plain_code code.now) self.old) }
-        ensures paced { Paced self.new }
-        ensures number { self.new.number ≡ self.old.number }
-        ensures err { OnErr result (self.new ≡ self.old) }
-    {
-        let Standing::At = &self.standing else {
-            return Ok(false);
-        };
-        let Some(line) = line(code, self.level.body, self.level.at) else {
-            return Ok(false);
-        };
-        match self.level.pace(line.0) {
-            Pace::Goes => (),
-            Pace::Turns => self.turns += 1,
-            Pace::Divides => {
-                self.standing = Standing::Ended(Ending::Trapped(Trap::Divide, line.1));
-            }
-            Pace::Full => return Err(NoMemory),
-            Pace::Other => return Ok(false),
-            Pace::Stuck => unreachable!(),
-        }
-        Ok(true)
     }
 
     /// Another step on the way, or the action at which the task stands. It is kept apart from the

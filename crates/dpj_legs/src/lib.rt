@@ -36,6 +36,7 @@ mod sites;
 mod stack;
 mod starts;
 mod step;
+mod stretch;
 mod task;
 mod values;
 mod walk;

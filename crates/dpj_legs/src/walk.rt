@@ -3,6 +3,7 @@ ghost use Rattle.dpj_code.specs.Plain.{plain_code};
 ghost use Rattle.dpj_legs.specs.Halts.{Paced, Reaches, Halts, Tells, front_of};
 
 use crate::action::Action;
+use crate::stretch::stretch;
 use crate::way::Way;
 use dpj_base::NoMemory;
 use std::alloc::Global;
@@ -15,14 +16,13 @@ pub fn walk(way: &mut Way, alloc: Global) -> Result<Action, NoMemory>
     ensures halts { OnOk result (Halts (plain_code way.old.code.now) way.new.task (front_of (plain_code way.old.code.now) way.new.task)) }
     ensures tells { IfOk result (λ action. Tells (plain_code way.old.code.now) action (front_of (plain_code way.old.code.now) way.new.task)) }
 {
+    stretch(way)?;
     while way.task.turns < 4096 {
         let code = way.code;
-        if way.task.pace(code)? {
-            continue;
-        }
         if let Some(action) = way.task.advance(alloc, code)? {
             return Ok(action);
         }
+        stretch(way)?;
     }
     Ok(Action::Rest)
 }

@@ -1,11 +1,13 @@
-use Rattle.std.proofs.Common.{◌≡◌}
+use Rattle.std.proofs.Common.{◌≡◌, ◌<◌}
 use Rattle.dpj_code.specs.Plain.{plain_code}
 use Rattle.dpj_legs.specs.Halts.{Reaches}
+use Rattle.dpj_legs.specs.Paces.{IsAtOther}
 use Rattle.dpj_legs.proofs.walk.walk.Given as goal
 
 pub record Walked (l : goal.Live-loop-way) : Type 0 where
   pub reaches : Reaches (plain_code l.fn.way.code.now) l.fn.way.task l.way.task
   pub code : l.way.code.now ≡ l.fn.way.code.now
+  pub other : l.way.task.turns < 4096 → IsAtOther (plain_code l.way.code.now) l.way.task
 
 abbrev pub invariant-loop-way : goal.invariant-loop-way
 invariant-loop-way l = Walked l
