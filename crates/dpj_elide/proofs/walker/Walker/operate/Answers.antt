@@ -1,0 +1,60 @@
+use mir.Val.{SFits}
+use Rattle.std.proofs.Common.{◌∙◌, ◌∷◌, suc, ap, sym, subst, map, drop, take, reverse, cond, rules, w32, w64}
+use Rattle.std.proofs.lemmas.Int.{to_z-of_z}
+use Rattle.dpj_base.specs.declared.value.Trap.TheVariants as trap
+use Rattle.dpj_base.specs.Types.{plain_type}
+use Rattle.dpj_typed.specs.Plain.{plain_program}
+use Rattle.dpj_typed.specs.Scope.{constructor_of}
+use Rattle.dpj_meaning.specs.Core.{run}
+use Rattle.dpj_meaning.specs.Counts.{number, reference, slot_value}
+use Rattle.dpj_meaning.specs.Elision.{in_order, sequential}
+use Rattle.dpj_meaning.specs.Expressions.{class_in, read_cell, unless_null}
+use Rattle.dpj_meaning.specs.Regions.{around, concrete, some_long}
+use Rattle.dpj_frames.specs.Names.{plain_value}
+use Rattle.dpj_walk.specs.Walk.{calls, creates, falls, lands, operates, or_null, without}
+use Rattle.dpj_elide.specs.States.{ComesTo, plain_level, plain_waiting}
+use Rattle.dpj_elide.proofs.Forms.{at_Call, at_Element, at_New, count_exprs}
+use Rattle.dpj_elide.proofs.walker.Walker.operate.Goals as goal
+
+pub returns-in-Element : goal.returns-in-Element
+returns-in-Element c = λ L w h.
+    let P = plain_program c.args.program.now in
+    let e = c.args.e.now in
+    let g = plain_level c.args.self.now.level in
+    let ws = map plain_waiting c.args.self.now.waiting in
+    let narrow : SFits w32 c.number-index.result = search rules in
+    let wide : SFits w64 c.from-in-Element.result = search rules in
+    let index = to_z-of_z w64 c.from-in-Element.result wide ∙ c.from-in-Element.ensures ∙ to_z-of_z w32 c.number-index.result narrow ∙ c.number-index.ensures ∙ ap number c.operand.ensures in
+    subst (λ s. ComesTo L c.read-in-Element.result c.read-in-Element.new.self s)
+    (ap (λ i. lands g (λ v. v ∷ drop 2 g.operands) ws (run sequential (unless_null e.place (plain_value c.operand-array.result) (λ n. read_cell e.place n i g.frame)) w)) index
+    ∙ ap (λ v. lands g (λ v. v ∷ drop 2 g.operands) ws (run sequential (unless_null e.place v (λ n. read_cell e.place n (number (slot_value g.operands 0)) g.frame)) w)) c.operand-array.ensures
+    ∙ ap (λ x. operates P x g ws w) (sym (at_Element e c.in-Element.array c.in-Element.index c.in-Element.is)))
+    (c.read-in-Element.ensures L w h)
+
+pub returns-in-New : goal.returns-in-New
+returns-in-New c = λ L w h.
+    let P = plain_program c.args.program.now in
+    let e = c.args.e.now in
+    let g = plain_level c.args.self.now.level in
+    let ws = map plain_waiting c.args.self.now.waiting in
+    let k = (class_in (plain_type e.ty)).0 in
+    let own = map (concrete in_order (around g.frame)) (class_in (plain_type e.ty)).1 in
+    subst (λ s. ComesTo L c.create.result c.create.new.self s)
+    (ap (λ n. cond (some_long own) (falls ws trap.Stack e.place w) (creates P g.left e.place k (constructor_of P k) own (reverse (take n g.operands)) (without n g) ws w))
+    (c.len.ensures ∙ sym (count_exprs c.in-New.actuals))
+    ∙ ap (λ x. operates P x g ws w) (sym (at_New e c.in-New.actuals c.in-New.is)))
+    (c.create.ensures L w h)
+
+pub returns-in-Call : goal.returns-in-Call
+returns-in-Call c = λ L w h.
+    let P = plain_program c.args.program.now in
+    let e = c.args.e.now in
+    let g = plain_level c.args.self.now.level in
+    let ws = map plain_waiting c.args.self.now.waiting in
+    let own = map (concrete in_order (around g.frame)) c.in-Call.regions in
+    subst (λ s. ComesTo L c.call.result c.call.new.self s)
+    (ap (λ k. or_null e.place (reference (slot_value g.operands k)) ws w (λ n. calls P g.left e.place c.in-Call.class.number c.in-Call.row.number own n (reverse (take k g.operands))
+    (without (suc k) g) ws w))
+    (c.len-in-Call.ensures ∙ sym (count_exprs c.in-Call.actuals))
+    ∙ ap (λ x. operates P x g ws w) (sym (at_Call e c.in-Call.of c.in-Call.class c.in-Call.row c.in-Call.regions c.in-Call.actuals c.in-Call.is)))
+    (c.call.ensures L w h)
