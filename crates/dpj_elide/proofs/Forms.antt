@@ -1,5 +1,5 @@
 -- The forms of the code's expressions and statements.
-use Rattle.std.proofs.Common.{◌≡◌, ◌∙◌, ℕ, suc, ℤ, Bool, List, [], ◌∷◌, Some, None, map, length, refl, ap, rules}
+use Rattle.std.proofs.Common.{◌≡◌, ◌∙◌, ℕ, suc, ℤ, Bool, List, [], ◌∷◌, Some, None, map, length, refl, ap, sym, rules}
 use Rattle.dpj_base.specs.declared.effect.Effect.{Effect}
 use Rattle.dpj_base.specs.declared.region.Rpl.{Rpl}
 use Rattle.dpj_base.specs.declared.ty.Ty.{Ty}
@@ -20,12 +20,16 @@ use Rattle.dpj_typed.specs.declared.ids.FieldSlot.{FieldSlot}
 use Rattle.dpj_typed.specs.declared.ids.Row.{Row}
 use Rattle.dpj_typed.specs.declared.ids.Slot.{Slot}
 use Rattle.dpj_typed.specs.declared.ids.LocalRegion.{LocalRegion}
+use Rattle.dpj_typed.specs.declared.stmt.PartSource.{PartSource}
 use Rattle.dpj_typed.specs.declared.stmt.PartSource.TheVariants as source
-use Rattle.dpj_typed.specs.Plain.{of_array, of_part}
+use Rattle.dpj_typed.specs.Plain.{PlainProgram, of_array, of_part}
 use Rattle.dpj_typed.specs.Plain.{TypedExpr, typed, type_of, plain_expr, exprs_of, expr_form, expr_node, TypedStmt, TypedBranch, statement, plain_stmt, stmts_of, branches_of, stmt_form, branch_node, stmt_node}
 use Rattle.dpj_typed.specs.Plain.{StmtForm as made}
 use Rattle.dpj_typed.specs.Plain.{ExprForm as form}
-use Rattle.dpj_walk.specs.Agenda.{count}
+use Rattle.dpj_meaning.specs.Elision.{Store}
+use Rattle.dpj_walk.specs.Agenda.{count, counted, evaluate}
+use Rattle.dpj_walk.specs.Walk.{At, Level, Waiting, doing, finishes}
+use Rattle.dpj_elide.specs.Forms.{parts_begun}
 use Rattle.dpj_elide.specs.States.{plain_branch}
 
 abbrev pub plain_form : ExprForm → form
@@ -299,6 +303,17 @@ shape_PartsOfPart part whole count body = search (rules, stmt_lemmas)
 pub at_PartsOfPart : (s : Stmt) (part whole : Slot) (count : Expr) (body : Stmt) → s.form ≡ stmt_kind.ForeachParts part (source.Part whole) count body →
     plain_stmt s ≡ statement s.place (made.foreach_parts part.number (of_part whole.number) (plain_expr count) (plain_stmt body))
 at_PartsOfPart s part whole count body is = of_shape s _ _ is (shape_PartsOfPart part whole count body)
+
+-- what a loop over parts does before its count
+pub parts_finish : (P : PlainProgram) (s : Stmt) (part : Slot) (from : PartSource) (count : Expr) (body : Stmt) (g : Level) (ws : List Waiting) (w : Store)
+    → s.form ≡ stmt_kind.ForeachParts part from count body
+    → finishes P (plain_stmt s) g ws w ≡ At (doing (evaluate (plain_expr count)) (doing (counted (plain_stmt s)) (parts_begun part.number from g))) ws w
+parts_finish P s part (source.Array array) count body g ws w is =
+    let e = at_PartsOfArray s part array count body is in
+    ap (λ x. finishes P x g ws w) e ∙ ap (λ x. At (doing (evaluate (plain_expr count)) (doing (counted x) (parts_begun part.number (source.Array array) g))) ws w) (sym e)
+parts_finish P s part (source.Part whole) count body g ws w is =
+    let e = at_PartsOfPart s part whole count body is in
+    ap (λ x. finishes P x g ws w) e ∙ ap (λ x. At (doing (evaluate (plain_expr count)) (doing (counted x) (parts_begun part.number (source.Part whole) g))) ws w) (sym e)
 
 -- how many they are
 pub count_exprs : (es : List Expr) → count (exprs_of (map plain_expr es)) ≡ length es

@@ -1,5 +1,5 @@
 -- Which expressions and statements are simple, and a loop over parts by what it is over.
-use Rattle.std.specs.Prelude.{ℕ, ◌+◌, Bool, true, false, List}
+use Rattle.std.specs.Prelude.{ℕ, ◌+◌, Bool, true, false, List, drop}
 use Rattle.dpj_base.specs.declared.place.Place.{Place}
 use Rattle.dpj_typed.specs.declared.stmt.PartSource.{PartSource}
 use Rattle.dpj_typed.specs.declared.stmt.PartSource.TheVariants as source
@@ -9,7 +9,7 @@ use Rattle.dpj_typed.specs.Plain.{StmtForm as stmt}
 use Rattle.dpj_meaning.specs.Actions.{Look}
 use Rattle.dpj_meaning.specs.Counts.{reference, slot_value}
 use Rattle.dpj_meaning.specs.Elision.{Store, after}
-use Rattle.dpj_meaning.specs.Statements.{with_value}
+use Rattle.dpj_meaning.specs.Statements.{part_begun, part_taken_over, with_value}
 use Rattle.dpj_walk.specs.Walk.{Level, Waiting, State, or_null, parts_at, with_length}
 
 -- an expression whose value needs no more than a frame and an operand
@@ -33,6 +33,11 @@ is_simple (statement at (stmt.cobegin forking bs)) = false
 is_simple (statement at (stmt.foreach forking x start many s)) = false
 is_simple (statement at (stmt.foreach_parts k source many s)) = false
 is_simple s = true
+
+-- the slots of a part up to its count, by what it is a part of
+abbrev pub parts_begun : ℕ → PartSource → Level → Level
+parts_begun k (source.Array a) g = record g { operands = drop 1 g.operands; frame = part_begun k (slot_value g.operands 0) g.frame }
+parts_begun k (source.Part j) g = record g { frame = part_taken_over k j.number g.frame }
 
 -- a loop over parts, whose count is taken
 abbrev pub parts_from : Place → ℕ → PartSource → TypedStmt → Level → List Waiting → Store → State

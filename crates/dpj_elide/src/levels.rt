@@ -6,13 +6,14 @@ ghost use Rattle.dpj_meaning.specs.Statements.{part_begun, part_taken_over, with
 ghost use Rattle.dpj_frames.specs.Names.{plain_value, plain_frame};
 ghost use Rattle.dpj_walk.specs.Agenda.{evaluate, goes_on, operate, finish, operands_of, needs};
 ghost use Rattle.dpj_walk.specs.Walk.{Waiting, At, does_item, beginning, each};
+ghost use Rattle.dpj_elide.specs.Forms.{parts_begun};
 ghost use Rattle.dpj_elide.specs.States.{plain_item, plain_level};
 
 use crate::item::{ExprStage, Item, StmtStage};
 use crate::level::Level;
 use dpj_base::{Items, NoMemory, Value};
 use dpj_frames::{Frame, Stack, set_slot, set_slot_after, slot, slot_after};
-use dpj_typed::{Expr, ExprForm, PartSource, Stmt, StmtForm};
+use dpj_typed::{Expr, ExprForm, PartSource, Slot, Stmt, StmtForm};
 use std::alloc::Global;
 
 impl<'p> Level<'p> {
@@ -107,8 +108,20 @@ impl<'p> Level<'p> {
         Ok(values)
     }
 
+    /// The slots of a part of the array on top, or of a part, up to its count.
+    pub fn start_parts(&mut self, part: Slot, source: &PartSource)
+        ensures { plain_level self.new ≡ parts_begun part.number source.now (plain_level self.old) }
+    {
+        match source {
+            PartSource::Array(_) => self.begin_part(part.number as usize),
+            PartSource::Part(whole) => {
+                self.take_over_part(part.number as usize, whole.number as usize)
+            }
+        }
+    }
+
     /// The slots of a part of the array on top, up to its count.
-    pub fn begin_part(&mut self, part: usize)
+    fn begin_part(&mut self, part: usize)
         ensures { plain_level self.new ≡ record (plain_level self.old) { operands = drop 1 (plain_level self.old).operands; frame = part_begun part (slot_value (plain_level self.old).operands 0) (plain_level self.old).frame } }
     {
         let array = self.operand(0);
@@ -118,7 +131,7 @@ impl<'p> Level<'p> {
     }
 
     /// The slots of a part of a part, up to its count.
-    pub fn take_over_part(&mut self, part: usize, whole: usize)
+    fn take_over_part(&mut self, part: usize, whole: usize)
         ensures { plain_level self.new ≡ record (plain_level self.old) { frame = part_taken_over part whole (plain_level self.old).frame } }
     {
         let array = slot(&self.frame.values, whole);
@@ -192,6 +205,14 @@ impl<'p> Level<'p> {
         }
     }
 
+    /// The values of two expressions come next.
+    fn will_both(&mut self, first: &'p Expr, second: &'p Expr) -> Result<(), NoMemory>
+        ensures { OnOk result (plain_level self.new ≡ record (plain_level self.old) { items = evaluate (plain_expr first.now) ∷ evaluate (plain_expr second.now) ∷ (plain_level self.old).items }) }
+    {
+        self.will(Item::Expr(ExprStage::Evaluate, second))?;
+        self.will(Item::Expr(ExprStage::Evaluate, first))
+    }
+
     /// The operands of a statement come next, and then the statement.
     #[tactic(auto, using(crate::proofs::Forms::shapes))]
     pub fn carry_out(&mut self, s: &'p Stmt) -> Result<(), NoMemory>
@@ -224,18 +245,14 @@ impl<'p> Level<'p> {
                 start: first,
                 count: second,
                 ..
-            } => {
-                self.will(Item::Expr(ExprStage::Evaluate, second))?;
-                self.will(Item::Expr(ExprStage::Evaluate, first))
-            }
+            } => self.will_both(first, second),
             StmtForm::StoreElement {
                 array,
                 index,
                 value,
             } => {
                 self.will(Item::Expr(ExprStage::Evaluate, value))?;
-                self.will(Item::Expr(ExprStage::Evaluate, index))?;
-                self.will(Item::Expr(ExprStage::Evaluate, array))
+                self.will_both(array, index)
             }
             StmtForm::Block(_)
             | StmtForm::While { .. }

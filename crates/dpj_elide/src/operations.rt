@@ -64,6 +64,15 @@ impl<'p> Walker<'p> {
         }
     }
 
+    /// The element of an array, at the index on top.
+    pub fn read_element(&mut self, place: Place) -> Result<Option<Over>, Halt>
+        ensures { Does (λ g ws w. lands g (λ v. v ∷ drop 2 g.operands) ws (run sequential (unless_null place (slot_value g.operands 1) (λ n. read_cell place n (number (slot_value g.operands 0)) g.frame)) w)) self.old result self.new }
+    {
+        let array = self.level.operand(1);
+        let index = number(self.level.operand(0));
+        self.read(place, array, i64::from(index), 2)
+    }
+
     /// The element of a part, at the index on top.
     pub fn read_part(&mut self, place: Place, part: usize) -> Result<Option<Over>, Halt>
         ensures { Does (λ g ws w. lands g (λ v. v ∷ drop 1 g.operands) ws (run sequential (part_element place part (number (slot_value g.operands 0)) g.frame (λ n j. read_cell place n j g.frame)) w)) self.old result self.new }
@@ -108,6 +117,16 @@ impl<'p> Walker<'p> {
             return self.fall(Trap::Index, place);
         }
         self.discard(many)
+    }
+
+    /// The value on top into the element of an array, whose index is below it.
+    pub fn write_element(&mut self, place: Place) -> Result<Option<Over>, Halt>
+        ensures { Does (λ g ws w. lands g (λ v. drop 3 g.operands) ws (run sequential (unless_null place (slot_value g.operands 2) (λ n. write_cell place n (number (slot_value g.operands 1)) (slot_value g.operands 0) g.frame)) w)) self.old result self.new }
+    {
+        let value = self.level.operand(0);
+        let index = number(self.level.operand(1));
+        let array = self.level.operand(2);
+        self.write(place, array, i64::from(index), value, 3)
     }
 
     /// The value on top into the element of a part whose index is below it.

@@ -1,7 +1,7 @@
 ghost use Rattle.std.specs.Prelude.{◌≡◌, [], map, slice_set, IsTrue};
 ghost use Rattle.dpj_typed.specs.Plain.{PlainProgram, plain_expr, plain_stmt, branches_of};
 ghost use Rattle.dpj_meaning.specs.Core.{run};
-ghost use Rattle.dpj_meaning.specs.Counts.{how_many, reference, slot_value};
+ghost use Rattle.dpj_meaning.specs.Counts.{how_many, number, reference, slot_value};
 ghost use Rattle.dpj_meaning.specs.Elision.{Made, after, sequential};
 ghost use Rattle.dpj_meaning.specs.Actions.{Exit, Look};
 ghost use Rattle.dpj_meaning.specs.Statements.{makes, all_copies, tasks_of, iterations};
@@ -74,35 +74,15 @@ impl<'p> Walker<'p> {
             }
             StmtForm::Cobegin { branches, .. } => self.cobegin(s.place, branches.as_slice()),
             StmtForm::Foreach { slot, body, .. } => {
-                let count = number(self.level.operand(0));
-                let start = number(self.level.operand(1));
-                self.level.operands.drop_top(2);
-                self.numbers(
-                    s.place,
-                    None,
-                    slot.number as usize,
-                    body.get(),
-                    start,
-                    count,
-                )
+                self.iterate(s.place, slot.number as usize, body.get())
             }
             StmtForm::ForeachParts {
                 part,
-                source: PartSource::Array(_),
+                source,
                 count,
                 ..
             } => {
-                self.level.begin_part(part.number as usize);
-                self.count_parts(s, count)
-            }
-            StmtForm::ForeachParts {
-                part,
-                source: PartSource::Part(whole),
-                count,
-                ..
-            } => {
-                self.level
-                    .take_over_part(part.number as usize, whole.number as usize);
+                self.level.start_parts(*part, source);
                 self.count_parts(s, count)
             }
             _ => self.finish_simple(s),
@@ -127,12 +107,7 @@ impl<'p> Walker<'p> {
                 let object = self.level.operand(1);
                 self.write(place, object, i64::from(field.number), value, 2)
             }
-            StmtForm::StoreElement { .. } => {
-                let value = self.level.operand(0);
-                let index = number(self.level.operand(1));
-                let array = self.level.operand(2);
-                self.write(place, array, i64::from(index), value, 3)
-            }
+            StmtForm::StoreElement { .. } => self.write_element(place),
             StmtForm::StorePart { part, .. } => self.write_part(place, part.number as usize),
             StmtForm::Perform(_) => self.discard(1),
             StmtForm::Return(None) => self.end(Some(Value::Null)),
@@ -288,6 +263,16 @@ impl<'p> Walker<'p> {
         let first = part.number as usize;
         let count = number(slot_after(&self.level.frame.values, first, 3));
         self.numbers(place, Some(first), first + 4, body, 0, count)
+    }
+
+    /// A branch for each number, whose count and start are on top.
+    fn iterate(&mut self, place: Place, slot: usize, body: &'p Stmt) -> Result<Option<Over>, Halt>
+        ensures { Does (λ g ws w. forks_at g.left place (without 2 g) [] (iterations None slot (plain_stmt body.now) g.frame (number (slot_value g.operands 1)) 0 (how_many (number (slot_value g.operands 0)))) ws w) self.old result self.new }
+    {
+        let count = number(self.level.operand(0));
+        let start = number(self.level.operand(1));
+        self.level.operands.drop_top(2);
+        self.numbers(place, None, slot, body, start, count)
     }
 
     /// The branches of a `cobegin`.

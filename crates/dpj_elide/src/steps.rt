@@ -73,11 +73,7 @@ impl<'p> Walker<'p> {
                 let object = self.level.operand(0);
                 self.read(place, object, i64::from(field.number), 1)
             }
-            ExprForm::Element { .. } => {
-                let array = self.level.operand(1);
-                let index = number(self.level.operand(0));
-                self.read(place, array, i64::from(index), 2)
-            }
+            ExprForm::Element { .. } => self.read_element(place),
             ExprForm::Length(_) => self.length(place),
             ExprForm::PartElement { part, .. } => self.read_part(place, part.number as usize),
             ExprForm::Binary { op, .. } => self.binary(place, *op),

@@ -1,36 +1,30 @@
-use mir.Val.{SFits}
-use Rattle.std.proofs.Common.{◌∙◌, [], ap, sym, subst, map, rules, w32, to_z, of_z, None}
-use Rattle.std.proofs.lemmas.Int.{to_z-of_z}
+use Rattle.std.proofs.Common.{◌∙◌, [], ap, sym, subst, map, None}
 use Rattle.dpj_typed.specs.declared.stmt.Stmt.{Stmt}
-use Rattle.dpj_typed.specs.Plain.{plain_stmt}
+use Rattle.dpj_typed.specs.Plain.{plain_expr, plain_stmt}
 use Rattle.dpj_meaning.specs.Counts.{how_many, number, slot_value}
 use Rattle.dpj_meaning.specs.Statements.{iterations}
-use Rattle.dpj_frames.specs.Names.{plain_value}
-use Rattle.dpj_walk.specs.Walk.{finishes, forks_at, without}
+use Rattle.dpj_walk.specs.Agenda.{counted, evaluate}
+use Rattle.dpj_walk.specs.Walk.{At, doing, finishes, forks_at, without}
 use Rattle.dpj_elide.specs.States.{ComesTo, plain_level, plain_waiting}
-use Rattle.dpj_elide.proofs.Forms.{at_Foreach}
-use Rattle.dpj_elide.proofs.Taken.{map_drop}
+use Rattle.dpj_elide.proofs.Forms.{at_Foreach, parts_finish}
 use Rattle.dpj_elide.proofs.walker.Walker.finish.Goals as goal
 
 pub returns-in-Foreach : goal.returns-in-Foreach
 returns-in-Foreach c = λ P L w h.
     let s = c.args.s.now in
-    let level = c.args.self.now.level in
-    let g = plain_level level in
+    let g = plain_level c.args.self.now.level in
     let ws = map plain_waiting c.args.self.now.waiting in
-    let x = c.in-Foreach.slot.number in
-    let many_fits : SFits w32 c.number-count.result = search rules in
-    let start_fits : SFits w32 c.number-start.result = search rules in
-    let many = to_z-of_z w32 c.number-count.result many_fits ∙ c.number-count.ensures ∙ ap number c.operand-in-Foreach.ensures in
-    let first = to_z-of_z w32 c.number-start.result start_fits ∙ c.number-start.ensures ∙ ap number c.operand-in-Foreach-2.ensures in
-    let operands = ap (map plain_value) c.drop_top.ensures ∙ map_drop plain_value 2 level.operands in
-    subst (λ s. ComesTo L c.numbers.result c.numbers.new.self s)
-    (ap (λ vs. forks_at g.left s.place (record g { operands = vs }) [] (iterations None x (plain_stmt c.get-in-Foreach.result.now) g.frame
-    (to_z w32 (of_z w32 c.number-start.result)) 0 (how_many (to_z w32 (of_z w32 c.number-count.result)))) ws w) operands
-    ∙ ap (λ i. forks_at g.left s.place (without 2 g) [] (iterations None x (plain_stmt c.get-in-Foreach.result.now) g.frame i 0
-    (how_many (to_z w32 (of_z w32 c.number-count.result)))) ws w) first
-    ∙ ap (λ k. forks_at g.left s.place (without 2 g) [] (iterations None x (plain_stmt c.get-in-Foreach.result.now) g.frame (number (slot_value g.operands 1)) 0 (how_many k)) ws w) many
-    ∙ ap (λ (b : Stmt). forks_at g.left s.place (without 2 g) [] (iterations None x (plain_stmt b) g.frame (number (slot_value g.operands 1)) 0
+    subst (λ y. ComesTo L c.iterate.result c.iterate.new.self y)
+    (ap (λ (b : Stmt). forks_at g.left s.place (without 2 g) [] (iterations None c.in-Foreach.slot.number (plain_stmt b) g.frame (number (slot_value g.operands 1)) 0
     (how_many (number (slot_value g.operands 0)))) ws w) c.get-in-Foreach.ensures
     ∙ ap (λ y. finishes P y g ws w) (sym (at_Foreach s c.in-Foreach.forking c.in-Foreach.slot c.in-Foreach.start c.in-Foreach.count c.in-Foreach.body c.in-Foreach.is)))
-    (c.numbers.ensures L w h)
+    (c.iterate.ensures L w h)
+
+pub returns-in-ForeachParts : goal.returns-in-ForeachParts
+returns-in-ForeachParts c = λ P L w h.
+    let s = c.args.s.now in
+    let ws = map plain_waiting c.args.self.now.waiting in
+    subst (λ y. ComesTo L c.count_parts.result c.count_parts.new.self y)
+    (ap (λ g. At (doing (evaluate (plain_expr c.in-ForeachParts.count)) (doing (counted (plain_stmt s)) g)) ws w) c.start_parts.ensures
+    ∙ sym (parts_finish P s c.in-ForeachParts.part c.in-ForeachParts.source c.in-ForeachParts.count c.in-ForeachParts.body (plain_level c.args.self.now.level) ws w c.in-ForeachParts.is))
+    (c.count_parts.ensures L w h)

@@ -1,17 +1,13 @@
-use mir.Val.{SFits}
-use Rattle.std.proofs.Common.{◌∙◌, ◌∷◌, suc, ap, sym, subst, map, drop, take, reverse, cond, rules, w32, w64}
-use Rattle.std.proofs.lemmas.Int.{to_z-of_z}
+use Rattle.std.proofs.Common.{◌∙◌, suc, ap, sym, subst, map, take, reverse, cond}
 use Rattle.dpj_base.specs.declared.value.Trap.TheVariants as trap
 use Rattle.dpj_base.specs.Types.{plain_type}
 use Rattle.dpj_typed.specs.Plain.{plain_program}
 use Rattle.dpj_typed.specs.Scope.{constructor_of}
-use Rattle.dpj_meaning.specs.Core.{run}
-use Rattle.dpj_meaning.specs.Counts.{number, reference, slot_value}
-use Rattle.dpj_meaning.specs.Elision.{in_order, sequential}
-use Rattle.dpj_meaning.specs.Expressions.{class_in, read_cell, unless_null}
+use Rattle.dpj_meaning.specs.Counts.{reference, slot_value}
+use Rattle.dpj_meaning.specs.Elision.{in_order}
+use Rattle.dpj_meaning.specs.Expressions.{class_in}
 use Rattle.dpj_meaning.specs.Regions.{around, concrete, some_long}
-use Rattle.dpj_frames.specs.Names.{plain_value}
-use Rattle.dpj_walk.specs.Walk.{calls, creates, falls, lands, operates, or_null, without}
+use Rattle.dpj_walk.specs.Walk.{calls, creates, falls, operates, or_null, without}
 use Rattle.dpj_elide.specs.States.{ComesTo, plain_level, plain_waiting}
 use Rattle.dpj_elide.proofs.Forms.{at_Call, at_Element, at_New, count_exprs}
 use Rattle.dpj_elide.proofs.walker.Walker.operate.Goals as goal
@@ -22,14 +18,8 @@ returns-in-Element c = λ L w h.
     let e = c.args.e.now in
     let g = plain_level c.args.self.now.level in
     let ws = map plain_waiting c.args.self.now.waiting in
-    let narrow : SFits w32 c.number-index.result = search rules in
-    let wide : SFits w64 c.from-in-Element.result = search rules in
-    let index = to_z-of_z w64 c.from-in-Element.result wide ∙ c.from-in-Element.ensures ∙ to_z-of_z w32 c.number-index.result narrow ∙ c.number-index.ensures ∙ ap number c.operand.ensures in
-    subst (λ s. ComesTo L c.read-in-Element.result c.read-in-Element.new.self s)
-    (ap (λ i. lands g (λ v. v ∷ drop 2 g.operands) ws (run sequential (unless_null e.place (plain_value c.operand-array.result) (λ n. read_cell e.place n i g.frame)) w)) index
-    ∙ ap (λ v. lands g (λ v. v ∷ drop 2 g.operands) ws (run sequential (unless_null e.place v (λ n. read_cell e.place n (number (slot_value g.operands 0)) g.frame)) w)) c.operand-array.ensures
-    ∙ ap (λ x. operates P x g ws w) (sym (at_Element e c.in-Element.array c.in-Element.index c.in-Element.is)))
-    (c.read-in-Element.ensures L w h)
+    subst (λ s. ComesTo L c.read_element.result c.read_element.new.self s)
+    (ap (λ x. operates P x g ws w) (sym (at_Element e c.in-Element.array c.in-Element.index c.in-Element.is))) (c.read_element.ensures L w h)
 
 pub returns-in-New : goal.returns-in-New
 returns-in-New c = λ L w h.
