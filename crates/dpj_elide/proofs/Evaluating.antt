@@ -1,0 +1,21 @@
+-- The operands of an expression, put on the agenda from the last on.
+use Rattle.std.proofs.Common.{◌≡◌, ◌∙◌, ℕ, suc, ◌+◌, ◌-◌, ◌<◌, ◌≤◌, List, [], ◌∷◌, map, length, drop, get_or, refl, sym, ap, arith}
+use Rattle.dpj_typed.specs.declared.expr.Expr.{Expr}
+use Rattle.dpj_typed.specs.Plain.{plain_expr, exprs_of}
+use Rattle.dpj_walk.specs.Agenda.{Item, evaluate}
+use Rattle.dpj_walk.specs.Walk.{each}
+use Rattle.dpj_elide.proofs.Taken.{drop_all, one_up}
+
+-- the last so many of them
+abbrev pub last_of : ℕ → List Expr → List Item → List Item
+last_of k all is = each (exprs_of (map plain_expr (drop (length all - k) all))) is
+
+pub none_yet : (all : List Expr) (is : List Item) → is ≡ last_of 0 all is
+none_yet all is = ap (λ es. each (exprs_of (map plain_expr es)) is) (sym (drop_all (length all - 0) all (omega arith)))
+
+pub one_more : (k : ℕ) (all : List Expr) (is : List Item) (d : Expr) → k < length all
+    → evaluate (plain_expr (get_or all (length all - 1 - k) d)) ∷ last_of k all is ≡ last_of (k + 1) all is
+one_more k all is d h = ap (λ es. each (exprs_of (map plain_expr es)) is) (sym (one_up all k d h))
+
+pub all_of : (k : ℕ) (all : List Expr) (is : List Item) → length all ≤ k → last_of k all is ≡ each (exprs_of (map plain_expr all)) is
+all_of k all is h = let z : length all - k ≡ 0 = omega arith in ap (λ n. each (exprs_of (map plain_expr (drop n all))) is) z

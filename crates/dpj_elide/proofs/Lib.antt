@@ -1,0 +1,17 @@
+pub mod Forms
+pub mod Costs
+pub mod Taken
+pub mod Evaluating
+pub mod Beginning
+pub mod Programs
+pub mod Falling
+pub mod Halting
+pub mod Reading
+pub mod Forking
+pub mod Calling
+pub mod Arrays
+pub mod Making
+pub mod Starting
+pub mod Lessening
+pub mod Walking
+pub mod Parting

@@ -1,0 +1,15 @@
+use Rattle.std.proofs.Common.{◌∙◌, ◌+◌, ap, ap₂, map, drop, pos}
+use Rattle.std.specs.Prelude.{slice_set}
+use Rattle.dpj_meaning.specs.Values.{Int}
+use Rattle.dpj_frames.specs.Names.{plain_value}
+use Rattle.dpj_elide.specs.States.{plain_level}
+use Rattle.dpj_elide.proofs.Taken.{map_drop}
+use Rattle.dpj_elide.proofs.level.Level.begin_part.Goals as goal
+
+pub returns : goal.returns
+returns c =
+    let g = plain_level c.args.self.now in
+    ap₂ (λ vs us. record g { operands = vs; frame = record g.frame { values = us } })
+    (ap (map plain_value) c.drop_top.ensures ∙ map_drop plain_value 1 c.args.self.now.operands)
+    (c.set_slot_after.ensures
+    ∙ ap (λ us. slice_set us (c.args.part + 1) (Int (pos 0))) (c.set_slot.ensures ∙ ap (slice_set g.frame.values c.args.part) c.operand-array.ensures))

@@ -1,0 +1,13 @@
+use Rattle.std.proofs.Common.{◌∙◌, ap, refl, sym, subst, map}
+use Rattle.dpj_typed.specs.Plain.{plain_program}
+use Rattle.dpj_walk.specs.Walk.{does_item}
+use Rattle.dpj_elide.specs.States.{StandsAt, plain_item, plain_level, plain_waiting}
+use Rattle.dpj_elide.proofs.walker.Walker.do_item.Goals as goal
+
+pub returns-in_ok-go_on-in-GoesOn : goal.returns-in_ok-go_on-in-GoesOn
+returns-in_ok-go_on-in-GoesOn c = λ L w h.
+    let P = plain_program c.args.program.now in
+    let g = plain_level c.args.self.now.level in
+    let ws = map plain_waiting c.args.self.now.waiting in
+    subst (λ s. StandsAt L (record c.args.self.now { level = c.go_on.new.self }) s)
+    (c.in_ok-go_on-in-GoesOn.ensures P ws w ∙ ap (λ i. does_item P i g ws w) (sym (ap plain_item c.in-GoesOn.is))) (refl, refl, h)

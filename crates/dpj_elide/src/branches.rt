@@ -1,0 +1,115 @@
+ghost use Rattle.std.specs.Prelude.{◌≡◌, ◌<◌, ◌^◌, ◌-◌, ℕ, suc, [], pos, IfOk};
+ghost use Rattle.std.specs.Int.{w32, int_wrapping_add};
+ghost use Rattle.dpj_typed.specs.Plain.{plain_stmt};
+ghost use Rattle.dpj_meaning.specs.Statements.{branch_of, numbered_frame, begun, iterations};
+ghost use Rattle.dpj_frames.specs.Names.{plain_frame};
+ghost use Rattle.dpj_meaning.specs.Actions.{Frame as Locals};
+ghost use Rattle.dpj_meaning.specs.Elision.{LocalRegion};
+ghost use Rattle.dpj_elide.specs.Falls.{Begins};
+ghost use Rattle.dpj_elide.specs.States.{plain_level};
+ghost use Rattle.dpj_elide.specs.declared.waiting.Rest.TheVariants as rest;
+
+use crate::level::Level;
+use crate::waiting::{Fork, Numbers, Rest};
+use dpj_base::{Items, NoMemory, Plain, Value};
+use dpj_frames::{Frame, set_slot, take_part};
+use std::alloc::Global;
+use std::slice;
+
+impl<'p> Fork<'p> {
+    /// The body of the next branch; None, where all have begun.
+    pub fn begin(&mut self, alloc: Global, outer: &Level) -> Result<Option<Level<'p>>, NoMemory>
+        ensures { IfOk result (λ level. Begins (plain_level outer.now) self.old level self.new) }
+    {
+        match self.rest {
+            Rest::Branches(at) => self.begin_branch(alloc, at, outer),
+            Rest::Numbers(numbers) => {
+                if numbers.left == 0 {
+                    return Ok(None);
+                }
+                let frame = numbers.frame(alloc, &outer.frame)?;
+                self.running = &[];
+                self.rest = Rest::Numbers(numbers.after());
+                Ok(Some(Level::beginning(alloc, slice::from_ref(numbers.body), frame)?))
+            }
+        }
+    }
+
+    /// The branch of a `cobegin` at a place.
+    fn begin_branch(
+        &mut self,
+        alloc: Global,
+        at: usize,
+        outer: &Level,
+    ) -> Result<Option<Level<'p>>, NoMemory>
+        requires { self.old.rest ≡ rest.Branches at }
+        ensures { IfOk result (λ level. Begins (plain_level outer.now) self.old level self.new) }
+    {
+        if at >= self.branches.len() {
+            return Ok(None);
+        }
+        let branch = &self.branches[at];
+        let frame = deeper(alloc, &outer.frame)?;
+        self.running = branch.copies.as_slice();
+        self.rest = Rest::Branches(at + 1);
+        Ok(Some(Level::beginning(alloc, slice::from_ref(&branch.body), frame)?))
+    }
+}
+
+impl<'p> Numbers<'p> {
+    /// The frame of the next iteration.
+    fn frame(&self, alloc: Global, outer: &Frame) -> Result<Frame, NoMemory>
+        requires { self.now.next < 2 ^ 31 }
+        ensures { IfOk result (λ f. plain_frame f ≡ begun self.now.takes (branch_of self.now.takes [] (plain_stmt self.now.body.now) (numbered_frame self.now.slot self.now.start self.now.next (plain_frame outer.now))).frame) }
+    {
+        let mut frame = deeper(alloc, outer)?;
+        let number = plus(self.start, self.next);
+        set_slot(&mut frame.values, self.slot, Value::Int(number));
+        if let Some(part) = self.takes {
+            take_part(&mut frame.values, part);
+        }
+        Ok(frame)
+    }
+
+    /// Those after the next.
+    fn after(self) -> Numbers<'p>
+        requires { 0 < self.left }
+        ensures { (f : Locals ℕ LocalRegion) → iterations result.takes result.slot (plain_stmt result.body.now) f result.start result.next result.left ≡ iterations self.entry.takes self.entry.slot (plain_stmt self.entry.body.now) f self.entry.start (suc self.entry.next) (self.entry.left - 1) }
+    {
+        Numbers {
+            takes: self.takes,
+            slot: self.slot,
+            body: self.body,
+            start: self.start,
+            next: self.next + 1,
+            left: self.left - 1,
+        }
+    }
+}
+
+/// An equal frame, one call deeper.
+fn deeper(alloc: Global, frame: &Frame) -> Result<Frame, NoMemory>
+    ensures { IfOk result (λ f. plain_frame f ≡ record (plain_frame frame.now) { left = frame.now.left - 1 }) }
+{
+    Ok(Frame {
+        values: copied(alloc, frame.values.as_slice())?,
+        regions: frame.regions.copy(alloc)?,
+        locals: copied(alloc, frame.locals.as_slice())?,
+        left: frame.left.saturating_sub(1),
+    })
+}
+
+/// The same items, with room for no more.
+fn copied<T: Copy + Drop>(alloc: Global, items: &[T]) -> Result<Items<T>, NoMemory>
+    ensures { IfOk result (λ copies. copies ≡ items.now) }
+{
+    Ok(Items::from_vec(Vec::from_slice(alloc, items)?))
+}
+
+/// A number and so many more.
+fn plus(number: i32, more: usize) -> i32
+    requires { more < 2 ^ 31 }
+    ensures { result ≡ int_wrapping_add w32 number (pos more) }
+{
+    number.wrapping_add(more as i32)
+}

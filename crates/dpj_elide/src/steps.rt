@@ -1,0 +1,153 @@
+ghost use Rattle.std.specs.Prelude.{◌∷◌, cond, not, drop, IsTrue};
+ghost use Rattle.dpj_typed.specs.Plain.{PlainProgram, plain_program, plain_expr};
+ghost use Rattle.dpj_meaning.specs.Counts.{slot_value, unary, truth};
+ghost use Rattle.dpj_meaning.specs.Values.{Boolean};
+ghost use Rattle.dpj_walk.specs.Walk.{At, step, does_item, operates, pushed, doing, without};
+ghost use Rattle.dpj_walk.specs.Agenda.{evaluate};
+ghost use Rattle.dpj_elide.specs.States.{Does, plain_item};
+ghost use Rattle.dpj_elide.specs.Forms.{is_own};
+ghost use Rattle.dpj_elide.specs.Walks.{CostsMore, IsHolding, Walks};
+
+use crate::calls::Call;
+use crate::item::{ExprStage, Item};
+use crate::walker::{Over, Walker};
+use dpj_base::Value;
+use dpj_frames::{inverted, negated, number, slot, slot_after, truth};
+use dpj_store::Halt;
+use dpj_typed::{Expr, ExprForm, Program, UnaryOp};
+
+impl<'p> Walker<'p> {
+    /// Steps up to one that costs something, or to the end. Those before it leave less work each.
+    pub fn to_next_cost(&mut self, program: &'p Program) -> Result<Option<Over>, Halt>
+        requires { IsHolding self.old }
+        ensures walks { Walks (plain_program program.now) self.old result self.new }
+        ensures costs { CostsMore self.old result self.new }
+    {
+        let before = self.store.steps;
+        loop {
+            if let Some(over) = self.step(program)? {
+                return Ok(Some(over));
+            }
+            if self.store.steps > before {
+                return Ok(None);
+            }
+        }
+    }
+
+    /// One step of the walk.
+    fn step(&mut self, program: &'p Program) -> Result<Option<Over>, Halt>
+        ensures { Does (λ g ws w. step (plain_program program.now) (At g ws w)) self.old result self.new }
+    {
+        match self.level.items.pop() {
+            Some(item) => self.do_item(program, item),
+            None => self.end(None),
+        }
+    }
+
+    fn do_item(&mut self, program: &'p Program, item: Item<'p>) -> Result<Option<Over>, Halt>
+        ensures { Does (does_item (plain_program program.now) (plain_item item.entry)) self.old result self.new }
+    {
+        match item {
+            Item::Expr(ExprStage::Evaluate, e) => {
+                self.level.evaluate(e)?;
+                Ok(None)
+            }
+            Item::Expr(ExprStage::Operate, e) => self.operate(program, e),
+            Item::Stmt(stage, s) => self.do_stage(stage, s),
+            Item::GoesOn(stmts) => {
+                self.level.go_on(stmts)?;
+                Ok(None)
+            }
+            Item::Leave => self.leave(),
+        }
+    }
+
+    /// What an expression does over its operands.
+    #[tactic(auto, using(crate::proofs::Forms::forms))]
+    fn operate(&mut self, program: &'p Program, e: &'p Expr) -> Result<Option<Over>, Halt>
+        ensures { Does (operates (plain_program program.now) (plain_expr e.now)) self.old result self.new }
+    {
+        let place = e.place;
+        match &e.form {
+            ExprForm::Field { field, .. } => {
+                let object = self.level.operand(0);
+                self.read(place, object, i64::from(field.number), 1)
+            }
+            ExprForm::Element { .. } => self.read_element(place),
+            ExprForm::Length(_) => self.length(place),
+            ExprForm::PartElement { part, .. } => self.read_part(place, part.number as usize),
+            ExprForm::Binary { op, .. } => self.binary(place, *op),
+            ExprForm::And { right, .. } => self.second(true, right.get()),
+            ExprForm::Or { right, .. } => self.second(false, right.get()),
+            ExprForm::New(actuals) => self.create(program, place, &e.ty, actuals.len()),
+            ExprForm::NewArray(_) => self.create_array(place, &e.ty),
+            ExprForm::Call {
+                class,
+                row,
+                regions,
+                actuals,
+                ..
+            } => {
+                let call = Call {
+                    place,
+                    class: class.number,
+                    row: row.number,
+                    regions,
+                    actuals: actuals.len(),
+                };
+                self.call(program, call)
+            }
+            ExprForm::Int(_)
+            | ExprForm::Bool(_)
+            | ExprForm::Null
+            | ExprForm::Local(_)
+            | ExprForm::PartLength(_)
+            | ExprForm::Unary { .. } => self.give_own(e),
+        }
+    }
+
+    /// The value that an expression has by its frame and its operand alone.
+    #[tactic(auto, using(crate::proofs::Forms::forms))]
+    fn give_own(&mut self, e: &'p Expr) -> Result<Option<Over>, Halt>
+        requires { IsTrue (is_own (plain_expr e.now)) }
+        ensures { (P : PlainProgram) → Does (operates P (plain_expr e.now)) self.old result self.new }
+    {
+        match &e.form {
+            ExprForm::Int(n) => self.give(0, Value::Int(*n)),
+            ExprForm::Bool(b) => self.give(0, Value::Bool(*b)),
+            ExprForm::Local(x) => {
+                let value = slot(&self.level.frame.values, x.number as usize);
+                self.give(0, value)
+            }
+            ExprForm::PartLength(part) => {
+                let len = slot_after(&self.level.frame.values, part.number as usize, 2);
+                self.give(0, len)
+            }
+            ExprForm::Unary { op, .. } => self.unary(*op),
+            _ => self.give(0, Value::Null),
+        }
+    }
+
+    /// An operation on the operand on top.
+    fn unary(&mut self, op: UnaryOp) -> Result<Option<Over>, Halt>
+        ensures { Does (λ g ws w. At (record g { operands = unary op (slot_value g.operands 0) ∷ drop 1 g.operands }) ws w) self.old result self.new }
+    {
+        let value = self.level.operand(0);
+        match op {
+            UnaryOp::Negate => self.give(1, negated(value)),
+            UnaryOp::Not => self.give(1, inverted(value)),
+        }
+    }
+
+    /// The second operand comes next, where the first is this; else the first stands for the whole.
+    fn second(&mut self, asked: bool, right: &'p Expr) -> Result<Option<Over>, Halt>
+        ensures { Does (λ g ws w. cond (cond asked (truth (slot_value g.operands 0)) (not (truth (slot_value g.operands 0)))) (At (doing (evaluate (plain_expr right.now)) (without 1 g)) ws w) (At (pushed (Boolean (not asked)) (without 1 g)) ws w)) self.old result self.new }
+    {
+        if truth(self.level.operand(0)) != asked {
+            return self.give(1, Value::Bool(!asked));
+        }
+        self.level.operands.drop_top(1);
+        self.level.will(Item::Expr(ExprStage::Evaluate, right))?;
+        Ok(None)
+    }
+}

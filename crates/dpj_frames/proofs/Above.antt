@@ -1,0 +1,69 @@
+-- A step up the chain of superclasses.
+use Rattle.std.proofs.Common.{rules, ◌≡◌, ℕ, zero, suc, ◌==◌, eq-eqb, Bool, true, false, cond, List, refl, sym, ap, ◌∙◌, Option, Some, None}
+use Rattle.std.specs.Prelude.{option_map, option_and_then, slice_get}
+use Rattle.std.proofs.lemmas.Option.{slice_get-map}
+use Rattle.dpj_typed.specs.Plain.{PlainParent}
+use Rattle.dpj_meaning.specs.Values.{Region}
+use Rattle.dpj_meaning.specs.Counts.{is_below}
+use Rattle.dpj_meaning.specs.Regions.{handed_up, regions_above}
+use Rattle.dpj_meaning.specs.Elision.{LocalRegion}
+use Rattle.dpj_typed.specs.declared.program.Class.{Class as DeclaredClass}
+use Rattle.dpj_typed.specs.declared.program.Program.{Program}
+use Rattle.dpj_typed.specs.Plain.{plain_class, plain_program}
+use Rattle.dpj_typed.specs.Scope.{parent_of}
+use Rattle.dpj_meaning.specs.Elision.{in_order}
+
+differs : (c d : ℕ) → (c ≡ d → ⊥) → (c == d) ≡ false
+differs c d h = search (rules, h)
+
+-- the superclass of a class that is found
+pub parent_found : (C : Program) (c : ℕ) (o : Option DeclaredClass) → o ≡ slice_get C.classes c
+    → parent_of (plain_program C) c ≡ option_and_then (λ k. (plain_class k).parent) o
+parent_found C c o e =
+    ap (option_and_then (λ k. k.parent)) (slice_get-map plain_class C.classes c ∙ ap (option_map plain_class) (sym e)) ∙ seen o
+  where
+    seen : (o : Option DeclaredClass) → option_and_then (λ k. k.parent) (option_map plain_class o) ≡ option_and_then (λ k. (plain_class k).parent) o
+    seen None = refl
+    seen (Some k) = refl
+
+module _ (parent : ℕ → Option PlainParent) where
+  pub here_below : (k c d : ℕ) → c ≡ d → is_below parent k c d ≡ true
+  here_below zero c d e = eq-eqb c d e
+  here_below (suc k) c d e = ap (λ b. cond b true (elim (parent c) [ None ↦ false | Some p ↦ is_below parent k p.class d ])) (eq-eqb c d e)
+
+  no_parent : (k d : ℕ) (o : Option PlainParent) → None ≡ option_map (λ p. p.class) o → elim o [ None ↦ false | Some p ↦ is_below parent k p.class d ] ≡ false
+  no_parent k d None e = refl
+  no_parent k d (Some p) e = absurd (cc)
+
+  its_parent : (k d q : ℕ) (o : Option PlainParent) → Some q ≡ option_map (λ p. p.class) o
+      → elim o [ None ↦ false | Some p ↦ is_below parent k p.class d ] ≡ is_below parent k q d
+  its_parent k d q None e = absurd (cc)
+  its_parent k d q (Some p) e = let f : q ≡ p.class = cc in ap (λ c. is_below parent k c d) (sym f)
+
+  pub top_below : (k c d : ℕ) → (c ≡ d → ⊥) → None ≡ option_map (λ p. p.class) (parent c) → is_below parent (suc k) c d ≡ false
+  top_below k c d h e =
+      ap (λ b. cond b true (elim (parent c) [ None ↦ false | Some p ↦ is_below parent k p.class d ])) (differs c d h) ∙ no_parent k d (parent c) e
+
+  pub up_below : (k c d q : ℕ) → (c ≡ d → ⊥) → Some q ≡ option_map (λ p. p.class) (parent c) → is_below parent (suc k) c d ≡ is_below parent k q d
+  up_below k c d q h e =
+      ap (λ b. cond b true (elim (parent c) [ None ↦ false | Some p ↦ is_below parent k p.class d ])) (differs c d h) ∙ its_parent k d q (parent c) e
+
+  module _ (above : ℕ) where
+    abbrev step_up : ℕ → List (Region LocalRegion) → Option PlainParent → List (Region LocalRegion)
+    step_up k rs o = elim o [ None ↦ rs | Some p ↦ regions_above in_order parent k p.class (handed_up in_order rs p.args) above ]
+
+    pub here_above : (k c : ℕ) (rs : List (Region LocalRegion)) → c ≡ above → regions_above in_order parent k c rs above ≡ rs
+    here_above zero c rs e = refl
+    here_above (suc k) c rs e = ap (λ b. cond b rs (step_up k rs (parent c))) (eq-eqb c above e)
+
+    pub top_above : (k c : ℕ) (rs : List (Region LocalRegion)) → parent c ≡ None → regions_above in_order parent k c rs above ≡ rs
+    top_above zero c rs e = refl
+    top_above (suc k) c rs e = ap (λ o. cond (c == above) rs (step_up k rs o)) e ∙ either (c == above)
+      where
+        either : (b : Bool) → cond b rs rs ≡ rs
+        either true = refl
+        either false = refl
+
+    pub up_above : (k c : ℕ) (rs : List (Region LocalRegion)) (p : PlainParent) → (c ≡ above → ⊥) → parent c ≡ Some p
+        → regions_above in_order parent (suc k) c rs above ≡ regions_above in_order parent k p.class (handed_up in_order rs p.args) above
+    up_above k c rs p h e = ap (λ b. cond b rs (step_up k rs (parent c))) (differs c above h) ∙ ap (step_up k rs) e

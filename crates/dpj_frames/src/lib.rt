@@ -1,0 +1,26 @@
+//! What a body works with in a run in sequence: its frame, a stack of operands, and what the values of both count as.
+//!
+//! An object is its number in the heap; a local region that was made is its number in the run, and one that wasn't is its
+//! declaration (`specs/Names.antt`). Each function is exact against the one of `dpj_meaning` that bears its name, and none
+//! but those that give a list takes memory.
+#![tactic(auto)]
+
+mod classes;
+mod entries;
+mod frame;
+mod lines;
+mod operations;
+mod parts;
+mod regions;
+mod stack;
+mod values;
+
+pub use classes::{Seen, class_entered, constructor_of, regions_above};
+pub use entries::entered;
+pub use frame::Frame;
+pub use lines::{text_line, value_line};
+pub use operations::{inverted, negated, operated};
+pub use parts::{part_place, set_slot_after, slot_after, take_part};
+pub use regions::{concrete, concrete_all, is_long, some_long};
+pub use stack::Stack;
+pub use values::{how_many, number, reference, set_slot, slot, truth};
