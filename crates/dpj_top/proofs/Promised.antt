@@ -6,9 +6,14 @@ use Rattle.dpj_base.specs.declared.outcome.Outcome.{Outcome}
 use Rattle.dpj_base.specs.declared.place.Place.{Place}
 use Rattle.dpj_machine.specs.Keeping.{Played}
 use Rattle.dpj_typed.specs.Plain.{PlainProgram}
+use Rattle.dpj_meaning.specs.Actions.{Ending, Returned, Assigned, Trapped}
+use Rattle.dpj_meaning.specs.Elision.{elided}
+use Rattle.dpj_meaning.specs.Outcomes.{Outcome as ElidedOutcome, Came as came_out, Limited}
+use Rattle.dpj_elide.specs.Outcome.{ending_of, outcome_of}
+use Rattle.dpj_elide.specs.Outcome.{limits as plain_limits}
 use Rattle.dpj_typed.specs.WellTyped.{WellTyped}
 use Rattle.dpj_passed.specs.Laws.{Keeps, PassedKeeps}
-use Rattle.dpj_promise.specs.Promise.{GreedyMachinesElide, MachinesAreNotStuck, MachinesComeOutAsElided, MachinesGoOn, elision}
+use Rattle.dpj_promise.specs.Promise.{GreedyMachinesElide, MachinesAreNotStuck, MachinesComeOutAsElided, MachinesGoOn, elision, ending_of_elision, outcome_of_elision}
 use Rattle.dpj_promise.specs.Inside.{ComesOutElidedInside, MachinesElideInside}
 use Rattle.dpj_promise.specs.Reduced.{ComesOutReduced, MachinesAreReduced}
 use Rattle.dpj_machine.specs.Keeping.{HaltsGreedily, HasEnded, IsStuckAt, WhyHaltedAt}
@@ -114,8 +119,18 @@ made_run mode.Steps typed L argument workers r (recorded_so _ is) = (is.is_run, 
 made_run mode.Rounds typed L argument workers r (by_rounds _ p is alone) =
     (subst (λ q. IsRunOf typed L argument q) (sym alone.machine) is.is_run, ap (λ (q : Played). q.outcome) alone.machine ∙ alone.came)
 
+-- the walker's outcome is that of the promise
+same_ending : (x : Ending ℕ) → ending_of x ≡ ending_of_elision x
+same_ending (Returned v) = refl
+same_ending (Assigned locals) = refl
+same_ending (Trapped trap place) = refl
+
+same_outcome : (o : ElidedOutcome ℕ) → outcome_of o ≡ outcome_of_elision o
+same_outcome (came_out x output steps cells) = ap (λ e. record { ending = e; out = output; steps = steps; cells = cells }) (same_ending x)
+same_outcome (Limited steps cells) = refl
+
 pub keeps_promise : MachinesComeOutAsElided → GreedyMachinesElide → MachinesAreReduced → MachinesElideInside → MachinesAreNotStuck → MachinesGoOn → PassedKeeps → KeepsPromise
-keeps_promise machines greedy reduce inside never_stuck goes passed = record { typed_well = typed_well; goes_on = goes_further; follows = follows; replay = replay; run = run; reduce = reduces; elide = elide }
+keeps_promise machines greedy reduce inside never_stuck goes passed = record { typed_well = typed_well; goes_on = goes_further; follows = follows; replay = replay; run = run; reduce = reduces; elide = elide; greedy = greedily }
   where
     kept : (text : List ℕ) (place : Place) (typed : PlainProgram) → IsAcceptedAs text place typed → Keeps typed
     kept text place typed accepted = passed text place typed accepted.0 accepted.1
@@ -139,7 +154,7 @@ keeps_promise machines greedy reduce inside never_stuck goes passed = record { t
     goes_further : (job : Job) (text : List ℕ) (place : Place) (typed : PlainProgram) → IsWithin job → IsAcceptedAs text place typed → GoesOn job typed
     goes_further job text place typed within accepted = record {
       runs = never_halts_by job text place typed within accepted;
-      elides = λ comes. by comes (never_halts job text place typed within accepted);
+      greedily = λ comes. by comes (never_halts job text place typed within accepted);
     }
       where
         by : ComesOut typed (limits_of job) job.arg None → (HasNoRun typed (limits_of job) job.arg → ⊥) → ⊥
@@ -188,7 +203,9 @@ keeps_promise machines greedy reduce inside never_stuck goes passed = record { t
 
     elide : (job : Job) (text : List ℕ) (place : Place) (typed : PlainProgram) (answered : Answered) → IsWithin job → IsAcceptedAs text place typed
         → IsElided job typed answered → answered ≡ only (Ran (elision_for job typed))
-    elide job text place typed answered within accepted e = e.is ∙ ap (λ k. only (Ran k)) (by e.comes)
-      where
-        by : ComesOut typed (limits_of job) job.arg (Some e.outcome) → e.outcome ≡ elision_for job typed
-        by (finished p o is come) = told_greedy typed (kept text place typed accepted) (limits_of job) job.arg within.0.steps_most within.1 greedy p o is come
+    elide job text place typed answered within accepted e = e.is ∙ ap (λ k. only (Ran k)) (e.comes ∙ same_outcome (elided typed job.arg (plain_limits (limits_of job))))
+
+    greedily : (job : Job) (text : List ℕ) (place : Place) (typed : PlainProgram) (outcome : Outcome) → IsWithin job → IsAcceptedAs text place typed
+        → ComesOut typed (limits_of job) job.arg (Some outcome) → outcome ≡ elision_for job typed
+    greedily job text place typed outcome within accepted (finished p o is come) =
+        told_greedy typed (kept text place typed accepted) (limits_of job) job.arg within.0.steps_most within.1 greedy p o is come

@@ -28,7 +28,6 @@ use Rattle.dpj_listing.specs.Laws.{TellsPlainCode}
 use Rattle.dpj_listing.specs.Listing.{listing_of, plain_listing}
 use Rattle.dpj_typed.specs.Names.{ProgramNames}
 use Rattle.dpj_typed.specs.Plain.{PlainProgram}
-use Rattle.dpj_run.specs.Run.{ComesOut}
 use Rattle.dpj_run.specs.declared.recorded.Recorded.{Recorded}
 use Rattle.dpj_front.specs.Front.{AreNames, IsFault}
 use Rattle.dpj_top.specs.declared.answered.Answered.{Answered}
@@ -74,12 +73,6 @@ pub answer-no-usage : (job : Job) (text : List ℕ) (answered : Answered) → Is
 answer-no-usage job text _ (too_long long) e = cc
 answer-no-usage job text _ (faulty refusal short fault) e = cc
 answer-no-usage job text _ (of_program place typed answered accepted is) e = program-no-usage job text typed answered is e
-
--- a run that comes out so, of a program and under limits and an argument that equal its own
-pub comes_as : (made typed : PlainProgram) (L limits : Limits) (a argument : ℤ) (outcome : Option Outcome) → made ≡ typed → L ≡ limits → a ≡ argument
-    → ComesOut made L a outcome → ComesOut typed limits argument outcome
-comes_as made typed L limits a argument outcome is same given comes =
-    subst (λ k. ComesOut typed k argument outcome) same (subst (λ k. ComesOut typed L k outcome) given (subst (λ P. ComesOut P L a outcome) is comes))
 
 -- what is asked of an accepted program is carried out
 pub run-answer : (asked : Job) (text : List ℕ) (typed : PlainProgram) (result : Result Answered NoMemory) → asks_run asked.command ≡ true

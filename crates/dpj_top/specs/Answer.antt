@@ -10,12 +10,13 @@ use Rattle.dpj_base.specs.declared.refusal.Refusal.{Refusal}
 use Rattle.dpj_typed.specs.Names.{ProgramNames}
 use Rattle.dpj_typed.specs.Plain.{PlainProgram}
 use Rattle.dpj_compile.specs.Titles.{titles_of}
+use Rattle.dpj_elide.specs.Outcome.{IsElided as IsElisionOf}
 use Rattle.dpj_gen.specs.Whole.{compiled}
 use Rattle.dpj_infer.specs.Firm.{IsInferred}
 use Rattle.dpj_infer.specs.Kept.{Keeping, program_kept}
 use Rattle.dpj_infer.specs.Lines.{lines_of}
 use Rattle.dpj_listing.specs.Listing.{plain_listing}
-use Rattle.dpj_run.specs.Run.{ComesOut, IsRun}
+use Rattle.dpj_run.specs.Run.{IsRun}
 use Rattle.dpj_run.specs.Rounding.{ComesByRounds}
 use Rattle.dpj_run.specs.declared.recorded.Recorded.{Recorded}
 use Rattle.dpj_trace.specs.Text.{trace_text}
@@ -68,7 +69,7 @@ asks_run _ = false
 -- the elision of an accepted program, of which nothing is recorded
 pub record IsElided (job : Job) (typed : PlainProgram) (answered : Answered) : Type 0 where
   pub outcome : Outcome
-  pub comes : ComesOut typed (limits_of job) job.arg (Some outcome)
+  pub comes : IsElisionOf typed job.arg (limits_of job) outcome
   pub is : answered ≡ only (Ran outcome)
 
 -- the verdict on a run of a text, by its schedule and how it came out: a demo tells what it made, and a trace is told in place of a report

@@ -55,13 +55,14 @@ pub record FollowsReduced (typed : PlainProgram) (limits : Limits) (argument : �
   pub inside : ComesOutElidedInside typed made.record.machine made.outcome
   pub elided : typed.uses_nd ≡ false → made.outcome ≡ elision typed limits argument
 
--- a run in the job's mode and an elision come out
+-- a run in the job's mode comes out, and so does the run in which the greatest ready task always goes on
 pub record GoesOn (job : Job) (typed : PlainProgram) : Type 0 where
   pub runs : IsRunBy job.mode typed (limits_of job) job.arg job.workers None → ⊥
-  pub elides : ComesOut typed (limits_of job) job.arg None → ⊥
+  pub greedily : ComesOut typed (limits_of job) job.arg None → ⊥
 
 -- What is accepted is well typed, and a run of it comes out. Where it has no nd construct a run of it is answered by its elision, by any number of workers, in
--- any order; with nd constructs too by a run that is reduced. And an elision is answered by the elision.
+-- any order; with nd constructs too by a run that is reduced. And an elision is answered by the elision, as which the run comes out
+-- in which the greatest ready task always goes on.
 pub record KeepsPromise : Type 0 where
   pub typed_well : (text : List ℕ) (place : Place) (typed : PlainProgram) → IsAcceptedAs text place typed → WellTyped typed
   pub goes_on : (job : Job) (text : List ℕ) (place : Place) (typed : PlainProgram) → IsWithin job → IsAcceptedAs text place typed → GoesOn job typed
@@ -76,6 +77,8 @@ pub record KeepsPromise : Type 0 where
       → IsRan job text typed answered → TellsReduced job text typed answered
   pub elide : (job : Job) (text : List ℕ) (place : Place) (typed : PlainProgram) (answered : Answered) → IsWithin job → IsAcceptedAs text place typed
       → IsElided job typed answered → answered ≡ only (Ran (elision_for job typed))
+  pub greedy : (job : Job) (text : List ℕ) (place : Place) (typed : PlainProgram) (outcome : Outcome) → IsWithin job → IsAcceptedAs text place typed
+      → ComesOut typed (limits_of job) job.arg (Some outcome) → outcome ≡ elision_for job typed
 
 -- the status is that of the verdict, and its report was written after what was held
 abbrev pub IsReported : Verdict → Option (List ℕ) → Option (List ℕ) → Status → Type 0

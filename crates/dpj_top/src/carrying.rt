@@ -11,11 +11,12 @@ use crate::answered::{Answered, limits};
 use crate::laws::promise;
 use dpj_base::{NoMemory, Outcome};
 use dpj_compile::compile;
+use dpj_elide::elide;
 use dpj_front::Passed;
 use dpj_infer::{infer, lines};
 use dpj_listing::laws::law_plain;
 use dpj_listing::listing;
-use dpj_run::{Recorded, elide, run, run_rounds};
+use dpj_run::{Recorded, run, run_rounds};
 use dpj_trace::trace_text;
 use dpj_typed::Program;
 use dpj_words::{Command, Job, Mode, Verdict};
@@ -42,7 +43,7 @@ pub fn carry_out<R: Threads + Wait + Sync, G: Gate + Sync>(
 {
     match job.command {
         Command::Run | Command::Demo | Command::Trace => ran(rt, alloc, job, text, passed, gate),
-        Command::Elide => elided(alloc, job, text, passed),
+        Command::Elide => elided(alloc, job, passed),
         Command::List => listed(alloc, text, passed),
         Command::Effects => inferred(alloc, text, passed),
         _ => Ok(Answered::only(Verdict::Accepted)),
@@ -120,17 +121,12 @@ fn told(
 }
 
 /// The elision of an accepted program.
-fn elided(alloc: Global, job: &Job, text: &[u8], passed: Passed) -> Result<Answered, NoMemory>
+fn elided(alloc: Global, job: &Job, passed: Passed) -> Result<Answered, NoMemory>
     requires in_range { IsInRange job.now }
-    requires accepted { IsAcceptedAs text.now passed.place (typed_of passed) }
-    requires can_run { CanRun (typed_of passed) }
     ensures { IfOk result (IsElided job.now (typed_of passed)) }
 {
-    promise();
     let typed = passed.typed(alloc)?;
-    let Some(outcome) = elide(alloc, &typed, limits(job), job.arg)? else {
-        unreachable!("an accepted program goes on until it has come out")
-    };
+    let outcome = elide(alloc, &typed, job.arg, limits(job))?;
     Ok(Answered::only(Verdict::Ran(outcome)))
 }
 

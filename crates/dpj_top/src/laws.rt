@@ -28,7 +28,8 @@ pub fn one_answer()
 /// The promise of the language. What is accepted is well typed, and its runs come out. A run of an accepted program without nd constructs is answered by the
 /// outcome of its sequential elision, whatever schedule it made; of every accepted program a run is one of the source, whose
 /// unordered events that conflict lie in atomic blocks, gathered by blocks it comes out the same, and so it does with its deterministic
-/// constructs in sequence; so is a run that a replay has made; and an elision is answered by the outcome of the elision.
+/// constructs in sequence; so is a run that a replay has made; and an elision is answered by the outcome of the elision, as which the run
+/// comes out in which the greatest ready task always goes on.
 pub fn promise()
     ensures { KeepsPromise }
 {
