@@ -254,7 +254,7 @@ pub less_work : (L : Limits) (j : Walker) (s : State) (n : ℕ) (w : Store) → 
 less_work L j (At g ws v) n w x (inl h) k = let steps = x.2.steps in absurd (omega (arith, steps))
 less_work L j (At g ws v) n w x (inr h) k =
     let same : work_left j ≡ items_work g.items + waiting_work ws =
-        ap (λ (b : Level). items_work b.items + waiting_work (map plain_waiting j.waiting)) x.0 ∙ ap (λ us. items_work g.items + waiting_work us) x.1 in
+    ap (λ (b : Level). items_work b.items + waiting_work (map plain_waiting j.waiting)) x.0 ∙ ap (λ us. items_work g.items + waiting_work us) x.1 in
     let less = h.1 in
     omega (arith, same, less)
 less_work L j (Off o) n w x h k = absurd x

@@ -98,11 +98,7 @@ fn empty_store(alloc: Global, limits: Limits) -> Store
 }
 
 /// The body of `main`, on the first object.
-fn main_level<'p>(
-    alloc: Global,
-    program: &'p Program,
-    argument: i32,
-) -> Result<Level<'p>, NoMemory>
+fn main_level<'p>(alloc: Global, program: &'p Program, argument: i32) -> Result<Level<'p>, NoMemory>
     ensures { IfOk result (λ g. plain_level g ≡ root_level (root_task in_order (plain_program program.now) 0 argument)) }
 {
     let Some(member) = program.members.get(program.main_member.number as usize) else {

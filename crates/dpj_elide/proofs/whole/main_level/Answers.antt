@@ -21,11 +21,11 @@ returns c =
     let m = plain_member member in
     let n = program.main_member.number in
     let values : map plain_value c.push-2.new.self ≡ Object 0 ∷ Int c.args.argument ∷ [] =
-        ap (map plain_value) (c.in_ok-push-2.ensures.ok
-        ∙ ap (λ l. l ++ constant.Int (to_z w32 (of_z w32 c.args.argument)) ∷ []) (c.in_ok-push.ensures.ok ∙ ap (λ l. l ++ constant.Obj 0 ∷ []) c.new-values.ensures))
-        ∙ ap (λ k. Object 0 ∷ Int k ∷ []) (to_z-of_z w32 c.args.argument c.ranges.argument) in
+    ap (map plain_value) (c.in_ok-push-2.ensures.ok
+    ∙ ap (λ l. l ++ constant.Int (to_z w32 (of_z w32 c.args.argument)) ∷ []) (c.in_ok-push.ensures.ok ∙ ap (λ l. l ++ constant.Obj 0 ∷ []) c.new-values.ensures))
+    ∙ ap (λ k. Object 0 ∷ Int k ∷ []) (to_z-of_z w32 c.args.argument c.ranges.argument) in
     let frame = c.in_ok-frame.ensures ∙ ap (λ vs. entered in_order m vs (map plain_region c.new.result) 499) values
-        ∙ ap (λ rs. entered in_order m (Object 0 ∷ Int c.args.argument ∷ []) (map plain_region rs) 499) c.new.ensures in
+    ∙ ap (λ rs. entered in_order m (Object 0 ∷ Int c.args.argument ∷ []) (map plain_region rs) 499) c.new.ensures in
     subst (λ b. IfOk c.beginning-2.result (λ g. plain_level g ≡ b))
     (main_is P c.args.argument (member_at P n) m (stmts_of (map plain_stmt c.as_slice.result.now)) (plain_frame c.in_ok-frame.frame)
     (member_is program n member c.in-Some.ensures.value) (ap (λ ss. stmts_of (map plain_stmt ss)) c.as_slice.ensures) frame)

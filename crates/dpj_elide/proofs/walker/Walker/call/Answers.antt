@@ -48,11 +48,11 @@ returns c = λ L w h.
     let some : 0 < g.frame.left = omega arith in
     let short : some_long own ≡ false = sym (c.some_long.ensures ∙ ap some_long c.in_ok-own.ensures) ∙ c.if-some_long.false in
     let seen = c.class_entered-seen.ensures
-        ∙ ap (λ k. class_entered (parent_of P) k call.class (option_map plain_seen c.in_ok-seen.seen)) (sym (length-map program.classes plain_class))
-        ∙ ap (class_entered (parent_of P) (length P.classes) call.class) (c.in_ok-seen.ensures.seen L w h) in
+    ∙ ap (λ k. class_entered (parent_of P) k call.class (option_map plain_seen c.in_ok-seen.seen)) (sym (length-map program.classes plain_class))
+    ∙ ap (class_entered (parent_of P) (length P.classes) call.class) (c.in_ok-seen.ensures.seen L w h) in
     let values = c.in_ok-values.ensures ∙ ap (λ v. v ∷ reverse (take call.actuals g.operands)) (object_of (plain_value c.operand-receiver.result) n c.in-Some.ensures) in
     let operands = ap (map plain_value) (c.drop_top-2.ensures ∙ ap (drop 1) c.drop_top.ensures ∙ drop_more call.actuals level.operands)
-        ∙ map_drop plain_value (suc call.actuals) level.operands in
+    ∙ map_drop plain_value (suc call.actuals) level.operands in
     subst (λ s. ComesTo L c.enter_row.result c.enter_row.new.self s)
     (enters_same P (g.frame.left - 1) call.row _ _ _ _ _ _ _ _ ws (after (Look n) w) seen values c.in_ok-own.ensures (ap (λ vs. record g { operands = vs }) operands)
     ∙ called_is P g.left call.place call.class call.row own (reference (slot_value g.operands call.actuals)) n (reverse (take call.actuals g.operands)) _ ws w some short

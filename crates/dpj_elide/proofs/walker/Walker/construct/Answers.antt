@@ -66,7 +66,7 @@ returns c = λ L w h.
     let m = plain_member c.in-Some.member.now in
     let u = plain_value c.in_ok-object.object in
     let body = ap plain_level c.replace-creator.ensures.after ∙ c.in_ok-level.ensures
-        ∙ ap (λ rs. beginning m.body (entered in_order m (map plain_value c.in_ok-values.values) (map plain_region rs) (g.frame.left - 1)) (g.frame.left - 1)) c.in_ok-regions.ensures in
+    ∙ ap (λ rs. beginning m.body (entered in_order m (map plain_value c.in_ok-values.values) (map plain_region rs) (g.frame.left - 1)) (g.frame.left - 1)) c.in_ok-regions.ensures in
     subst (λ s. ComesTo L c.wait.result c.wait.new.self s)
     (ap (λ (k : Level). At (plain_level c.replace-creator.new.dest) (for_object u (plain_level k) ∷ ws) (after (New x true) w)) c.replace-creator.ensures.value
     ∙ ap (λ vs. At (plain_level c.replace-creator.new.dest) (for_object u (record g { operands = vs }) ∷ ws) (after (New x true) w)) operands

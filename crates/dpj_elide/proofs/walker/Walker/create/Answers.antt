@@ -30,7 +30,7 @@ returns-in_err-object-in-None c = λ L w h.
     let short : some_long own ≡ false = sym (c.some_long.ensures ∙ ap some_long regions) ∙ c.if-some_long.false in
     let x = An_object c.in_ok-class.class (map plain_region c.in_ok-class.own) (map plain_value c.as_slice.result.now) in
     let thing = ap (An_object c.in_ok-class.class (map plain_region c.in_ok-class.own)) (ap (map plain_value) c.as_slice.ensures ∙ c.in_ok-fields-in-None.ensures)
-        ∙ ap (λ n. new_object P n (map plain_region c.in_ok-class.own)) class ∙ ap (new_object P k) regions in
+    ∙ ap (λ n. new_object P n (map plain_region c.in_ok-class.own)) class ∙ ap (new_object P k) regions in
     let out = err_from_is_err_and c.from_residual-in_err-object-in-None.result c.from_residual-in_err-object-in-None.ensures.1 in
     rw (out.1, out.2) (refused Constant L c.in_err-object-in-None.field-0.0 _ _ (Holds L c.make_object.new.self) (after (New x false) w)
     (c.in_err-object-in-None.ensures.store L w h) (λ over.
@@ -51,7 +51,7 @@ returns-in_ok-object-in-None c = λ L w h.
     let short : some_long own ≡ false = sym (c.some_long.ensures ∙ ap some_long regions) ∙ c.if-some_long.false in
     let x = An_object c.in_ok-class.class (map plain_region c.in_ok-class.own) (map plain_value c.as_slice.result.now) in
     let thing = ap (An_object c.in_ok-class.class (map plain_region c.in_ok-class.own)) (ap (map plain_value) c.as_slice.ensures ∙ c.in_ok-fields-in-None.ensures)
-        ∙ ap (λ n. new_object P n (map plain_region c.in_ok-class.own)) class ∙ ap (new_object P k) regions in
+    ∙ ap (λ n. new_object P n (map plain_region c.in_ok-class.own)) class ∙ ap (new_object P k) regions in
     subst (λ s. ComesTo L c.give.result c.give.new.self s)
     (made_without P g.left c.args.place k (constructor_of P k) own (reverse (take c.args.actuals g.operands)) (plain_value c.in_ok-object-in-None.object)
     (without c.args.actuals g) ws w x (c.in-None.ensures ∙ ap (constructor_of P) class) short thing (c.in_ok-object-in-None.ensures.name L w h))

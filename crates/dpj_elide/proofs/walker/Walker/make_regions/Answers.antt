@@ -17,8 +17,7 @@ loop-region-preserved c = record {
   waiting = c.loop-region.invariant.waiting;
   made = λ L w h.
       let before = c.loop-region.invariant.made L w h in
-      let turns : 0 < before.0.turns = omega (arith, before.2.turns, before.2.steps, before.2.steps_limit, c.loop-region.self.store.within) in
-      (
+      let turns : 0 < before.0.turns = omega (arith, before.2.turns, before.2.steps, before.2.steps_limit, c.loop-region.self.store.within) in (
         with_region before.0,
         before.1
             ∙ next_made (plain_level c.args.self.now.level) (map plain_waiting c.args.self.now.waiting)
@@ -58,8 +57,7 @@ returns c = λ L w h.
     let none = drop_all c.loop-region.region-index c.as_slice-region-items.result.now c.loop-region-test.false in
     subst (λ s. StandsAt L c.loop-region.self s)
     (sym (ap (λ (xs : List LocalRegion). makes_from g ws (map (λ region. region.number) xs) g.frame w) (sym c.as_slice-region-items.ensures) ∙ before.1
-    ∙ ap (λ (xs : List LocalRegion). makes_from g ws (map (λ region. region.number) xs) f before.0) none))
-    (
+    ∙ ap (λ (xs : List LocalRegion). makes_from g ws (map (λ region. region.number) xs) f before.0) none)) (
       ap (λ is. record g { items = map plain_item is; operands = map plain_value new.operands; frame = f; left = new.frame.left }) c.loop-region.invariant.items
           ∙ ap (λ vs. record g { operands = map plain_value vs; frame = f; left = new.frame.left }) c.loop-region.invariant.operands
           ∙ ap (λ n. record g { frame = f; left = n }) c.loop-region.invariant.left,

@@ -15,20 +15,27 @@ pub returns-in_err-over-clause-walks : goal.returns-in_err-over-clause-walks
 returns-in_err-over-clause-walks c = λ L w h.
     let before = c.loop-over.invariant.walks L w h in
     let out = err_from_is_err_and c.from_residual.result c.from_residual.ensures.1 in
-    rw (out.1, out.2) (suc before.0, walks_more (plain_program c.args.program.now) L (Err c.in_err-over.field-0.0) c.loop-over.self c.step.new.self before.0 _ before.1
-    (λ v x. c.in_err-over.ensures L v x))
+    rw (out.1, out.2) (
+      suc before.0,
+      walks_more (plain_program c.args.program.now) L (Err c.in_err-over.field-0.0) c.loop-over.self c.step.new.self before.0 _ before.1
+          (λ v x. c.in_err-over.ensures L v x),
+    )
 
 pub returns-in-Some-clause-walks : goal.returns-in-Some-clause-walks
 returns-in-Some-clause-walks c = λ L w h.
-    let before = c.loop-over.invariant.walks L w h in
-    (suc before.0, walks_more (plain_program c.args.program.now) L (Ok (Some c.in-Some.over)) c.loop-over.self c.step.new.self before.0 _ before.1
-    (λ v x. rw c.in-Some.is at (c.in_ok-over.ensures L v x)))
+    let before = c.loop-over.invariant.walks L w h in (
+      suc before.0,
+      walks_more (plain_program c.args.program.now) L (Ok (Some c.in-Some.over)) c.loop-over.self c.step.new.self before.0 _ before.1
+          (λ v x. rw c.in-Some.is at (c.in_ok-over.ensures L v x)),
+    )
 
 pub returns-then-self-before-clause-walks : goal.returns-then-self-before-clause-walks
 returns-then-self-before-clause-walks c = λ L w h.
-    let before = c.loop-over.invariant.walks L w h in
-    (suc before.0, walks_more (plain_program c.args.program.now) L (Ok None) c.loop-over.self c.step.new.self before.0 _ before.1
-    (λ v x. rw c.in_default.is at (c.in_ok-over.ensures L v x)))
+    let before = c.loop-over.invariant.walks L w h in (
+      suc before.0,
+      walks_more (plain_program c.args.program.now) L (Ok None) c.loop-over.self c.step.new.self before.0 _ before.1
+          (λ v x. rw c.in_default.is at (c.in_ok-over.ensures L v x)),
+    )
 
 pub loop-over-smaller : goal.loop-over-smaller
 loop-over-smaller c =
