@@ -1,18 +1,16 @@
 -- How a run comes out, over plain variables.
-use Rattle.std.proofs.Common.{rules, arith, ◌-◌, ◌≡◌, ◌↔◌, ◌≤◌, ◌+◌, ℕ, ℤ, Bool, true, false, IsTrue, List, [], ◌∷◌, ◌++◌, length, sum, All, Option, Some, None, IfOk, IfSome, Result, Ok, Err, refl, sym, ap, ◌∙◌, subst}
+use Rattle.std.proofs.Common.{arith, ◌-◌, ◌≡◌, ◌↔◌, ◌≤◌, ◌+◌, ℕ, ℤ, Bool, true, false, IsTrue, List, [], ◌∷◌, ◌++◌, length, All, Option, Some, None, IfOk, Result, Ok, Err, refl, sym, ap, ◌∙◌, subst}
 use Rattle.std.proofs.lemmas.Bool.{false≢true}
 use Rattle.std.proofs.lemmas.List.{length-append}
 use Rattle.dpj_base.specs.declared.memory.NoMemory.{NoMemory}
 use Rattle.dpj_base.specs.declared.outcome.Limits.{Limits}
-use Rattle.dpj_base.specs.declared.outcome.Outcome.{Outcome}
 use Rattle.dpj_typed.specs.Plain.{PlainProgram}
 use Rattle.dpj_code.specs.declared.code.Code.{Code}
 use Rattle.dpj_code.specs.declared.code.Site.{Site}
 use Rattle.dpj_code.specs.Plain.{plain_code}
-use Rattle.dpj_gen.specs.Whole.{compiled}
 use Rattle.dpj_legs.specs.Halts.{IsFew}
-use Rattle.dpj_machine.specs.Keeping.{Played, IsReplayed, GreedilyOn, here, further, HasEnded}
-use Rattle.dpj_run.specs.Run.{IsRunOf, IsSameRun, IsElision, CannotGoOn, HasNoRun, halted, never_begun, ComesOut, finished, not_at_all, IsOpened, opened, too_wide, IsFinished, IsRun}
+use Rattle.dpj_machine.specs.Keeping.{Played, IsReplayed, GreedilyOn, here, further}
+use Rattle.dpj_run.specs.Run.{IsRunOf, IsSameRun, HasNoRun, halted, never_begun, finished, IsOpened, opened, too_wide, IsFinished, IsRun}
 use Rattle.dpj_run.specs.Run.{finished_so, unfinished_so, recorded_so, no_record}
 use Rattle.dpj_run.specs.declared.recorded.Recorded.{Recorded}
 use Rattle.dpj_workers.specs.declared.working.Worked.{Worked}
@@ -53,19 +51,6 @@ still P L argument a b r same = record {
   is_argument = same.argument ∙ r.is_argument;
   replayed = same.replayed;
 }
-
--- an elision comes out as its last moment says, or there is no run
-pub came : (P : PlainProgram) (L : Limits) (argument : ℤ) (p : Played) → IsElision P L argument p → (outcome : Option Outcome)
-    → IfSome outcome (λ o. p.outcome ≡ Some o) → (outcome ≡ None → CannotGoOn p) → ComesOut P L argument outcome
-came P L argument p e (Some o) is stopped = finished p o e is
-came P L argument p e None is stopped = not_at_all (halted p e.is_run (stopped refl))
-
-pub elided : (P : PlainProgram) (L : Limits) (argument : ℤ) (a b : Played) → IsRunOf P L argument a → a.schedule ≡ [] → GreedilyOn a b → IsReplayed b
-    → (result : Result (Option Outcome) NoMemory) → IfOk result (λ outcome. IfSome outcome (λ o. b.outcome ≡ Some o)) → IfOk result (λ outcome. outcome ≡ None → CannotGoOn b)
-    → IfOk result (ComesOut P L argument)
-elided P L argument a b is nothing steps replayed (Ok outcome) came_so stopped =
-    came P L argument b (record { is_run = still P L argument a b is (same_run a b steps replayed); start = a; nothing = nothing; steps = steps }) outcome came_so stopped
-elided P L argument a b is nothing steps replayed (Err none) came_so stopped = tt
 
 -- what was opened is a run, or there is none
 pub opened_run : (P : PlainProgram) (L : Limits) (argument : ℤ) (p : Played) → IsOpened P L argument (Some p) → IsRunOf P L argument p × (p.schedule ≡ [])

@@ -1,13 +1,12 @@
 //! Runs typed programs: the program is compiled, a machine is opened on its code, and the machine is stepped until the run
-//! has come out, by the caller alone (`elide`), by workers (`run`), in rounds (`run_rounds`), or as a schedule says (`replay`).
+//! has come out, by workers (`run`), in rounds (`run_rounds`), or as a schedule says (`replay`).
 //!
 //! What it promises (`specs/Run.antt`): an outcome is that of a run of the program's code within the limits, which the
-//! schedule leads to that was made. `elide` makes the run in which at each step the task that began last goes on. Where there
-//! is no outcome, the run is at a moment at which no task can go on, or the code has a fork of more branches than a value
-//! counts; no accepted program comes to this, as a law says that stands above (`law_goes_on` of `dpj_promise`).
+//! schedule leads to that was made. Where there is no outcome, the run is at a moment at which no task can go on, or the
+//! code has a fork of more branches than a value counts; no accepted program comes to this, as a law says that stands
+//! above (`law_goes_on` of `dpj_promise`).
 #![tactic(auto)]
 
-mod eliding;
 mod few;
 mod finish;
 mod opening;
@@ -16,7 +15,6 @@ mod replaying;
 mod rounding;
 mod running;
 
-pub use eliding::elide;
 pub use finish::came_out;
 pub use opening::open;
 pub use recorded::Recorded;
