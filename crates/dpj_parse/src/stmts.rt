@@ -38,37 +38,58 @@ fn stmt(alloc: Global, cursor: &mut Cursor) -> Result<Stmt, Stop>
     let outer = cursor.joined;
     cursor.joined = 0;
     let place = cursor.place();
-    let stmt = match form(alloc, cursor)? {
-        Some(kind) => made(place, kind),
-        None => simple(alloc, cursor)?,
+    let stmt = if holds_others(cursor) {
+        made(place, form(alloc, cursor)?)
+    } else {
+        simple(alloc, cursor)?
     };
     cursor.joined = outer;
     Ok(stmt)
 }
 
-/// A statement that holds other ones, but for its place; None where one begins that holds none.
-#[tactic(auto, using(crate::proofs::Stating::block_form, crate::proofs::StmtParts::of_begin))]
-#[cycle(stmts)]
-fn form(alloc: Global, cursor: &mut Cursor) -> Result<Option<StmtKind>, Stop>
-    ensures moves { IfOk result (λ found. MatchOption found (cursor.new ≡ cursor.old) (λ kind. Reads cursor.old cursor.new)) }
-    ensures reads { IfOk result (λ found. IfSome found (λ kind. Reading (stmt_begins cursor.old.rest.now) cursor.old cursor.new)) }
-    ensures alone { IfOk result (λ found. found ≡ None → next_is holds_others (next_of cursor.old.rest.now) ≡ false) }
-    ensures stops { IfErr result (λ stop. StopsAt (stmt_begins cursor.old.rest.now) cursor.old stop) }
-    ensures derives { IfOk result (λ found. IfSome found (λ kind. DerivesForm cursor.old.rest.now cursor.new.rest.now (plain_stmt_kind kind))) }
+/// Whether a statement begins that holds other ones.
+fn holds_others(cursor: &Cursor) -> bool
+    ensures { result ≡ next_is holds_others (next_of cursor.now.rest.now) }
 {
     match cursor.next() {
-        Some(Terminal::Symbol(Symbol::OpenBrace)) => {
-            Ok(Some(StmtKind::Block(block(alloc, cursor)?)))
-        }
-        Some(Terminal::Keyword(Keyword::If)) => Ok(Some(choice(alloc, cursor)?)),
-        Some(Terminal::Keyword(Keyword::While)) => Ok(Some(while_loop(alloc, cursor)?)),
-        Some(Terminal::Keyword(Keyword::Cobegin)) => Ok(Some(cobegin(alloc, cursor, false)?)),
-        Some(Terminal::Keyword(Keyword::CobeginNd)) => Ok(Some(cobegin(alloc, cursor, true)?)),
-        Some(Terminal::Keyword(Keyword::Foreach)) => Ok(Some(foreach(alloc, cursor, false)?)),
-        Some(Terminal::Keyword(Keyword::ForeachNd)) => Ok(Some(foreach(alloc, cursor, true)?)),
-        Some(Terminal::Keyword(Keyword::ForeachParts)) => Ok(Some(foreach_parts(alloc, cursor)?)),
-        Some(Terminal::Keyword(Keyword::Atomic)) => Ok(Some(atomic(alloc, cursor)?)),
-        _ => Ok(None),
+        Some(Terminal::Symbol(Symbol::OpenBrace)) => true,
+        Some(
+            Terminal::Keyword(
+                Keyword::If
+                | Keyword::While
+                | Keyword::Cobegin
+                | Keyword::CobeginNd
+                | Keyword::Foreach
+                | Keyword::ForeachNd
+                | Keyword::ForeachParts
+                | Keyword::Atomic,
+            ),
+        ) => true,
+        _ => false,
+    }
+}
+
+/// A statement that holds other ones, but for its place.
+#[tactic(auto, using(crate::proofs::Stating::block_form, crate::proofs::StmtParts::of_begin))]
+#[cycle(stmts)]
+fn form(alloc: Global, cursor: &mut Cursor) -> Result<StmtKind, Stop>
+    requires { next_is holds_others (next_of cursor.old.rest.now) ≡ true }
+    ensures moves { OnOk result (Reads cursor.old cursor.new) }
+    ensures reads { OnOk result (Reading (stmt_begins cursor.old.rest.now) cursor.old cursor.new) }
+    ensures stops { IfErr result (λ stop. StopsAt (stmt_begins cursor.old.rest.now) cursor.old stop) }
+    ensures derives { IfOk result (λ kind. DerivesForm cursor.old.rest.now cursor.new.rest.now (plain_stmt_kind kind)) }
+{
+    match cursor.next() {
+        Some(Terminal::Symbol(Symbol::OpenBrace)) => Ok(StmtKind::Block(block(alloc, cursor)?)),
+        Some(Terminal::Keyword(Keyword::If)) => choice(alloc, cursor),
+        Some(Terminal::Keyword(Keyword::While)) => while_loop(alloc, cursor),
+        Some(Terminal::Keyword(Keyword::Cobegin)) => cobegin(alloc, cursor, false),
+        Some(Terminal::Keyword(Keyword::CobeginNd)) => cobegin(alloc, cursor, true),
+        Some(Terminal::Keyword(Keyword::Foreach)) => foreach(alloc, cursor, false),
+        Some(Terminal::Keyword(Keyword::ForeachNd)) => foreach(alloc, cursor, true),
+        Some(Terminal::Keyword(Keyword::ForeachParts)) => foreach_parts(alloc, cursor),
+        Some(Terminal::Keyword(Keyword::Atomic)) => atomic(alloc, cursor),
+        _ => unreachable!(),
     }
 }
 
