@@ -2,13 +2,13 @@ ghost use Rattle.std.specs.Prelude.{◌≡◌, IfOk, OnOk};
 ghost use Rattle.dpj_headers.specs.Faults.{all_noted};
 ghost use Rattle.dpj_resolve.specs.declared.scope.Site.TheVariants.{Signature as InSignature};
 ghost use Rattle.dpj_resolve.specs.Scopes.{plain_scope};
-ghost use Rattle.dpj_classes.specs.Around.{class_names, method_names, scope_under, with_names};
+ghost use Rattle.dpj_classes.specs.Around.{class_names, formal_names, method_names, param_names, scope_under, with_names};
 ghost use Rattle.dpj_classes.specs.Signatures.{rpl_meant, rpl_faults, constraint_meant, constraint_faults, constraints_meant, constraints_faults};
 
 use dpj_base::{Constraint, Items, NoMemory, Rpl, Stop};
 use dpj_headers::{Faults, Headers};
 use dpj_resolve::{IndexNames, Need, Scope, Scoped, Site, path};
-use dpj_tree::{ConstrTree, Method, RplTree};
+use dpj_tree::{ConstrTree, Formal, Method, ParamTree, RplTree};
 use std::alloc::Global;
 
 /// The names that a method has around its signature. A class has none.
@@ -34,14 +34,11 @@ impl Names {
     pub fn of_method(alloc: Global, method: &Method) -> Result<Names, NoMemory>
         ensures { IfOk result (λ names. names ≡ method_names method.now) }
     {
-        let mut names = Names::new(alloc);
-        for param in method.params.list.as_slice() {
-            names.params.enter(param.name, param.atomic)?;
-        }
-        for formal in method.formals.as_slice() {
-            names.formals.enter(formal.name, None)?;
-        }
-        Ok(names)
+        Ok(Names {
+            params: param_names(alloc, method.params.list.as_slice())?,
+            formals: formal_names(alloc, method.formals.as_slice())?,
+            regions: Scoped::new(alloc),
+        })
     }
 
     /// What is around a signature of a class, where some constraints are in force.
@@ -66,6 +63,26 @@ impl Names {
             site: Site::Signature,
         }
     }
+}
+
+fn param_names(alloc: Global, params: &[ParamTree]) -> Result<Scoped<bool>, NoMemory>
+    ensures { IfOk result (λ names. names ≡ param_names params.now) }
+{
+    let mut names = Scoped::new(alloc);
+    for param in params {
+        names.enter(param.name, param.atomic)?;
+    }
+    Ok(names)
+}
+
+fn formal_names(alloc: Global, formals: &[Formal]) -> Result<Scoped<Option<u32>>, NoMemory>
+    ensures { IfOk result (λ names. names ≡ formal_names formals.now) }
+{
+    let mut names = Scoped::new(alloc);
+    for formal in formals {
+        names.enter(formal.name, None)?;
+    }
+    Ok(names)
 }
 
 /// Reads a region path outside of types. In a signature its faults are only noted, so nothing but memory can be

@@ -5,7 +5,7 @@ ghost use Rattle.dpj_headers.specs.Faults.{all_noted};
 ghost use Rattle.dpj_headers.specs.Numbers.{as_number};
 ghost use Rattle.dpj_headers.specs.Passes.{is_constructor_result};
 ghost use Rattle.dpj_resolve.specs.Classes.{constraints_in};
-ghost use Rattle.dpj_classes.specs.Around.{with_names, class_scope};
+ghost use Rattle.dpj_classes.specs.Around.{with_names, class_scope, method_names};
 ghost use Rattle.dpj_classes.specs.Rows.{plain_super, plain_field, plain_method, field_row, field_faults, said_faults, said_scope, method_row, method_faults, own_fields, next_slot, own_methods, member_faults, fields_from, methods_from, first_slot, super_rows, super_faults, class_faults, supers_meant, fields_meant, methods_meant, signature_faults, all_constraints, all_constraint_faults};
 ghost use Rattle.dpj_classes.specs.Signatures.{constraints_meant, constraints_faults, formal_types, result_type, summary_meant, parent_meant, parent_faults};
 ghost use Rattle.dpj_classes.specs.Supers.{classes_in, extending, all_extending};
@@ -262,7 +262,6 @@ impl Around<'_> {
     }
 
     /// Reads a method. The constraints in force are those of the class, before and after.
-    #[tactic(auto, using(dpj_headers::proofs::Noting::noting))]
     fn method(
         &self,
         alloc: Global,
@@ -275,12 +274,31 @@ impl Around<'_> {
         ensures meant { IfOk result (λ row. plain_method row ≡ method_row (scope_with self.now in_force.old) id method.now) }
         ensures noted { OnOk result (faults.new ≡ all_noted faults.old (method_faults (scope_with self.now in_force.old) method.now)) }
     {
-        let of_class = in_force.len();
         let names = Names::of_method(alloc, method)?;
-        let given = self.own_constraints(alloc, &names, in_force, method, faults)?;
-        let said = self.said(alloc, &names, in_force.as_slice(), method, faults)?;
-        in_force.truncate(of_class);
+        self.named(alloc, &names, in_force, method, id, faults)
+    }
+
+    /// Reads a method that has these names.
+    #[tactic(auto, using(dpj_headers::proofs::Noting::noting))]
+    fn named(
+        &self,
+        alloc: Global,
+        names: &Names,
+        in_force: &mut Items<Constraint>,
+        method: &Method,
+        id: u32,
+        faults: &mut Faults,
+    ) -> Result<MethodRow, NoMemory>
+        requires { names.now ≡ method_names method.now }
+        ensures in_force { OnOk result (in_force.new ≡ in_force.old) }
+        ensures meant { IfOk result (λ row. plain_method row ≡ method_row (scope_with self.now in_force.old) id method.now) }
+        ensures noted { OnOk result (faults.new ≡ all_noted faults.old (method_faults (scope_with self.now in_force.old) method.now)) }
+    {
         let regions = param_rows(alloc, method.params.list.as_slice())?;
+        let of_class = in_force.len();
+        let given = self.own_constraints(alloc, names, in_force, method, faults)?;
+        let said = self.said(alloc, names, in_force.as_slice(), method, faults)?;
+        in_force.truncate(of_class);
         Ok(method_row(self.class, method, id, regions, given, said))
     }
 
