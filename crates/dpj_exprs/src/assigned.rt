@@ -203,6 +203,21 @@ fn in_array(
     }))
 }
 
+impl Spot {
+    ghost use Rattle.std.specs.Prelude.{◌≡◌, OnOk};
+    ghost use Rattle.dpj_exprs.specs.Targeting.{plain_spot, written};
+
+    /// Adds the write of the region where a value goes.
+    fn note_write(&self, rpl: Rpl, found: &mut Found) -> Result<(), NoMemory>
+        ensures { OnOk result (found.new ≡ written found.old (plain_spot self.now) rpl) }
+    {
+        match self {
+            Spot::Part { part, .. } => found.part_use(part.number, rpl, Access::Write),
+            _ => found.access(rpl, Access::Write),
+        }
+    }
+}
+
 impl Target {
     ghost use Rattle.std.specs.Prelude.{◌≡◌, IfOk, OnOk};
     ghost use Rattle.dpj_exprs.specs.Targeting.{plain_spot, plain_target, with_write};
@@ -213,10 +228,7 @@ impl Target {
         ensures found { OnOk result (found.new ≡ with_write found.old (plain_target self)) }
     {
         let Target { spot, rpl, .. } = self;
-        match &spot {
-            Spot::Part { part, .. } => found.part_use(part.number, rpl, Access::Write)?,
-            _ => found.access(rpl, Access::Write)?,
-        }
+        spot.note_write(rpl, found)?;
         Ok(spot)
     }
 }
