@@ -1,3 +1,4 @@
+pub mod Concrete
 pub mod Envs
 pub mod Lists
 pub mod Paths

@@ -16,6 +16,7 @@ use Rattle.dpj_gen.specs.Stands.{LineAt, first_place, BeginsAt, StmtsAt, MemberE
 use Rattle.dpj_gen.specs.Resolved.{gives_value, StmtFits, StmtsFit, BranchesFit, Resolved}
 use Rattle.dpj_gen.specs.Whole.{weight_all, place_of, branch_piece_of, branch_piece, closing, member_piece, generate, in_member, member_output, past_output, members_output, member_numbers, first, number_in, compiled}
 use Rattle.dpj_gen.proofs.Closing.{leaves_nothing, never_ends}
+use Rattle.dpj_gen.proofs.Branched.{AllAre, all_on, Each, each_none, each_both, each_after, each_line, each_nothing, each_branches, each_site}
 use Rattle.dpj_gen.proofs.Pieces.{Holds, split, all_of, Queued, queued, Laid}
 use Rattle.dpj_gen.proofs.Placed.{stmt_far, stmts_far}
 use Rattle.dpj_gen.proofs.Whole.{need, need_on, Needs, expr_needs, stmt_needs, branch_needs, member_needs, OutputAt, generated, member_queued, member_is, first_output, bodies_at}
@@ -36,47 +37,10 @@ module _ (P : PlainProgram) (y : Bool) (n r : ℕ) where
     fits : StmtFits P y b.stmt
     within : StmtWithin P n r false b.stmt
 
-  abbrev AllGood : List Branch → Type 0
-  AllGood [] = Unit {0}
-  AllGood (b ∷ bs) = Good b × AllGood bs
+  abbrev Goods : Piece → Type 0
+  Goods a = Each Good a
 
-  good_on : (xs ys : List Branch) → AllGood xs → AllGood ys → AllGood (xs ++ ys)
-  good_on [] ys f g = g
-  good_on (x ∷ xs) ys f g = (f.0, good_on xs ys f.1 g)
-
-  record Goods (a : Piece) : Type 0 where
-    is : AllGood a.branches
-
-  good_none : {a : Piece} → Needs a 0 → Goods a
-  good_none {a} q = record { is = go a.branches q.is }
-    where
-      go : (bs : List Branch) → need bs ≡ 0 → AllGood bs
-      go [] e = tt
-      go (b ∷ bs) e = absurd (omega arith)
-
-  good_both : {a b : Piece} → Goods a → Goods b → Goods (beside a b)
-  unfolding beside
-  good_both {a} {b} f g = record { is = good_on a.branches b.branches f.is g.is }
-
-  good_after : {a b : Piece} → Needs a 0 → Goods b → Goods (beside a b)
-  good_after q g = good_both (good_none q) g
-
-  good_line : {a : Piece} (x : Instr) (at : Place) → Goods a → Goods (line x at a)
-  unfolding line
-  good_line x at f = record { is = f.is }
-
-  good_nothing : Goods nothing
-  good_nothing = record { is = tt }
-
-  good_branches : (bs : List Branch) (a : Piece) → AllGood bs → Goods (with_branches bs a)
-  unfolding with_branches
-  good_branches bs a f = record { is = f }
-
-  good_site : (s : Site) (a : Piece) → Goods a → Goods (with_site s a)
-  unfolding with_site
-  good_site s a f = record { is = f.is }
-
-  each_good : (s k : ℕ) (bs : TypedBranches) → BranchesFit P y bs → BranchesWithin P n r bs → AllGood (branches_of s k bs)
+  each_good : (s k : ℕ) (bs : TypedBranches) → BranchesFit P y bs → BranchesWithin P n r bs → AllAre Good (branches_of s k bs)
   each_good s k no_branches ok w = tt
   each_good s k (more_branches copies t bs) ok w =
       (record { titled = refl; takes = tt; fits = ok.0; within = w.1 }, each_good s (suc k) bs ok.1 w.2)
@@ -84,38 +48,38 @@ module _ (P : PlainProgram) (y : Bool) (n r : ℕ) where
   mutual
     stmt_good : (may : Bool) (k : Next) (p : ℕ) (s : TypedStmt) → StmtFits P y s → StmtWithin P n r may s → Goods (stmt_piece k p s)
     stmt_good may k p (statement at (form.block ss)) ok w = stmts_good may k p ss ok w
-    stmt_good may k p (statement at (form.choice e s)) ok w = good_after (expr_needs k p e) (good_line _ _ (stmt_good may _ _ s ok.1 w.1))
+    stmt_good may k p (statement at (form.choice e s)) ok w = each_after (expr_needs k p e) (each_line _ _ (stmt_good may _ _ s ok.1 w.1))
     stmt_good may k p (statement at (form.choice_else e s t)) ok w =
-        good_after (expr_needs k p e) (good_line _ _ (good_both (stmt_good may _ _ s ok.1 w.1) (good_line _ _ (stmt_good may _ _ t ok.2 w.2))))
+        each_after (expr_needs k p e) (each_line _ _ (each_both (stmt_good may _ _ s ok.1 w.1) (each_line _ _ (stmt_good may _ _ t ok.2 w.2))))
     stmt_good may k p (statement at (form.while_loop e s)) ok w =
-        good_after (expr_needs k p e) (good_line _ _ (good_line _ _ (good_both (stmt_good may _ _ s ok.1 w.1) (good_line _ _ good_nothing))))
+        each_after (expr_needs k p e) (each_line _ _ (each_line _ _ (each_both (stmt_good may _ _ s ok.1 w.1) (each_line _ _ each_nothing))))
     stmt_good may k p (statement at (form.atomic effects ss)) ok w =
-        good_both (good_site _ _ (good_line _ _ good_nothing)) (good_both (stmts_good false _ _ ss ok w) (good_line _ _ good_nothing))
-    stmt_good may k p (statement at (form.cobegin forking bs)) ok w = good_branches _ _ (each_good _ 0 bs ok w)
+        each_both (each_site _ _ (each_line _ _ each_nothing)) (each_both (stmts_good false _ _ ss ok w) (each_line _ _ each_nothing))
+    stmt_good may k p (statement at (form.cobegin forking bs)) ok w = each_branches _ _ (each_good _ 0 bs ok w)
     stmt_good may k p (statement at (form.foreach forking x start count s)) ok w =
-        good_after (expr_needs k p start) (good_after (expr_needs _ _ count)
-        (good_branches _ _ (record { titled = refl; takes = tt; fits = ok.2; within = w.3 }, tt)))
+        each_after (expr_needs k p start) (each_after (expr_needs _ _ count)
+        (each_branches _ _ (record { titled = refl; takes = tt; fits = ok.2; within = w.3 }, tt)))
     stmt_good may k p (statement at (form.foreach_parts x (of_array a) count s)) ok w =
-        good_after (expr_needs k p a) (good_line _ _ (good_line _ _ (good_line _ _ (good_after (expr_needs _ _ count)
-        (good_line _ _ (good_line _ _ (good_line _ _ (good_line _ _ (good_line _ _ (good_line _ _
-        (good_branches _ _ (record { titled = refl; takes = w.0; fits = ok.2; within = w.3 }, tt))))))))))))
+        each_after (expr_needs k p a) (each_line _ _ (each_line _ _ (each_line _ _ (each_after (expr_needs _ _ count)
+        (each_line _ _ (each_line _ _ (each_line _ _ (each_line _ _ (each_line _ _ (each_line _ _
+        (each_branches _ _ (record { titled = refl; takes = w.0; fits = ok.2; within = w.3 }, tt))))))))))))
     stmt_good may k p (statement at (form.foreach_parts x (of_part z) count s)) ok w =
-        good_line _ _ (good_line _ _ (good_line _ _ (good_line _ _ (good_after (expr_needs _ _ count)
-        (good_line _ _ (good_line _ _ (good_line _ _ (good_line _ _ (good_line _ _
-        (good_branches _ _ (record { titled = refl; takes = w.0; fits = ok.1; within = w.3 }, tt)))))))))))
-    stmt_good may k p s ok w = good_none (stmt_needs k p s)
+        each_line _ _ (each_line _ _ (each_line _ _ (each_line _ _ (each_after (expr_needs _ _ count)
+        (each_line _ _ (each_line _ _ (each_line _ _ (each_line _ _ (each_line _ _
+        (each_branches _ _ (record { titled = refl; takes = w.0; fits = ok.1; within = w.3 }, tt)))))))))))
+    stmt_good may k p s ok w = each_none (stmt_needs k p s)
 
     stmts_good : (may : Bool) (k : Next) (p : ℕ) (ss : TypedStmts) → StmtsFit P y ss → StmtsWithin P n r may ss → Goods (stmts_piece k p ss)
-    stmts_good may k p no_stmts ok w = good_nothing
-    stmts_good may k p (more_stmts s ss) ok w = good_both (stmt_good may k p s ok.0 w.0) (stmts_good may _ _ ss ok.2 w.1)
+    stmts_good may k p no_stmts ok w = each_nothing
+    stmts_good may k p (more_stmts s ss) ok w = each_both (stmt_good may k p s ok.0 w.0) (stmts_good may _ _ ss ok.2 w.1)
 
   branch_good : (k : Next) (at : Place) (s : TypedStmt) (takes : Option ℕ) → StmtFits P y s → StmtWithin P n r false s → Goods (branch_piece_of k at s takes)
-  branch_good k at s None ok w = good_both (stmt_good false k 0 s ok w) (good_line _ _ good_nothing)
-  branch_good k at s (Some x) ok w = good_line _ _ (good_both (stmt_good false k 1 s ok w) (good_line _ _ good_nothing))
+  branch_good k at s None ok w = each_both (stmt_good false k 0 s ok w) (each_line _ _ each_nothing)
+  branch_good k at s (Some x) ok w = each_line _ _ (each_both (stmt_good false k 1 s ok w) (each_line _ _ each_nothing))
 
   member_good : (k : Next) (ss : TypedStmts) (z : Bool) → StmtsFit P y ss → StmtsWithin P n r true ss → Goods (beside (stmts_piece k 0 ss) (closing z))
-  member_good k ss true ok w = good_both (stmts_good true k 0 ss ok w) (good_line _ _ good_nothing)
-  member_good k ss false ok w = good_both (stmts_good true k 0 ss ok w) good_nothing
+  member_good k ss true ok w = each_both (stmts_good true k 0 ss ok w) (each_line _ _ each_nothing)
+  member_good k ss false ok w = each_both (stmts_good true k 0 ss ok w) each_nothing
 
 module _ (C : PlainCode) (P : PlainProgram) (gives : ℕ → Bool) where
   -- how a body ends, where it comes to its end
@@ -174,7 +138,7 @@ module _ (C : PlainCode) (P : PlainProgram) (gives : ℕ → Bool) where
   branch_linked b k at s (Some x) h = linked C b k 1 s (cut_here C b (stmt_far k 1 s) (skip C b _ _ h)).0
 
   queue_known : (y : Bool) (n j : ℕ) (m : PlainMember) (k : Next) (todo : List Branch) → need todo ≤ n → j + length todo ≡ k.body →
-      OutputAt C k j (generate n m k todo) → AllGood P y m.slots m.local_regions todo →
+      OutputAt C k j (generate n m k todo) → AllAre (Good P y m.slots m.local_regions) todo →
       ((i : ℕ) → i < length (generate n m k todo).bodies → gives (j + i) ≡ y) → (i : ℕ) → i < length (generate n m k todo).bodies → Known (j + i)
   queue_known y zero j m k todo l e h f g i lt = absurd (omega arith)
   queue_known y (suc n) j m k [] l e h f g i lt = absurd (omega arith)
@@ -228,7 +192,7 @@ module _ (C : PlainCode) (P : PlainProgram) (gives : ℕ → Bool) where
       let t = split C.texts a.texts more.texts k.text h.texts in
       let r = queue_known y n (suc j) m (past k a) (todo ++ a.branches) (omega arith) (omega arith)
       (record { bodies = h.bodies.1; sites = s.1; texts = t.1 })
-      (good_on P y m.slots m.local_regions todo a.branches f.1
+      (all_on (Good P y m.slots m.local_regions) todo a.branches f.1
       (branch_good P y m.slots m.local_regions k (place_of b.stmt) b.stmt b.takes f.0.fits f.0.within).is)
       (λ q v. subst (λ z. gives z ≡ y) (omega arith) (g (suc q) (omega arith))) i (omega arith) in
       subst (λ z. Known z) (omega arith) r

@@ -15,87 +15,54 @@ use Rattle.dpj_gen.specs.Resolved.{gives_value, StmtFits, StmtsFit, BranchesFit,
 use Rattle.dpj_gen.specs.Compiled.{Compiled}
 use Rattle.dpj_gen.specs.Whole.{weight_all, place_of, branch_piece_of, branch_piece, closing, member_piece, generate, in_member, member_output, past_output, members_output, first, compiled}
 use Rattle.dpj_gen.specs.Laws.{work_of}
+use Rattle.dpj_gen.proofs.Branched.{AllAre, all_on, Each, each_none, each_both, each_after, each_line, each_nothing, each_branches, each_site}
 use Rattle.dpj_gen.proofs.Pieces.{split, BranchStands}
 use Rattle.dpj_gen.proofs.Whole.{need, need_on, Needs, expr_needs, stmt_needs, branch_needs, OutputAt, generated, first_output, bodies_at, member_needs, member_is, root_is}
 
 module _ (P : PlainProgram) (y : Bool) where
   -- the statements of branches fit
-  abbrev AllFit : List Branch → Type 0
-  AllFit [] = Unit {0}
-  AllFit (b ∷ bs) = StmtFits P y b.stmt × AllFit bs
+  abbrev Fitting : Branch → Type 0
+  Fitting b = StmtFits P y b.stmt
 
-  fit_on : (xs ys : List Branch) → AllFit xs → AllFit ys → AllFit (xs ++ ys)
-  fit_on [] ys f g = g
-  fit_on (x ∷ xs) ys f g = (f.0, fit_on xs ys f.1 g)
+  abbrev Fits : Piece → Type 0
+  Fits a = Each Fitting a
 
-  record Fits (a : Piece) : Type 0 where
-    is : AllFit a.branches
-
-  fits_none : {a : Piece} → Needs a 0 → Fits a
-  fits_none {a} n = record { is = go a.branches n.is }
-    where
-      go : (bs : List Branch) → need bs ≡ 0 → AllFit bs
-      go [] e = tt
-      go (b ∷ bs) e = absurd (omega arith)
-
-  fits_both : {a b : Piece} → Fits a → Fits b → Fits (beside a b)
-  unfolding beside
-  fits_both {a} {b} f g = record { is = fit_on a.branches b.branches f.is g.is }
-
-  fits_after : {a b : Piece} → Needs a 0 → Fits b → Fits (beside a b)
-  fits_after n g = fits_both (fits_none n) g
-
-  fits_line : {a : Piece} (x : Instr) (at : Place) → Fits a → Fits (line x at a)
-  unfolding line
-  fits_line x at f = record { is = f.is }
-
-  fits_nothing : Fits nothing
-  fits_nothing = record { is = tt }
-
-  fits_branches : (bs : List Branch) (a : Piece) → AllFit bs → Fits (with_branches bs a)
-  unfolding with_branches
-  fits_branches bs a f = record { is = f }
-
-  fits_site : (s : Site) (a : Piece) → Fits a → Fits (with_site s a)
-  unfolding with_site
-  fits_site s a f = record { is = f.is }
-
-  fit_branches : (s n : ℕ) (bs : TypedBranches) → BranchesFit P y bs → AllFit (branches_of s n bs)
+  fit_branches : (s n : ℕ) (bs : TypedBranches) → BranchesFit P y bs → AllAre Fitting (branches_of s n bs)
   fit_branches s n no_branches ok = tt
   fit_branches s n (more_branches copies t bs) ok = (ok.0, fit_branches s (suc n) bs ok.1)
 
   mutual
     stmt_fit : (k : Next) (p : ℕ) (s : TypedStmt) → StmtFits P y s → Fits (stmt_piece k p s)
     stmt_fit k p (statement at (form.block ss)) ok = stmts_fit k p ss ok
-    stmt_fit k p (statement at (form.choice e s)) ok = fits_after (expr_needs k p e) (fits_line _ _ (stmt_fit _ _ s ok.1))
+    stmt_fit k p (statement at (form.choice e s)) ok = each_after (expr_needs k p e) (each_line _ _ (stmt_fit _ _ s ok.1))
     stmt_fit k p (statement at (form.choice_else e s t)) ok =
-        fits_after (expr_needs k p e) (fits_line _ _ (fits_both (stmt_fit _ _ s ok.1) (fits_line _ _ (stmt_fit _ _ t ok.2))))
+        each_after (expr_needs k p e) (each_line _ _ (each_both (stmt_fit _ _ s ok.1) (each_line _ _ (stmt_fit _ _ t ok.2))))
     stmt_fit k p (statement at (form.while_loop e s)) ok =
-        fits_after (expr_needs k p e) (fits_line _ _ (fits_line _ _ (fits_both (stmt_fit _ _ s ok.1) (fits_line _ _ fits_nothing))))
+        each_after (expr_needs k p e) (each_line _ _ (each_line _ _ (each_both (stmt_fit _ _ s ok.1) (each_line _ _ each_nothing))))
     stmt_fit k p (statement at (form.atomic effects ss)) ok =
-        fits_both (fits_site _ _ (fits_line _ _ fits_nothing)) (fits_both (stmts_fit _ _ ss ok) (fits_line _ _ fits_nothing))
-    stmt_fit k p (statement at (form.cobegin forking bs)) ok = fits_branches _ _ (fit_branches _ 0 bs ok)
+        each_both (each_site _ _ (each_line _ _ each_nothing)) (each_both (stmts_fit _ _ ss ok) (each_line _ _ each_nothing))
+    stmt_fit k p (statement at (form.cobegin forking bs)) ok = each_branches _ _ (fit_branches _ 0 bs ok)
     stmt_fit k p (statement at (form.foreach forking x start count s)) ok =
-        fits_after (expr_needs k p start) (fits_after (expr_needs _ _ count) (fits_branches _ _ (ok.2, tt)))
+        each_after (expr_needs k p start) (each_after (expr_needs _ _ count) (each_branches _ _ (ok.2, tt)))
     stmt_fit k p (statement at (form.foreach_parts x (of_array a) count s)) ok =
-        fits_after (expr_needs k p a) (fits_line _ _ (fits_line _ _ (fits_line _ _ (fits_after (expr_needs _ _ count)
-        (fits_line _ _ (fits_line _ _ (fits_line _ _ (fits_line _ _ (fits_line _ _ (fits_line _ _ (fits_branches _ _ (ok.2, tt))))))))))))
+        each_after (expr_needs k p a) (each_line _ _ (each_line _ _ (each_line _ _ (each_after (expr_needs _ _ count)
+        (each_line _ _ (each_line _ _ (each_line _ _ (each_line _ _ (each_line _ _ (each_line _ _ (each_branches _ _ (ok.2, tt))))))))))))
     stmt_fit k p (statement at (form.foreach_parts x (of_part z) count s)) ok =
-        fits_line _ _ (fits_line _ _ (fits_line _ _ (fits_line _ _ (fits_after (expr_needs _ _ count)
-        (fits_line _ _ (fits_line _ _ (fits_line _ _ (fits_line _ _ (fits_line _ _ (fits_branches _ _ (ok.1, tt)))))))))))
-    stmt_fit k p s ok = fits_none (stmt_needs k p s)
+        each_line _ _ (each_line _ _ (each_line _ _ (each_line _ _ (each_after (expr_needs _ _ count)
+        (each_line _ _ (each_line _ _ (each_line _ _ (each_line _ _ (each_line _ _ (each_branches _ _ (ok.1, tt)))))))))))
+    stmt_fit k p s ok = each_none (stmt_needs k p s)
 
     stmts_fit : (k : Next) (p : ℕ) (ss : TypedStmts) → StmtsFit P y ss → Fits (stmts_piece k p ss)
-    stmts_fit k p no_stmts ok = fits_nothing
-    stmts_fit k p (more_stmts s ss) ok = fits_both (stmt_fit k p s ok.0) (stmts_fit _ _ ss ok.2)
+    stmts_fit k p no_stmts ok = each_nothing
+    stmts_fit k p (more_stmts s ss) ok = each_both (stmt_fit k p s ok.0) (stmts_fit _ _ ss ok.2)
 
   branch_fit : (k : Next) (at : Place) (s : TypedStmt) (takes : Option ℕ) → StmtFits P y s → Fits (branch_piece_of k at s takes)
-  branch_fit k at s None ok = fits_both (stmt_fit k 0 s ok) (fits_line _ _ fits_nothing)
-  branch_fit k at s (Some x) ok = fits_line _ _ (fits_both (stmt_fit k 1 s ok) (fits_line _ _ fits_nothing))
+  branch_fit k at s None ok = each_both (stmt_fit k 0 s ok) (each_line _ _ each_nothing)
+  branch_fit k at s (Some x) ok = each_line _ _ (each_both (stmt_fit k 1 s ok) (each_line _ _ each_nothing))
 
   member_fit : (k : Next) (ss : TypedStmts) (z : Bool) → StmtsFit P y ss → Fits (beside (stmts_piece k 0 ss) (closing z))
-  member_fit k ss true ok = fits_both (stmts_fit k 0 ss ok) (fits_line _ _ fits_nothing)
-  member_fit k ss false ok = fits_both (stmts_fit k 0 ss ok) fits_nothing
+  member_fit k ss true ok = each_both (stmts_fit k 0 ss ok) (each_line _ _ each_nothing)
+  member_fit k ss false ok = each_both (stmts_fit k 0 ss ok) each_nothing
 
 -- a body is some work's
 record Known (C : PlainCode) (P : PlainProgram) (j : ℕ) : Type 0 where
@@ -113,7 +80,7 @@ branch_known C P y j b ok s = record {
 }
 
 queue_known : (C : PlainCode) (P : PlainProgram) (y : Bool) (n j : ℕ) (m : PlainMember) (k : Next) (todo : List Branch) → need todo ≤ n →
-    j + length todo ≡ k.body → OutputAt C k j (generate n m k todo) → AllFit P y todo → (i : ℕ) → i < length (generate n m k todo).bodies → Known C P (j + i)
+    j + length todo ≡ k.body → OutputAt C k j (generate n m k todo) → AllAre (Fitting P y) todo → (i : ℕ) → i < length (generate n m k todo).bodies → Known C P (j + i)
 queue_known C P y zero j m k todo l e h f i lt = absurd (omega arith)
 queue_known C P y (suc n) j m k [] l e h f i lt = absurd (omega arith)
 queue_known C P y (suc n) j m k (b ∷ todo) l e h f zero lt =
@@ -131,7 +98,7 @@ queue_known C P y (suc n) j m k (b ∷ todo) l e h f (suc i) lt =
       sites = s.1;
       texts =
           t.1;
-    }) (fit_on P y todo a.branches f.1 (branch_fit P y k (place_of b.stmt) b.stmt b.takes f.0).is) i (omega arith) in
+    }) (all_on (Fitting P y) todo a.branches f.1 (branch_fit P y k (place_of b.stmt) b.stmt b.takes f.0).is) i (omega arith) in
     subst (λ z. Known C P z) (omega arith) r
 
 -- a place is before n, or so far after it

@@ -8,6 +8,7 @@ pub mod Theorems
 pub mod Pieces
 pub mod Placed
 pub mod Whole
+pub mod Branched
 pub mod Bodies
 pub mod Typed
 pub mod Samples

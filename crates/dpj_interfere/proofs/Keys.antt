@@ -1,20 +1,19 @@
 -- Paths of different groups are apart.
-use Rattle.std.proofs.Common.{◌≡◌, ◌≢◌, ℕ, ◌<◌, Bool, true, false, not, ◌&&◌, cond, List, [], ◌∷◌, ◌++◌, length, reverse, Option, Some, None, refl, sym, ap}
+use Rattle.std.proofs.Common.{◌≡◌, ◌≢◌, ℕ, ◌<◌, Bool, true, false, ◌&&◌, cond, List, [], ◌∷◌, ◌++◌, length, reverse, Option, Some, None, refl, sym, ap}
 use Rattle.std.proofs.Common.{◌∙◌, subst, inl, inr, ◌⊎◌, ⊎_elim, arith}
-use Rattle.std.proofs.lemmas.Bool.{and_parts, and_from, or_left, or_right, false≢true, cases_Bool}
+use Rattle.std.proofs.lemmas.Bool.{and_parts, and_from, or_left, or_right}
 use Rattle.std.proofs.lemmas.List.{reverse-append}
 use Rattle.dpj_base.specs.declared.elems.Elem.{Elem}
-use Rattle.dpj_base.specs.declared.elems.Elem.TheVariants.{Name, At, Any, Star, Local}
-use Rattle.dpj_base.specs.declared.elems.Index.TheVariants.{Literal, Variable, Renamed, Own}
 use Rattle.dpj_base.specs.declared.region.Head.{Head}
 use Rattle.dpj_base.specs.declared.region.Rpl.{Rpl}
 use Rattle.dpj_base.specs.declared.effect.Effect.{Effect}
 use Rattle.dpj_base.specs.declared.effect.Constraint.{Constraint}
-use Rattle.dpj_base.specs.Regions.{is_star, same_elem, same_head}
+use Rattle.dpj_base.specs.Regions.{same_head}
 use Rattle.dpj_base.specs.Apart.{distinct, apart_front, solid, apart_as_shorter, apart}
 use Rattle.dpj_base.specs.Matching.{is_concrete, all_concrete}
 use Rattle.dpj_effects.specs.Index.{elem_number, mixed}
-use Rattle.dpj_regions.proofs.Same.{same_elem-is, same_head-is, same_head-refl}
+use Rattle.dpj_regions.proofs.Same.{same_head-is, same_head-refl}
+use Rattle.dpj_disjoint.proofs.Concrete.{concrete-no_star, same_or_distinct, distinct-front}
 use Rattle.dpj_disjoint.proofs.Lists.{front-step, solid-one, shorter-from}
 use Rattle.dpj_disjoint.proofs.Paths.{by_rule}
 use Rattle.dpj_interfere.specs.declared.key.Key.{Key}
@@ -28,35 +27,6 @@ cond-some false n p e = absurd (cc)
 cond-known : (b : Bool) (o : Option ℕ) (p : ℕ) → cond b o None ≡ Some p → (b ≡ true) × (o ≡ Some p)
 cond-known true o p e = (refl, e)
 cond-known false o p e = absurd (cc)
-
-concrete-no_star : (x : Elem) → is_concrete x ≡ true → is_star x ≡ false
-concrete-no_star Star h = absurd (false≢true h)
-concrete-no_star x h = refl
-
--- two elements that stand for themselves alone are the same or distinct
-same_or_distinct : (x y : Elem) → is_concrete x ≡ true → is_concrete y ≡ true → (x ≡ y) ⊎ (distinct x y ≡ true)
-same_or_distinct (At (Variable v)) y h k = absurd (false≢true h)
-same_or_distinct (At (Renamed v)) y h k = absurd (false≢true h)
-same_or_distinct (At (Own d)) y h k = absurd (false≢true h)
-same_or_distinct Any y h k = absurd (false≢true h)
-same_or_distinct Star y h k = absurd (false≢true h)
-same_or_distinct (Name m) (Name n) h k =
-    ⊎_elim (λ t. inl (same_elem-is (Name m) (Name n) t)) (λ f. inr (ap not f)) (cases_Bool (same_elem (Name m) (Name n)))
-same_or_distinct (At (Literal m)) (At (Literal n)) h k =
-    let x = At (Literal m) in
-    let y = At (Literal n) in
-    ⊎_elim (λ t. inl (same_elem-is x y t)) (λ f. inr (ap not f)) (cases_Bool (same_elem x y))
-same_or_distinct (Local a b) (Local c d) h k =
-    ⊎_elim (λ t. inl (same_elem-is (Local a b) (Local c d) t)) (λ f. inr (ap not f)) (cases_Bool (same_elem (Local a b) (Local c d)))
-same_or_distinct x (At (Variable v)) h k = absurd (false≢true k)
-same_or_distinct x (At (Renamed v)) h k = absurd (false≢true k)
-same_or_distinct x (At (Own d)) h k = absurd (false≢true k)
-same_or_distinct x Any h k = absurd (false≢true k)
-same_or_distinct x Star h k = absurd (false≢true k)
-same_or_distinct x y h k = inr refl
-
-distinct-front : (x y : Elem) (a b : List Elem) → is_concrete x ≡ true → is_concrete y ≡ true → distinct x y ≡ true → apart_front (x ∷ a) (y ∷ b) ≡ true
-distinct-front x y a b h k d = front-step x y a b (concrete-no_star x h) (concrete-no_star y k) ∙ or_left _ _ d
 
 -- lists that begin with elements of different numbers
 numbers-front : (x y : Elem) (a b : List Elem) (p q : ℕ) → fixed_number x ≡ Some p → fixed_number y ≡ Some q → p ≢ q → apart_front (x ∷ a) (y ∷ b) ≡ true

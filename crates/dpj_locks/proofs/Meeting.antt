@@ -1,54 +1,26 @@
 -- An effect that interferes with a noted one is met by a search.
-use Rattle.std.proofs.Common.{◌≡◌, ℕ, Bool, true, false, not, ◌&&◌, ◌||◌, ◌==◌, List, [], ◌∷◌, refl, sym, ap, subst, ◌∙◌, inl, inr, ◌⊎◌, ⊎_elim, MatchBool, Option, Some, None, ◌<◌, ◌≤◌, length, drop, arith, MatchOption}
+use Rattle.std.proofs.Common.{◌≡◌, ℕ, Bool, true, false, not, ◌&&◌, ◌||◌, ◌==◌, List, [], ◌∷◌, refl, sym, subst, ◌∙◌, inl, inr, ◌⊎◌, ⊎_elim, MatchBool, Option, Some, None, ◌<◌, ◌≤◌, length, drop, arith, MatchOption}
 use Rattle.std.proofs.lemmas.List.{drop_all}
 use Rattle.dpj_locks.proofs.Found.{Sound}
-use Rattle.std.proofs.lemmas.Bool.{and_parts, false≢true, cases_Bool}
+use Rattle.std.proofs.lemmas.Bool.{and_parts, false≢true}
 use Rattle.std.specs.FinMap.{get}
 use Rattle.dpj_base.specs.declared.elems.Elem.{Elem}
-use Rattle.dpj_base.specs.declared.elems.Elem.TheVariants.{Name, At, Any, Star, Local}
-use Rattle.dpj_base.specs.declared.elems.Index.TheVariants.{Literal, Variable, Renamed, Own}
 use Rattle.dpj_base.specs.declared.effect.Access.{Access}
 use Rattle.dpj_base.specs.declared.effect.Access.TheVariants.{Read, Write}
 use Rattle.dpj_base.specs.declared.effect.Effect.{Effect}
 use Rattle.dpj_base.specs.declared.region.Head.{Head}
 use Rattle.dpj_base.specs.declared.region.Head.TheVariants.{Root}
-use Rattle.dpj_base.specs.Regions.{is_star, same_elem, same_head}
+use Rattle.dpj_base.specs.Regions.{same_head}
 use Rattle.dpj_base.specs.Apart.{distinct, apart_front, apart_from_left, apart_by_length, apart_from_right, apart_by_some, apart}
 use Rattle.dpj_base.specs.Effects.{interferes, is_write}
 use Rattle.dpj_base.specs.Matching.{is_concrete}
-use Rattle.dpj_regions.proofs.Same.{same_elem-is}
+use Rattle.dpj_disjoint.proofs.Concrete.{concrete-no_star, same_or_distinct}
 use Rattle.dpj_disjoint.proofs.Lists.{front-step}
 use Rattle.dpj_locks.specs.declared.index.Index.{Index}
 use Rattle.dpj_locks.specs.declared.standing.Standing.{Standing}
 use Rattle.dpj_locks.specs.declared.standing.Standing.TheVariants.{Opener, Adopted}
 use Rattle.dpj_locks.specs.Index.{Sets, has, first_number, mixed, NotedFrom, Met, NotedBy, AllNoted, MetBy, MetAny, AtMost, IsFound, IsIndexed}
 use Rattle.dpj_locks.specs.Locks.{Standings, AllRoot, some_interferes, lists_interfere, block_interferes, opened_for, hinders, IsFree, IsLeastHolder}
-
-concrete-no_star : (x : Elem) → is_concrete x ≡ true → is_star x ≡ false
-concrete-no_star Star h = absurd (false≢true h)
-concrete-no_star x h = refl
-
--- two elements that stand for themselves alone are the same or distinct
-same_or_distinct : (x y : Elem) → is_concrete x ≡ true → is_concrete y ≡ true → (x ≡ y) ⊎ (distinct x y ≡ true)
-same_or_distinct (At (Variable v)) y h k = absurd (false≢true h)
-same_or_distinct (At (Renamed v)) y h k = absurd (false≢true h)
-same_or_distinct (At (Own d)) y h k = absurd (false≢true h)
-same_or_distinct Any y h k = absurd (false≢true h)
-same_or_distinct Star y h k = absurd (false≢true h)
-same_or_distinct (Name m) (Name n) h k =
-    ⊎_elim (λ t. inl (same_elem-is (Name m) (Name n) t)) (λ f. inr (ap not f)) (cases_Bool (same_elem (Name m) (Name n)))
-same_or_distinct (At (Literal m)) (At (Literal n)) h k =
-    let x = At (Literal m) in
-    let y = At (Literal n) in
-    ⊎_elim (λ t. inl (same_elem-is x y t)) (λ f. inr (ap not f)) (cases_Bool (same_elem x y))
-same_or_distinct (Local a b) (Local c d) h k =
-    ⊎_elim (λ t. inl (same_elem-is (Local a b) (Local c d) t)) (λ f. inr (ap not f)) (cases_Bool (same_elem (Local a b) (Local c d)))
-same_or_distinct x (At (Variable v)) h k = absurd (false≢true k)
-same_or_distinct x (At (Renamed v)) h k = absurd (false≢true k)
-same_or_distinct x (At (Own d)) h k = absurd (false≢true k)
-same_or_distinct x Any h k = absurd (false≢true k)
-same_or_distinct x Star h k = absurd (false≢true k)
-same_or_distinct x y h k = inr refl
 
 or_false : (a b : Bool) → (a || b) ≡ false → (a ≡ false) × (b ≡ false)
 or_false true b is = cc
