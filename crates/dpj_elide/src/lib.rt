@@ -18,8 +18,6 @@ mod levels;
 mod operations;
 mod statements;
 mod steps;
-#[cfg(test)]
-mod trials;
 mod waiting;
 mod walker;
 mod whole;
