@@ -22,7 +22,6 @@ pub enum PartSource {
 /// A statement. Its place is that at which its trap is reported: of an assignment the target, else the first
 /// token.
 #[cycle(stmts)]
-#[derive(Drop)]
 pub struct Stmt {
     pub place: Place,
     pub form: StmtForm,
@@ -30,14 +29,12 @@ pub struct Stmt {
 
 /// A branch of a `cobegin`, with the outer locals that it assigns, which the join copies back.
 #[cycle(stmts)]
-#[derive(Drop)]
 pub struct Branch {
     pub copies: Items<Slot>,
     pub body: Stmt,
 }
 
 #[cycle(stmts)]
-#[derive(Drop)]
 pub enum StmtForm {
     /// A declaration of a local. A final int may stand in an index.
     Declare {
@@ -110,4 +107,83 @@ pub enum StmtForm {
         count: Expr,
         body: Boxed<Stmt>,
     },
+}
+
+// By hand, so that letting one go is one call to what is proved of a caller.
+impl Drop for Stmt {
+    #[cycle(stmts)]
+    fn drop(self) {
+        let Stmt { place: _, form: _ } = self;
+    }
+}
+
+impl Drop for Branch {
+    #[cycle(stmts)]
+    fn drop(self) {
+        let Branch { copies: _, body: _ } = self;
+    }
+}
+
+impl Drop for StmtForm {
+    #[cycle(stmts)]
+    fn drop(self) {
+        match self {
+            StmtForm::Declare {
+                slot: _,
+                ty: _,
+                is_final: _,
+                value: _,
+            } => {}
+            StmtForm::Store { slot: _, value: _ } => {}
+            StmtForm::StoreField {
+                of: _,
+                class: _,
+                field: _,
+                value: _,
+            } => {}
+            StmtForm::StoreElement {
+                array: _,
+                index: _,
+                value: _,
+            } => {}
+            StmtForm::StorePart {
+                part: _,
+                index: _,
+                value: _,
+            } => {}
+            StmtForm::Perform(_) => {}
+            StmtForm::Block(_) => {}
+            StmtForm::If {
+                test: _,
+                then: _,
+                other: _,
+            } => {}
+            StmtForm::While { test: _, body: _ } => {}
+            StmtForm::Return(_) => {}
+            StmtForm::PrintInt(_) | StmtForm::PrintBool(_) => {}
+            StmtForm::PrintText(_) => {}
+            StmtForm::Regions(_) => {}
+            StmtForm::Atomic {
+                effects: _,
+                body: _,
+            } => {}
+            StmtForm::Cobegin {
+                forking: _,
+                branches: _,
+            } => {}
+            StmtForm::Foreach {
+                forking: _,
+                slot: _,
+                start: _,
+                count: _,
+                body: _,
+            } => {}
+            StmtForm::ForeachParts {
+                part: _,
+                source: _,
+                count: _,
+                body: _,
+            } => {}
+        }
+    }
 }
