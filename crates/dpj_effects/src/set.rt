@@ -9,12 +9,23 @@ use std::collections::BTreeMap;
 use std::marker::Model;
 
 /// Distinct effects, in the order in which they were added. A contract sees the list.
-#[derive(Debug, Drop)]
+#[derive(Debug)]
 pub struct EffectSet {
     effects: Items<Effect>,
     /// The places in the list, each under the number of its effect, so that none is looked for twice.
     spots: BTreeMap<u32, Items<usize>>,
     alloc: Global,
+}
+
+// By hand, so that letting one go is one call to what is proved of a caller.
+impl Drop for EffectSet {
+    fn drop(self) {
+        let EffectSet {
+            effects: _,
+            spots: _,
+            alloc: _,
+        } = self;
+    }
 }
 
 impl Model for EffectSet {

@@ -11,9 +11,15 @@ use std::marker::Model;
 
 /// Names in scope, each with a value, in the order in which they came. Of two equal names the later is meant.
 /// A contract sees the names and the values.
-#[derive(Drop)]
 pub struct Scoped<T> {
     kept: Kept<T>,
+}
+
+// By hand, so that letting one go is one call to what is proved of a caller.
+impl<T: Drop> Drop for Scoped<T> {
+    fn drop(self) {
+        let Scoped { kept: _ } = self;
+    }
 }
 
 /// The names and the values as they are kept, with the place of the last of each name.

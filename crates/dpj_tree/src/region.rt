@@ -45,7 +45,6 @@ pub struct RplTree {
 }
 
 /// A written type: a base, and array suffixes of which the last is the outermost. Its place is its first token.
-#[derive(Drop)]
 pub struct TypeTree {
     pub place: Place,
     pub base: BaseTree,
@@ -88,4 +87,15 @@ pub struct ParamTree {
 pub struct ConstrTree {
     pub left: RplTree,
     pub right: RplTree,
+}
+
+// By hand, so that letting one go is one call to what is proved of a caller.
+impl Drop for TypeTree {
+    fn drop(self) {
+        let TypeTree {
+            place: _,
+            base: _,
+            suffixes: _,
+        } = self;
+    }
 }

@@ -5,14 +5,12 @@ use dpj_base::{Boxed, Bytes, Items, Place};
 /// A statement. The place of a declaration is the declared name, of an assignment the `=`, of an expression
 /// statement that of its expression, and of anything else its first token.
 #[cycle(stmts)]
-#[derive(Drop)]
 pub struct Stmt {
     pub place: Place,
     pub kind: StmtKind,
 }
 
 #[cycle(stmts)]
-#[derive(Drop)]
 pub enum StmtKind {
     Block(Items<Stmt>),
     Declare {
@@ -73,4 +71,66 @@ pub enum StmtKind {
     Region {
         names: Items<Named>,
     },
+}
+
+// By hand, so that letting one go is one call to what is proved of a caller.
+impl Drop for Stmt {
+    #[cycle(stmts)]
+    fn drop(self) {
+        let Stmt { place: _, kind: _ } = self;
+    }
+}
+
+impl Drop for StmtKind {
+    #[cycle(stmts)]
+    fn drop(self) {
+        match self {
+            StmtKind::Block(_) => {}
+            StmtKind::Declare {
+                is_final: _,
+                ty: _,
+                name: _,
+                value: _,
+            } => {}
+            StmtKind::AssignLocal {
+                target: _,
+                value: _,
+            } => {}
+            StmtKind::AssignField {
+                target: _,
+                value: _,
+            } => {}
+            StmtKind::AssignElement {
+                target: _,
+                value: _,
+            } => {}
+            StmtKind::Do(_) => {}
+            StmtKind::If {
+                test: _,
+                then: _,
+                other: _,
+            } => {}
+            StmtKind::While { test: _, body: _ } => {}
+            StmtKind::Return(_) => {}
+            StmtKind::Print(_) => {}
+            StmtKind::PrintText(_) => {}
+            StmtKind::Cobegin { nd: _, branches: _ } => {}
+            StmtKind::Foreach {
+                nd: _,
+                var: _,
+                start: _,
+                count: _,
+                body: _,
+            } => {}
+            StmtKind::ForeachParts {
+                view: _,
+                var: _,
+                array: _,
+                count: _,
+                body: _,
+            } => {}
+            StmtKind::Atomic(_) => {}
+            StmtKind::Region { names: _ } => {}
+        }
+    }
 }
