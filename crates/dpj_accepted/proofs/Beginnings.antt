@@ -222,7 +222,7 @@ module _ (program : Program) (table : Table) (bodies : List PlainBody) (accepted
         few_here : length (params_in (headers_of (table_of start)) k.number) + length (atomic_of k.row.regions) ≤ 4294967295
         few_here = subst (λ t. length (params_in (headers_of t) k.number) + length (atomic_of k.row.regions) ≤ 4294967295) (sym table_is) few
 
-    -- and behind them
+    -- and after them
 
     begun : has_room (formals_declared entry k.method.formals k.row.params) ≡ true → Begun P L around everything everything (formals_declared entry k.method.formals k.row.params) (1 + length k.row.params)
     begun room =

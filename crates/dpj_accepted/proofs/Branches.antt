@@ -128,7 +128,7 @@ module _ (P : PlainProgram) (L : Scope) (env : Env) (params : List Bool) (around
     variable_at n row is open' writes =
         (_, variable_slot (reads n) (assigns n) row (L.local row.slot) (ready.sees.locals n row is) (ap (λ (z : LocalRow). z.is_final) (some_same (sym is ∙ open'.is)) ∙ open'.open') writes)
 
-    -- of the slots of the branches behind one
+    -- of the slots of the branches after one
     later_foreign : (ss : PlainStmts) (bs : List TypedBranch) (t : Touched) (ts : List Touched) (x : ℕ) → BranchesAre env ss bs ts → ((n : ℕ) → IsTrue (branches_assign n ss) → IsTrue (assigns n)) → NoneClash t ts →
         list_any (λ y. x == y) (all_copies (branches_of bs)) ≡ true → Foreign L env t x
     later_foreign no_stmts [] t [] x are writes none h = absurd (false≢true h)
@@ -190,7 +190,7 @@ module _ (P : PlainProgram) (L : Scope) (env : Env) (params : List Bool) (around
             ⊎_elim (λ before. (let e = earlier x before in record { name = e.name; row = e.row; is = e.is; slot = e.slot; kept = e.kept; away = e.away.1 }))
             (λ own. (let w = own_at x own in record { name = w.0; row = w.2; is = w.3; slot = w.4; kept = own_variable x own; away = away_of w.0 t ts w.1 apart.0 })) (any_either x others b.copies h)
 
--- behind the branches
+-- after the branches
 marked_append : (b : Bool) (D F : List Done) → map (marked b) (D ++ F) ≡ map (marked b) D ++ map (marked b) F
 marked_append b [] F = refl
 marked_append b (o ∷ D) F = ap (λ z. marked b o ∷ z) (marked_append b D F)

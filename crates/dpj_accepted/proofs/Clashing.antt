@@ -109,7 +109,7 @@ gathers_marked g E h = gathers_by (record g { effects = all_marked true g.effect
 pub same_entered : (g : Found) (E : List Done) → Gathers nothing_found E g → SameEffects (entered g) (as_effects (after_block E))
 same_entered g E h = same_effects (record g { effects = all_marked true g.effects }) (after_block E) (gathers_marked g E h)
 
--- behind a construct over parts
+-- after a construct over parts
 
 not_true : (b : Bool) → b ≡ false → not b ≡ true
 not_true true h = cc

@@ -15,7 +15,7 @@ use Rattle.dpj_exprs.specs.Env.{local_of, index_slot, index_variable_of, local_r
 use Rattle.dpj_resolved.proofs.Lists.{some_same, got_first, got_later, there}
 use Rattle.dpj_accepted.specs.Seen.{can_stand, RowIs, Sees, InStep}
 
--- the last of a name, with one name more behind
+-- the last of a name, with one name more after
 pub last_push : (at : ℕ) (found : Option ℕ) (xs : List ℕ) (x n : ℕ) → last_from at found (xs ++ x ∷ []) n ≡ cond (x == n) (Some (at + length xs)) (last_from at found xs n)
 last_push at found [] x n = let same : at ≡ at + 0 = omega arith in ap (λ z. cond (x == n) (Some z) found) same
 last_push at found (y ∷ xs) x n =

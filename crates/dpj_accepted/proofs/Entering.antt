@@ -64,7 +64,7 @@ module _ (P : PlainProgram) (L : Scope) (around : Around) (reads assigns : ℕ �
         declared_at true n one h final = subst (λ (z : LocalRow). can_stand (plain_type z.ty) ≡ true) (some_same h) stands
         declared_at false n one h final = entered.sees.declared n one h final
 
-    -- what is so behind the formals, of which there are as many as types: each has its slot
+    -- what is so after the formals, of which there are as many as types: each has its slot
     pub record Begun (env : Env) (slots : ℕ) : Type 0 where
       pub entered : Entered P L env around reads assigns
       pub slots_are : env.slots ≡ slots

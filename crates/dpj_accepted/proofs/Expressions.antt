@@ -104,7 +104,7 @@ reference_is ty.int h = cc
 reference_is ty.boolean h = cc
 reference_is ty.void h = cc
 
--- what was noted before nothing is told of is none
+-- what was noted before nothing is reported of is none
 told_before : (faults : Faults) (found : List Refusal) → told (all_noted faults found) ≡ None → told faults ≡ None
 told_before faults [] h = h
 told_before faults (one ∷ found) h =

@@ -62,7 +62,7 @@ kept_step a b kept step = subst InStep (sym kept.is) (record {
   regions = step.regions;
 })
 
--- further locals and local regions may be in scope, behind those that were
+-- further locals and local regions may be in scope, after those that were
 pub record Grown (a b : Env) : Type 0 where
   pub is : b ≡ record a { rows = b.rows; variables = b.variables; regions = b.regions; slots = b.slots; declared = b.declared }
   pub rows : List LocalRow
@@ -310,7 +310,7 @@ pub regions_other : (env : Env) (names : List Named) (x : ℕ) → local_of (wit
 regions_other env [] x = refl
 regions_other env (named ∷ names) x = regions_other (region_declared env named.name) names x ∙ region_other env named.name x
 
--- a declaration of which no fault is told has room
+-- a declaration of which no fault is reported has room
 pub room_free : (env : Env) (name : ℕ) (place : Place) (node : Node) → fault_of (declaration_noted env name place node) ≡ None → has_room env ≡ true
 room_free env name place node h = by (has_room env) (cond (is_some (local_of env name)) (with_fault node kind.Duplicate place) node) h
   where

@@ -301,7 +301,7 @@ regions_out L rs (o ∷ F) h = by (regions_out L rs F h.1) (begins_in rs (effect
     by next true is = next
     by next false is = (one_out L rs o is h.0, next)
 
--- behind a construct over parts
+-- after a construct over parts
 
 module _ (L : Scope) (k : ℕ) (t : PlainType) (a : Rpl)
   where

@@ -1,4 +1,4 @@
--- What is left of effects behind a scope: the checker takes them all at once, the judgement name by name.
+-- What is left of effects after a scope: the checker takes them all at once, the judgement name by name.
 use Rattle.std.proofs.Common.{◌≡◌, ◌∙◌, ◌⊎◌, ℕ, ◌+◌, ◌<◌, ◌≤◌, ◌==◌, Bool, true, false, not, cond, nat_le, List, [], ◌∷◌, ◌++◌, map, Contains, inl, inr, ⊎_elim, Option, Some, None, refl, sym, ap, subst, arith}
 use Rattle.std.specs.List.{list_any}
 use Rattle.std.proofs.lemmas.Bool.{cases_Bool, eq-eqb, ne_eqb, leb-true, leb-false, false≢true}
@@ -432,7 +432,7 @@ module _ (n m n' m' : ℕ) (V R : ℕ → Type 0) (N : Scope) (slots : (x : ℕ)
     left_further [] h = refl
     left_further (o ∷ D) h = one_further o (left from_first D) h.0 ∙ ap (left_onto from_second o) (left_further D h.1)
 
--- one slot is left behind the later ones
+-- one slot is left after the later ones
 module _ (n m : ℕ) (V R : ℕ → Type 0) (N : Scope) (parts : (k : ℕ) (t : PlainType) (a : Rpl) → N.local k ≡ Some (part t a) → generalised n a ≡ a)
   where
     abbrev from_here : Leaving
@@ -453,7 +453,7 @@ module _ (n m : ℕ) (V R : ℕ → Type 0) (N : Scope) (parts : (k : ℕ) (t : 
     left_stepped [] h = refl
     left_stepped (o ∷ D) h = ap (left_onto from_here o) (left_stepped D h.1) ∙ one_stepped o (left from_next D) h.0
 
--- the local regions between two numbers are left behind the later ones
+-- the local regions between two numbers are left after the later ones
 module _ (n m m' : ℕ) (rs : List ℕ) (V R : ℕ → Type 0) (N : Scope) (further : m ≤ m') (between : (r : ℕ) → m ≤ r → r < m' → list_any (λ q. r == q) rs ≡ true)
     (none : (r : ℕ) → r < m → list_any (λ q. r == q) rs ≡ false) (parts : (k : ℕ) (t : PlainType) (a : Rpl) → N.local k ≡ Some (part t a) → begins_in rs a.elems ≡ false)
   where

@@ -41,7 +41,7 @@ use Rattle.dpj_accepted.proofs.Left.{left, left_regions, Later, AllRaw, all_raw_
 use Rattle.dpj_accepted.proofs.Readiness.{row_less}
 use Rattle.dpj_accepted.proofs.Statements.{here, On, Goes}
 
--- the value of a name, with one more behind
+-- the value of a name, with one more after
 pushed_value : {A : Type 0} (names : List ℕ) (values : List A) (name : ℕ) (value : A) → length names ≡ length values → (n : ℕ) →
     option_and_then (λ p. slice_get (values ++ value ∷ []) p) (last_from 0 None (names ++ name ∷ []) n) ≡ cond (name == n) (Some value) (option_and_then (λ p. slice_get values p) (last_from 0 None names n))
 pushed_value {A} names values name value long n =
@@ -93,7 +93,7 @@ or_split : (a b : Bool) → (a || b) ≡ true → (a ≡ true) ⊎ (b ≡ true)
 or_split true b h = inl refl
 or_split false b h = inr h
 
--- one region, and then those behind it
+-- one region, and then those after it
 one_more : (env u : Env) (name : ℕ) (rs : List ℕ) → length env.regions.names ≡ length env.regions.values → Declared (with_region env name) u rs → Declared env u (env.declared ∷ rs)
 one_more env u name rs long d = record {
   is = d.is;

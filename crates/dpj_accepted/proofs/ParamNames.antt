@@ -46,7 +46,7 @@ last_within test at found (x ∷ xs) k e =
     by true now = let same = some_same now in inr (omega (arith, same))
     by false now = inl now
 
--- what a list says of a parameter of the class, and of one of the method behind those
+-- what a list says of a parameter of the class, and of one of the method after those
 atomic_first : (ps : List ParamRow) (own : List Bool) (i : ℕ) → i < length ps → slice_index_or (map (λ param. param.atomic) ps ++ own) i false ≡ is_atomic_at ps i
 atomic_first [] own i l = absurd (omega (arith, l))
 atomic_first (p ∷ ps) own zero l = refl

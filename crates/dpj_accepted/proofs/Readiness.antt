@@ -144,7 +144,7 @@ none_at L n below x from = by (L.local x) (below x)
     by None h = refl
     by (Some l) h = absurd (let k = h l refl in omega (arith, k, from))
 
--- with a further row in the next slot, of which the judgement's local is told
+-- with a further row in the next slot, of which the judgement's local is reported
 module _ (P : PlainProgram) (L : Scope) (env : Env) (params : List Bool) (around : Around) (r a r' a' : ℕ → Bool) (ready : Ready P L env params around r a) (row : LocalRow) (l : Slot) (slots : ℕ)
     (at : row.slot ≡ env.slots) (more : env.slots < slots) (is_so : (x y : Bool) → RowIs x y row (Some l)) (stands : row.is_final ≡ false → can_stand (plain_type row.ty) ≡ true)
     (names : SlotNames (IsIndex L) (IsRegion L) l)

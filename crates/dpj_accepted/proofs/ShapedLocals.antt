@@ -63,7 +63,7 @@ pub record Shaped (table : Table) (class : ℕ) (locals : Names Shape) (env : En
   pub rows : RowsShaped env.rows (values_in locals)
   pub paired : IsPaired locals
 
--- more locals may be in scope behind these
+-- more locals may be in scope after these
 pub record Longer (few more : Names Shape) : Type 0 where
   pub names : List ℕ
   pub names_are : names_in more ≡ names_in few ++ names
@@ -94,7 +94,7 @@ longer_behind headers locals s = by (declared_by s)
     by None = longer_same locals
     by (Some one) = longer_one locals one.0 (tree_shape headers one.1)
 
--- the locals behind statements one after the other
+-- the locals after statements one after the other
 abbrev pub all_behind : Headers → Names Shape → PlainStmts → Names Shape
 all_behind headers locals no_stmts = locals
 all_behind headers locals (more_stmts s ss) = all_behind headers (behind headers locals s) ss

@@ -40,7 +40,7 @@ use Rattle.dpj_written.specs.Written.{Fitting}
 use Rattle.dpj_accepted.proofs.Expressions.{int_is, boolean_is, expression_agrees}
 use Rattle.dpj_accepted.proofs.Subtypes.{fits_subtype}
 
--- a node of which no fault is told
+-- a node of which no fault is reported
 
 pub free_if : (node : Node) (reason : Kind) (b : Bool) → fault_of (with_fault_if node reason b) ≡ None → (fault_of node ≡ None) × (b ≡ false)
 free_if node reason true h =

@@ -241,7 +241,7 @@ module _ (program : Program) (table : Table) (has : HasRows program table)
             let most = meant_small (headers_of table) table.given 0 program.classes in
             omega (arith, some, most, small)
 
-        -- the first slot of a class is behind the fields of its superclass
+        -- the first slot of a class is after the fields of its superclass
         pub first_is : (class : ℕ) → first_slot (headers_of table) class ≡ length (inherited_fields class)
         first_is class = by (parent_of (headers_of table) class) refl ∙ sym (inherited_size class)
           where

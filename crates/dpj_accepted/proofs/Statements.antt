@@ -254,7 +254,7 @@ module _ (P : PlainProgram) (signed : Signed P)
     single_if L w (passes made u) h = of_passing L w u made (h made u refl)
     single_if L w (refused refusal) h = tt
 
-    -- what holds behind the parts of a statement
+    -- what holds after the parts of a statement
 
     pub scope_if : (L : Scope) (params : List Bool) (around : Around) (reads assigns : ℕ → Bool) (f : tree.StmtForm) (w : Walk) (v : Verdict TypedStmt) → If (Goes L params around reads assigns f w) v → If (ScopeGoes L w) (left_scope w v)
     scope_if L params around reads assigns f w (passes made u) h = record { calm = h.calm; goes = λ room calm. by (h.on (record { slots = room.slots; regions = room.regions }) calm) }
@@ -299,7 +299,7 @@ module _ (P : PlainProgram) (signed : Signed P)
     order_if L params around reads assigns before place f ss w u made ready stood g (passes others z) h k = order_then L params around reads assigns before place f ss w u made ready stood g others z h k
     order_if L params around reads assigns before place f ss w u made ready stood g (refused refusal) h k = tt
 
-    -- the reads of the statements behind another
+    -- the reads of the statements after another
     pub later_reads : (f : tree.StmtForm) (place : Place) (ss : PlainStmts) (reads : ℕ → Bool) → ((x : ℕ) → IsTrue (stmts_read x (tree.more_stmts (tree.statement place f) ss)) → IsTrue (reads x)) →
         (x : ℕ) → declares_form x f ≡ false → IsTrue (stmts_read x ss) → IsTrue (reads x)
     later_reads f place ss reads all x none h = all x (or_right (stmt_form_reads x f) (not (declares_form x f) && stmts_read x ss) (and_both (not (declares_form x f)) (stmts_read x ss) (not_so (declares_form x f) none) h))

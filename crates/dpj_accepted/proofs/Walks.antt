@@ -108,7 +108,7 @@ pub record Blocked (all : PlainStmts) (w : Walk) (made : List TypedStmt) (u : Wa
   pub kept : Kept w.env u.env
   pub assigned : (x : ℕ) → IsTrue (stmts_assign x all) → NonFinal w.env x
 
--- of statements behind others that complete or not
+-- of statements after others that complete or not
 pub record Ordered (before : Bool) (all : PlainStmts) (w : Walk) (made : List TypedStmt) (u : Walk) : Type 0 where
   pub starts : (before ≡ true) ⊎ (stmts_of made ≡ typed.no_stmts)
   pub complete_so : all_complete (stmts_of made) ≡ tree_completes.all_complete all
@@ -328,7 +328,7 @@ opening_done {node} {view} {var} {array} {count} {w} (Opening.both_given t {faul
       (free_found node found (free_if (with_found node found) kind.Type (not (may_be is_int (type_in u))) f).0).0;
 }
 
--- what goes on behind a piece with its own node
+-- what goes on after a piece with its own node
 noted_of : (f : tree.StmtForm) (node noted : Node) (w : Walk) (v : Verdict TypedStmt) → (fault_of noted ≡ None → fault_of node ≡ None) → If (Walked noted f w) v → If (Walked node f w) v
 noted_of f node noted w (passes made u) free h = record { free = free h.free; complete_so = h.complete_so; env = h.env; assigned = h.assigned }
 noted_of f node noted w (refused refusal) free h = tt

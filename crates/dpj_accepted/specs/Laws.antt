@@ -82,7 +82,7 @@ SinglesAgree =
     (P : PlainProgram) (L : Scope) (params : List Bool) (around : Around) (w : Walk) (may_read may_assign : ℕ → Bool) → Tells P (table_of w.env) L.never_nd → Sees P L w.env may_read may_assign →
     SingleAgrees P L params around w may_read may_assign
 
--- a type that a declaration names, of which no fault is told, is good
+-- a type that a declaration names, of which no fault is reported, is good
 abbrev pub TypesAgree : Type 0
 TypesAgree =
     (P : PlainProgram) (L : Scope) (env : Env) (reads assigns : ℕ → Bool) → Tells P (table_of env) L.never_nd → Sees P L env reads assigns → (tree : TypeTree) → length tree.suffixes ≤ 4294967295 →

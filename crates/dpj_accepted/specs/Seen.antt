@@ -126,7 +126,7 @@ pub record Returns (L : Scope) (env : Env) (around : Around) : Type 0 where
   pub value : around.enclosed ≡ false → around.has_result ≡ true → (row : MethodRow) × (numbered (table_of env) env.method ≡ Some row) × (L.result ≡ Some (plain_type row.result)) × (can_stand (plain_type row.result) ≡ true)
   pub nothing : around.enclosed ≡ false → around.has_result ≡ false → L.result ≡ Some ty.void
 
--- the locals in scope stand beside their names, and have slots of their own behind that of `this`; and the local regions
+-- the locals in scope stand beside their names, and have slots of their own after that of `this`; and the local regions
 -- beside theirs
 pub record InStep (env : Env) : Type 0 where
   pub names : env.variables.names ≡ map (λ row. row.name) env.rows

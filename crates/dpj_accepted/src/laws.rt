@@ -11,7 +11,7 @@ pub fn law_subtypes()
     ensures subtypes { SubtypesAgree }
 {}
 
-/// A written type of which no fault is told is good, where what is around it for the checker is in scope.
+/// A written type of which no fault is reported is good, where what is around it for the checker is in scope.
 pub fn law_types()
     ensures types { TypesAgree }
 {}

@@ -56,7 +56,7 @@ abbrev pub head_region : Env → Head → List Elem
 head_region env Root = []
 head_region env (Param p) = env.region p
 
--- a path with the environment put in: names, numbers, made local regions, `[?]` and `*` behind `Root`
+-- a path with the environment put in: names, numbers, made local regions, `[?]` and `*` after `Root`
 unfoldable pub put_in : Env → Rpl → Rpl
 put_in env a = record { head = Root; elems = head_region env a.head ++ map (put_elem env) a.elems }
 

@@ -9,7 +9,7 @@ NoPair R xs = AllPairs (λ x y. ¬ R x y) xs
 abbrev pub NoneBetween : {X : Type 0} → (X → X → Type 0) → List X → ℕ → ℕ → Type 0
 NoneBetween {X} R xs i j = (b : ℕ) (d : X) → i < b → b < j → ¬ R (slice_index_or xs i d) (slice_index_or xs b d)
 
--- the member at j is the first behind the one at i to which that one stands in the relation
+-- the member at j is the first after the one at i to which that one stands in the relation
 pub record IsFirstBehind {X : Type 0} (R : X → X → Type 0) (xs : List X) (i j : ℕ) : Type 0 where
   pub in_order : i < j
   pub within : j < length xs
@@ -26,7 +26,7 @@ pub record IsFirstPair {X : Type 0} (R : X → X → Type 0) (xs : List X) (i j 
   pub behind : IsFirstBehind R xs i j
   pub none_before : NoneBefore R xs i
 
--- the first member behind the one at i, if there is one
+-- the first member after the one at i, if there is one
 abbrev pub FirstBehind : {X : Type 0} → (X → X → Type 0) → List X → ℕ → Option ℕ → Type 0
 FirstBehind R xs i answer = MatchOption answer (NoneBetween R xs i (length xs)) (IsFirstBehind R xs i)
 

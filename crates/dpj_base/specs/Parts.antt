@@ -10,7 +10,7 @@ part_start len parts k = k * len / parts
 abbrev pub part_of : ℕ → ℕ → ℕ → Part
 part_of len parts k = record { from = part_start len parts k; len = part_start len parts (k + 1) - part_start len parts k }
 
--- the place behind a part's last
+-- the place after a part's last
 abbrev pub part_end : Part → ℕ
 part_end p = p.from + p.len
 

@@ -91,7 +91,7 @@ heads_within Root (Param q) b = false
 unfoldable pub within : Rpl → Rpl → Bool
 within a b = heads_within a.head b.head b.elems && covers_elems b.elems a.elems
 
--- a path and further elements behind it
+-- a path and further elements after it
 abbrev pub behind : Rpl → List Elem → Rpl
 behind a elems = record { head = a.head; elems = a.elems ++ elems }
 

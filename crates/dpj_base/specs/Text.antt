@@ -1,4 +1,4 @@
--- The texts by which places, traps and refusals are told.
+-- The texts by which places, traps and refusals are reported.
 use Rattle.std.specs.Prelude.{ℕ, List, ◌++◌, codes}
 use Rattle.std.specs.Fmt.{decimal}
 use Rattle.dpj_base.specs.declared.place.Place.{Place}
@@ -44,7 +44,7 @@ kind_name kind.LocalRegion = codes "local-region"
 kind_name kind.Trace = codes "trace"
 kind_name kind.Schedule = codes "schedule"
 
--- the order in which faults of one place are told
+-- the order in which faults of one place are reported
 abbrev pub kind_number : Kind → ℕ
 kind_number kind.TooLong = 0
 kind_number kind.Syntax = 1

@@ -86,7 +86,7 @@ impl Bytes {
         Ok(())
     }
 
-    /// Puts bytes behind the last. After want of memory the bytes are as they were.
+    /// Puts bytes after the last. After want of memory the bytes are as they were.
     pub fn extend(&mut self, more: &[u8]) -> Result<(), NoMemory>
         ensures ok { OnOk result (self.new ≡ self.old ++ more.now) }
         ensures err { OnErr result (self.new ≡ self.old) }

@@ -110,7 +110,7 @@ impl Elems {
         Ok(())
     }
 
-    /// Puts elements behind the last. After want of memory the elements are as they were.
+    /// Puts elements after the last. After want of memory the elements are as they were.
     pub fn extend(&mut self, more: &[Elem]) -> Result<(), NoMemory>
         ensures ok { OnOk result (self.new ≡ self.old ++ more.now) }
         ensures err { OnErr result (self.new ≡ self.old) }

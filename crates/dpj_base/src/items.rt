@@ -73,7 +73,7 @@ impl<T> Items<T> {
         self.items.is_empty()
     }
 
-    /// The item at a position from 0, or None behind the last.
+    /// The item at a position from 0, or None after the last.
     pub fn get(&self, at: usize) -> Option<&T>
         ensures value { option_copied result ≡ slice_get self.now at }
         ensures within { OnSome result (at < length self.now) }

@@ -114,7 +114,7 @@ impl Kind {
         }
     }
 
-    /// Its number: among faults of one place, the lower one is told.
+    /// Its number: among faults of one place, the lower one is reported.
     pub fn number(self) -> u32
         ensures { result ≡ kind_number self }
     {

@@ -281,7 +281,7 @@ members_all start class first next i items made none so_far =
     (so_far.goes_on (Ok (record { next = next; bodies = [] }))
     (subst (λ (z : List Member). Members start class z next (Ok (record { next = next; bodies = [] }))) (sym none) MembersChecking.no_members))
 
--- lists of bodies, one behind the other
+-- lists of bodies, one after the other
 map_append : {X Y : Type 0} (f : X → Y) (xs ys : List X) → map f (xs ++ ys) ≡ map f xs ++ map f ys
 map_append f [] ys = refl
 map_append f (x ∷ xs) ys = ap (λ zs. f x ∷ zs) (map_append f xs ys)

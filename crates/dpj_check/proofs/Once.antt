@@ -46,7 +46,7 @@ same_made e = cc
 same_told : {M : Type 0} {p q : Refusal} → ◌≡◌ {A = Verdict M} (refused p) (refused q) → p ≡ q
 same_told e = cc
 
--- a fault is told of a node for the one answer, and so for the same one
+-- a fault is reported of a node for the one answer, and so for the same one
 told_same : {p q : Refusal} (to : Bool → Option Refusal) {a b : Bool} → a ≡ b → to a ≡ Some p → to b ≡ Some q →
     ◌≡◌ {A = Verdict TypedStmt} (refused p) (refused q)
 told_same {p} {q} to {a} {b} same l l' =

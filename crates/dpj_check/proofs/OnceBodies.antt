@@ -79,7 +79,7 @@ classes_once one {start} {other} alike (ClassesChecking.then_classes d r j) (Cla
     by_two (λ (made : PlainBodies) (rest : Result (List PlainBody) Refusal). after_ok (λ bodies. made.bodies ++ bodies) rest) e
     (classes_once one alike r (classes_from (ap (λ (z : PlainBodies). z.next) e) r')) j j'
 
--- what is around the members of a class, told of the table, the superclasses and the name `length` alone
+-- what is around the members of a class, reported of the table, the superclasses and the name `length` alone
 abbrev around_class : Table → List Super → Option ℕ → ℕ → Env
 around_class table supers length_name class = record {
   table = table;

@@ -42,7 +42,7 @@ one_truth false false x y = refl
 pub said : OneTyping → {env : Env} {e : PlainExpr} {f : Found} {a b : Answer} → Typing env e f a → Typing env e f b → a ≡ b
 said one {env} {e} {f} {a} {b} d d' = one.expressions env e f a b d d'
 
--- the same behind the same
+-- the same after the same
 pub said_so : OneTyping → {env : Env} {e : PlainExpr} {f g : Found} {a b : Answer} → f ≡ g → Typing env e f a → Typing env e g b → a ≡ b
 said_so one {env} {e} {f} {g} {a} {b} same d d' = one.expressions env e f a b d (subst (λ (z : Found). Typing env e z b) (sym same) d')
 

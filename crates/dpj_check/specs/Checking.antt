@@ -268,7 +268,7 @@ mutual
         (λ part. typed.statement node.place (typed.choice_form (node_of test t) made part)) u ≡ v →
         Choosing params around node test first other w v
 
-  -- the part behind the `else`, where there is one
+  -- the part after the `else`, where there is one
   pub data InOther (params : List Bool) : Around → Option PlainStmt → Walk → Verdict (Option TypedStmt) → Type 0 where
     no_other : {around : Around} {w : Walk} → InOther params around None w (passes None w)
     an_other : {around : Around} {s : PlainStmt} {w : Walk} {u : Verdict TypedStmt} {v : Verdict (Option TypedStmt)} →

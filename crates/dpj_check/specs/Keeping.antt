@@ -19,12 +19,12 @@ method_around has_result = record { has_result = has_result; enclosed = false }
 abbrev pub inside : Around → Around
 inside around = record around { enclosed = true }
 
--- statements stand behind one only where it completes
+-- statements stand after one only where it completes
 abbrev pub MayFollow : Bool → PlainStmts → Type 0
 MayFollow complete no_stmts = Unit {0}
 MayFollow complete (more_stmts s ss) = IsTrue complete
 
--- no statement stands behind one that doesn't complete; no `return` is misplaced; the body of a `foreach` or of a
+-- no statement stands after one that doesn't complete; no `return` is misplaced; the body of a `foreach` or of a
 -- `foreach_parts` assigns no local that is declared outside of it; an atomic block holds no nd construct
 abbrev mutual
   pub Keeps : Around → PlainStmt → Type 0

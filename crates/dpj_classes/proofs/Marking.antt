@@ -25,7 +25,7 @@ leads_sources (edge ∷ edges) from to =
       | false ↦ elim (edge.from == from) as (λ c. (c && false) || leads edges from to ≡ among (sources edges to) from) [ true ↦ more | false ↦ more ]
     ]
 
--- a further edge, and those behind it
+-- a further edge, and those after it
 pub source_step : (made : List (List ℕ)) (edge : Edge) (edges : List Edge) (to : ℕ) → to < length made → get_or (with_source made edge) to [] ++ sources edges to ≡ get_or made to [] ++ sources (edge ∷ edges) to
 source_step made edge edges to below =
     elim (cases_eq edge.to to) [
@@ -79,7 +79,7 @@ set_kept marks at other m =
       | inr n ↦ get_or-set_other marks at other true false n ∙ m
     ]
 
--- so far: what is marked is behind what was marked first, and what leads to something marked is marked too, or its
+-- so far: what is marked is after what was marked first, and what leads to something marked is marked too, or its
 -- turn is still to come
 pub record Marking (first : List Bool) (edges : List Edge) (marks : List Bool) (pending : List ℕ) (taken to : ℕ) (rest : List ℕ) : Type 0 where
   pub same_length : length marks ≡ length first

@@ -1,4 +1,4 @@
--- One fault is told of a program at most.
+-- One fault is reported of a program at most.
 use Rattle.std.proofs.Common.{◌≡◌, ◌∙◌, ◌++◌, ℕ, ◌+◌, Bool, false, List, [], ◌∷◌, map, Option, None, Some, refl, ap, sym}
 use Rattle.std.specs.Prelude.{slice_index_or}
 use Rattle.dpj_base.specs.declared.refusal.Kind.TheVariants as kind
@@ -17,7 +17,7 @@ use Rattle.dpj_classes.specs.Build.{first_of, text_faults, table_faults, AreWell
 use Rattle.dpj_classes.proofs.Tables.{both_ways, one_table}
 use Rattle.dpj_classes.specs.Build.IsTold.{in_classes, in_members, in_signatures, in_table}
 
--- which classes are their own superclasses is told in one way
+-- which classes are their own superclasses is found in one way
 rounds_once : (parents : List (Option ℕ)) (a b : List Bool) → TellRounds parents a → TellRounds parents b → (at : ℕ) → slice_index_or a at false ≡ slice_index_or b at false
 rounds_once parents a b h k at =
     both_ways (slice_index_or a at false) (slice_index_or b at false) (λ e. (k at).1 ((h at).0 e)) (λ e. (h at).1 ((k at).0 e))

@@ -1,4 +1,4 @@
--- Faults noted part by part in a signature, where nothing is told.
+-- Faults noted part by part in a signature, where nothing is reported.
 use Rattle.std.proofs.Common.{◌≡◌, ◌∙◌, List, [], ◌∷◌, ◌++◌, None, Some, refl, sym, ap, subst}
 use Rattle.dpj_base.specs.declared.refusal.Refusal.{Refusal}
 use Rattle.dpj_base.specs.declared.refusal.Stop.{Stop}

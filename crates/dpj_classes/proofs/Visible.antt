@@ -349,7 +349,7 @@ after-append : (lists : List (List Own)) (seen : Seen) (xs ys : List Step) → a
 after-append lists seen [] ys = refl
 after-append lists seen (x ∷ xs) ys = after-append lists (after_step lists seen x) xs ys
 
--- steps through some classes, behind which the names mean what they meant, and each method of the classes is found to
+-- steps through some classes, after which the names mean what they meant, and each method of the classes is found to
 -- override what it does
 record Walked (names : ℕ) (rows : List MethodRow) (parents : List (Option ℕ)) (above : List ℕ) (old new : Seen) (through : List ℕ) : Type 0 where
   shows : Shows names rows above new.visible

@@ -1,4 +1,4 @@
--- What is told of names, before signatures are read.
+-- What is reported of names, before signatures are read.
 use Rattle.std.proofs.Common.{inl, inr}
 use Rattle.dpj_base.specs.declared.refusal.Refusal.{Refusal}
 use Rattle.dpj_tree.specs.declared.class.Program.{Program}

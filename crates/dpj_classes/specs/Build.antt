@@ -1,4 +1,4 @@
--- What makes a class table that of a program, and which fault is told where there is none.
+-- What makes a class table that of a program, and which fault is reported where there is none.
 use Rattle.std.specs.Prelude.{◌≡◌, ◌↔◌, ℕ, List, ◌++◌, map, length, Option, None, Some, IsTrue}
 use Rattle.std.specs.List.{flat_map}
 use Rattle.dpj_base.specs.declared.refusal.Refusal.{Refusal}
@@ -21,7 +21,7 @@ use Rattle.dpj_classes.specs.RowNumbers.{rows_on_way}
 use Rattle.dpj_classes.specs.Rows.{plain_super, plain_field, plain_method, all_constraints, all_constraint_faults, supers_meant, fields_meant, methods_meant, signature_faults}
 use Rattle.dpj_classes.specs.Table.{headers_of, all_given, supers_of, fields_of, methods_of, is_forking}
 
--- the fault that is told of these: that with the least place
+-- the fault that is reported of these: that with the least place
 abbrev pub first_of : List Refusal → Option Refusal
 first_of found = told (all_noted (none_by order.Place) found)
 

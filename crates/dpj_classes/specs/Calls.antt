@@ -84,7 +84,7 @@ abbrev pub declared_by : PlainStmt → Option (ℕ × TypeTree)
 declared_by (statement place (declare is_final ty name value)) = Some (name, ty)
 declared_by s = None
 
--- the locals behind a statement
+-- the locals after a statement
 abbrev pub behind : Headers → Names Shape → PlainStmt → Names Shape
 behind headers locals s = option_map_or (λ local. with_name locals local.0 (tree_shape headers local.1)) (declared_by s) locals
 

@@ -9,7 +9,7 @@ use Rattle.dpj_classes.specs.Build.{AreWellNamed, IsTable, IsTold, first_of, tab
 abbrev pub OneTable : Type 0
 OneTable = (program : Program) (left right : Table) → IsTable program left → IsTable program right → left ≡ right
 
--- one fault is told of it at most, and none where names and signatures are free of faults and so is the table as a whole
+-- one fault is reported of it at most, and none where names and signatures are free of faults and so is the table as a whole
 pub record OneFault : Type 0 where
   pub one : (program : Program) (left right : Refusal) → IsTold program left → IsTold program right → left ≡ right
   pub none : (program : Program) (table : Table) (fault : Refusal) → AreWellNamed program.classes → IsTable program table → first_of (table_faults table program.names) ≡ None → IsTold program fault → ⊥

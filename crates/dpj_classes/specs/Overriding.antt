@@ -85,7 +85,7 @@ params_from from (suc n) = params_from from n ++ param_path (as_number (from + n
 abbrev pub param_count : Headers → ℕ → ℕ
 param_count headers at = option_map_or (λ header. as_number (length header.params)) (header_of headers at) 0
 
--- what the region parameters of a superclass, and behind them those of a method of it, are in a method that
+-- what the region parameters of a superclass, and after them those of a method of it, are in a method that
 -- overrides it
 abbrev pub args_in : Table → MethodRow → ℕ → List Rpl
 args_in table row owner =

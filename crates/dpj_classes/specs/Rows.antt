@@ -117,7 +117,7 @@ said_faults scope method = formal_faults scope method.formals ++ result_faults s
 abbrev pub method_faults : PlainScope → Method → List Refusal
 method_faults scope method = constraints_faults (method_scope scope method) method.params.given ++ said_faults (said_scope scope method) method
 
--- the row of a member that is a field, and the slot of the next field behind it
+-- the row of a member that is a field, and the slot of the next field after it
 abbrev pub own_fields : PlainScope → ℕ → Member → List PlainField
 own_fields scope slot (member.Regions is_atomic names) = []
 own_fields scope slot (member.Field field) = field_row scope slot field ∷ []

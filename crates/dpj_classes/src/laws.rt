@@ -5,7 +5,7 @@ pub fn one_table()
     ensures { OneTable }
 {}
 
-/// One fault is told of a program at most, and none where there is a table without faults.
+/// One fault is reported of a program at most, and none where there is a table without faults.
 pub fn one_fault()
     ensures { OneFault }
 {}

@@ -3,7 +3,7 @@
 //! `build` makes the table of the tree. It refuses, in four passes one after the other: what the headers refuse by
 //! names alone, in two passes; then what is wrong in types, region paths, constraints and summaries of signatures;
 //! then methods that don't fit those that they override, and a program without its `Main`. In each pass the fault
-//! with the least place is told.
+//! with the least place is reported.
 //!
 //! A field or a method is looked for in the class first and then in its superclasses, one after the other. What a
 //! row says is said over the region parameters of the class that declares it; `args_at` gives what to put in for
@@ -11,7 +11,7 @@
 //!
 //! `all_fields` and `all_rows` give of each class what it has together with what it inherits: `specs/Inherited.antt`.
 //!
-//! `specs/Build.antt` says what makes a table that of a program and which fault is told where there is none: its rows
+//! `specs/Build.antt` says what makes a table that of a program and which fault is reported where there is none: its rows
 //! are those of `specs/Rows.antt`, and what a part of a signature means, with its faults, is said by
 //! `specs/Signatures.antt`. `specs/Places.antt` says which row a look-up finds, `specs/Overridden.antt` which method
 //! each one overrides.

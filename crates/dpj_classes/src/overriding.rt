@@ -74,7 +74,7 @@ fn param(alloc: Global, number: u32) -> Rpl
     }
 }
 
-/// Puts so many region parameters behind paths, counted on from a number.
+/// Puts so many region parameters after paths, counted on from a number.
 #[tactic(auto, using(crate::proofs::Params::params_more))]
 fn add_params(alloc: Global, paths: &mut Items<Rpl>, from: u32, count: u32) -> Result<(), NoMemory>
     ensures { OnOk result (paths.new ≡ paths.old ++ params_from from count) }
@@ -95,7 +95,7 @@ fn param_count(headers: &Headers, class: u32) -> u32
     }
 }
 
-/// What the region parameters of a superclass, and behind them those of a method of it, are in a method that
+/// What the region parameters of a superclass, and after them those of a method of it, are in a method that
 /// overrides it.
 fn region_args(
     alloc: Global,

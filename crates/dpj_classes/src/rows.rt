@@ -25,7 +25,7 @@ pub struct MethodRow {
     /// Where the name stands.
     pub place: Place,
     pub is_constructor: bool,
-    /// Its own region parameters, which are numbered behind those of the class.
+    /// Its own region parameters, which are numbered after those of the class.
     pub regions: Items<ParamRow>,
     /// The constraints over them.
     pub given: Items<Constraint>,

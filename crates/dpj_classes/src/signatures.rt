@@ -155,7 +155,7 @@ impl Around<'_> {
         }
     }
 
-    /// Reads a member, where the next field has this slot. The slot of the next field behind it.
+    /// Reads a member, where the next field has this slot. The slot of the next field after it.
     fn member(
         &self,
         alloc: Global,

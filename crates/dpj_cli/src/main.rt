@@ -1,4 +1,4 @@
-//! The program: it hands the words behind its name, standard input and standard output to `dpj`, and ends with
+//! The program: it hands the words after its name, standard input and standard output to `dpj`, and ends with
 //! the number of its status.
 #![tactic(auto)]
 
@@ -11,7 +11,7 @@ use std::{env, io};
 /// The status where the words themselves find no memory.
 const NO_MEMORY: u8 = 7;
 
-/// The words behind the program's name. Words that are no text are no words, so they give no job.
+/// The words after the program's name. Words that are no text are no words, so they give no job.
 fn words(rt: &HostRuntime) -> io::Result<Vec<String>> {
     match env::args(rt) {
         Ok(words) => Ok(words.skip(1).collect(rt.alloc())?),

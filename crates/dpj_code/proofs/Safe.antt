@@ -321,7 +321,7 @@ module _ {N M : Type 0} (C : PlainCode) (F : CodeFit C) where
         subst (λ o. (x : ℕ) × Safe C F x (calls_method names C o seen vs own (record g { at = suc g.at; stack = st }) fs)) (sym h.row)
         (callee r g fs s names y h.method.body vs _ st t h.body (omega arith))
 
-    -- a local step, and one behind an action
+    -- a local step, and one after an action
     next_safe : {takes puts opens closes : ℕ} → Falls_to (F.marks g.body) s.3.mark (suc g.at) takes puts opens closes → (st : List (Value N)) →
         length st + takes ≡ length g.stack + puts → Fine C F r (Goes (machine.next g st fs))
     next_safe t st e = record { is = falls r g fs s t g.frame st refl refl e }

@@ -40,7 +40,7 @@ put_twice args paths (Param p) e n same within =
     let l = within p refl in
     behind_put args (argument paths p) e ∙ ap (λ z. behind z e) (sym (get_or-map (substituted args) paths p (record { head = Param p; elems = [] }) (record { head = Param p; elems = [] }) (omega (arith, l, same))))
 
--- lists of elements, one behind the other
+-- lists of elements, one after the other
 
 ends_behind : (names : List Bool) (r e : List Elem) → ends_atomic names e ≡ true → ends_atomic names (r ++ e) ≡ true
 ends_behind names [] e h = h

@@ -80,7 +80,7 @@ goes_step scope around x elems b a h = by (elem_meant scope around x) h
     by None h = absurd (none_goes_on scope around elems a h)
     by (Some e) h = (e, refl, h)
 
--- lists of elements with one more behind
+-- lists of elements with one more after
 
 specified_push : (xs : List Elem) (e : Elem) → all_specified xs ≡ true → elem_specified e ≡ true → all_specified (xs ++ e ∷ []) ≡ true
 specified_push [] e h k = by (elem_specified e) k
@@ -271,7 +271,7 @@ module _ (P : PlainProgram) (L : Scope) (scope : PlainScope) (means : Meaning P 
         let w = from_some around tree.elems (head_meant scope tree.head) a h in
         full_on around tree.elems w.0 a (head_full tree.head w.0 w.1) s (sym (ap (λ o. goes_on scope around o tree.elems) w.1) ∙ h)
 
-    -- whether it is atomic is what is told of the written one
+    -- whether it is atomic is what is reported of the written one
 
     atomic_names : (n : ℕ) → slice_index_or P.region_names n false ≡ is_atomic_region scope.headers n
     atomic_names n = ap (λ z. slice_index_or z n false) means.atomic

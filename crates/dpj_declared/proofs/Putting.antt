@@ -37,7 +37,7 @@ firm-local : (x : Elem) → is_firm x ≡ true → is_local x ≡ false
 firm-local (Local r n) h = absurd (false≢true h)
 firm-local x h = refl
 
--- what stands behind firm elements
+-- what stands after firm elements
 
 firm_behind : (r b a : List Elem) → all_firm r ≡ true → Covers b a → Covers (r ++ b) (r ++ a)
 firm_behind [] b a h d = d

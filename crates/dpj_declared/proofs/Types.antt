@@ -87,7 +87,7 @@ pub not_in_local : (P : PlainProgram) (L : Scope) (depth : ℕ) (a : Rpl) → Go
 not_in_local P L depth a (inl h) none = h
 not_in_local P L depth a (inr h) none = let begins : true ≡ false = sym (ap (λ (z : Rpl). begins_local z.elems) h.is) ∙ none in cc
 
--- no local region is told of where one path is read after another
+-- no local region is reported of where one path is read after another
 local_kept : (scope : PlainScope) (around : PlainIndex) (at : ℕ) (before : Option Place) (rest : List Suffix) → local_from scope around at before rest ≡ None → before ≡ None
 local_kept scope around at before [] h = h
 local_kept scope around at before (suffix ∷ rest) h = kept before suffix.rpl (local_kept scope around (at + 1) (suffix_local scope (at_suffix around at) before suffix) rest h)

@@ -169,7 +169,7 @@ module _ (given : List Constraint) (env : Env) (v : IsEnv given env) where
       (λ e. or_right (distinct (put_elem env x) (put_elem env y)) _ (put_front a b e))
       (or_cases (distinct x y) _ p.1)
 
-  -- the walk goes on behind a front that both have, and stops before what is behind both
+  -- the walk goes on after a front that both have, and stops before what is after both
   behind_front : (r a b : List Elem) → all_plain r ≡ true → apart_front a b ≡ true → apart_front (r ++ a) (r ++ b) ≡ true
   behind_front [] a b h f = f
   behind_front (x ∷ r) a b h f =

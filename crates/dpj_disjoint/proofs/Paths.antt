@@ -12,7 +12,7 @@ use Rattle.dpj_base.specs.Apart.{apart_by_some, apart}
 use Rattle.dpj_regions.proofs.Inclusion.{Covers, Covers-from, star_is, within-trans}
 use Rattle.dpj_disjoint.proofs.Lists.{front-within, Covers-reverse, shorter-within, shorter-parts, solid-star, solid-length}
 
--- how a path lies in another: with the same head, or behind a parameter where the other begins with `*`
+-- how a path lies in another: with the same head, or after a parameter where the other begins with `*`
 data Headed : Head → Head → List Elem → Type 0 where
   same : {h : Head} {b : List Elem} → Headed h h b
   under : {p : ℕ} {b : List Elem} → begins_with_star b ≡ true → Headed (Param p) Root b

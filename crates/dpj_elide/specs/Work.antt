@@ -31,7 +31,7 @@ abbrev mutual
   exprs_work no_exprs = 0
   exprs_work (more_exprs e es) = expr_work e + exprs_work es
 
--- behind its operands
+-- after its operands
 abbrev pub operation_work : TypedExpr → ℕ
 operation_work (typed at t (form.both a b)) = 1 + expr_work b
 operation_work (typed at t (form.either a b)) = 1 + expr_work b

@@ -34,7 +34,7 @@ use Rattle.dpj_runs.proofs.Working.{Working, greatest_now, not_begun, goes_up, g
 use Rattle.dpj_elided.proofs.Simulation.{ToldOf, ResultOf, ResultIn, OutOf, OutIn, told_on, Ghost, D}
 use Rattle.dpj_elided.proofs.Simulation.{Ready, RanOut, After, Post, Sim, allowed_next, resid_next}
 
--- the first trap, after a task that ended so, after some of them, and behind their join
+-- the first trap, after a task that ended so, after some of them, and after their join
 abbrev pub fallen : EndingOver ℕ → Option (Trap × Place) → Option (Trap × Place)
 fallen (Trapped trap p) f = first_of f (trap, p)
 fallen (Returned v) f = f
@@ -260,7 +260,7 @@ module _ (P : PlainProgram) (arg : ℤ) where
       begin_holds : Holds Q (begin ∷ R) ns 0 (one_step w)
       begin_holds = structure_step Q r.holds p begin refl (λ c. refl) (begin_prints b) refl (one_step w) refl refl refl refl (omega arith)
 
-      -- and what the task above does behind its end
+      -- and what the task above does after its end
       next_ready : {v : Store} {x : EndingOver ℕ} (o : One child (begin ∷ R) ns (one_step w) v x)
           → Ready P arg (forked_at p made (o.event ∷ o.before) o.names) v t (λ u. bind (begins_then (suc b) n told_join u) K)
       next_ready o = record {

@@ -48,7 +48,7 @@ module _ (P : PlainProgram) (arg : ℤ) where
     abbrev then_told : Brought Name → ToldOf → OutOf ResultOf
     then_told y u = run (told (named_by path)) (j y) u
 
-    -- behind the join, where the branches brought this
+    -- after the join, where the branches brought this
     behind : (g h : Ghost) (w v : Store) (t : Task) (K : ResultOf → ToldOf → OutOf ResultOf) (x : Brought ℕ) (y : Brought Name) → Later ns h.names
         → BroughtLike h.names x y
         → v.turns < b → After P arg g h w v → v.trap ≡ brought_down x w.trap → Ready P arg h v t (λ u. bind (then_told y u) K)

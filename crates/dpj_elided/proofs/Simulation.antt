@@ -211,7 +211,7 @@ module _ (P : PlainProgram) (arg : ℤ) where
         enters = λ E i. may Q D r.legal r.working E;
       })
 
-  -- what is left to do behind it
+  -- what is left to do after it
   pub resid_next : (p : Path) (t : Task) (R : Run) (m m' : ToldOf → OutOf ResultOf) (n k k' i : ℕ) (a : Action) (x : Answer)
       → Residual p t (answers (mine R p)) m n k
       → ((xs : List Answer) → replied t.work (m (told_on n k (x ∷ xs))) ≡ replied t.work (m' (told_on 0 k' xs)))

@@ -184,7 +184,7 @@ result_distinct (goes_on_like v f) = f.distinct
 result_distinct (returns_like d v) = d
 
 -- what two tasks do is like: the same actions, and then the same whatever more objects there are; and each branch of the elision
--- does what its task is to do, and the first branch's trap goes on behind the join
+-- does what its task is to do, and the first branch's trap goes on after the join
 pub data Alike (P : PlainProgram) : ℕ → Names → Prog ℕ Counted → Prog Name LocalRegion → Type 0 where
   alike_ret : {c : ℕ} {ns : Names} {r : Result ℕ Counted} {s : Result Name LocalRegion} → ResultLike c ns r s → Alike P c ns (Ret r) (Ret s)
   alike_traps : {c : ℕ} {ns : Names} (trap : Trap) (p : Place) → Alike P c ns (Traps trap p) (Traps trap p)

@@ -1,4 +1,4 @@
--- Calls whose parts are read: of what is told of a use with region arguments, what is so of the call.
+-- Calls whose parts are read: of what is reported of a use with region arguments, what is so of the call.
 use Rattle.std.proofs.Common.{◌≡◌, ◌∙◌, ℕ, List, ◌++◌, Bool, true, false, Option, Some, None, Result, Ok, map, sym, subst, ap}
 use Rattle.std.specs.List.{list_all}
 use Rattle.dpj_base.specs.declared.place.Place.{Place}
@@ -57,7 +57,7 @@ pub fit_for : (headers others : Headers) (actuals : List (Option PlainType)) (de
 fit_for headers others actuals declared shown fit f h d =
     subst (λ (z : List Ty). fit ≡ shapes_fit others actuals z) d (subst (λ (z : Headers). fit ≡ shapes_fit z actuals declared) h f)
 
--- what is told of a call with these region arguments, behind these faults, through a partial receiver or not
+-- what is reported of a call with these region arguments, after these faults, through a partial receiver or not
 abbrev pub CallTold : Env → MethodRow → List (Option PlainType) → Place → Option Refusal → List Rpl → Faults → Bool → Type 0
 CallTold env row actuals place told_one all before partial =
     UseTold env before all actuals row.params partial (all_hold (given_in env) all row.given) place told_one

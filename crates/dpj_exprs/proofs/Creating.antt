@@ -1,4 +1,4 @@
--- Creations of objects whose parts are read: of what is told of a use with region arguments, what is so of the creation.
+-- Creations of objects whose parts are read: of what is reported of a use with region arguments, what is so of the creation.
 use Rattle.std.proofs.Common.{◌≡◌, ◌∙◌, ℕ, List, Bool, false, Option, Some, None, Result, map, ap, sym, subst}
 use Rattle.dpj_base.specs.declared.place.Place.{Place}
 use Rattle.dpj_base.specs.declared.refusal.Kind.TheVariants as kind
@@ -37,7 +37,7 @@ use Rattle.dpj_exprs.proofs.Passing.{says_all}
 abbrev pub params_at : Env → ℕ → List ParamRow
 params_at env at = params_in (headers_of (table_of env)) at
 
--- what is told of the creation of an object of a class with these region arguments, behind these faults
+-- what is reported of the creation of an object of a class with these region arguments, after these faults
 abbrev pub CreationTold : Env → ℕ → List (Option PlainType) → Place → Option Refusal → List Rpl → Faults → Type 0
 CreationTold env at actuals place told_one regions before =
     UseTold env before regions actuals (formals_of (table_of env) at) false (all_hold (given_in env) regions (given_of (table_of env) at)) place told_one

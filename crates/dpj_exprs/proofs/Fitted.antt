@@ -15,7 +15,7 @@ fits_at supers args values declared i x y fit p q e f told h v t =
     (get_or_read values i x p e v)
     (subst (λ (z : Ty). Fits supers x (type_with args (plain_type z))) (get_or_read declared i y q f t) (told.0 h))
 
--- the same told by places, and one behind the other
+-- the same told by places, and one after the other
 pub all_of_places : (supers : List Super) (args : List Rpl) (values : List Typed) (declared : List Ty) → ActualsFit supers args values declared → AllFit supers args (map value_type values) declared
 all_of_places supers args [] [] h = tt
 all_of_places supers args [] (t ∷ ts) h = absurd (omega (arith, h.0))

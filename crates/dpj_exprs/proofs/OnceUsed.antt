@@ -34,7 +34,7 @@ one_truth false false x y = refl
 one_given : (o : Option (List Rpl)) (r s : List Rpl) → o ≡ Some r → o ≡ Some s → s ≡ r
 one_given o r s p q = cc
 
--- what is told of one use
+-- what is reported of one use
 use_once : (env : Env) (before : Faults) (args : List Rpl) (actuals : List (Option PlainType)) (declared : List Ty) (partial hold : Bool) (place : Place) (p q : Option Refusal) →
     UseTold env before args actuals declared partial hold place p → UseTold env before args actuals declared partial hold place q → p ≡ q
 use_once env before args actuals declared partial hold place p q x y =

@@ -1,4 +1,4 @@
--- What is told of the own path of a created array.
+-- What is reported of the own path of a created array.
 use Rattle.std.proofs.Common.{◌≡◌, ◌∙◌, Option, ap}
 use Rattle.dpj_base.specs.declared.refusal.Refusal.{Refusal}
 use Rattle.dpj_headers.specs.declared.faults.Faults.{Faults}

@@ -34,7 +34,7 @@ pub refuses : {T A : Type 0} (Q : A → Type 0) (made : T → A) (refuse : Refus
     s ≡ stop.Refused q → Q (refuse q) → Says (Err s) made refuse Q
 refuses Q made refuse s q is h = subst (λ (z : Stop). IfRefused z (λ x. Q (refuse x))) (sym is) h
 
--- which fault is told, where two clauses say it
+-- which fault is reported, where two clauses say it
 pub told_says : {T : Type 0} (told : Option Refusal) (r : Result T Stop) →
     OnOk r (told ≡ None) → IfErr r (λ s. IfRefused s (λ q. told ≡ Some q)) → Says r (λ x. None) Some (λ t. told ≡ t)
 told_says told (Ok x) untold h = untold

@@ -45,7 +45,7 @@ full_path = record { full = true; atomic = false }
 abbrev pub around_own : PlainIndex → PlainIndex
 around_own around = at_suffix around (length around.suffixes)
 
--- a path, unless a fault is told
+-- a path, unless a fault is reported
 abbrev pub path_told : Option Refusal → Option Rpl → Place → Result Rpl Refusal
 path_told (Some refusal) rpl place = Err refusal
 path_told None None place = Err (fault kind.Unknown place)
@@ -61,12 +61,12 @@ own_path env around (Some tree) =
 abbrev pub own_place : Option RplTree → Place → Place
 own_place rpl place = option_map_or (λ tree. tree.place) rpl place
 
--- the fault of a creation that is told: the length is no int, or the type is faulty
+-- the fault of a creation that is reported: the length is no int, or the type is faulty
 abbrev pub array_told : Env → PlainIndex → ReadType → Bool → Rpl → Place → Place → Option Refusal
 array_told env around front is_length own own_at place =
     told_first (fault_if (not is_length) kind.Type place ++ array_faults (scope_of env) around front own own_at place)
 
--- a type, unless a fault is told
+-- a type, unless a fault is reported
 abbrev pub type_told : Option Refusal → Option PlainType → Place → Result PlainType Refusal
 type_told (Some refusal) t place = Err refusal
 type_told None None place = Err (fault kind.RegionArgs place)

@@ -1,4 +1,4 @@
--- Refusals: as what stops a pass, and the one of several faults that is told.
+-- Refusals: as what stops a pass, and the one of several faults that is reported.
 use Rattle.std.specs.Prelude.{List, Option}
 use Rattle.dpj_base.specs.declared.place.Place.{Place}
 use Rattle.dpj_base.specs.declared.refusal.Kind.{Kind}
@@ -11,6 +11,6 @@ use Rattle.dpj_headers.specs.Faults.{told, none_by, all_noted}
 abbrev pub refusal_at : Kind → Place → Stop
 refusal_at kind place = Refused (record { kind = kind; place = place })
 
--- of the faults of one expression the one with the lowest number is told, at one number the first in the text
+-- of the faults of one expression the one with the lowest number is reported, at one number the first in the text
 abbrev pub told_first : List Refusal → Option Refusal
 told_first faults = told (all_noted (none_by order.Number) faults)

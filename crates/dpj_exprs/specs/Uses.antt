@@ -79,13 +79,13 @@ use_faults partial fit hold place =
 abbrev pub args_noted : ReadArgs → List ParamRow → Place → Faults
 args_noted args params place = all_noted (none_by order.Number) (args_faults args.local args.written params place)
 
--- the fault that is told of a use whose region arguments are known, or none
+-- the fault that is reported of a use whose region arguments are known, or none
 pub record UseTold (env : Env) (before : Faults) (args : List Rpl) (actuals : List (Option PlainType)) (declared : List Ty) (partial hold : Bool) (place : Place) (told_one : Option Refusal) : Type 0 where
   pub fit : Bool
   pub fits : IsTrue fit ↔ AllFit (supers_of env) args actuals declared
   pub tells : told (all_noted before (use_faults partial fit hold place)) ≡ told_one
 
--- the fault that is told of one whose region arguments aren't known, where the actuals may fit for some regions or not
+-- the fault that is reported of one whose region arguments aren't known, where the actuals may fit for some regions or not
 abbrev pub unknown_told : Faults → Bool → Place → Refusal
 unknown_told before fit place =
     option_map_or (λ refusal. refusal) (told (all_noted before (fault_if (not fit) kind.Type place))) (fault kind.RegionArgs place)

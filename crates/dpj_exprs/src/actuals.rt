@@ -27,7 +27,7 @@ pub fn note_if(faults: &mut Faults, is_so: bool, kind: Kind, place: Place)
     }
 }
 
-/// Tells what is wrong in a call or a creation whose region arguments are known, behind the faults that are noted
+/// Tells what is wrong in a call or a creation whose region arguments are known, after the faults that are noted
 /// already.
 pub fn check_use(
     alloc: Global,

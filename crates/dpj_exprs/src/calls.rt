@@ -100,7 +100,7 @@ fn some_mention_partial(types: &[Ty], owned: &[Rpl]) -> bool
     false
 }
 
-/// The receiver's region arguments, and behind them those of the call.
+/// The receiver's region arguments, and after them those of the call.
 fn joined(alloc: Global, owned: &[Rpl], regions: &[Rpl]) -> Result<Items<Rpl>, NoMemory>
     ensures { IfOk result (λ args. args ≡ owned.now ++ regions.now) }
 {

@@ -42,7 +42,7 @@ pub record AreNames (text : List ℕ) (names : ProgramNames) : Type 0 where
   pub cut : Cuts text tokens end
   pub has_named : HasNamed text tokens names
 
--- the fault that is told of the tokens of a text: that of their grammar, or that of the program that they derive
+-- the fault that is reported of the tokens of a text: that of their grammar, or that of the program that they derive
 pub data IsTokenFault (text : List ℕ) (tokens : List Token) (end : Place) (refusal : Refusal) : Type 0 where
   of_grammar : IsGrammarFault text tokens end refusal → IsTokenFault text tokens end refusal
   of_program : (program : Program) → IsProgram text tokens program → IsFaulty program refusal → IsTokenFault text tokens end refusal

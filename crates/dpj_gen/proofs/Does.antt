@@ -229,7 +229,7 @@ module _ {N M : Type 0} {names : Naming N M} {C : PlainCode} {P : PlainProgram} 
       at_end n m [] = record { fuel = 1; reply = _; stands = refl; same = (_, refl, refl) }
       at_end n m (x ∷ xs) = record { fuel = 1; reply = _; stands = refl; same = refl }
 
-  -- in front of a join, where branch k is next and m are left of n; D: behind it
+  -- in front of a join, where branch k is next and m are left of n; D: after it
   pub does_begins : {b : ℕ} (n : ℕ) (J : ℕ → ℕ → State N M) (D : Brought N → State N M) (Y : Brought N → Told N M →
       Out N M (Result N M) (Told N M)) (K : Result N M → Told N M → Reply N M (Task N M)) →
       ((k m : ℕ) → k + suc m ≡ n → step names C (J k (suc m)) ≡ Waits (Begin k) (λ x. J (suc k) m)) →

@@ -16,7 +16,7 @@ use Rattle.dpj_code.specs.Machine.{Stand as stand}
 use Rattle.dpj_gen.specs.Compiled.{AllCompiled}
 use Rattle.dpj_gen.proofs.Does.{after, room, after_assoc, bind_assoc, Replies, Does, does_same, does_less, does_on, does_step, does_act, does_turn, does_make, does_end, does_begins}
 
--- a loop over what is told
+-- a loop over what is reported
 abbrev pub again : {N M : Type 0} → Naming N M → (t b : Frame N M → Prog N M) → ℕ → Frame N M → Told N M → Out N M (Result N M) (Told N M)
 again names t b m f w = loop turned (λ g v. run (told names) (t g) v) (λ g v. run (told names) (b g) v) m f w
 
@@ -41,7 +41,7 @@ module _ {N M : Type 0} {names : Naming N M} {C : PlainCode} {P : PlainProgram} 
       Sim names C P d t B G p → Sim names C P d s B G p
   sim_step e x = record { does = λ b K h r. does_step e (x.does b K h r) }
 
-  -- a step behind
+  -- a step after
   pub sim_last : {s : State N M} {B B' : Value N → Frame N M → State N M} {G : Value N → State N M} {p : Prog N M} →
       ((v : Value N) (g : Frame N M) → step names C (B v g) ≡ Goes (B' v g)) → Sim names C P d s B G p → Sim names C P d s B' G p
   sim_last e x = record { does = λ b K h r. x.does b K (λ v g i. does_step (e v g) (h v g i)) r }
@@ -85,7 +85,7 @@ module _ {N M : Type 0} {names : Naming N M} {C : PlainCode} {P : PlainProgram} 
       step names C s ≡ stand.Makes k → ((r : M) → Sim names C P d (k r) B G (j r)) → Sim names C P d s B G (Makes j)
   sim_make {s} {B} {G} {k} {j} e x = record { does = λ b K h r. does_make (λ m v. run (told names) (j m) v) K e (λ m. (x m).does b K h r) }
 
-  -- a loop. H: its head; T: behind the test; L: behind the turn; F: behind the body
+  -- a loop. H: its head; T: after the test; L: after the turn; F: after the body
   module _ (H L : Frame N M → State N M) (T F B : Value N → Frame N M → State N M) (G : Value N → State N M) (t b : Frame N M →
       Prog N M) (ht : (f : Frame N M) → f.left ≡ d → Sim names C P d (H f) T G (t f)) (hb : (f : Frame N M) → f.left ≡ d →
       Sim names C P d (L f) F G (b f)) (M' : Frame N M → State N M) (leave : (v : Value N) (g : Frame N M) → truth v ≡ false →
@@ -140,7 +140,7 @@ module _ {N M : Type 0} {names : Naming N M} {C : PlainCode} {P : PlainProgram} 
       };
     }
 
-  -- branches. J: in front of the join, where a branch is next and so many are left; D: behind it
+  -- branches. J: in front of the join, where a branch is next and so many are left; D: after it
   pub sim_split : {s : State N M} {B : Value N → Frame N M → State N M} {G : Value N → State N M} (forking : Forking) (ts : List (Task N M))
       (bs : List (Start N M)) (bodies : ℕ → Prog N M) (k : Brought N → Prog N M) (J : ℕ → ℕ → State N M) (D : Brought N → State N M) (n : ℕ) → length ts ≡ n →
       AllCompiled C P bs ts → step names C s ≡ Waits (Fork (record { kind = forking; tasks = bs })) (λ x. J 0 n) →

@@ -117,7 +117,7 @@ module _ {N M : Type 0} (names : Naming N M) (C : PlainCode) (P : PlainProgram) 
     Right_stmt dp p st s = (f : Frame N M) → f.left ≡ d →
         Sim names C P d (spot b fs p st f) (λ v g. spot b fs (after_stmt p s) st g) (λ v. gone y v fs) (of_stmt names P dp s f)
 
-    -- behind a join
+    -- after a join
     right_joined : (p : ℕ) (st : List (Value N)) (copies all : List ℕ) → copies ≡ all → (f : Frame N M) → f.left ≡ d → (x : Brought N) →
         Sim names C P d (machine.joined copies x (lvl b p st f) fs) (λ v g. spot b fs (suc p) st g) (λ v. gone y v fs) (joined all f x)
     right_joined p st copies all e f l (Back ls) =
@@ -125,7 +125,7 @@ module _ {N M : Type 0} (names : Naming N M) (C : PlainCode) (P : PlainProgram) 
         (joined z f (Back ls))) e (sim_here none (with_values f (copied copies ls f.values)) l)
     right_joined p st copies all e f l (Trap_of_branch t at) = sim_off t at
 
-    -- a join stands directly behind its site
+    -- a join stands directly after its site
     at_join : (p : ℕ) (x : ℕ → Instr) (q : Place) (site : Site) (h : SitedAt C (body_at C b).lines p x q site) → LineAt (body_at C b).lines (suc p) i.Join q →
         site_of (Some (record { instr = x h.number; place = q })) ≡ Some h.number → (st : List (Value N)) (f : Frame N M) →
         step names C (spot b fs (suc p) st f) ≡ joins_site (Some site) (lvl b (suc p) st f) fs

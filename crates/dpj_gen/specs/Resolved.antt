@@ -83,7 +83,7 @@ abbrev mutual
   StmtFits P y (statement at (form.foreach_parts x (of_array a) count s)) = ExprFits P a × ExprFits P count × StmtFits P y s
   StmtFits P y (statement at (form.foreach_parts x (of_part z) count s)) = ExprFits P count × StmtFits P y s
 
-  -- none stands behind one that doesn't complete
+  -- none stands after one that doesn't complete
   pub StmtsFit : PlainProgram → Bool → TypedStmts → Type 0
   StmtsFit P y no_stmts = Unit {0}
   StmtsFit P y (more_stmts s ss) = StmtFits P y s × (IsTrue (completes s) ⊎ (ss ≡ no_stmts)) × StmtsFit P y ss

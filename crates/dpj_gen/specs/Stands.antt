@@ -78,7 +78,7 @@ module _ (C : PlainCode) where
   BeginsAt c None = Unit {0}
   BeginsAt c (Some x) = TakesAt c x
 
-  -- behind a branch stands its end, which gives these slots
+  -- after a branch stands its end, which gives these slots
   pub record BranchEnds (b : PlainBody) (p : ℕ) (copies : List ℕ) : Type 0 where
     pub place : Place
     pub stands : LineAt b.lines p i.End place

@@ -71,7 +71,7 @@ followed_by b a rest = record { bodies = b ∷ rest.bodies; sites = a.sites ++ r
 abbrev pub then_output : Output → Output → Output
 then_output a b = record { bodies = a.bodies ++ b.bodies; sites = a.sites ++ b.sites; texts = a.texts ++ b.texts }
 
--- the branches in the queue, so many at most: each puts its own branches behind the others
+-- the branches in the queue, so many at most: each puts its own branches after the others
 abbrev pub generate : ℕ → PlainMember → Next → List Branch → Output
 generate zero m k todo = no_output
 generate (suc n) m k [] = no_output

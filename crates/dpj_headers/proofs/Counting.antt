@@ -33,7 +33,7 @@ count_right classes parents counts at forest right =
         let known = right above e in
         omega (arith, ap (fields_together classes) up, known)
 
--- behind the way each class has the count of its fields and those of its superclasses
+-- after the way each class has the count of its fields and those of its superclasses
 pub fields_counted : (classes : List Class) (parents : List (Option ℕ)) (at : ℕ) → IsForest parents → length parents ≡ length classes → at < length classes →
     get_or (counted_way classes parents (replicate (length classes) 0) (way_of parents)) at 0 ≡ object_fields classes parents at
 fields_counted classes parents at forest each l =

@@ -187,7 +187,7 @@ twice_up parents jumps steps h at =
     along None = refl
     along (Some one) = h one
 
--- those that are told are those that were, and those that the jumps lead to
+-- those that are reported are those that were, and those that the jumps lead to
 round_kept : (rounds : List Bool) (at one : ℕ) → get_or rounds one false ≡ true → get_or (set rounds at true) one false ≡ true
 round_kept [] at one h = h
 round_kept (round ∷ rounds) zero zero h = refl

@@ -121,7 +121,7 @@ no_owner count owners owner e = subst (λ o. IsNoOwner o owner) (sym e) (none_ow
 params_owner : (count : ℕ) (owners : List ℕ) (names : List Named) → owners ≡ replicate count 0 → IsNoOwner (all_entered owners 0 names) 1
 params_owner count owners names e = subst (λ o. IsNoOwner (all_entered o 0 names) 1) (sym e) (other_owner count 0 1 names refl)
 
--- behind a class its region names and its fields are declared
+-- after a class its region names and its fields are declared
 pub class_declared : (count : ℕ) (seen : Around) (number : ℕ) (class : Class) → Clean count seen → class_entered seen number class ≡ record seen { regions = all_entered seen.regions number (own_regions class); fields = all_entered seen.fields number (own_fields class) }
 class_declared count seen number class clean =
     let members = class.members in

@@ -260,7 +260,7 @@ second_same count owners known owner (named ∷ names) says below =
     ∙ ap (λ more. fault_if (is_known known named.name) kind.Duplicate named.place ++ more)
     (second_same count (entered owners named.name owner) (named.name ∷ known) owner names (says_entered count owners known owner named.name says) below.1)
 
--- one list of names behind another
+-- one list of names after another
 pub entered_append : (owners : List ℕ) (owner : ℕ) (xs ys : List Named) → all_entered owners owner (xs ++ ys) ≡ all_entered (all_entered owners owner xs) owner ys
 entered_append owners owner [] ys = refl
 entered_append owners owner (x ∷ xs) ys = entered_append (entered owners x.name owner) owner xs ys

@@ -1,4 +1,4 @@
--- Which fault is told depends on which ones are noted, and not on their order or on how often each is noted.
+-- Which fault is reported depends on which ones are noted, and not on their order or on how often each is noted.
 use Rattle.std.proofs.Common.{◌≡◌, ℕ, ◌<◌, Bool, true, false, ◌==◌, ◌&&◌, cond, List, [], ◌∷◌, Option, Some, None, ◌⊎◌, inl, inr, refl, sym, ap, subst, ◌∙◌, arith}
 use Rattle.std.specs.Bool.{Decides}
 use Rattle.std.proofs.lemmas.Bool.Decides.{Decides-ltb, Decides-eqb, Decides-and, Decides-or, Decides-like, not_from_Decides}
@@ -42,7 +42,7 @@ lex_which a b rest =
 Decides-lex : {R : Type 0} (a b : ℕ) (r : Bool) → Decides r R → Decides ((a == b) && r) ((a ≡ b) × R)
 Decides-lex a b r d = Decides-and (a == b) r (Decides-eqb a b) d
 
--- the first fault is told rather than the second
+-- the first fault is reported rather than the second
 abbrev Before : Order → Refusal → Refusal → Type 0
 Before order.Place a b = Lex a.place.line b.place.line (Lex a.place.col b.place.col (kind_number a.kind < kind_number b.kind))
 Before order.Number a b = Lex (kind_number a.kind) (kind_number b.kind) (Lex a.place.line b.place.line (a.place.col < b.place.col))
@@ -146,7 +146,7 @@ before_which order.Number a b =
           | inr g ↦ elim (cases_eq a.place.col b.place.col) [ inl e ↦ inr (inl e) | inr ne ↦ inr (inr (omega arith)) ]
         ]
 
--- of two faults the one that is told
+-- of two faults the one that is reported
 abbrev earlier : Order → Refusal → Refusal → Refusal
 earlier by a b = cond (comes_first by b a) b a
 
@@ -157,7 +157,7 @@ earlier_is by a b = which (comes_first by b a) (decided by b a)
     which true d = inl (d.0 refl, refl)
     which false d = inr (not_from_Decides false d refl, refl)
 
--- what is told before the earlier one is told before both
+-- what is reported before the earlier one is reported before both
 before_both : (by : Order) (a b x : Refusal) → Before by x (earlier by a b) → Before by x a × Before by x b
 before_both by a b x h =
     elim (earlier_is by a b) [
@@ -175,7 +175,7 @@ before_both by a b x h =
 earlier_of : (by : Order) (a b : Refusal) → (earlier by a b ≡ a) ⊎ (earlier by a b ≡ b)
 earlier_of by a b = elim (earlier_is by a b) [ inl w ↦ inr w.1 | inr w ↦ inl w.1 ]
 
--- two are the same where neither is told before the other
+-- two are the same where neither is reported before the other
 neither_first : (by : Order) (a b : Refusal) → (Before by a b → ⊥) → (Before by b a → ⊥) → a ≡ b
 neither_first by a b l g = elim (before_which by a b) [ inl h ↦ absurd (l h) | inr more ↦ elim more [ inl e ↦ e | inr h ↦ absurd (g h) ] ]
 

@@ -1,4 +1,4 @@
--- Lists of faults of which the same one is told.
+-- Lists of faults of which the same one is reported.
 use Rattle.std.proofs.Common.{◌≡◌, List, ◌++◌, refl, sym, ap, ◌∙◌}
 use Rattle.dpj_base.specs.declared.refusal.Refusal.{Refusal}
 use Rattle.dpj_headers.specs.declared.faults.Faults.{Faults}
@@ -23,7 +23,7 @@ same_append xs ys more rest h k = record {
 pub same_behind : (xs more rest : List Refusal) → Same more rest → Same (xs ++ more) (xs ++ rest)
 same_behind xs more rest k = same_append xs xs more rest (same_list xs xs refl) k
 
--- the first list moves behind the second
+-- the first list moves after the second
 pub same_moved : (xs ys rest : List Refusal) → Same (xs ++ (ys ++ rest)) (ys ++ (xs ++ rest))
 same_moved xs ys rest = record {
   noted = λ faults. noted_append faults xs (ys ++ rest) ∙ noted_append (all_noted faults xs) ys rest
@@ -31,7 +31,7 @@ same_moved xs ys rest = record {
       ∙ sym (noted_append (all_noted faults ys) xs rest) ∙ sym (noted_append faults ys (xs ++ rest));
 }
 
--- the first list moves behind two, three and four others
+-- the first list moves after two, three and four others
 pub same_moved_two : (xs a b rest : List Refusal) → Same (xs ++ (a ++ (b ++ rest))) (a ++ (b ++ (xs ++ rest)))
 same_moved_two xs a b rest = same_then _ _ _ (same_moved xs a (b ++ rest)) (same_behind a (xs ++ (b ++ rest)) (b ++ (xs ++ rest)) (same_moved xs b rest))
 

@@ -34,7 +34,7 @@ use Rattle.dpj_headers.proofs.Inside.{InnerBelow, Below}
 use Rattle.dpj_headers.proofs.Marks.{AllBelow}
 use Rattle.dpj_headers.proofs.Walks.{way_second}
 
--- where no fault is told none is noted
+-- where no fault is reported none is noted
 one_kept : (faults : Faults) (one : Refusal) → told (noted faults one) ≡ None → ⊥
 unfolding noted
 one_kept faults one h = none-some _ (sym h)
@@ -168,7 +168,7 @@ classes_below count (one ∷ classes) h zero class is =
     class_below count class (subst (λ c. are_below count (declared_in c) ≡ true) same (and_true (are_below count (declared_in one)) _ h).0)
 classes_below count (one ∷ classes) h (suc at) class is = classes_below count classes (and_true (are_below count (declared_in one)) _ h).1 at class is
 
--- what the way tells is what is told of the members
+-- what the way tells is what is reported of the members
 told_way : (count : ℕ) (classes : List Class) → AreCounted count classes → IsToldFirst classes None → told_on_way count classes (way_of (parents_in classes)) ≡ told_second classes
 told_way count classes fits first =
     ap told ((way_second count classes (parents_in classes) (sound_from classes fits.0 first) (length_parents classes) (classes_below count classes fits.1)).noted (none_by order.Place))

@@ -118,7 +118,7 @@ ready_below count classes parents seen number below class sound is e ready =
       field_owners = own_below parents seen.fields number below (own_fields class) e ready.field_owners;
     })
 
--- the classes, as many as there are superclasses told, each with names below a count
+-- the classes, as many as there are superclasses reported, each with names below a count
 record Whole (count : ℕ) (classes : List Class) (parents : List (Option ℕ)) : Type 0 where
   sound : IsForest parents
   each : length parents ≡ length classes
@@ -129,7 +129,7 @@ class_at [] at l = absurd (omega arith)
 class_at (class ∷ classes) zero l = (class, refl)
 class_at (class ∷ classes) (suc at) l = class_at classes at (omega arith)
 
--- what is declared behind some steps
+-- what is declared after some steps
 abbrev after_way : List Class → Around → List Step → Around
 after_way classes seen [] = seen
 after_way classes seen (s ∷ steps) = after_way classes (after_step classes seen s) steps

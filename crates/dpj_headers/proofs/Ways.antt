@@ -105,7 +105,7 @@ left_step lists n class steps pending all h e = (
       ∙ e,
 )
 
--- what is popped is taken, and what comes behind it is pushed
+-- what is popped is taken, and what comes after it is pushed
 taken_here : (lists : List (List ℕ)) (n : ℕ) (taken : Step) (steps popped all : List Step) → AllEnded lists n (popped ++ taken ∷ []) × (steps ++ left_of lists n (popped ++ taken ∷ []) ≡ all) →
     AllEnded lists n (popped ++ behind lists taken) × ((steps ++ taken ∷ []) ++ left_of lists n (popped ++ behind lists taken) ≡ all)
 taken_here lists n (step.Enter class) steps popped all h = entered_step lists n class steps popped all h.0 h.1

@@ -54,7 +54,7 @@ abbrev pub second_method : Around → Method → List Refusal
 second_method seen method =
     fault_if (not (is_free (cond (is_constructor_result method.result) seen.constructors seen.methods) method.name)) kind.Duplicate method.place
 
--- names are declared by a method, and no more behind it
+-- names are declared by a method, and no more after it
 abbrev pub passed : List ℕ → List Named → List ℕ
 passed owners names = all_left (all_entered owners 1 names) 1 names
 
@@ -111,7 +111,7 @@ params_entered seen class = record seen { params = all_entered seen.params 0 (cl
 abbrev pub params_left : Around → Class → Around
 params_left seen class = record seen { params = all_left seen.params 0 (class_params class) }
 
--- behind the class its region names and fields are declared for what extends it
+-- after the class its region names and fields are declared for what extends it
 abbrev pub class_entered : Around → ℕ → Class → Around
 class_entered seen number class =
     params_left (methods_left (members_entered (params_entered seen class) number class.members) class.members) class
@@ -144,6 +144,6 @@ abbrev pub way_faults : List Class → Around → List Step → List Refusal
 way_faults classes seen [] = []
 way_faults classes seen (s ∷ more) = step_faults classes seen s ++ way_faults classes (after_step classes seen s) more
 
--- the fault that is told of these, if there is one
+-- the fault that is reported of these, if there is one
 abbrev pub told_on_way : ℕ → List Class → List Step → Option Refusal
 told_on_way names classes steps = told (all_noted (none_by order.Place) (way_faults classes (none_around names) steps))

@@ -1,4 +1,4 @@
--- The faults that a pass notes: of all of them one is told.
+-- The faults that a pass notes: of all of them one is reported.
 use Rattle.std.specs.Prelude.{Bool, ◌&&◌, ◌||◌, ◌==◌, nat_lt, cond, List, fold, Option, Some, None, Result, Ok, Err}
 use Rattle.dpj_base.specs.declared.place.Place.{Place}
 use Rattle.dpj_base.specs.declared.refusal.Refusal.{Refusal}
@@ -16,7 +16,7 @@ is_before a b = nat_lt a.line b.line || ((a.line == b.line) && nat_lt a.col b.co
 abbrev pub same_place : Place → Place → Bool
 same_place a b = (a.line == b.line) && (a.col == b.col)
 
--- the first fault is told rather than the second: by place it stands before it, or has the lower number at one
+-- the first fault is reported rather than the second: by place it stands before it, or has the lower number at one
 -- place; by number it has the lower one, or stands before it at one number
 abbrev pub comes_first : Order → Refusal → Refusal → Bool
 comes_first order.Place a b =
@@ -25,12 +25,12 @@ comes_first order.Number a b =
     nat_lt (kind_number a.kind) (kind_number b.kind)
     || ((kind_number a.kind == kind_number b.kind) && is_before a.place b.place)
 
--- the one that is told, where one was told so far and a further one is noted
+-- the one that is reported, where one was reported so far and a further one is noted
 abbrev pub told_of : Order → Option Refusal → Refusal → Refusal
 told_of by None fault = fault
 told_of by (Some told) fault = cond (comes_first by fault told) fault told
 
--- the fault that is told, where one was noted
+-- the fault that is reported, where one was noted
 abbrev pub told : Faults → Option Refusal
 told faults = faults.kept
 
@@ -50,7 +50,7 @@ all_noted faults found = fold noted faults found
 abbrev pub forgotten : Faults → Faults
 forgotten faults = record faults { kept = None }
 
--- the fault that is told stops, where there is one
+-- the fault that is reported stops, where there is one
 abbrev pub settled : Option Refusal → Result (Unit {0}) Stop
 settled None = Ok tt
 settled (Some fault) = Err (Refused fault)

@@ -28,6 +28,6 @@ abbrev pub IsNotedFirst : List Class → Faults → Faults → Type 0
 IsNotedFirst classes old new =
     (rounds : List Bool) × TellRounds (parents_in classes) rounds × (new ≡ all_noted old (first_faults classes rounds))
 
--- the fault that is told of them, if there is one: that with the least place
+-- the fault that is reported of them, if there is one: that with the least place
 abbrev pub IsToldFirst : List Class → Option Refusal → Type 0
 IsToldFirst classes fault = (faults : Faults) × IsNotedFirst classes (none_by order.Place) faults × (told faults ≡ fault)

@@ -1,4 +1,4 @@
--- Second declarations of a name among the members, parameters and formals of a class. What is declared is told by
+-- Second declarations of a name among the members, parameters and formals of a class. What is declared is given by
 -- a list of numbers, one for each name: 0 for a name that isn't declared, else the number of what declares it and 1.
 use Rattle.std.specs.Prelude.{ℕ, ◌+◌, ◌==◌, Bool, false, not, cond, min, List, [], ◌∷◌, ◌++◌, map, slice_set, slice_index_or}
 use Rattle.dpj_base.specs.declared.refusal.Kind.TheVariants as kind

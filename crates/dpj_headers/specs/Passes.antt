@@ -31,7 +31,7 @@ second_classes before [] = []
 second_classes before (class ∷ classes) =
     fault_if (is_some (first_named class.name 0 before)) kind.Duplicate class.place ++ second_classes (before ++ class ∷ []) classes
 
--- the superclass of a class: the class of the name behind `extends`
+-- the superclass of a class: the class of the name after `extends`
 abbrev pub named_parent : (ℕ → Option ℕ) → Class → Option ℕ
 named_parent named class = option_and_then (λ parent. named parent.name.name) class.parent
 
@@ -57,7 +57,7 @@ is_constructor (member.Method method) = is_constructor_result method.result
 abbrev pub has_constructor : Class → Bool
 has_constructor class = list_any is_constructor class.members
 
--- the place of the name behind `extends`; of the class, where it extends none
+-- the place of the name after `extends`; of the class, where it extends none
 abbrev pub extends_place : Class → Place
 extends_place class = option_map_or (λ parent. parent.name.place) class.parent class.place
 

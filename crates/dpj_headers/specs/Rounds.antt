@@ -18,7 +18,7 @@ IsRound parents at = (n : ℕ) × (up parents (suc n) at ≡ Some at)
 abbrev pub TellRounds : List (Option ℕ) → List Bool → Type 0
 TellRounds parents rounds = (at : ℕ) → (slice_index_or rounds at false ≡ true) ↔ IsRound parents at
 
--- a further class is told
+-- a further class is reported
 abbrev pub with_round : List Bool → Option ℕ → List Bool
 with_round rounds None = rounds
 with_round rounds (Some at) = slice_set rounds at true

@@ -120,7 +120,7 @@ AreNamed count classes = list_all (λ class. are_below count (declared_in class)
 abbrev pub AreCounted : ℕ → List Class → Type 0
 AreCounted count classes = IsCounted classes × AreNamed count classes
 
--- the fault that is told of what is wrong in the members, if there is one: that with the least place
+-- the fault that is reported of what is wrong in the members, if there is one: that with the least place
 abbrev pub told_second : List Class → Option Refusal
 told_second classes = told (all_noted (none_by order.Place) (second_faults classes (parents_in classes)))
 

@@ -1,4 +1,4 @@
--- The way through all classes: a class is entered behind its superclass, and left behind all that extends it.
+-- The way through all classes: a class is entered after its superclass, and left after all that extends it.
 use Rattle.std.specs.Prelude.{◌≡◌, ℕ, zero, suc, ◌+◌, ◌<◌, List, [], ◌∷◌, ◌++◌, map, length, replicate, slice_set, slice_index_or, Option, None, Some}
 use Rattle.dpj_headers.specs.declared.forest.Step.{Step}
 use Rattle.dpj_headers.specs.declared.forest.Step.TheVariants as step
@@ -67,7 +67,7 @@ way_of parents = walks (extensions parents) (deep parents) (roots 0 parents)
 abbrev pub entered_below : List ℕ → List Step
 entered_below classes = map (λ class. step.Enter class) classes
 
--- what comes behind a step, the last first
+-- what comes after a step, the last first
 abbrev pub behind : List (List ℕ) → Step → List Step
 behind lists (step.Enter class) = step.Leave class ∷ entered_below (extending lists class)
 behind lists (step.Leave class) = []

@@ -3,7 +3,7 @@ ghost use Rattle.dpj_headers.specs.Faults.{is_before, comes_first, told, none_by
 
 use dpj_base::{Kind, Place, Refusal, Stop};
 
-/// Which of two faults is told.
+/// Which of two faults is reported.
 #[derive(Clone, Copy, Debug, PartialEq, Eq)]
 enum Order {
     /// The one with the earlier place; at one place the lower number.
@@ -25,7 +25,7 @@ fn is_before(a: Place, b: Place) -> bool
     a.line < b.line || a.line == b.line && a.col < b.col
 }
 
-/// Whether the first fault is told rather than the second.
+/// Whether the first fault is reported rather than the second.
 fn comes_first(order: Order, a: Refusal, b: Refusal) -> bool
     ensures { result ≡ comes_first order a b }
 {
@@ -37,7 +37,7 @@ fn comes_first(order: Order, a: Refusal, b: Refusal) -> bool
 }
 
 impl Faults {
-    /// No faults yet. The one with the least place is told, at one place the one with the lower number.
+    /// No faults yet. The one with the least place is reported, at one place the one with the lower number.
     pub fn by_place() -> Faults
         ensures { result ≡ none_by Order.Place }
     {
@@ -47,7 +47,7 @@ impl Faults {
         }
     }
 
-    /// No faults yet. The one with the lowest number is told, at one number the one with the least place.
+    /// No faults yet. The one with the lowest number is reported, at one number the one with the least place.
     pub fn by_number() -> Faults
         ensures { result ≡ none_by Order.Number }
     {

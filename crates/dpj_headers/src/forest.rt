@@ -48,7 +48,7 @@ fn file(lists: &mut [Items<u32>], above: u32, number: u32) -> Result<(), NoMemor
     Ok(())
 }
 
-/// The way through all classes, each entered behind its superclass and left behind all that extends it.
+/// The way through all classes, each entered after its superclass and left after all that extends it.
 pub fn way(alloc: Global, parents: &[Option<u32>]) -> Result<Items<Step>, NoMemory>
     ensures { IfOk result (λ steps. IsCounted parents.now → steps ≡ way_of parents.now) }
 {
@@ -80,7 +80,7 @@ fn visit(
     Ok(())
 }
 
-/// What comes behind a step, the last first.
+/// What comes after a step, the last first.
 fn push_behind(lists: &[Items<u32>], step: Step, pending: &mut Items<Step>) -> Result<(), NoMemory>
     ensures { OnOk result (pending.new ≡ pending.old ++ behind lists.now step) }
 {

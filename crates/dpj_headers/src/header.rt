@@ -185,7 +185,7 @@ impl Headers {
         false
     }
 
-    /// The way through all classes, each entered behind its superclass and left behind all that extends it.
+    /// The way through all classes, each entered after its superclass and left after all that extends it.
     pub fn way(&self, alloc: Global) -> Result<Items<Step>, NoMemory>
         ensures forest { IsForest (parents_of self.now) }
         ensures steps { IfOk result (λ steps. steps ≡ way_of (parents_of self.now)) }

@@ -5,7 +5,7 @@
 //! extended, and a constructor that isn't named as its class. The look-ups go by the numbers of names, and a
 //! region name is looked for in the class first and then in its superclasses, one after the other.
 //!
-//! `Faults` keeps of all faults that a pass notes the one that is told.
+//! `Faults` keeps of all faults that a pass notes the one that is reported.
 #![tactic(auto)]
 
 mod faults;

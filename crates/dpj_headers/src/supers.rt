@@ -123,7 +123,7 @@ fn is_among(closed: &[bool], parent: Option<u32>) -> bool
     }
 }
 
-/// The place of the name behind `extends`.
+/// The place of the name after `extends`.
 fn extends_place(class: &Class) -> Place
     ensures { result ≡ extends_place class.now }
 {

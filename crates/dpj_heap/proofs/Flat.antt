@@ -76,7 +76,7 @@ no_values : (cells : List Value) (at : ℕ) → at ≡ at + length cells → cel
 no_values [] at e = refl
 no_values (v ∷ cells) at e = absurd (omega arith)
 
--- an object more, with its values behind the others
+-- an object more, with its values after the others
 pub object_pushed : (rows : List (List Region)) (hs : List Header) (h : Header) (cells values : List Value) (at : ℕ)
     → Follow at hs (at + length cells) → h.len ≡ length values
     → objects_in rows (hs ++ h ∷ []) (cells ++ values) ≡ objects_in rows hs cells ++ shown rows h values ∷ []
@@ -96,7 +96,7 @@ pub follow_pushed : (at : ℕ) (hs : List Header) (end : ℕ) (h : Header) (new 
 follow_pushed at [] end h new f start len = (omega arith, omega arith)
 follow_pushed at (g ∷ hs) end h new f start len = (f.0, follow_pushed (at + g.len) hs end h new f.1 start len)
 
--- rows behind the others change no object
+-- rows after the others change no object
 pub objects_with_rows : (rows more : List (List Region)) (hs : List Header) (cells : List Value) → All (HasRow rows) hs
     → objects_in (rows ++ more) hs cells ≡ objects_in rows hs cells
 objects_with_rows rows more [] cells all = refl

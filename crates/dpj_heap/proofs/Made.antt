@@ -32,7 +32,7 @@ object_made rows new regions hs h cells values p all f len =
     ∙ ap (λ os. os ++ object_of h.kind (get_or new h.row []) values ∷ []) (rows_placed rows new regions h.row hs cells p all)
     ∙ ap (λ row. objects_in rows hs cells ++ object_of h.kind row values ∷ []) (row_placed rows new regions h.row p)
 
--- the vectors after one object more: room was made, the values were put behind the cells and the header behind the headers
+-- the vectors after one object more: room was made, the values were put after the cells and the header after the headers
 pub record Grown (cells : List Value) (hs : List Header) (h : Header) (values : List Value) (room_cells new_cells : List Value)
     (room_hs new_hs : List Header) : Type 0 where
   pub roomy_cells : room_cells ≡ cells
@@ -93,7 +93,7 @@ flat_grown cells values room_cells new_cells hs room_hs new_hs h rows new region
       small = flat.small;
     }
 
--- filling up to a length behind the cells puts that many values behind them
+-- filling up to a length after the cells puts that many values after them
 pub filled : (cells : List Value) (n start len : ℕ) (v : Value) → start ≡ length cells → len ≡ length cells
     → take (start + n) cells ++ replicate ((start + n) - len) v ≡ cells ++ replicate n v
 filled cells n start len v begin is =

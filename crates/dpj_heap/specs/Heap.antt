@@ -49,7 +49,7 @@ IsOver heap cells = heap.limit < heap.used + cells
 abbrev pub charged : Contents → ℕ → Contents
 charged heap cells = record { objects = heap.objects; used = heap.used + cells; limit = heap.limit }
 
--- the heap with one object more, behind the others
+-- the heap with one object more, after the others
 abbrev pub with_object : Contents → Object → Contents
 with_object heap o = record { objects = heap.objects ++ o ∷ []; used = heap.used + cost o; limit = heap.limit }
 

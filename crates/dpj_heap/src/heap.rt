@@ -210,7 +210,7 @@ impl Heap {
     }
 }
 
-/// Makes room for one header more and for so many values, and answers the row of these regions. What comes behind it
+/// Makes room for one header more and for so many values, and answers the row of these regions. What comes after it
 /// can't run out of memory.
 fn prepare(
     cells: &mut Vec<Value>,

@@ -5,7 +5,7 @@
 //! back. Each call is exact against the list of objects with the cells used and the limit, which is what a contract
 //! sees of a heap. A call that is refused, by the limit or for want of memory, leaves it as it was.
 //!
-//! All values stand in one vector, one object's behind the other's, and a second vector says where each object's
+//! All values stand in one vector, one object's after the other's, and a second vector says where each object's
 //! begin. So `read` and `write` take the time of one test of the bounds. Making an object takes time in proportion
 //! to its values and the lengths of its regions, on average over many: rows of equal regions are stored once, and
 //! found by a hash of their elements.

@@ -43,7 +43,7 @@ impl Rows {
         self.rows[row as usize].as_slice()
     }
 
-    /// The row with these regions: one that is there already, or else a new one behind the others.
+    /// The row with these regions: one that is there already, or else a new one after the others.
     pub fn place(&mut self, regions: Items<Region>) -> Result<u32, NoMemory>
         requires { length self.old < 4294967295 }
         ensures ok { IfOk result (λ row. Placed self.old regions row self.new) }

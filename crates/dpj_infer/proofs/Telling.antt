@@ -34,7 +34,7 @@ no_lines names (ks ∷ kept) [] h = refl
 no_lines names (ks ∷ kept) (m ∷ members) (inl h) = absurd (omega arith)
 no_lines names (ks ∷ kept) (m ∷ members) (inr h) = absurd (omega arith)
 
--- a number behind all region parameters has no name
+-- a number after all region parameters has no name
 pub no_param : (given own : List RegionParam) (names : List (List ℕ)) (n : ℕ) (d : List ℕ) → map (λ param. param.text) given ≡ names → length given ≤ n
     → None ≡ slice_get own (n - length given) → d ≡ slice_index_or (names ++ map (λ param. param.text) own) n d
 no_param given own names n d is past none =

@@ -57,7 +57,7 @@ mark_text false = []
 abbrev pub item_text : ProgramNames → List (List ℕ) → Effect → List ℕ
 item_text names params item = mark_text item.atomic ++ path_text names params item.rpl
 
--- texts behind a word, with a comma and a space between them; nothing where there is none
+-- texts after a word, with a comma and a space between them; nothing where there is none
 abbrev pub listed : List ℕ → List (List ℕ) → List ℕ
 listed word [] = []
 listed word (text ∷ texts) = word ++ text ++ flat_map (λ more. codes ", " ++ more) texts

@@ -167,7 +167,7 @@ fn marked(own: Own, mark: bool) -> Own
     }
 }
 
-/// What a part was used for is done to the array behind a construct over parts, or to the part that was cut.
+/// What a part was used for is done to the array after a construct over parts, or to the part that was cut.
 pub fn handed_on(own: Own, part: Slot, source: &PartSource) -> Own
     ensures { done_of result ≡ own_after part.number (plain_source source.now) (done_of own) }
 {

@@ -72,7 +72,7 @@ fn items_of(alloc: Global, access: Access, items: &Items<Effect>) -> Result<Effe
     Ok(all)
 }
 
-/// Items behind their word, where there are any.
+/// Items after their word, where there are any.
 fn list(
     alloc: Global,
     program: &Program,

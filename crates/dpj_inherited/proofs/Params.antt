@@ -1,4 +1,4 @@
--- The region parameters of a class and of a member behind them are the paths that the checker puts in.
+-- The region parameters of a class and of a member after them are the paths that the checker puts in.
 use Rattle.std.proofs.Common.{◌≡◌, ◌∙◌, ℕ, zero, suc, ◌+◌, ◌≤◌, List, [], ◌∷◌, ◌++◌, length, Some, refl, ap, sym, sum_by, arith}
 use Rattle.std.proofs.lemmas.List.{length-map}
 use Rattle.std.proofs.lemmas.List.Sums.{get_or-le-sum_by}

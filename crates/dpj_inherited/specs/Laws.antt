@@ -11,7 +11,7 @@ use Rattle.dpj_assembly.specs.Assembled.{PlainBody, program_of}
 use Rattle.dpj_resolved.specs.Accepted.{IsAccepted}
 use Rattle.dpj_written.specs.Written.{IsWritten}
 
--- a class stands behind its superclass in some order, which has no constructor; it has that one's fields with the region
+-- a class stands after its superclass in some order, which has no constructor; it has that one's fields with the region
 -- arguments put in, and its rows, but for members that override; and then its own
 pub record KeepsSuper (P : PlainProgram) (rank : ℕ → ℕ) (c : ℕ) (k : PlainClass) (p : PlainParent) : Type 0 where
   pub above : PlainClass

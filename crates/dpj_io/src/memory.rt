@@ -151,7 +151,7 @@ impl Sink for MemSink {
     }
 }
 
-/// Puts bytes behind the last, into memory that was taken before.
+/// Puts bytes after the last, into memory that was taken before.
 pub(crate) fn append_reserved(held: &mut Vec<u8>, bytes: &[u8])
     requires { vec_len held.old + length bytes.now ≤ vec_capacity held.old }
     ensures items { held.new.items ≡ held.old.items ++ bytes.now }

@@ -17,13 +17,13 @@ pub trait Source {
     ghost faults: { Self → ℕ };
 
     /// Puts bytes at the front of the buffer and answers how many; 0 is the end of input. It takes no
-    /// memory. After `Failed` the content of the buffer isn't told.
+    /// memory. After `Failed` the content of the buffer isn't known.
     fn fill(&mut self, buf: &mut [u8]) -> Result<usize, Failed>
         requires { 0 < length buf.old }
         ensures bound { IfOk result (λ n. n ≤ length buf.old) }
         ensures never_falls { faults self.old ≤ faults self.new }
 
-        // Where what is left is told: what came, and what is left then.
+        // Where it says what is left: what came, and what is left then.
         ensures filled { IfOk result (λ n. IfSome (left self.old) (λ bytes. Fills bytes buf.old buf.new n)) }
         ensures taken { IfOk result (λ n. IfSome (left self.old) (λ bytes. left self.new ≡ Some (drop n bytes))) }
 
@@ -48,13 +48,13 @@ pub trait Sink {
         ensures bound { IfOk result (λ n. (1 ≤ n) × (n ≤ length bytes.now)) }
         ensures never_falls { faults self.old ≤ faults self.new }
 
-        // Where what it holds is told.
+        // Where it says what it holds.
         ensures appended { IfOk result (λ n. IfSome (held self.old) (λ old. held self.new ≡ Some (old ++ take n bytes.now))) }
         ensures kept { OnErr result (held self.new ≡ held self.old) }
 
         ensures failed { OnErr result (Rose (faults self.old) (faults self.new)) }
 
-        // Where the room is told: it falls by the answer, and only a full sink fails or counts a fault.
+        // Where it says how much room there is: it falls by the answer, and only a full sink fails or counts a fault.
         ensures room { IfOk result (λ n. IfSome (room self.old) (λ old. (n ≤ old) × (room self.new ≡ Some (old - n)))) }
         ensures room_kept { OnErr result (room self.new ≡ room self.old) }
         ensures full { OnErr result (IfSome (room self.old) (λ old. old ≡ 0)) }

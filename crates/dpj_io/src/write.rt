@@ -15,7 +15,7 @@ impl From<Failed> for WriteFault {
     }
 }
 
-/// Writes all bytes behind what the sink holds. After a fault a first part of them is written. It takes no
+/// Writes all bytes after what the sink holds. After a fault a first part of them is written. It takes no
 /// memory.
 pub fn write_all<K: Sink>(sink: &mut K, bytes: &[u8]) -> Result<(), WriteFault>
     ensures all { OnOk result (IfSome (K.held sink.old) (λ old. K.held sink.new ≡ Some (old ++ bytes.now))) }

@@ -41,7 +41,7 @@ behind_if told make not_passed next = not_passed
 pub at_verdict : {T : Type 0} {P : Walk → Type 0} {x v : Verdict T} → x ≡ v → IfPasses P x → IfPasses P v
 at_verdict {T} {P} is h = subst (λ (z : Verdict T). IfPasses P z) is h
 
--- of a node whose faults are reported, and of one behind a part
+-- of a node whose faults are reported, and of one after a part
 pub at_node : {T : Type 0} {P : Walk → Type 0} {v : Verdict T} (node : Node) (made : T) (w : Walk) → judged (fault_of node) made w ≡ v → (IsClean node → P w) → IfPasses P v
 at_node node made w is next = at_verdict is (judged_if (fault_of node) made w next)
 
@@ -80,7 +80,7 @@ pub regions_clean : (env : Env) (names : List Named) (node : Node) → IsClean (
 regions_clean env [] node is = is
 regions_clean env (named ∷ names) node is = region_clean env named node (regions_clean (region_declared env named.name) names _ is)
 
--- a statement that stands behind one that doesn't complete is at fault
+-- a statement that stands after one that doesn't complete is at fault
 pub first_clean : (place : Place) (follows : Bool) → IsClean (node_at place follows) → follows ≡ false
 first_clean place true is = absurd (never_clean (without_faults place) kind.Return place is)
 first_clean place false is = refl

@@ -32,7 +32,7 @@ use Rattle.dpj_exprs.specs.Uses.{with_constructor, CallOf, CallOn, Call, Creatio
 abbrev pub Grows : Found → Found → Type 0
 Grows f g = IsTrue f.reaches_nd → IsTrue g.reaches_nd
 
--- what is found behind an answer that gives something, has it
+-- what is found after an answer that gives something, has it
 abbrev pub IfGives : Answer → (Found → Type 0) → Type 0
 IfGives (gives t g) P = P g
 IfGives (refused q) P = Unit {0}
@@ -45,7 +45,7 @@ abbrev pub IfAims : TargetAnswer → (Found → Type 0) → Type 0
 IfAims (aims aim g) P = P g
 IfAims (misses q) P = Unit {0}
 
--- behind a part
+-- after a part
 behind : (f g : Found) (a : Answer) → Grows f g → IfGives a (Grows g) → IfGives a (Grows f)
 behind f g (gives t h) before after = λ n. after (before n)
 behind f g (refused q) before after = tt

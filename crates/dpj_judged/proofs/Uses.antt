@@ -42,7 +42,7 @@ all_fit_decided supers args (v ∷ values) [] = fails (λ h. h)
 all_fit_decided supers args (v ∷ values) (t ∷ declared) =
     both (fits_decided supers v (type_with args (plain_type t))) (all_fit_decided supers args values declared)
 
--- what is told of a use whose region arguments are known
+-- what is reported of a use whose region arguments are known
 use_told : (env : Env) (before : Faults) (args : List Rpl) (actuals : List (Option PlainType)) (declared : List Ty) (partial hold : Bool) (place : Place) →
     (one : Option Refusal) × UseTold env before args actuals declared partial hold place one
 use_told env before args actuals declared partial hold place =

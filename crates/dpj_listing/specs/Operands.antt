@@ -1,4 +1,4 @@
--- What stands behind the name of an instruction.
+-- What stands after the name of an instruction.
 use Rattle.std.specs.Prelude.{ℕ, true, false, List, [], ◌++◌, codes}
 use Rattle.std.specs.Fmt.{decimal, signed_decimal}
 use Rattle.dpj_listing.specs.declared.instr.Operand.{Operand}

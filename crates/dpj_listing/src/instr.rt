@@ -3,7 +3,7 @@ ghost use Rattle.std.specs.Prelude.{◌≡◌, Some};
 use dpj_code::Instr;
 use std::fmt;
 
-/// What stands behind the name of an instruction.
+/// What stands after the name of an instruction.
 #[derive(Clone, Copy)]
 pub enum Operand {
     Nothing,

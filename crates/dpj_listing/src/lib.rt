@@ -1,7 +1,7 @@
 //! The listing of compiled code: the text that the command `list` tells.
 //!
 //! Each body of the code has a line with its title, and after it a line for each of its instructions: the position, right in
-//! four places, the name, and the operand where there is one. A label is the position that it names; sites and texts are told
+//! four places, the name, and the operand where there is one. A label is the position that it names; sites and texts are given
 //! by their numbers.
 //!
 //! What it promises: `listing` gives exactly the bytes of that text, as `specs/Listing.antt` says it, or runs out of memory.

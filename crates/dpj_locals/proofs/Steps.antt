@@ -6,7 +6,7 @@ use Rattle.std.proofs.lemmas.Map.Lookups.{exact_unsigned}
 use Rattle.std.proofs.lemmas.Map.Views.{btree_set_contains_iff}
 use Rattle.dpj_locals.specs.Gains.{has, Gains}
 
--- in the scope before or declared; read before or by the statement; read behind it
+-- in the scope before or declared; read before or by the statement; read after it
 pub block_step : (inside read told declared rest : Bool) → ((read || (not inside && told)) || (not (inside || declared) && rest)) ≡ (read || (not inside && (told || (not declared && rest))))
 block_step inside true told declared rest = refl
 block_step true false told declared rest = refl
@@ -27,7 +27,7 @@ plain_gain : (after before inside told : Bool) → after ≡ (before || (not ins
 plain_gain after before inside told gains none nothing =
     gains ∙ (ap (λ (b : Bool). b || (not inside && told)) none ∙ ap (λ (b : Bool). not b && told) nothing)
 
--- the names of a set that had none are those that are told of
+-- the names of a set that had none are those that are asked for
 pub told_listed : (inside before after : BTreeSet ℕ) (told : ℕ → Bool) (list : List ℕ) → inside.keys ≡ [] → before.keys ≡ [] → Gains inside before after told → list ≡ after.keys → (x : ℕ) → IsTrue (told x) ↔ Contains list x
 told_listed inside before after told list nothing none gains same x =
     let is : has after x ≡ told x = plain_gain (has after x) (has before x) (has inside x) (told x) (gains x) (has_none before none x) (has_none inside nothing x) in

@@ -11,11 +11,11 @@ has names x = contains nat_cmp names x
 abbrev pub Same : BTreeSet ℕ → BTreeSet ℕ → Type 0
 Same before after = (x : ℕ) → has after x ≡ has before x
 
--- the name is in the set, or isn't inside and is told of
+-- the name is in the set, or isn't inside and is asked for
 abbrev pub gained : BTreeSet ℕ → BTreeSet ℕ → (ℕ → Bool) → ℕ → Bool
 gained inside before told x = has before x || (not (has inside x) && told x)
 
--- the set gains the names that are told of and aren't inside
+-- the set gains the names that are asked for and aren't inside
 abbrev pub Gains : BTreeSet ℕ → BTreeSet ℕ → BTreeSet ℕ → (ℕ → Bool) → Type 0
 Gains inside before after told = (x : ℕ) → has after x ≡ gained inside before told x
 

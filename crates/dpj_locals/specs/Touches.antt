@@ -33,7 +33,7 @@ is_index_name x (Some named) = named.name == x
 abbrev pub is_bound : ℕ → List Suffix → Bool
 is_bound x suffixes = list_any (λ suffix. is_index_name x suffix.index) suffixes
 
--- the name is meant outside of an array type with these suffixes, and behind them one with that index name
+-- the name is meant outside of an array type with these suffixes, and after them one with that index name
 abbrev pub is_outer : ℕ → List Suffix → Option Named → Bool
 is_outer x suffixes own = not (is_index_name x own) && not (is_bound x suffixes)
 
@@ -81,7 +81,7 @@ abbrev mutual
   exprs_read x no_exprs = false
   exprs_read x (more_exprs e es) = expr_reads x e || exprs_read x es
 
--- a declaration of the name, which is in scope in the statements behind it
+-- a declaration of the name, which is in scope in the statements after it
 abbrev pub declares_form : ℕ → StmtForm → Bool
 declares_form x (declare is_final ty name value) = name == x
 declares_form x _ = false

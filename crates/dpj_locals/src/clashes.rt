@@ -18,7 +18,7 @@ pub fn clash(branches: &[Touched]) -> Option<(u32, u32)>
     None
 }
 
-/// The first branch behind this one that clashes with it.
+/// The first branch after this one that clashes with it.
 fn clash_behind(branches: &[Touched], i: usize) -> Option<usize>
     requires { i < length branches.now }
     ensures { FirstBehind Clash branches.now i result }

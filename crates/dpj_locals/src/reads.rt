@@ -38,7 +38,7 @@ fn is_bound(name: u32, suffixes: &[Suffix]) -> bool
     false
 }
 
-/// Whether a name in a path is no index name of an array type with these suffixes, and behind them one with
+/// Whether a name in a path is no index name of an array type with these suffixes, and after them one with
 /// that index name.
 fn is_outer(name: u32, suffixes: &[Suffix], own: &Option<Named>) -> bool
     ensures { result ≡ is_outer name suffixes.now own.now }

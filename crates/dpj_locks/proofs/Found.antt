@@ -82,7 +82,7 @@ most_right None b q le = le
 most_right (Some x) None q le = absurd le
 most_right (Some x) (Some y) q le = chosen_right (nat_lt y x) x y q refl le
 
--- the search goes on behind a fixed element, looks under an open one, and ends at the end of the path
+-- the search goes on after a fixed element, looks under an open one, and ends at the end of the path
 met_fixed : (under ending : Sets) (q number : ℕ) (x : Elem) (xs : List Elem) (b : Bool) → is_concrete x ≡ b → b ≡ true
     → MatchBool b (Met under ending q (mixed number x) xs) (has under number q ≡ true) → Met under ending q (mixed number x) xs
 met_fixed under ending q number x xs true is fixed met = met

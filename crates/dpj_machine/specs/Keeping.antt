@@ -38,7 +38,7 @@ pub record HasNext (C : PlainCode) (r : Run) (m : Moment) (k : ℕ) : Type 0 whe
   pub unfinished : m.outcome ≡ None
   pub ready : IsReady m.world k
 
--- the same, and the run goes on behind the event too
+-- the same, and the run goes on after the event too
 pub record CanStep (code : Code) (L : Limits) (r : Run) (m : Moment) (k : ℕ) : Type 0 where
   pub has_next : HasNext (plain_code code) r m k
   pub later : (n : Moment) → Moves code L m k n → GoesOn (plain_code code) n

@@ -25,7 +25,7 @@ pub fn demo_source(alloc: Global, classes: u32) -> Result<Bytes, NoMemory>
     Ok(text)
 }
 
-/// Puts the line of each class behind a text.
+/// Puts the line of each class after a text.
 fn extend(alloc: Global, text: &mut Bytes, line: ClassLine, classes: u32) -> Result<(), NoMemory>
     ensures { OnOk result (text.new ≡ text.old ++ class_lines line classes) }
 {

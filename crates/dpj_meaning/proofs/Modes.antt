@@ -15,7 +15,7 @@ use Rattle.dpj_meaning.specs.Tasks.{Replies, again}
 use Rattle.dpj_meaning.proofs.Turns.{most_pos, past_test, turned_if, loops_again, bind_done}
 use Rattle.dpj_meaning.proofs.Entries.{IsEntry, Enters, Steady}
 
--- where a task stands: anywhere; behind a fork of these branches, of which so many have begun; behind a rest without turns;
+-- where a task stands: anywhere; after a fork of these branches, of which so many have begun; after a rest without turns;
 -- or at its end
 pub data Mode (N M : Type 0) : Type 0 where
   Free : Mode N M
@@ -173,7 +173,7 @@ module _ {N M : Type 0} where
   abbrev AllGood : {V : Type 0} → ℕ → (V → Told N M → Reply N M (Task N M)) → Type 0
   AllGood {V} n K = (v : V) → Good n Free (K v)
 
-  -- an entry may come behind a rest
+  -- an entry may come after a rest
   good_entry : {n : ℕ} (names : Naming N M) (p : Prog N M) (K : Rests N M (Result N M)) → IsEntry p → Good n Free (λ w. finish (run (told names) p w) K)
       → (t : ℕ) → Good n (behind_rest t) (λ w. finish (run (told names) p w) K)
   good_entry names (Ret r) K h s t = absurd h

@@ -62,7 +62,7 @@ module _ {N M : Type 0} where
   over_ended Rested h = let e = h.1 in absurd (cc)
   over_ended Ended h = refl
 
-  -- an end alone is behind an end
+  -- an end alone is after an end
   own_goes_on : (g : Mode N M) (n : ℕ) (o : Own N M) → behind g (Next n (Do o)) ≡ Ended → ⊥
   own_goes_on g zero Rest e = cc
   own_goes_on g (suc n) Rest e = cc
@@ -184,7 +184,7 @@ module _ {N M : Type 0} where
         at_join n (inl b) = let i = b.0 in absurd (omega arith)
         at_join n (inr j) = j.1
 
-    -- a task that stands behind a fork has come by it
+    -- a task that stands after a fork has come by it
     after_fork : (got : List (Answer N M)) (ts : Branches (Task N M)) (b : ℕ) → mode m got ≡ Forked ts b → AfterFork m got ts b
     after_fork [] ts b e = absurd (cc)
     after_fork (x ∷ got) ts b e = at (λ c i. after_fork got ts c i) (m got) refl e

@@ -61,12 +61,12 @@ pub record World (N M W : Type 0) : Type 0 where
   pub make : W → Out N M M W
   pub fork : Forking → List (Task N M) → List (W → Out N M (Result N M) W) → W → Out N M (Brought N) W
 
--- behind the body of a loop: again, or away
+-- after the body of a loop: again, or away
 abbrev pub rounded : {N M W : Type 0} → (Frame N M → W → Out N M (Result N M) W) → Result N M → W → Out N M (Result N M) W
 rounded again (Returns v) w = Done (Returns v) w
 rounded again (Goes_on v f) w = again f w
 
--- behind its test
+-- after its test
 abbrev pub tested : {N M W : Type 0} → (W → Out N M (Unit {0}) W) → (Frame N M → W → Out N M (Result N M) W) → (Frame N M → W → Out N M (Result N M) W) →
     Result N M → W → Out N M (Result N M) W
 tested turn body again (Returns v) w = Done (Returns v) w

@@ -86,7 +86,7 @@ answer heap (Print bytes) = Went
 answer heap (Enter effects) = Went
 answer heap Exit = Went
 
--- the heap behind it
+-- the heap after it
 abbrev pub written : Heap → ℕ → Option Held → ℤ → Value ℕ → Heap
 written heap n None i v = heap
 written heap n (Some h) i v = slice_set heap n (record h { values = set_at h.values i v })
@@ -101,7 +101,7 @@ heap_after (Print bytes) heap = heap
 heap_after (Enter effects) heap = heap
 heap_after Exit heap = heap
 
--- nothing is printed behind the first trap
+-- nothing is printed after the first trap
 abbrev pub printed : Own ℕ LocalRegion → Option (Trap × Place) → List ℕ
 printed (Print bytes) None = bytes
 printed (Print bytes) (Some fell) = []

@@ -55,7 +55,7 @@ abbrev pub entered : {N M : Type 0} → Naming N M → PlainMember → List (Val
 entered names m vs regions left =
     record { values = padded m.slots vs; regions = regions; locals = unmade_from names 0 m.local_regions; left = left }
 
--- behind a call: its value, and the caller's locals
+-- after a call: its value, and the caller's locals
 abbrev pub back : {N M : Type 0} → Frame N M → Result N M → Prog N M
 back f (Goes_on v g) = gives none f
 back f (Returns v) = gives v f
@@ -147,7 +147,7 @@ abbrev mutual
   of_expr names P dp (typed at t (form.part_element k i)) f =
       and_then (of_expr names P dp i f) (λ v g. part_element at k (number v) g (λ n j. read_cell at n j g))
 
-  -- actuals, behind those that have these values, the latest first; and what follows
+  -- actuals, after those that have these values, the latest first; and what follows
   pub of_exprs : {N M : Type 0} → Naming N M → PlainProgram → Option (Deeper N M) → TypedExprs → Frame N M → List (Value N) →
       (List (Value N) → Frame N M → Prog N M) → Prog N M
   of_exprs names P dp no_exprs f vs j = j vs f

@@ -33,7 +33,7 @@ abbrev pub makes : {N M : Type 0} → List ℕ → Frame N M → Prog N M
 makes [] f = gives none f
 makes (r ∷ rs) f = Makes (λ m. makes rs (record f { locals = slice_set f.locals r m }))
 
--- behind a join: the locals are copied back that the construct copies back, or the first branch's trap goes on
+-- after a join: the locals are copied back that the construct copies back, or the first branch's trap goes on
 abbrev pub joined : {N M : Type 0} → List ℕ → Frame N M → Brought N → Prog N M
 joined slots f (Back ls) = gives none (with_values f (copied slots ls f.values))
 joined slots f (Trap_of_branch trap place) = Traps trap place

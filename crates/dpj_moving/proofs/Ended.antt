@@ -160,7 +160,7 @@ module _ (P : Program) (D : Disciplined P) (weak : Rule) (weaker : Weaker weak P
         at_a : count ar.before a.event.path ≡ count a.before a.event.path
         at_a = ap (count ar.before) a.path ∙ ap length ar.mine_is ∙ sym (ap (count a.before) a.path)
 
-    -- nor behind the end of it
+    -- nor after the end of it
     not_after : (x : LeftAt R r ar.before) → Earlier G x.event.path (count x.before x.event.path) e.path (count er.before e.path) → ⊥
     not_after x k =
         let xg : Found G r x.event (mine x.before r) = found_in r (grown_back g) x.stands x.path in

@@ -96,7 +96,7 @@ pub read_name : {before after : List Placed} {next : Placed} {c d : Counts} {n :
     Within c (one is_name ∷ []) before d after
 read_name {next = next} {n = m} n is fits d = let same : next.terminal ≡ terminal.Name m = let f = n.takes.takes.first in cc in read_any is (rw same refl) fits (rw (same, d) refl)
 
--- what is told where a symbol, a keyword or a name doesn't come
+-- what is reported where a symbol, a keyword or a name doesn't come
 pub lost_symbol : (s : Symbol) (here : List Placed) (end : Place) (c : Counts) (stop : Stop) → (Next (terminal.Symbol s) here → ⊥) →
     stop ≡ Stop.Refused (record { kind = kind.Syntax; place = place_of here end }) → IfRefused stop (Refuses c (one (sign s) ∷ []) here end)
 lost_symbol s here end c stop away is = rw is (lost_here c (symbol_comes_not s here away) refl)

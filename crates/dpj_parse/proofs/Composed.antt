@@ -10,7 +10,7 @@ use Rattle.dpj_terminals.specs.declared.terminal.Placed.{Placed}
 use Rattle.dpj_parse.specs.Expecting.{Part, Expected, one, part, choose, next_of}
 use Rattle.dpj_parse.specs.Limits.{Counts, inside, outside, Within, nothing, begins, passes, Stops, no_part, no_terminal, too_many, in_part, after_part, after_terminal, Refuses}
 
--- of two lists, the second behind the first
+-- of two lists, the second after the first
 pub seq : {c d e : Counts} {x : Expected} {ys : List Expected} {before between after : List Placed} → Within c (x ∷ []) before d between → Within d ys between e after → Within c (x ∷ ys) before e after
 seq (begins chosen within nothing) w = begins chosen within w
 seq (passes test fits nothing) w = passes test fits w

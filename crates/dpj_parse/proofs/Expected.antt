@@ -35,7 +35,7 @@ lost_not_read (pick {xs = xs} {others = others} {here = at} e s) lost (pick f t)
     lost_not_read s lost (subst (λ (x : List Expected). Steps [] [] (x ++ others) at) (sym same) t)
 lost_not_read (pass e s) lost (pass f t) = lost_not_read s lost t
 
--- what is reached depends on no terminal behind the next one
+-- what is reached depends on no terminal after the next one
 pub record Alike (to expected : List Expected) (before here : List Placed) : Type 0 where
   pub read : List Placed
   pub is : before ≡ read ++ here

@@ -117,7 +117,7 @@ behind_no_paren : {before between after rest : List Placed} {paths : List RplTre
 behind_no_paren no_args ss n = suffix_no_paren ss n
 behind_no_paren (args o ps c) ss n = rw o.first refl
 
--- a type, a name, and what goes on behind them
+-- a type, a name, and what goes on after them
 typed_passes : {before after between rest : List Placed} {ty : TypeTree} {name : Named} →
     DerivesType before after ty → TakesName after between name → Passes (part p.field_or_method ∷ []) between rest → Passes (part p.member ∷ []) before rest
 typed_passes (type_of s (DerivesBase.int t) ss) n q = on_next t refl (link (type_passes (type_of s (DerivesBase.int t) ss) n) (link (took n refl) q))

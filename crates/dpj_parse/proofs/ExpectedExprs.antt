@@ -167,6 +167,6 @@ mutual
       where_next _ is_comma refl (rw t.first refl) (link (took t refl)
       (link (record { goes = λ s. level_steps l 0 (omega arith) (omega arith) (ends_looser (further_ends f ends) (omega arith)) (stops 0 (top_of l) (further_ends f ends) s) }) (further_pass f ends closed)))
 
--- an expression, where nothing that could go on with it stands behind it
+-- an expression, where nothing that could go on with it stands after it
 pub expr_passes : {before after : List Placed} {e : PlainExpr} → DerivesLevel 0 before after e → Ends 0 after → Passes (part (p.expr 0) ∷ []) before after
 expr_passes d ends = record { goes = λ s. level_steps d 0 (omega arith) (omega arith) (ends_looser ends (omega arith)) (stops 0 (top_of d) ends s) }

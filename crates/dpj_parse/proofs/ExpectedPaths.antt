@@ -81,7 +81,7 @@ path_passes before after tree (path s h es) closed =
     rule refl (link (head_passes h (many_first (λ here. starts is_dot here ≡ false) next_no_dot es (or_left (starts is_dot after)
     (starts is_colon after) closed))) (elems_pass es closed))
 
--- X { "," X }, where `further` reads what stands behind the first
+-- X { "," X }, where `further` reads what stands after the first
 pub listed_passes : {A : Type 0} {Derives : List Placed → List Placed → A → Type 0} (goes_on : List Placed → Bool) (first further : Part) →
     ((next : _) → choose further next ≡ Some (cond (next_is is_comma next) (one is_comma ∷ part first ∷ part further ∷ []) [])) →
     ((before after : List Placed) (item : A) → Derives before after item → goes_on after ≡ false → Passes (part first ∷ []) before after) →
@@ -183,7 +183,7 @@ pub type_passes : {before after rest : List Placed} {tree : TypeTree} {named : N
 type_passes (type_of s b ss) n =
     rule refl (link (base_passes b (many_first (λ here. starts is_less here ≡ false) suffix_no_less ss (rw n.first refl))) (suffixes_pass ss (rw n.first refl)))
 
--- what stands behind the first name of a type, in front of another name
+-- what stands after the first name of a type, in front of another name
 pub class_behind : {before after rest : List Placed} {paths : List RplTree} {trees : List Suffix} {between : List Placed} {named : Named} →
     DerivesArgs before between paths → Many DerivesSuffix between after trees → TakesName after rest named →
     Passes (part p.args_if ∷ part p.suffixes ∷ []) before after

@@ -66,7 +66,7 @@ declared_passes not_final (type_of s (DerivesBase.int t) ss) n q = on_next t ref
 declared_passes not_final (type_of s (DerivesBase.boolean t) ss) n q = on_next t refl (link (type_passes (type_of s (DerivesBase.boolean t) ss) n) q)
 declared_passes not_final (type_of s (DerivesBase.class t d) ss) n q = on_next t refl (link (took t refl) (behind_type d ss n q))
 
--- what is expected behind an expression that a statement begins with
+-- what is expected after an expression that a statement begins with
 abbrev rest_of_first : {ending : Ending} {before after : List Placed} {e : PlainExpr} → DerivesPrimary ending before after e → Part
 rest_of_first (DerivesPrimary.name t) = p.after_name
 rest_of_first (parenthesised o l c) = p.selection_then
@@ -158,7 +158,7 @@ target_steps (indexed {two = between} d o l c) closed s =
     target_steps d (rw o.first refl) (bracket_goes_on d o (expr_begins_not is_close_bracket no_close_bracket between (level_begins l)) ((expr_passes l
     (ends_at c refl refl)).goes (taken c refl s)))
 
--- behind what is assigned to, and what is performed
+-- after what is assigned to, and what is performed
 assign_goes_on : {ending : Ending} {before after : List Placed} {e : PlainExpr} (place : Place) (d : DerivesPostfix ending before after e) →
     (ending ≡ as_field) ⊎ (ending ≡ as_element) →
     choose (rest_of d) (Some (record { terminal = terminal.Symbol Symbol.Assign; place = place })) ≡ Some (one is_assign ∷ part p.value ∷ [])

@@ -65,7 +65,7 @@ pub literal_lost : (c : Counts) (here : List Placed) (end : Place) (stop : Stop)
     stop ≡ Stop.Refused (record { kind = kind.Syntax; place = place_of here end }) → IfRefused stop (Refuses c (part Part.literal ∷ []) here end)
 literal_lost c here end stop none is = rw is (record { here = here; stops = no_part none; place = refl })
 
--- the `[` of a new array, behind which its length comes, or `]`
+-- the `[` of a new array, after which its length comes, or `]`
 pub array_opened : {c d : Counts} {before after : List Placed} → Within (more c) (one is_open_bracket ∷ []) before d after →
     Onward c (part Part.array ∷ []) before d (part Part.array_open ∷ []) after
 array_opened w = over (enter Part.array refl (λ d. refl)) (step _ w)
@@ -109,7 +109,7 @@ pub suffix_open_refused : {c d e f : Counts} {before here one_after two_after : 
 suffix_open_refused {f = f} end {last} stop o n close tail same r =
     refused_on [] stop (over o (over (suffix_opened n) (over (step _ close) (step _ tail)))) same (array_refused f _ last stop r)
 
--- a new array, behind the `[` of its length
+-- a new array, after the `[` of its length
 pub array_reads : {c d e f g : Counts} {before at length_after close_after after : List Placed} →
     Onward c (part Part.array ∷ []) before d (part (Part.expr 0) ∷ one is_close_bracket ∷ part Part.brackets_behind ∷ []) at → Within d (part (Part.expr 0) ∷ []) at e length_after →
     Within e (one is_close_bracket ∷ []) length_after f close_after → Within f (part Part.brackets_behind ∷ []) close_after g after → Within c (part Part.array ∷ []) before g after

@@ -59,7 +59,7 @@ join : {first second : List ℕ} {before one after : List Placed} → Holds firs
 join {first = first} {second = second} {after = after} p q =
     record { is = p.is ∙ ap (λ names. first ++ names) q.is ∙ sym (append_assoc first second (names_said after)) }
 
--- a part without a name behind it
+-- a part without a name after it
 close : {names : List ℕ} {before one after : List Placed} → Holds names before one → Holds [] one after → Holds names before after
 close {names = names} p q = record { is = p.is ∙ ap (λ rest. names ++ rest) q.is }
 

@@ -41,7 +41,7 @@ this_one x y is = ap (λ b. Some (cond b x y)) is
 pub that_one : {b : Bool} (x y : List Expected) → b ≡ false → Some (cond b x y) ≡ Some y
 that_one x y is = ap (λ b. Some (cond b x y)) is
 
--- one list behind another
+-- one list after another
 pub both : {c d e : Counts} {xs ys : List Expected} {a b g : List Placed} → Within c xs a d b → Within d ys b e g → Within c (xs ++ ys) a e g
 both nothing v = v
 both (begins chosen inner w) v = begins chosen inner (both w v)
@@ -109,7 +109,7 @@ pub record Onward (c : Counts) (xs : List Expected) (a : List Placed) (d : Count
   pub reads : (e : Counts) (after : List Placed) → Within d ys b e after → Within c xs a e after
   pub stops : (k : Kind) (here : List Placed) → Stops d ys b k here → Stops c xs a k here
 
--- a part that repeats itself goes on behind one of its items
+-- a part that repeats itself goes on after one of its items
 pub onward_more : {c d e : Counts} {xs : List Expected} (ys : List Expected) {a b g : List Placed} (m : Part) → Onward c xs a d (part m ∷ []) b →
     choose m (next_of b) ≡ Some (ys ++ part m ∷ []) → Within (inside m (next_of b) d) ys b e g → ((f : Counts) → outside m d f ≡ f) → Onward c xs a e (part m ∷ []) g
 onward_more {d = d} ys m so_far chosen w leaves = record {

@@ -1,4 +1,4 @@
--- What each part of what is expected derives between two places of a text. A part that stands behind something derives, with
+-- What each part of what is expected derives between two places of a text. A part that stands after something derives, with
 -- whatever that was, the whole.
 use Rattle.std.proofs.Common.{◌≡◌, ◌∙◌, ℕ, ℤ, ◌≤◌, List, [], ◌∷◌, ◌++◌, ◌⊎◌, inl, inr, Bool, true, false, cond, Option, Some, None, refl, ap, subst}
 use Rattle.dpj_base.specs.declared.place.Place.{Place}
@@ -43,7 +43,7 @@ pub record One (test : Terminal → Bool) (before after : List Placed) : Type 0 
   pub is : before ≡ next ∷ after
   pub passes : test next.terminal ≡ true
 
--- items behind the first one of a list
+-- items after the first one of a list
 abbrev pub MoreOf : {A : Type 0} → (List Placed → List Placed → A → Type 0) → List Placed → List Placed → Type 0
 MoreOf {A} Derives before after = (s : List Placed) (item : A) → Derives s before item → (items : List A) × Listed Derives s after items
 
@@ -76,7 +76,7 @@ pub record Range (before after : List Placed) : Type 0 where
   pub second : PlainExpr
   pub derived : DerivesRange before after var first second
 
--- what ends a statement behind an expression; a value is none of those that end one, whatever it ends as
+-- what ends a statement after an expression; a value is none of those that end one, whatever it ends as
 abbrev pub Ends : Ending → List Placed → List Placed → Type 0
 Ends as_value before after = (s : List Placed) (ending : Ending) (e : PlainExpr) → DerivesPostfix ending s before e → Stated s after
 Ends as_name before after = (s : List Placed) (e : PlainExpr) → DerivesPostfix as_name s before e → Stated s after
@@ -188,7 +188,7 @@ abbrev pub Means : Expected → List Placed → List Placed → Type 0
 Means (one test) before after = One test before after
 Means (part n) before after = Meant n before after
 
--- one behind another
+-- one after another
 pub record Seq (P Q : List Placed → Type 0) : Type 0 where
   pub mid : List Placed
   pub first : P mid

@@ -78,7 +78,7 @@ read_two v w = seq v w
 pub read_three : {x y z : Expected} {c d e f : Counts} {a b g h : List Placed} → Within c (x ∷ []) a d b → Within d (y ∷ []) b e g → Within e (z ∷ []) g f h → Within c (x ∷ y ∷ z ∷ []) a f h
 read_three u v w = seq u (seq v w)
 
--- what is read behind what was read so far
+-- what is read after what was read so far
 pub onward_step : {x y : Expected} {ys xs : List Expected} {c d e : Counts} {a b g : List Placed} → Onward c xs a d (x ∷ y ∷ ys) b → Within d (x ∷ []) b e g → Onward c xs a e (y ∷ ys) g
 onward_step o w = record { reads = λ e after v. o.reads e after (seq w v); stops = λ k here s. o.stops k here (stops_after w s) }
 
@@ -409,7 +409,7 @@ typed_refused_by c next rest end stop false unnamed t r =
     let q : Refused c (part type ∷ []) (next ∷ rest) end stop = rw (sym (type_unnamed next rest unnamed)) r in
     rw (t.unnamed unnamed) (refused_first c (part type) (one is_name ∷ part field_or_method ∷ []) (next ∷ rest) end stop q)
 
--- behind the type of a field or a method
+-- after the type of a field or a method
 pub typed_begun : {c d : Counts} {b : List Placed} (a : List Placed) → BeginsTyped a → Within c (type_begins a) a d b → Onward c (member_begins a) a d (one is_name ∷ part field_or_method ∷ []) b
 typed_begun {c} {d} {b} [] t w = record { reads = λ e after u. seq w u; stops = λ k here s. stops_after w s }
 typed_begun {c} {d} {b} (next ∷ rest) t w = typed_by (is_name next.terminal) refl t w

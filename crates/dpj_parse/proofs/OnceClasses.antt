@@ -98,7 +98,7 @@ params_construct_no : {before one after three : List Placed} {params : Params} {
 params_construct_no DerivesParams.no_params r n = (result_begins r n).constructor
 params_construct_no (DerivesParams.params o d g c) r n = rw o.first refl
 
--- what stands behind the name of a method or a field
+-- what stands after the name of a method or a field
 method_read : ℕ → Params → MethodResult → Named → List Placed → Out Member
 method_read m params answer name before =
     into (formals_read m before) (λ formals one. into (summary_read m one) (λ summary two. into (block_read m two) (λ body left.

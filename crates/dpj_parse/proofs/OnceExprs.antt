@@ -45,7 +45,7 @@ abbrev pub is_new : Terminal → Bool
 is_new (terminal.Keyword Keyword.New) = true
 is_new _ = false
 
--- what goes on behind a Postfix
+-- what goes on after a Postfix
 abbrev pub is_selector : Terminal → Bool
 is_selector (terminal.Symbol Symbol.Dot) = true
 is_selector (terminal.Symbol Symbol.OpenBracket) = true
@@ -80,7 +80,7 @@ op_no_selector : (op : BinaryOp) → is_selector (terminal.Symbol (symbol_of op)
 op_no_selector binary_op.Or = refl
 op_no_selector _ = refl
 
--- The reader. Its parts call each other with a step less; `climb` goes on behind a left operand, whose loosest
+-- The reader. Its parts call each other with a step less; `climb` goes on after a left operand, whose loosest
 -- operator has the level `top`, with the operators from `level` on.
 pub record Readers : Type 0 where
   pub level : ℕ → List Placed → Out PlainExpr
@@ -170,7 +170,7 @@ readers (suc m) = record {
   further = λ before. further_by (readers m) before;
 }
 
--- behind an expression of a level comes nothing that could go on with it
+-- after an expression of a level comes nothing that could go on with it
 pub record Ends (level : ℕ) (after : List Placed) : Type 0 where
   pub selector : starts is_selector after ≡ false
   pub operator : (op : BinaryOp) → op_next after ≡ Some op → level_of op < level

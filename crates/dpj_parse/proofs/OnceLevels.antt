@@ -121,7 +121,7 @@ pub top_high : {level : ℕ} {before after : List Placed} {e : PlainExpr} (d : D
 top_high (operand d) h = h
 top_high (operation k l t r) h = k
 
--- behind an expression in a list stands a comma, or what stands behind the list
+-- after an expression in a list stands a comma, or what stands after the list
 pub further_ends : {level : ℕ} {before after : List Placed} {es : PlainExprs} → DerivesFurther before after es → Ends level after → Ends level before
 further_ends end ends = ends
 further_ends (further t l f) ends = ends_at t refl refl
@@ -181,10 +181,10 @@ mutual
   further_once (further {e = e} t l f) ends closed =
       further_some t (level_once l 0 (omega arith) (omega arith) (ends_looser (further_ends f ends) (omega arith)) (stops 0 (top_of l) e (further_ends f ends))) (further_once f ends closed)
 
--- an expression is read, where nothing that could go on with it stands behind it
+-- an expression is read, where nothing that could go on with it stands after it
 pub expr_once : {before after : List Placed} {e : PlainExpr} → DerivesLevel 0 before after e → Ends 0 after → Comes (λ m. (readers m).level 0 before) e after
 expr_once {e = e} d ends = level_once d 0 (omega arith) (omega arith) (ends_looser ends (omega arith)) (stops 0 (top_of d) e ends)
 
--- a Postfix, behind which nothing that could go on with it stands
+-- a Postfix, after which nothing that could go on with it stands
 pub selected_once : {ending : Ending} {before after : List Placed} {e : PlainExpr} → DerivesPostfix ending before after e → starts is_selector after ≡ false → Comes (λ m. (readers m).postfix before) e after
 selected_once {after = after} {e = e} d closed = postfix_once d (no_selector after closed).2 (selects_no_more e closed)

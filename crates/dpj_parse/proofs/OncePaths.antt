@@ -112,7 +112,7 @@ elem_once (DerivesElem.name d) closed = rw (name_starts d is_star, name_starts d
 elem_once (star t) closed = rw t.first refl
 elem_once (within o d c) closed = rw o.first (rw (within_once d) (rw c.first refl))
 
--- what may go on behind a path
+-- what may go on after a path
 abbrev pub goes_on_path : List Placed → Bool
 goes_on_path after = starts is_dot after || starts is_colon after
 
@@ -225,7 +225,7 @@ pub suffixes_once : {before after : List Placed} {trees : List Suffix} → Many 
     Comes (λ m. many begins_suffix suffix_read m before) trees after
 suffixes_once ds closed = many_read nothing_goes_on begins_suffix suffix_read suffix_once suffix_starts ds closed refl
 
--- behind a base stand suffixes, or what doesn't go on
+-- after a base stand suffixes, or what doesn't go on
 pub no_less_behind : {before after : List Placed} {trees : List Suffix} → Many DerivesSuffix before after trees → starts is_less after ≡ false → starts is_less before ≡ false
 no_less_behind ds closed = many_first (λ here. starts is_less here ≡ false) suffix_no_less ds closed
 

@@ -106,7 +106,7 @@ many begins one zero before = None
 many begins one (suc m) before =
     cond (begins before) (into (one m before) (λ item behind. into (many begins one m behind) (λ items left. Some (item ∷ items, left)))) (Some ([], before))
 
--- what holds where an item begins, and behind the last, holds where several begin
+-- what holds where an item begins, and after the last, holds where several begin
 pub many_first : {A : Type 0} {Derives : List Placed → List Placed → A → Type 0} (P : List Placed → Type 0) → ((before after : List Placed) (item : A) → Derives before after item → P before) →
     {before after : List Placed} {items : List A} → Many Derives before after items → P after → P before
 many_first P first none p = p

@@ -13,16 +13,16 @@ use Rattle.dpj_parse.proofs.Composed.{seq, stops_after, stops_first, on_refused}
 pub stay : {c : Counts} {xs : List Expected} {here : List Placed} → Onward c xs here c xs here
 stay = record { reads = λ e after w. w; stops = λ k here s. s }
 
--- one place behind another
+-- one place after another
 pub over : {c d e : Counts} {xs ys zs : List Expected} {before between behind : List Placed} →
     Onward c xs before d ys between → Onward d ys between e zs behind → Onward c xs before e zs behind
 over a b = record { reads = λ f after w. a.reads f after (b.reads f after w); stops = λ k here s. a.stops k here (b.stops k here s) }
 
--- behind the first of what is expected
+-- after the first of what is expected
 pub step : {c d : Counts} {x : Expected} (ys : List Expected) {before between : List Placed} → Within c (x ∷ []) before d between → Onward c (x ∷ ys) before d ys between
 step ys w = record { reads = λ e after v. seq w v; stops = λ k here s. stops_after w s }
 
--- at what a part begins with, whose counts go on behind it
+-- at what a part begins with, whose counts go on after it
 pub enter : (n : Part) {c : Counts} {xs : List Expected} {here : List Placed} → choose n (next_of here) ≡ Some xs → ((d : Counts) → outside n c d ≡ d) →
     Onward c (part n ∷ []) here (inside n (next_of here) c) xs here
 enter n {c} {here = here} chosen same = record {
@@ -41,7 +41,7 @@ refused_on {c} {d} {xs} {x} ys {before} {between} {end} {last} stop o same r =
     let there : IfRefused stop (Refuses c xs before last) = on_refused last stop (λ k here s. o.stops k here (stops_first ys s)) r in
     subst (λ place. IfRefused stop (Refuses c xs before place)) same there
 
--- of two lists, the second behind the first
+-- of two lists, the second after the first
 append : {c d e : Counts} {xs ys : List Expected} {before between after : List Placed} → Within c xs before d between → Within d ys between e after → Within c (xs ++ ys) before e after
 append nothing v = v
 append (begins chosen w r) v = begins chosen w (append r v)

@@ -99,7 +99,7 @@ steps_of stay = 0
 steps_of (pick e s) = suc (steps_of s)
 steps_of (pass e s) = suc (steps_of s)
 
--- what is expected first is read, and what is expected behind it is still to be read, in no more steps; or the reading stops
+-- what is expected first is read, and what is expected after it is still to be read, in no more steps; or the reading stops
 data Along (c : Counts) (xs rest : List Expected) (before : List Placed) (to : List Expected) (left : List Placed) (most : ℕ) : Type 0 where
   read : {d : Counts} {after : List Placed} → Within c xs before d after → (s : Steps to left rest after) → steps_of s ≤ most → Along c xs rest before to left most
   stopped : {k : Kind} {here : List Placed} → Stops c xs before k here → Along c xs rest before to left most
@@ -185,7 +185,7 @@ passed_on e stay = pass e stay
 passed_on e (pick f s) = pick f (passed_on e s)
 passed_on e (pass f s) = pass f (passed_on e s)
 
--- where a program is expected, nothing is left behind it
+-- where a program is expected, nothing is left after it
 abbrev IsLast : Expected → Type 0
 IsLast (one test) = ⊥
 IsLast (part Part.program) = Unit {0}

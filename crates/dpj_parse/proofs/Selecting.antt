@@ -1,4 +1,4 @@
--- What stands behind a primary makes a Postfix of it.
+-- What stands after a primary makes a Postfix of it.
 use Rattle.std.proofs.Common.{List}
 use Rattle.dpj_terminals.specs.declared.terminal.Placed.{Placed}
 use Rattle.dpj_tree.specs.Plain.{PlainExpr}

@@ -1,4 +1,4 @@
--- Fields, calls and elements behind an expression.
+-- Fields, calls and elements after an expression.
 use Rattle.std.proofs.Common.{◌≡◌, ◌↔◌, ◌⊎◌, ◌∙◌, List, [], ◌∷◌, Bool, true, false, cond, ◌||◌, IsTrue, Option, Some, None, inl, inr, refl, sym, ap, subst}
 use Rattle.dpj_base.specs.Refused.{IfRefused}
 use Rattle.dpj_base.specs.declared.place.Place.{Place}
@@ -87,7 +87,7 @@ args_if_args {d} {here = here} {after} on w =
     let i = part_inside {xs = part Part.args ∷ []} w (rw on refl) in
     subst (λ f. Within d (part Part.args ∷ []) here f after) i.is i.within
 
--- behind the arguments
+-- after the arguments
 dotted_by : (b : Bool) {d e : Counts} {here after : List Placed} → next_is is_less (next_of here) ≡ b → Within d (part Part.args_if ∷ []) here e after →
     Onward d (part Part.dotted_rest ∷ []) here e (one is_name ∷ cond b (part Part.actuals) (part Part.actuals_if) ∷ []) after
 dotted_by true on w = over (enter Part.dotted_rest (rw on refl) (λ f. refl)) (step _ (args_if_args on w))
@@ -112,7 +112,7 @@ field_read {here = here} {after = after} o w bare name away =
     ends (over o (over (dotted_by false (symbol_comes_not Symbol.Less here bare) w) (over (step _ name)
     (enter Part.actuals_if (rw (symbol_comes_not Symbol.OpenParen after away) refl) (λ g. refl)))))
 
--- actuals come behind arguments, or where a `(` does
+-- actuals come after arguments, or where a `(` does
 call_enter : (b : Bool) {f : Counts} {after : List Placed} → (b ≡ false → Next (terminal.Symbol Symbol.OpenParen) after) →
     Onward f (cond b (part Part.actuals) (part Part.actuals_if) ∷ []) after f (part Part.actuals ∷ []) after
 call_enter true n = stay

@@ -9,7 +9,7 @@ use Rattle.dpj_parse.specs.Taking.{Takes, TakesNext, Next, place_of}
 pub next-takes : {wanted : Terminal} {before after : List Placed} {place : Place} → TakesNext before after place → Next wanted before → Takes wanted before after place
 next-takes t n = grind (arith, t.takes.first, n.takes.takes.first)
 
--- the list behind the first of some terminals
+-- the list after the first of some terminals
 pub takes-first : (before : List Placed) (end : Place) → 1 ≤ length before → TakesNext before (take (length before - 1) (drop 1 before)) (place_of before end)
 takes-first [] end h = absurd (omega arith)
 takes-first (next ∷ after) end h = record {

@@ -1,4 +1,4 @@
--- Selections behind which a statement ends.
+-- Selections after which a statement ends.
 use Rattle.std.proofs.Common.{◌≡◌, ◌<◌, ◌∙◌, arith, length, List, [], ◌∷◌, ◌++◌, ℕ, Bool, true, false, ◌||◌, Option, Some, None, inl, inr, refl, sym, ap, subst}
 use Rattle.dpj_base.specs.Refused.{IfRefused}
 use Rattle.dpj_base.specs.declared.place.Place.{Place}
@@ -54,7 +54,7 @@ then_enter ending {here = here} on = record {
   stops = λ k at s. then_stops ending (same_choice ending here on) s;
 }
 
--- a selection stops alike, whether more stands behind it or a statement ends there
+-- a selection stops alike, whether more stands after it or a statement ends there
 if_after : {c : Counts} {test : Terminal → Bool} {xs ys : List Expected} {before here : List Placed} {k : Kind} →
     ((d : Counts) (at : List Placed) → Stops d xs at k here → Stops d ys at k here) → Stops c (one test ∷ xs) before k here → Stops c (one test ∷ ys) before k here
 if_after same (no_terminal none) = no_terminal none
@@ -136,7 +136,7 @@ pub inner_target_refused : (c : Counts) (before : List Placed) (end : Place) (st
     IfRefused stop (Refuses c (part Part.inner ∷ []) before end) → IfRefused stop (Refuses c (stmt_begins before) before end)
 inner_target_refused c before end stop n r = refused_on _ stop (inner_enter n) refl r
 
--- what a part begins with, and whatever is expected behind the part
+-- what a part begins with, and whatever is expected after the part
 leave_reads : {n : Part} {c e : Counts} {xs ys : List Expected} {before after : List Placed} → Within c (part n ∷ ys) before e after → choose n (next_of before) ≡ Some xs →
     ((d : Counts) → outside n c d ≡ d) → Within (inside n (next_of before) c) (xs ++ ys) before e after
 leave_reads {n} {c} {e} {xs} {ys} {before} {after} (begins {xs = zs} {between = between} {d = last} chosen w r) is same =
@@ -159,7 +159,7 @@ leave : (n : Part) {c : Counts} {xs : List Expected} (ys : List Expected) {here 
     Onward (inside n (next_of here) c) (xs ++ ys) here c (part n ∷ ys) here
 leave n ys chosen same = record { reads = λ e after w. leave_reads w chosen same; stops = λ k at s. leave_stops s chosen same }
 
--- behind the same terminal
+-- after the same terminal
 under_reads : {test : Terminal → Bool} {c e : Counts} {xs ys : List Expected} {next : Placed} {here after : List Placed} → ((d : Counts) → Onward d xs here d ys here) →
     Within c (one test ∷ ys) (next ∷ here) e after → Within c (one test ∷ xs) (next ∷ here) e after
 under_reads o (passes test fits w) = passes test fits ((o _).reads _ _ w)
@@ -174,7 +174,7 @@ under : {test : Terminal → Bool} {c : Counts} {xs ys : List Expected} {next : 
     Onward c (one test ∷ xs) (next ∷ here) c (one test ∷ ys) (next ∷ here)
 under o = record { reads = λ e after w. under_reads o w; stops = λ k at s. under_stops o s }
 
--- a name behind which no declaration goes on
+-- a name after which no declaration goes on
 name_by : (t : Terminal) {c : Counts} {place : Place} {after : List Placed} → follows_a_type (record { terminal = t; place = place } ∷ after) ≡ false →
     Onward c (part Part.after_name ∷ []) (record { terminal = t; place = place } ∷ after) c (part (Part.selected_then as_name) ∷ []) (record { terminal = t; place = place } ∷ after)
 name_by (terminal.Name n) off = cc
@@ -213,7 +213,7 @@ pass_on ys (passes test fits w) = step ys (passes test fits nothing)
 shorter : {test : Terminal → Bool} {c d : Counts} {xs : List Expected} {before after : List Placed} → Within c (one test ∷ xs) before d after → length after < length before
 shorter (passes test fits w) = let h = no_longer w in omega (arith, h)
 
--- a field, a call or an element that was read, and how a statement goes on behind it
+-- a field, a call or an element that was read, and how a statement goes on after it
 dot_goes : {c d : Counts} {place : Place} {between after : List Placed} {ys : List Expected} →
     ((e : Counts) → Within e (part Part.dotted_rest ∷ []) between d after → Onward e (part Part.dotted_then ∷ []) between d ys after) →
     Within c (part Part.selection ∷ []) (record { terminal = terminal.Symbol Symbol.Dot; place = place } ∷ between) d after →
@@ -307,7 +307,7 @@ then_refused : (c : Counts) (before : List Placed) (end : Place) (stop : Stop) �
     IfRefused stop (Refuses c (part Part.selection_then ∷ []) before end)
 then_refused c before end stop r = on_refused end stop (λ k here s. selection_stops before s) r
 
--- a selection behind something in parentheses
+-- a selection after something in parentheses
 pub inner_goes : {of found : PlainExpr} {c d e : Counts} {before here after : List Placed} → Next (terminal.Symbol Symbol.OpenParen) before → Within c (part Part.inner ∷ []) before d here →
     Within d (part Part.selection ∷ []) here e after → DerivesSelection of here after found →
     Onward c (stmt_begins before) before e (part (Part.selected_then (ending_of found)) ∷ []) after
@@ -398,7 +398,7 @@ pub literal_refused : (c : Counts) (before : List Placed) (end : Place) (stop : 
     (Next (terminal.Symbol Symbol.OpenParen) before → ⊥) → IfRefused stop (Refuses c (part Part.literal ∷ []) before end) → IfRefused stop (Refuses c (stmt_begins before) before end)
 literal_refused c before end stop target new paren r = on_refused end stop (λ k here s. literal_stops before target new paren s) r
 
--- any number of selections behind the shortest one
+-- any number of selections after the shortest one
 pub target_on : {of found : PlainExpr} {c d e : Counts} {before here after : List Placed} {b : Bool} → Onward c (stmt_begins before) before d (part (Part.selected_then (ending_of of)) ∷ []) here →
     b ≡ (next_is is_dot (next_of here) || next_is is_open_bracket (next_of here)) → b ≡ true → Within d (part Part.selection ∷ []) here e after → DerivesSelection of here after found →
     Onward c (stmt_begins before) before e (part (Part.selected_then (ending_of found)) ∷ []) after

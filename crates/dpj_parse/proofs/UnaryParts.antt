@@ -122,7 +122,7 @@ pub literal_selected_refused : {c d : Counts} {before here : List Placed} (end :
     IfRefused stop (Refuses d (part Part.selected ∷ []) here last) → IfRefused stop (Refuses c (part Part.unary ∷ []) before end)
 literal_selected_refused {c} {before = before} end stop ops created paren w same r = refused_on _ stop (over (literal_enter c before ops created paren) (step _ w)) same r
 
--- a class, behind which actuals come, or an array
+-- a class, after which actuals come, or an array
 class_goes : {d e : Counts} {before one_after here : List Placed} {named : Named} → TakesName before one_after named → Within d (part Part.base ∷ []) before e here →
     Onward d (part Part.created ∷ []) before e (part Part.created_rest ∷ []) here
 class_goes {d} {e} {before} {here = here} t w =

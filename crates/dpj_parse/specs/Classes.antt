@@ -43,12 +43,12 @@ pub data DerivesParam : Bool → List Placed → List Placed → ParamTree → T
       TakesName before after named →
       DerivesParam is_atomic before after (record { place = named.place; name = named.name; atomic = is_atomic })
 
--- [ Kind ], behind a parameter of a kind: a bare name has the kind of the one before it
+-- [ Kind ], after a parameter of a kind: a bare name has the kind of the one before it
 pub data DerivesKindOr : Bool → List Placed → List Placed → Bool → Type 0 where
   same : {earlier : Bool} {here : List Placed} → DerivesKindOr earlier here here earlier
   other : {earlier is_atomic : Bool} {before after : List Placed} → DerivesKind before after is_atomic → DerivesKindOr earlier before after is_atomic
 
--- { "," [ Kind ] Name }, behind a parameter of a kind
+-- { "," [ Kind ] Name }, after a parameter of a kind
 pub data DerivesParamsBehind : Bool → List Placed → List Placed → List ParamTree → Type 0 where
   no_more : {earlier : Bool} {here : List Placed} → DerivesParamsBehind earlier here here []
   behind : {earlier is_atomic : Bool} {before one two three after : List Placed} {tree : ParamTree} {others : List ParamTree} {comma : Place} →
@@ -145,7 +145,7 @@ pub data DerivesFront : List Placed → List Placed → Params → MethodResult 
   answers : {before one after : List Placed} {params : Params} {answer : MethodResult} →
       DerivesParams before one params → DerivesResult one after answer → DerivesFront before after params answer
 
--- [ "in" Rpl ] ";", behind the type and the name of a field
+-- [ "in" Rpl ] ";", after the type and the name of a field
 pub data DerivesField : TypeTree → Named → List Placed → List Placed → Member → Type 0 where
   field : {ty : TypeTree} {named : Named} {before one after : List Placed} {region : Option RplTree} {ends_at : Place} →
       DerivesIn before one region → TakesSymbol Symbol.Semicolon one after ends_at →
@@ -192,7 +192,7 @@ pub data DerivesClass : List Placed → List Placed → Class → Type 0 where
       TakesKeyword Keyword.Class before one at → TakesName one two named → DerivesParams two three params → DerivesParent three four parent → DerivesMembers four after all →
       DerivesClass before after (record { place = named.place; name = named.name; params = params; parent = parent; members = all })
 
--- Program = Class { Class }, and nothing behind it
+-- Program = Class { Class }, and nothing after it
 pub data DerivesProgram : List Placed → List Class → Type 0 where
   program : {before one : List Placed} {first : Class} {others : List Class} →
       DerivesClass before one first → Many DerivesClass one [] others → DerivesProgram before (first ∷ others)

@@ -325,6 +325,6 @@ pub data IsLost : List Expected → List Placed → Type 0 where
   no_terminal : {test : Terminal → Bool} {others : List Expected} {here : List Placed} → next_is test (next_of here) ≡ false → IsLost (one test ∷ others) here
   too_many : {next : Placed} {after : List Placed} → IsLost [] (next ∷ after)
 
--- between two places of a text, all that is expected first is read, whatever is expected behind it
+-- between two places of a text, all that is expected first is read, whatever is expected after it
 pub record Passes (xs : List Expected) (before after : List Placed) : Type 0 where
   pub goes : {to : List Expected} {left : List Placed} {others : List Expected} → Steps to left others after → Steps to left (xs ++ others) before

@@ -21,7 +21,7 @@ kind_comes here = next_is is_atomic (next_of here) || next_is is_region (next_of
 abbrev pub BeginsAnswering : List Placed → Type 0
 BeginsAnswering here = Next (terminal.Symbol Symbol.Less) here ⊎ Next (terminal.Keyword Keyword.Void) here
 
--- whether a constructor comes next: a name, and `(` behind it
+-- whether a constructor comes next: a name, and `(` after it
 abbrev pub constructor_comes : List Placed → Bool
 constructor_comes here = next_is is_name (next_of here) && next_is is_open_paren (next_of (rest_of here))
 

@@ -1,4 +1,4 @@
--- What is read behind a place of a text, and what of a text is read before it.
+-- What is read after a place of a text, and what of a text is read before it.
 use Rattle.std.specs.Prelude.{List}
 use Rattle.dpj_base.specs.declared.refusal.Kind.{Kind}
 use Rattle.dpj_terminals.specs.declared.terminal.Placed.{Placed}

@@ -1,4 +1,4 @@
--- Parts of the grammar of expressions and statements as they are read, one behind another.
+-- Parts of the grammar of expressions and statements as they are read, one after another.
 use Rattle.std.specs.Prelude.{ℕ, ℤ, List, true, false}
 use Rattle.dpj_base.specs.declared.place.Place.{Place}
 use Rattle.dpj_tokens.specs.declared.token.Symbol.{Symbol}
@@ -68,7 +68,7 @@ pub record NextSpells (before : List Placed) (form : ExprForm) : Type 0 where
   pub next : Next terminal before
   pub spells : Spells terminal form
 
--- "." Name | "." [ Args ] Name "(" [ Actuals ] ")" | "[" Expr "]", behind an expression
+-- "." Name | "." [ Args ] Name "(" [ Actuals ] ")" | "[" Expr "]", after an expression
 pub data DerivesSelection : PlainExpr → List Placed → List Placed → PlainExpr → Type 0 where
   behind_dot : {of : PlainExpr} {before one after : List Placed} {named : Named} {dot : Place} →
       TakesSymbol Symbol.Dot before one dot → TakesName one after named →
@@ -92,12 +92,12 @@ pub data DerivesInner : List Placed → List Placed → PlainExpr → Type 0 whe
       TakesSymbol Symbol.OpenParen before one open_at → DerivesExpr one two e → TakesSymbol Symbol.CloseParen two after close_at →
       DerivesInner before after e
 
--- the suffixes in front of the length of a new array, and the `[` behind them
+-- the suffixes in front of the length of a new array, and the `[` after them
 pub data DerivesOpenSuffixes : List Placed → List Placed → List Suffix → Type 0 where
   opened : {before one after : List Placed} {suffixes : List Suffix} {open_at : Place} →
       Many DerivesSuffix before one suffixes → TakesSymbol Symbol.OpenBracket one after open_at → DerivesOpenSuffixes before after suffixes
 
--- what stands behind the base of a new array
+-- what stands after the base of a new array
 pub data DerivesLengths : BaseTree → Place → List Placed → List Placed → PlainExpr → Type 0 where
   lengths : {base : BaseTree} {before one two three after : List Placed} {suffixes : List Suffix} {len : PlainExpr} {own : Suffix} {place close_at : Place} →
       DerivesOpenSuffixes before one suffixes → DerivesExpr one two len → TakesSymbol Symbol.CloseBracket two three close_at → DerivesBehind three after own →

@@ -1,5 +1,5 @@
 -- What every production of the grammar is made of: one terminal, something that may be left out, and lists.
--- Each relation says that the terminals `before` begin with a part of the text, behind which `after` is left.
+-- Each relation says that the terminals `before` begin with a part of the text, after which `after` is left.
 use Rattle.std.specs.Prelude.{◌≡◌, List, [], ◌∷◌, Bool, true, false}
 use Rattle.dpj_base.specs.declared.place.Place.{Place}
 use Rattle.dpj_tokens.specs.declared.token.Symbol.{Symbol}

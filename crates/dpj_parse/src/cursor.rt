@@ -11,7 +11,7 @@ pub const MOST: u32 = 32;
 /// Where the reading of a text stands.
 #[derive(Clone, Copy)]
 pub struct Cursor<'a> {
-    /// The place behind the text.
+    /// The place after the text.
     pub end: Place,
     /// The terminals that are still to come.
     pub rest: &'a [Placed],
@@ -47,7 +47,7 @@ impl<'a> Cursor<'a> {
         }
     }
 
-    /// The terminal behind the next one.
+    /// The terminal after the next one.
     pub fn second(&self) -> Option<&'a Terminal>
         ensures { MatchOption result (rest_of self.now.rest.now ≡ []) (λ next. Next next.now (rest_of self.now.rest.now)) }
     {
@@ -57,7 +57,7 @@ impl<'a> Cursor<'a> {
         }
     }
 
-    /// The terminal behind the second one.
+    /// The terminal after the second one.
     pub fn third(&self) -> Option<&'a Terminal>
         ensures { MatchOption result (rest_of (rest_of self.now.rest.now) ≡ []) (λ next. Next next.now (rest_of (rest_of self.now.rest.now))) }
     {

@@ -185,7 +185,7 @@ fn object(place: Place, class: Named, regions: Items<RplTree>, actuals: Items<Ex
     made(place, kind)
 }
 
-/// `NewArray` behind its base: `{ "[" "]" [ "<" Rpl ">" ] [ "#" Name ] } "[" Expr "]" [ "<" Rpl ">" ] [ "#" Name ]`
+/// `NewArray` after its base: `{ "[" "]" [ "<" Rpl ">" ] [ "#" Name ] } "[" Expr "]" [ "<" Rpl ">" ] [ "#" Name ]`
 #[tactic(auto, using(crate::proofs::Making::made_lengths, crate::proofs::ExprParts::array_reads, crate::proofs::ExprParts::length_refused, crate::proofs::ExprParts::length_close_refused, crate::proofs::ExprParts::length_tail_refused))]
 #[cycle(exprs)]
 fn array(alloc: Global, cursor: &mut Cursor, place: Place, base: BaseTree) -> Result<Expr, Stop>
@@ -418,7 +418,7 @@ fn listed(alloc: Global, cursor: &mut Cursor) -> Result<Items<Expr>, Stop>
 }
 
 /// `Postfix` at the beginning of a statement: a creation is that of an object, and something in parentheses has a
-/// field, a call or an element behind it.
+/// field, a call or an element after it.
 #[tactic(auto, using(crate::proofs::Selecting::selection_postfix, crate::proofs::TargetParts::target_on, crate::proofs::TargetParts::target_refused, crate::proofs::TargetParts::target_ends, crate::proofs::Few::still_few))]
 pub fn target(alloc: Global, cursor: &mut Cursor) -> Result<Expr, Stop>
     requires target { IsTarget cursor.old.rest.now }

@@ -68,8 +68,8 @@ pub fn binding(op: BinaryOp) -> u32
     }
 }
 
-/// The tightest binding that an operator behind this one may have: those of one binding group to the left, and a
-/// comparison has no other one behind it.
+/// The tightest binding that an operator after this one may have: those of one binding group to the left, and a
+/// comparison has no other one after it.
 #[tactic(auto, using(crate::proofs::Ops::left_behind, crate::proofs::Ops::left_behind_comparison, crate::proofs::Ops::own_behind, crate::proofs::Ops::own_behind_comparison))]
 pub fn tightest_behind(op: BinaryOp) -> u32
     ensures left { (next : BinaryOp) → level_of next ≤ result → left_level next ≤ level_of op }

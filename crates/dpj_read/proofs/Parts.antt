@@ -84,7 +84,7 @@ closes_here bytes = elim (cases_eq (get_or bytes 0 0) 42) [
   | inr fails ↦ inr (λ c. fails c.0)
 ]
 
--- the same behind one byte more
+-- the same after one byte more
 closes_on : (b : ℕ) (bs : List ℕ) (k : ℕ) → ClosesAt bs k → ClosesAt (b ∷ bs) (suc k)
 closes_on b bs k closes =
     let e : suc k + 1 ≡ suc (k + 1) = omega arith in
@@ -178,7 +178,7 @@ split (b ∷ c ∷ bs) = elim (cases_Bool (is_plain b)) [
   | inr fails ↦ split_other b c bs fails (split bs)
 ]
 
--- what stops a text behind its inside
+-- what stops a text after its inside
 text_stops : (behind inside rest : List ℕ) → behind ≡ inside ++ rest → IsInside inside → EndsInside rest → IsUtf8 inside → Answers (34 ∷ behind)
 text_stops behind inside [] whole is ends utf8 = record {
   answer = Err (record { kind = reason.Syntax; at = 0 });

@@ -161,7 +161,7 @@ compiled_at C P (c ∷ bs) (t ∷ ts) zero b h e = (t, refl, (let same : c ≡ b
 compiled_at C P (c ∷ bs) (t ∷ ts) (suc n) b h e = compiled_at C P bs ts n b h.1 e
 
 module _ (P : PlainProgram) (arg : ℤ) (rule : Rule) (C : PlainCode) where
-  -- after an end nothing comes, and behind a fork its begins and its join
+  -- after an end nothing comes, and after a fork its begins and its join
   pub disciplined : Disciplined (Q P arg rule C)
   disciplined = record {
     over = λ p t got x a e. (asks_disciplined (named_by p) P t).over got x a e;

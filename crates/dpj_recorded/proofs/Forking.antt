@@ -69,7 +69,7 @@ HasBegun C (Rested g fs) = ⊥
 HasBegun C (Off e) = ⊥
 HasBegun C Nowhere = ⊥
 
--- behind a fork a task stands at its join, and its branches start as the fork told; and so it does behind a begin, if there aren't too many
+-- after a fork a task stands at its join, and its branches start as the fork told; and so it does after a begin, if there aren't too many
 abbrev pub Keeps : PlainCode → StateIn → StandIn → Type 0
 Keeps C z (Waits (Fork bs) f) = (x : Answer ℕ (ℕ × ℕ)) → AtJoin C (f x) × (starts_at C (f x) ≡ bs.tasks)
 Keeps C z (Waits (Begin b) f) =

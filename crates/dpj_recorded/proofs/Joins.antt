@@ -16,7 +16,7 @@ use Rattle.dpj_gen.specs.Pieces.{Branch, Piece, Next, past, nothing, line, with_
 use Rattle.dpj_gen.specs.Scheme.{is_void, closes, instr_of, unary_instr, expr_piece, exprs_piece, stmt_piece, stmts_piece, regions_piece}
 use Rattle.dpj_gen.specs.Whole.{weight_all, branch_piece_of, branch_piece, place_of, closing, member_piece, generate, in_member, member_output, past_output, members_output, first, compiled}
 
--- what stands behind a fork or a spread
+-- what stands after a fork or a spread
 abbrev BeforeJoin : Option ℕ → List Line → Type 0
 BeforeJoin None ls = Unit {0}
 BeforeJoin (Some s) [] = ⊥
@@ -196,7 +196,7 @@ body_paired [] j h = tt
 body_paired (b ∷ bs) zero h = h.0
 body_paired (b ∷ bs) (suc j) h = body_paired bs j h.1
 
--- behind a fork or a spread stands a join
+-- after a fork or a spread stands a join
 abbrev pub ForksAreJoined : PlainCode → Type 0
 ForksAreJoined C = (j q s : ℕ) (l : Line) → slice_get (body_at C j).lines q ≡ Some l → branch_site l.instr ≡ Some s
     → (m : Line) × (slice_get (body_at C j).lines (suc q) ≡ Some m) × (m.instr ≡ i.Join)

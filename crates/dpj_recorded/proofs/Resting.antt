@@ -297,7 +297,7 @@ module _ (C : PlainCode) (k : ℕ) (g : LevelIn) (fs : List LevelIn) where
   line_leads None = record { is = tt }
   line_leads (Some l) = exec_leads l.place l.instr
 
-  -- behind its rest
+  -- after its rest
   block_leads : (o : Option Site) → entry_next C (Rested g fs) ≡ effects_of g (accesses_of o) → Leading C (Rested g fs) (enters_block (names_of k) o g fs)
   block_leads None e = record { is = tt }
   block_leads (Some (fork_site forking js copies)) e = record { is = tt }
@@ -337,7 +337,7 @@ ends_before C s t Dead none e = tt
 behind_entry : (C : PlainCode) (z : StateIn) (a : ActionIn) (f : ThenIn) → Behind C z a f → (E : List (Effect (ℕ × ℕ))) → a ≡ Do (Enter E) → entry_next C z ≡ Some E
 behind_entry C z a f h E e = (subst (λ b. Behind C z b f) e h).0
 
--- but behind a rest
+-- but after a rest
 pub behind_others : (C : PlainCode) (z : StateIn) (a : ActionIn) (f : ThenIn) → Behind C z a f → (a ≡ Do Rest → ⊥) → ((e : _) → a ≡ End e → ⊥) → NoEntry C f
 behind_others C z (Do Rest) f h n m = absurd (n refl)
 behind_others C z (Do (Enter E)) f h n m = h.1

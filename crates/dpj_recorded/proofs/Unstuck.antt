@@ -138,7 +138,7 @@ module _ (code : Code) (P : PlainProgram) (arg : ℤ) (rule : Rule) (L : Limits)
           go Over e = absurd (let H = here code P arg rule L right T k turns wants a x in never_over H.halt (subst (λ r. SameReply C P r (said H.halt)) e H.same))
           go Unknown e = absurd (let H = here code P arg rule L right T k turns wants a x in subst (λ r. SameReply C P r (said H.halt)) e H.same)
 
-      -- who stands behind a fork has an open scope
+      -- who stands after a fork has an open scope
       forked : (n b : ℕ) (act : Action) → QR.meaning V.path V.task.task (answers (mine R V.path)) ≡ Next n act → (ts : Branches) → b ≤ length ts.tasks
           → ForkSince QR R T.faithful V.path ts b → y.0.state ≡ Running → ⊥
       forked n b act asks ts within J run = go J.since refl

@@ -156,7 +156,7 @@ module _ (C : PlainCode) where
   passes e n = (λ r. n.0 (sym e ∙ r), λ x r. n.1 x (sym e ∙ r))
 
   module _ (k turns made : ℕ) (z : State ℕ (ℕ × ℕ)) (y : DeclaredAnswer) (t : Running) (waits : Waiting) where
-    -- behind it no entry follows
+    -- after it no entry follows
     none_next : (a : DeclaredAction) → Tells C a (front C k turns made z) → ((b : ActionIn) → Says C a b → Passes b)
         → answered (front C k turns made z) y ≡ Some t → Noted C waits k t
     none_next a tells passed e E i = absurd (go (turns == most_turns) refl)
@@ -173,7 +173,7 @@ module _ (C : PlainCode) where
             let none : entry_next C (A.then_in (plain_answer y)) ≡ None = behind_others C z A.act A.then_in (A.behind s) p.0 p.1 (plain_answer y) in
             let both : None ≡ Some E = sym none ∙ ap (λ s. entry_next C s) (sym A.state) ∙ i in cc
 
-    -- behind a rest the entry in front of which the task rests
+    -- after a rest the entry in front of which the task rests
     rest_next : {first : ℕ} {s : State ℕ (ℕ × ℕ)} → Leg (names_of k) C first s (front C k turns made z) → Tells C action.Rest (front C k turns made z)
         → (wants : Option (List PathEffect)) → WantsRightly C z turns action.Rest wants → answered (front C k turns made z) y ≡ Some t → Noted C (rested waits k wants) k t
     rest_next {first} {s} leg tells wants right e E i = go (turns == most_turns) refl

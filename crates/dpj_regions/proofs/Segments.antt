@@ -132,7 +132,7 @@ or_absorb true b h = refl
 or_absorb false true h = sym (h refl)
 or_absorb false false h = refl
 
--- the rest of a path behind `*` covers what is left
+-- the rest of a path after `*` covers what is left
 abbrev pub continues : List Elem → Option (List Elem) → Bool
 continues t None = false
 continues t (Some r) = covers_elems (Star ∷ t) r

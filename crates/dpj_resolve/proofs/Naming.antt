@@ -22,7 +22,7 @@ last_from-behind at found (other ∷ names) last name =
     last_from-behind (suc at) (cond (other == name) (Some at) found) names last name
     ∙ ap (λ place. cond (last == name) (Some place) (last_from (suc at) (cond (other == name) (Some at) found) names name)) further
 
--- one name more: its place is behind the others
+-- one name more: its place is after the others
 pub last-behind : (names : List ℕ) (last name : ℕ) → last_place (names ++ last ∷ []) name ≡ cond (last == name) (Some (length names)) (last_place names name)
 last-behind names last name =
     let whole : 0 + length names ≡ length names = omega arith in

@@ -1,4 +1,4 @@
--- Faults that are told, and parts that are read one after the other.
+-- Faults that are reported, and parts that are read one after the other.
 use Rattle.std.proofs.Common.{◌≡◌, ◌∙◌, ◌++◌, List, [], ◌∷◌, Option, None, Some, Result, Ok, Err, IfErr, IsErrAnd, refl, ap, sym, subst}
 use Rattle.std.specs.Option.{option_or}
 use Rattle.dpj_base.specs.declared.refusal.Refusal.{Refusal}

@@ -15,7 +15,7 @@ use Rattle.dpj_resolve.specs.Telling.{told_at, parts_told, parts_noted}
 use Rattle.dpj_resolve.specs.Written.{type_index, type_parts, type_read, judged_faults, type_faults}
 use Rattle.dpj_resolve.proofs.Told.{told_one, parts_later, refused_first}
 
--- the first parts tell none, and what the last one leaves is told
+-- the first parts tell none, and what the last one leaves is reported
 settled_parts : (at : Site) (old mid new : Faults) (parts : List (List Refusal)) (last : List Refusal) → parts_told at old parts ≡ None → mid ≡ parts_noted old parts → new ≡ all_noted mid last → parts_told at old (parts ++ last ∷ []) ≡ told_at at new
 settled_parts at old mid new parts last none is step =
     parts_later at old parts (last ∷ []) none ∙ ap (λ z. parts_told at z (last ∷ [])) (sym is) ∙ told_one at mid last ∙ ap (told_at at) (sym step)

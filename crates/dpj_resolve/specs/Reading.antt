@@ -128,7 +128,7 @@ longer_if (Some rpl) x = option_map (longer rpl) x
 abbrev pub goes_on : PlainScope → PlainIndex → Option Rpl → List ElemTree → Option Rpl
 goes_on scope around before elems = fold (λ rpl x. longer_if rpl (elem_meant scope around x)) before elems
 
--- the path that is written: what its head and its elements mean, one behind the other, where all of them are known
+-- the path that is written: what its head and its elements mean, one after the other, where all of them are known
 abbrev pub path_meant : PlainScope → PlainIndex → RplTree → Option Rpl
 path_meant scope around tree = goes_on scope around (head_meant scope tree.head) tree.elems
 

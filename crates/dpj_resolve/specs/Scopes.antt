@@ -48,7 +48,7 @@ is_atomic_at params at = option_map_or (λ param. param.atomic) (slice_get param
 abbrev pub class_param : List ParamRow → ℕ → ParamFound
 class_param params number = record { number = number; atomic = is_atomic_at params number }
 
--- the region parameter of a method at a position, numbered behind those of the class
+-- the region parameter of a method at a position, numbered after those of the class
 abbrev pub behind_class : List ParamRow → List Bool → ℕ → Option ParamFound
 behind_class params own place =
     option_map (λ atomic. record { number = as_number (length params + place); atomic = atomic }) (slice_get own place)

@@ -5,9 +5,9 @@
 //! `fit_args` a list of region arguments.
 //!
 //! What is written means exactly what `specs/Reading.antt` and `specs/Written.antt` say, and its faults are those that
-//! they list; which of them is told, and when, is said by `specs/Telling.antt`.
+//! they list; which of them is reported, and when, is said by `specs/Telling.antt`.
 //!
-//! Two ways of telling faults are served. In a body a region path is a node of its own, and its faults are told
+//! Two ways of telling faults are served. In a body a region path is a node of its own, and its faults are reported
 //! before anything else is read; then come those of the type, creation or call that holds it. In a signature all
 //! faults are noted, and the pass over the class table tells the one that stands first.
 #![tactic(auto)]

@@ -6,7 +6,7 @@ use dpj_base::{Constraint, Items, Kind, Stop};
 use dpj_headers::{Faults, Headers, ParamRow, number_at};
 use dpj_tree::RName;
 
-/// Where a path or a type stands, which decides when its faults are told.
+/// Where a path or a type stands, which decides when its faults are reported.
 #[derive(Clone, Copy, Debug, PartialEq, Eq)]
 pub enum Site {
     /// In a signature: faults are only noted.
@@ -20,7 +20,7 @@ pub enum Site {
 pub struct Scope<'a> {
     pub headers: &'a Headers,
     pub class: u32,
-    /// The region parameters of the method, with whether each is atomic. They are numbered behind those of the class.
+    /// The region parameters of the method, with whether each is atomic. They are numbered after those of the class.
     pub params: &'a Scoped<bool>,
     /// The locals, formals and foreach variables, with the slot of each that may stand in an index.
     pub variables: &'a Scoped<Option<u32>>,

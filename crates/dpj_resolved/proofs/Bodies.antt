@@ -94,7 +94,7 @@ module _ {P : PlainProgram} {gives : Bool}
     pub parts_in : (env : Env) (view var : Named) (t : Ty) → holds_values (plain_type t) ≡ true → InBody P gives env → InBody P gives (parts_declared env view var t)
     parts_in env view var t v body = variable_in (part_declared env view.name t) var (part_declared_in env view.name t v body)
 
--- a node of which no fault is told had none before, and none was found later
+-- a node of which no fault is reported had none before, and none was found later
 pub not_faulty : (node : Node) (reason : Kind) (place : Place) → fault_of (with_fault node reason place) ≡ None → ⊥
 not_faulty node reason place h =
     let told = noted_told node.faults (record { kind = reason; place = place }) in

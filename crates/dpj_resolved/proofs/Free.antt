@@ -1,4 +1,4 @@
--- Where no fault is told, none was found.
+-- Where no fault is reported, none was found.
 use Rattle.std.proofs.Common.{◌≡◌, Bool, true, false, ◌||◌, not, List, [], ◌∷◌, ◌++◌, flat_map, Option, Some, None, refl}
 use Rattle.std.specs.Option.{option_or}
 use Rattle.dpj_base.specs.declared.place.Place.{Place}

@@ -36,7 +36,7 @@ got_taken (suc n) [] i x e = cc
 got_taken (suc n) (y ∷ xs) zero x e = e
 got_taken (suc n) (y ∷ xs) (suc i) x e = got_taken n xs i x e
 
--- an element of a list with one more behind
+-- an element of a list with one more after
 pub got_last : {A : Type 0} (xs : List A) (y : A) (i : ℕ) (x : A) → (P : A → Type 0) → ((j : ℕ) (z : A) → slice_get xs j ≡ Some z → P z) → P y → slice_get (xs ++ y ∷ []) i ≡ Some x → P x
 got_last [] y zero x P all p e = subst P (some_same e) p
 got_last [] y (suc i) x P all p e = cc

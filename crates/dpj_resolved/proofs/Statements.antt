@@ -77,7 +77,7 @@ module _ (P : PlainProgram)
       pub complete_so : completes made ≡ complete
       pub body : InBody P y w.env
 
-    -- the same of a node, of which no fault is told
+    -- the same of a node, of which no fault is reported
     abbrev Done : Around → Node → Bool → TypedStmt → Walk → Type 0
     Done around node complete made w = (fault_of node ≡ None) × Fine around.has_result complete made w
 
@@ -87,11 +87,11 @@ module _ (P : PlainProgram)
       pub complete_so : all_complete (stmts_of made) ≡ complete
       pub body : InBody P y w.env
 
-    -- and of statements behind others that complete or not: where they don't, there are none
+    -- and of statements after others that complete or not: where they don't, there are none
     abbrev FineOrder : Bool → Bool → Bool → List TypedStmt → Walk → Type 0
     FineOrder y before complete made w = ((before ≡ true) ⊎ (stmts_of made ≡ typed.no_stmts)) × FineBlock y complete made w
 
-    -- of the part behind an `else`
+    -- of the part after an `else`
     abbrev FineOther : Bool → Option PlainStmt → Option TypedStmt → Walk → Type 0
     FineOther y None None w = InBody P y w.env
     FineOther y (Some s) (Some made) w = Fine y (tree_completes.completes s) made w
@@ -372,7 +372,7 @@ module _ (P : PlainProgram)
     chosen_fine place y b test first w None (Some made) h k c o = absurd o
     chosen_fine place y b test first w (Some s) None h k c o = absurd o
 
-    -- a statement behind another
+    -- a statement after another
     then_fine : (y before complete : Bool) (s : PlainStmt) (ss : PlainStmts) (made : TypedStmt) (others : List TypedStmt) (u w : Walk) → before ≡ true → Fine y (tree_completes.completes s) made u →
         FineOrder y (before && tree_completes.completes s) (tree_completes.all_complete ss) others w → FineOrder y before (tree_completes.all_complete (tree.more_stmts s ss)) (made ∷ others) w
     then_fine y before complete s ss made others u w before_so first rest = (

@@ -75,7 +75,7 @@ module _ (overrides : List (Option ℕ)) (methods : List MethodRow) (base : ℕ 
     later : (at : ℕ) (row : MethodRow) (rest : List MethodRow) (i : ℕ) → IsOther at (row ∷ rest) i → IsOther (at + 1) rest i
     later at row rest i h j other there own e = h (suc j) other there own (omega (arith, e))
 
-    -- the start behind a row, whatever happened there
+    -- the start after a row, whatever happened there
     starts_behind : (at : ℕ) (earlier : List MethodRow) (row : MethodRow) (rest : List MethodRow) (seen behind : Numbering) → Starts at earlier (row ∷ rest) seen → length behind.rows ≡ length seen.rows →
         behind.next ≡ seen.next + one_new overrides class at row → ((i : ℕ) → IsOther at (row ∷ rest) i → get_or behind.rows i 0 ≡ get_or seen.rows i 0) → Starts (at + 1) (earlier ++ row ∷ []) rest behind
     starts_behind at earlier row rest seen behind s long count kept =

@@ -29,7 +29,7 @@ module _ {S : Type 0} (enter : S → ℕ → S) (parents : List (Option ℕ)) (F
     abbrev pub Above : S → ℕ → Type 0
     Above s at = (above : ℕ) → entry_of parents at ≡ Some above → Holds s above
 
-    -- it holds of a class that is entered behind those above it, and of another still
+    -- it holds of a class that is entered after those above it, and of another still
     pub record Enters : Type 0 where
       pub fine : (s : S) (at : ℕ) → at < length parents → Fine s → Above s at → Fine (enter s at)
       pub makes : (s : S) (at : ℕ) → at < length parents → Fine s → Above s at → P at (enter s at)

@@ -23,8 +23,8 @@ abbrev pub new_in : List (Option ℕ) → ℕ → ℕ → List MethodRow → ℕ
 new_in overrides class at [] = 0
 new_in overrides class at (row ∷ rows) = one_new overrides class at row + new_in overrides class (at + 1) rows
 
--- A method has the row of the one that it overrides. Another has the next one: behind the rows of the superclass of its class,
--- and behind those of the new methods of its class that stand before it. `base` tells how many rows come from the superclass
+-- A method has the row of the one that it overrides. Another has the next one: after the rows of the superclass of its class,
+-- and after those of the new methods of its class that stand before it. `base` tells how many rows come from the superclass
 pub data RowIs (overrides : List (Option ℕ)) (methods : List MethodRow) (base : ℕ → ℕ) : ℕ → ℕ → Type 0 where
   as_overridden : {id row : ℕ} (above : ℕ) → entry_at overrides id ≡ Some above → RowIs overrides methods base above row → RowIs overrides methods base id row
   as_next : {id row : ℕ} (method : MethodRow) → slice_get methods id ≡ Some method → entry_at overrides id ≡ None

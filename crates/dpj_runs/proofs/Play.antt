@@ -13,7 +13,7 @@ use Rattle.dpj_runs.proofs.Faithful.{some_same}
 use Rattle.dpj_runs.proofs.Standing.{Opener, opener_of}
 use Rattle.dpj_runs.proofs.Carry.{has_event}
 
--- what is told from an option
+-- what is read off an option
 abbrev pub let_some : {A B : Type 0} → Option A → (A → Option B) → Option B
 let_some None f = None
 let_some (Some a) f = f a

@@ -153,7 +153,7 @@ abbrev saw_one : Option Event → Bool
 saw_one None = false
 saw_one (Some e) = got_one e.ans
 
--- whether the latest event but one of a task was told 1
+-- whether the latest event but one of a task was answered 1
 abbrev read_one : Run → Bool
 read_one es = saw_one (slice_get es 1)
 

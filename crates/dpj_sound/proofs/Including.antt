@@ -156,7 +156,7 @@ root_put env inner a n h c =
     ap (λ (z : Rpl). z.elems) (closed_put 0 0 inner env (record { region = λ p l. absurd (omega (arith, l)); own = λ d l. absurd (omega (arith, l)) }) (record { head = Root; elems = a })
     (record { head = λ p e. (let q : Root ≡ Param p = e in absurd (cc)); elems = c.elems }))
 
--- the elements of an argument, and behind them
+-- the elements of an argument, and after them
 argument_elems : (env : Env) (arg : Rpl) (a : List Elem) →
     (head_region env arg.head ++ map (put_elem env) arg.elems) ++ map (put_elem env) a ≡ head_region env arg.head ++ map (put_elem env) (arg.elems ++ a)
 argument_elems env arg a = append_assoc (head_region env arg.head) (map (put_elem env) arg.elems) (map (put_elem env) a)

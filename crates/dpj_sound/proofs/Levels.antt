@@ -1,4 +1,4 @@
--- Levels: marks are taken off behind a deterministic construct, so what a task does in one of its branches is said above it without a mark.
+-- Levels: marks are taken off after a deterministic construct, so what a task does in one of its branches is said above it without a mark.
 use Rattle.std.proofs.Common.{◌≡◌, ◌<◌, ◌⊎◌, ⊎_elim, inl, inr, ℕ, suc, ℤ, Bool, true, false, ◌&&◌, ◌||◌, List, [], ◌∷◌, ◌++◌, length, refl, sym, ap, ◌∙◌, subst, arith, slice_get}
 use Rattle.std.proofs.lemmas.Bool.{and_from, cond-false, cases_Bool, false≢true, or_left, or_right, or_parts}
 use Rattle.std.proofs.lemmas.Option.{slice_get_within}

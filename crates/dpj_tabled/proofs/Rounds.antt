@@ -1,4 +1,4 @@
--- It is decided which classes are their own superclasses, and so what is told of the classes by themselves.
+-- It is decided which classes are their own superclasses, and so what is reported of the classes by themselves.
 use Rattle.std.proofs.Common.{◌≡◌, ◌<◌, ◌*◌, ℕ, zero, suc, Bool, false, List, length, map, replicate, Option, refl, arith}
 use Rattle.std.specs.Option.{option_and_then}
 use Rattle.dpj_base.specs.declared.refusal.Refusal.{Refusal}

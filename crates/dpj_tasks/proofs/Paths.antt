@@ -7,7 +7,7 @@ use Rattle.dpj_tasks.specs.declared.task.Origin.{Origin}
 use Rattle.dpj_tasks.specs.declared.task.Task.{Task}
 use Rattle.dpj_tasks.specs.Tree.{Tasks, OfEach, OfOrigin, IsNumbered, origin_of, IsPath, root, step}
 
--- whatever path leads to a task, with these steps behind it leads to another
+-- whatever path leads to a task, with these steps after it leads to another
 abbrev pub LeadsTo : Tasks → ℕ → ℕ → List PathStep → Type 0
 LeadsTo tasks at task upwards = (steps : List PathStep) → IsPath tasks at steps → IsPath tasks task (steps ++ reverse upwards)
 

@@ -66,7 +66,7 @@ none_left left ends is =
       | inr some_left ↦ some_left.0 ∙ sym (not_all_ended ends (λ none. some_left.1 (is ∙ none)))
     ]
 
--- behind all branches that have begun, a scope can go on where none of them runs
+-- after all branches that have begun, a scope can go on where none of them runs
 pub goes_on : (count left : ℕ) (ends : List (Option TaskEnd)) → left ≡ running_in ends → count ≤ length ends
     → eqb left 0 ≡ can_go_on (record { count = count; ends = ends })
 goes_on count left ends is begun = none_left left ends is ∙ sym (ap (λ b. b || list_all is_some ends) (le-ltb (length ends) count begun))

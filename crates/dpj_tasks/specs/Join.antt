@@ -11,7 +11,7 @@ abbrev pub unless_trapped : Option (Trap × Place) → List ℕ → List ℕ
 unless_trapped None more = more
 unless_trapped (Some trap) more = []
 
--- the outputs in branch order, of the branches that have ended; behind one that trapped they are dropped
+-- the outputs in branch order, of the branches that have ended; after one that trapped they are dropped
 abbrev pub joined_out : List (Option TaskEnd) → List ℕ
 joined_out [] = []
 joined_out (None ∷ ends) = joined_out ends

@@ -30,7 +30,7 @@ all_begun s = not (nat_lt (length s.ends) s.count)
 abbrev pub all_ended : Branches → Bool
 all_ended s = list_all is_some s.ends
 
--- what stands behind the fork can go on: a branch can begin, or the scope can be joined
+-- what stands after the fork can go on: a branch can begin, or the scope can be joined
 abbrev pub can_go_on : Branches → Bool
 can_go_on s = nat_lt (length s.ends) s.count || all_ended s
 

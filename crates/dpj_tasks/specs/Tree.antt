@@ -100,7 +100,7 @@ abbrev pub scope_ends : State → List (Option TaskEnd)
 scope_ends Running = []
 scope_ends (Forked scope) = scope.ends
 
--- the outputs of the branches come behind the task's own
+-- the outputs of the branches come after the task's own
 abbrev pub joined_task : Task → Task
 joined_task task = record { origin = task.origin; forks = task.forks; out = task.out ++ joined_out (scope_ends task.state); state = Running }
 

@@ -2,7 +2,7 @@
 //!
 //! `TaskTree` is exact against the tree of branches: each live task with its step from its parent and, where it has an
 //! open scope, the branches of that scope that have begun and how they ended. `join` puts the outputs of the branches
-//! together in branch order, up to the first branch that trapped, behind what the task has printed itself, whatever the order
+//! together in branch order, up to the first branch that trapped, after what the task has printed itself, whatever the order
 //! in which they ended.
 //!
 //! Tasks are numbered in the order in which they begin, from 0 for the root. A task that has ended is forgotten, and

@@ -158,7 +158,7 @@ impl Live {
         Ok(joined)
     }
 
-    /// Puts bytes behind what a task has printed.
+    /// Puts bytes after what a task has printed.
     pub fn print(&mut self, number: u32, bytes: &[u8]) -> Result<(), NoMemory>
         ensures ok { OnOk result (self.new ≡ changed self.old number (printed_task bytes.now)) }
         ensures err { OnErr result (self.new ≡ self.old) }

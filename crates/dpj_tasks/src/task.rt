@@ -19,7 +19,7 @@ pub struct Origin {
 pub enum State {
     /// It has no open scope.
     Running,
-    /// It stands behind a fork and in front of the join.
+    /// It stands after a fork and in front of the join.
     Forked(Scope),
 }
 
@@ -134,7 +134,7 @@ impl Task {
     ghost use Rattle.dpj_tasks.specs.Join.{JoinsTo};
     ghost use Rattle.dpj_tasks.specs.Tree.{joined_task, scope_ends};
 
-    /// Joins the open scope. The outputs of its branches come behind the task's own.
+    /// Joins the open scope. The outputs of its branches come after the task's own.
     pub fn join(&mut self, alloc: Global) -> Result<Joined, NoMemory>
         ensures ok { IfOk result (JoinsTo (scope_ends self.old.state)) }
         ensures joined { OnOk result (self.new ≡ joined_task self.old) }

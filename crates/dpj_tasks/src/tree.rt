@@ -201,7 +201,7 @@ impl TaskTree {
         }
     }
 
-    /// Puts bytes behind what a task has printed.
+    /// Puts bytes after what a task has printed.
     pub fn print(&mut self, task: u32, bytes: &[u8]) -> Result<(), NoMemory>
         ensures ok { OnOk result (self.new ≡ printed self.old task bytes.now) }
         ensures err { OnErr result (self.new ≡ self.old) }
@@ -210,7 +210,7 @@ impl TaskTree {
         Ok(())
     }
 
-    /// Joins the open scope of a task, whose branches have all begun and ended. Their outputs come behind its own.
+    /// Joins the open scope of a task, whose branches have all begun and ended. Their outputs come after its own.
     pub fn join(&mut self, task: u32) -> Result<Joined, NoMemory>
         requires { CanJoin self.old.tasks task }
         ensures ok { IfOk result (JoinsTo (ends_in (task_at self.old task))) }

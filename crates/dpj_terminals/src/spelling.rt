@@ -30,7 +30,7 @@ pub fn unescaped(alloc: Global, inside: &[u8]) -> Result<Bytes, NoMemory>
     Ok(bytes)
 }
 
-/// The first byte that is meant, and what stands behind it.
+/// The first byte that is meant, and what stands after it.
 fn front(inside: &[u8]) -> Option<(u8, &[u8])>
     ensures meant { MatchOption result (inside.now ≡ []) (λ p. unescaped_bytes inside.now ≡ p.0 ∷ unescaped_bytes p.1.now) }
     ensures shorter { IfSome result (λ p. length p.1.now < length inside.now) }

@@ -30,7 +30,7 @@ piece-ends left kind text rest (inr (k, at, bad)) e is =
     let same : piece kind (length text) ≡ fault k at = front-unique left (piece kind (length text)) (fault k at) (subst (λ bs. Front bs (piece kind (length text))) (sym e) (piece-front kind text rest is)) (fault-front k left at bad) in
     cc
 
--- the pieces of a text, and what is left behind them
+-- the pieces of a text, and what is left after them
 pub pieces-unique : (some others : Pieces) (left right : List ℕ) → Ends left → Ends right → StandBefore left some → StandBefore right others → text_of some ++ left ≡ text_of others ++ right → (some ≡ others) × (left ≡ right)
 pieces-unique [] [] left right a b x y e = (refl, e)
 pieces-unique [] ((k, t) ∷ others) left right a b x y e = absurd (piece-ends left k t (text_of others ++ right) a (e ∙ append_assoc t (text_of others) right) y.0)

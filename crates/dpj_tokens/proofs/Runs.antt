@@ -22,7 +22,7 @@ pub prefix_len-some : (is : ℕ → Bool) (bs : List ℕ) → is 0 ≡ false →
 prefix_len-some is [] out e = absurd cc
 prefix_len-some is (b ∷ bs) out e = rw e (omega arith)
 
--- a run behind a letter is a word
+-- a run after a letter is a word
 pub word-run : (bs : List ℕ) (n : ℕ) → 0 < n → is_letter (get_or bs 0 0) ≡ true → IsRun is_name_byte (take n bs) (drop n bs) → IsWord (take n bs)
 unfolding is_letter
 word-run [] n some e run = absurd cc

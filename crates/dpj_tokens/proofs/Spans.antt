@@ -26,7 +26,7 @@ token-some kind.Int text rest is = is.0.0
 token-some kind.Text text rest (inside, spelled, _, _) = subst (λ t. 0 < length t) (sym spelled) (omega arith)
 token-some (kind.Symbol s) text rest is = subst (λ t. 0 < length t) (sym is.0) (symbol-some s)
 
--- they stand behind any offset that isn't behind the first
+-- they stand after any offset that isn't after the first
 order-weaken : (bytes : List ℕ) (low high : ℕ) (tokens : List Token) → low ≤ high → StandInOrder bytes high tokens → StandInOrder bytes low tokens
 order-weaken bytes low high [] le order = tt
 order-weaken bytes low high (token ∷ tokens) le order = (omega (arith, order.0), order.1, order.2)

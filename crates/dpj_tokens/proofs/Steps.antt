@@ -88,7 +88,7 @@ cut-all bytes at tokens place all read =
       ends = read.placed ∙ ap place_behind whole;
     }
 
--- where no piece stands behind what is read, the text has that fault
+-- where no piece stands after what is read, the text has that fault
 pub fault-behind : (bytes left : List ℕ) (at : ℕ) (tokens : List Token) (place : Place) (fault : Fault) (refusal : Refusal) → left ≡ drop at bytes → ReadsTo bytes at tokens place → IsFault fault.kind left fault.at → refusal.kind ≡ fault.kind → refusal.place ≡ fold next_place place (take fault.at left) → FaultsAt bytes refusal
 fault-behind bytes left at tokens place fault refusal is read faulty kind placed =
     let P : List ℕ → Type 0 = λ bs. StandBefore bs read.pieces in

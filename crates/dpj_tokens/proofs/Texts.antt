@@ -60,7 +60,7 @@ pub nothing-left : (rest : List ℕ) → None ≡ slice_get rest 0 → rest ≡ 
 nothing-left [] e = refl
 nothing-left (b ∷ rest) e = absurd cc
 
--- the byte behind the first
+-- the byte after the first
 behind-first : (bytes left : List ℕ) → left ≡ drop 1 bytes → get_or left 0 0 ≡ get_or bytes 1 0
 behind-first [] left is = ap (λ bs. get_or bs 0 0) is
 behind-first (b ∷ bs) left is = ap (λ bs. get_or bs 0 0) is

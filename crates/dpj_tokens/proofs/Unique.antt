@@ -206,7 +206,7 @@ symbol-unique bytes s t begins longest other longer =
     let same : length (symbol_text s) ≡ length (symbol_text t) = omega (arith, longest t other, longer s begins) in
     sym (symbol-back s) ∙ ap symbol_spelled (sym (symbol-front bytes s begins) ∙ ap (λ n. take n bytes) same ∙ symbol-front bytes t other) ∙ symbol-back t
 
--- a quote may stand behind an inside
+-- a quote may stand after an inside
 bad-quote : (b : ℕ) (bs : List ℕ) → b ≡ 34 → IsBadInText (b ∷ bs) → ⊥
 bad-quote b bs quote (inl feed) = omega arith
 bad-quote b bs quote (inr (slash, _)) = omega arith

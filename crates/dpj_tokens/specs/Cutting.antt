@@ -17,7 +17,7 @@ abbrev pub text_of : Pieces → List ℕ
 text_of [] = []
 text_of ((kind, text) ∷ pieces) = text ++ text_of pieces
 
--- each stands in front of the pieces behind it and of what is left
+-- each stands in front of the pieces after it and of what is left
 abbrev pub StandBefore : List ℕ → Pieces → Type 0
 StandBefore left [] = Unit {0}
 StandBefore left ((kind, text) ∷ pieces) = IsPiece kind text (text_of pieces ++ left) × StandBefore left pieces
@@ -27,7 +27,7 @@ abbrev pub token_at : ℕ → ℕ → Place → Option TokenKind → List Token
 token_at from len place None = []
 token_at from len place (Some kind) = record { kind = kind; from = from; to = from + len; place = place } ∷ []
 
--- the tokens among pieces that stand behind these bytes
+-- the tokens among pieces that stand after these bytes
 abbrev pub tokens_of : List ℕ → Pieces → List Token
 tokens_of front [] = []
 tokens_of front ((kind, text) ∷ pieces) = token_at (length front) (length text) (place_behind front) kind ++ tokens_of (front ++ text) pieces

@@ -34,7 +34,7 @@ pub data Cause : Type 0 where
   bad_in_text : Cause
   open_text : Cause
 
--- the refusal that a cause is told as
+-- the refusal that a cause is reported as
 abbrev pub kind_of : Cause → Kind
 kind_of bad_int = kind.Number
 kind_of no_piece = kind.Syntax
@@ -44,12 +44,12 @@ kind_of byte_in_text = kind.Syntax
 kind_of bad_in_text = kind.Syntax
 kind_of open_text = kind.Syntax
 
--- the bytes begin with this fault, whose place is behind so many of them
+-- the bytes begin with this fault, whose place is after so many of them
 abbrev pub IsCause : Cause → List ℕ → ℕ → Type 0
 IsCause no_piece bytes at = BeginsNothing bytes × (at ≡ 0)
 -- digits with a leading zero, or of too great a number
 IsCause bad_int bytes at = (text : List ℕ) × (rest : List ℕ) × (bytes ≡ text ++ rest) × AreDigits text rest × (HasLeadingZero text ⊎ (2147483647 < decimal_value text)) × (at ≡ 0)
--- a `/*` with no `*/` behind it
+-- a `/*` with no `*/` after it
 IsCause open_comment bytes at = (rest : List ℕ) × (bytes ≡ 47 ∷ 42 ∷ rest) × ((k : ℕ) → ¬ (ClosesAt rest k)) × (at ≡ 0)
 -- a byte that isn't UTF-8, in a comment
 IsCause byte_in_comment bytes at = (text : List ℕ) × (rest : List ℕ) × (bytes ≡ text ++ rest) × IsComment text rest × ¬ (IsUtf8 text) × (at ≡ utf8_valid_len text)
@@ -60,6 +60,6 @@ IsCause bad_in_text bytes at = (inside : List ℕ) × (rest : List ℕ) × (byte
 -- a text with none of these faults that isn't closed
 IsCause open_text bytes at = (inside : List ℕ) × (bytes ≡ 34 ∷ inside) × IsInside inside × IsUtf8 inside × (at ≡ 0)
 
--- a refusal of this kind, behind so many bytes
+-- a refusal of this kind, after so many bytes
 abbrev pub IsFault : Kind → List ℕ → ℕ → Type 0
 IsFault kind bytes at = (cause : Cause) × (kind ≡ kind_of cause) × IsCause cause bytes at

@@ -1,4 +1,4 @@
--- What a text is made of: blanks, comments and tokens, each with the bytes behind it.
+-- What a text is made of: blanks, comments and tokens, each with the bytes after it.
 use Rattle.std.specs.Prelude.{◌≡◌, ◌<◌, ◌≤◌, ◌+◌, ◌⊎◌, ◌==◌, ◌||◌, ℕ, Bool, true, false, not, List, [], ◌∷◌, ◌++◌, length, nat_eq, slice_index, Option, Some, None, IsUtf8}
 use Rattle.std.specs.List.{AllByRecursion, starts_with}
 use Rattle.dpj_base.specs.Lexical.{is_blank, is_digit, is_name_byte, IsName, decimal_value}
@@ -24,7 +24,7 @@ is_no_line_feed b = not (b == 10)
 abbrev pub IsLineComment : List ℕ → List ℕ → Type 0
 IsLineComment text rest = (body : List ℕ) × (text ≡ 47 ∷ 47 ∷ body) × IsRun is_no_line_feed body rest
 
--- `*/` stands behind this many bytes
+-- `*/` stands after this many bytes
 abbrev pub ClosesAt : List ℕ → ℕ → Type 0
 ClosesAt bytes at = (slice_index bytes at ≡ 42) × (slice_index bytes (at + 1) ≡ 47)
 
@@ -32,7 +32,7 @@ ClosesAt bytes at = (slice_index bytes at ≡ 42) × (slice_index bytes (at + 1)
 abbrev pub IsBlockComment : List ℕ → Type 0
 IsBlockComment text = (body : List ℕ) × (text ≡ 47 ∷ 42 ∷ (body ++ 42 ∷ 47 ∷ [])) × ((at : ℕ) → at < length body → ¬ (ClosesAt (body ++ 42 ∷ 47 ∷ []) at))
 
--- a comment of either kind, and the bytes behind it
+-- a comment of either kind, and the bytes after it
 abbrev pub IsComment : List ℕ → List ℕ → Type 0
 IsComment text rest = IsLineComment text rest ⊎ IsBlockComment text
 
@@ -42,7 +42,7 @@ BeginsComment [] = ⊥
 BeginsComment (b ∷ []) = ⊥
 BeginsComment (b ∷ c ∷ bs) = (b ≡ 47) × ((c ≡ 47) ⊎ (c ≡ 42))
 
--- a letter that makes an escape behind a `\`: n, t, `"` or `\`
+-- a letter that makes an escape after a `\`: n, t, `"` or `\`
 unfoldable pub is_escape : ℕ → Bool
 is_escape b = (b == 110) || (b == 116) || (b == 34) || (b == 92)
 
@@ -60,7 +60,7 @@ pub data IsInside : List ℕ → Type 0 where
 abbrev pub IsText : List ℕ → Type 0
 IsText text = (inside : List ℕ) × (text ≡ 34 ∷ (inside ++ 34 ∷ [])) × IsInside inside × IsUtf8 inside
 
--- some digits, and no other digit behind them
+-- some digits, and no other digit after them
 abbrev pub AreDigits : List ℕ → List ℕ → Type 0
 AreDigits text rest = (0 < length text) × IsRun is_digit text rest
 
@@ -72,7 +72,7 @@ HasLeadingZero text = (1 < length text) × (slice_index text 0 ≡ 48)
 abbrev pub IsLongestSymbol : Symbol → List ℕ → Type 0
 IsLongestSymbol s bytes = (other : Symbol) → starts_with nat_eq bytes (symbol_text other) ≡ true → length (symbol_text other) ≤ length (symbol_text s)
 
--- the bytes of a token, and those behind it
+-- the bytes of a token, and those after it
 abbrev pub IsToken : TokenKind → List ℕ → List ℕ → Type 0
 IsToken kind.Name text rest = IsName text × StopsAt is_name_byte rest
 IsToken (kind.Keyword k) text rest = (text ≡ keyword_text k) × StopsAt is_name_byte rest

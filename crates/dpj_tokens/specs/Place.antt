@@ -7,10 +7,10 @@ use Rattle.dpj_base.specs.declared.place.Place.{Place}
 abbrev pub first_place : Place
 first_place = record { line = 1; col = 1 }
 
--- behind one byte: the next line after a line feed, else the next column
+-- after one byte: the next line after a line feed, else the next column
 abbrev pub next_place : Place → ℕ → Place
 next_place place b = if b == 10 then record { line = place.line + 1; col = 1 } else record { line = place.line; col = place.col + 1 }
 
--- behind all of these bytes
+-- after all of these bytes
 abbrev pub place_behind : List ℕ → Place
 place_behind bytes = fold next_place first_place bytes

@@ -31,7 +31,7 @@ pub fn is_name_byte(byte: u8) -> bool
     is_letter(byte) || is_digit(byte)
 }
 
-/// A letter that makes an escape behind a `\`.
+/// A letter that makes an escape after a `\`.
 #[tactic(auto, unfolding(crate::specs::Piece::is_escape))]
 pub fn is_escape(byte: u8) -> bool
     ensures { result ≡ is_escape byte }

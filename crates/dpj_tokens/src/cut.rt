@@ -50,7 +50,7 @@ fn put(list: &mut Items<Token>, from: usize, place: Place, found: Found) -> Resu
     Ok(())
 }
 
-/// The refusal for a fault of what is left behind a place.
+/// The refusal for a fault of what is left after a place.
 fn refused(place: Place, left: &[u8], fault: Fault) -> Refusal
     requires within { fault.at ≤ length left.now }
     requires column { 1 ≤ place.col }
@@ -64,7 +64,7 @@ fn refused(place: Place, left: &[u8], fault: Fault) -> Refusal
     }
 }
 
-/// The place behind bytes that begin at a place.
+/// The place after bytes that begin at a place.
 fn behind(place: Place, bytes: &[u8]) -> Place
     requires column { 1 ≤ place.col }
     requires room { place.line + place.col + length bytes.now < 2 ^ 32 }

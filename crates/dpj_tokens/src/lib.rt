@@ -4,7 +4,7 @@
 //! longest that stands at its place. Spans and columns count bytes, and lines count line feeds.
 //!
 //! What it promises: `tokens` gives exactly the tokens of a text with their spans and places and the place
-//! behind its last byte, or else the first fault: `number` for an int with a leading zero or over
+//! after its last byte, or else the first fault: `number` for an int with a leading zero or over
 //! 2147483647, and `syntax` for a byte that begins nothing, a byte that isn't UTF-8 in a comment or a text,
 //! a bad escape or a line feed in a text, and a comment or a text that isn't closed. The time is linear.
 #![tactic(auto)]

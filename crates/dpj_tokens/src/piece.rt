@@ -48,7 +48,7 @@ pub fn piece(bytes: &[u8]) -> Result<Found, Fault>
     }
 }
 
-/// A fault of this kind behind so many bytes.
+/// A fault of this kind after so many bytes.
 fn syntax(at: usize) -> Fault
     ensures kind { result.kind ≡ Kind.Syntax }
     ensures at { result.at ≡ at }
@@ -171,7 +171,7 @@ fn begins_escape(bytes: &[u8]) -> bool
     }
 }
 
-/// A text behind its first quote.
+/// A text after its first quote.
 fn text(behind: &[u8]) -> Result<Found, Fault>
     requires { length behind.now + 1 < 2 ^ 64 }
     ensures { Reads (34 ∷ behind.now) result }

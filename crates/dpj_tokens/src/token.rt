@@ -6,7 +6,7 @@ use dpj_base::{Items, Place};
 #[derive(Debug, Drop)]
 pub struct Tokens {
     pub list: Items<Token>,
-    /// One column behind the last byte, or the first column of the next line where that is a line feed.
+    /// One column after the last byte, or the first column of the next line where that is a line feed.
     pub end: Place,
 }
 

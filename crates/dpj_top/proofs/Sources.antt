@@ -18,7 +18,7 @@ use Rattle.dpj_top.specs.Replaying.{too_long as trace_too_long}
 use Rattle.dpj_top.proofs.Traces.{replay-no-usage}
 use Rattle.dpj_top.proofs.Verdicts.{answer-no-usage}
 
--- no answer to a job is told as usage
+-- no answer to a job is reported as usage
 by-no-usage : (c : Command) (asked : Job) (text : List ℕ) (answered : Answered) → AnswersBy c asked text answered → status_of answered.verdict ≡ ended.Usage → ⊥
 by-no-usage command.Replay asked text answered is e = replay-no-usage text answered is e
 by-no-usage command.Check asked text answered is e = answer-no-usage asked text answered is e

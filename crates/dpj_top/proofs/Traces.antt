@@ -28,7 +28,7 @@ on-trace-no-usage bytes trace answered (faulty refusal short fault is) e = let s
 on-trace-no-usage bytes trace answered (followed place typed accepted (ran r f is)) e = ending_status-no-usage r.outcome.ending (same-status answered _ is e)
 on-trace-no-usage bytes trace answered (followed place typed accepted (unfit at f is)) e = let s = same-status answered _ is e in cc
 
--- the answer to a replay isn't told as usage
+-- the answer to a replay isn't reported as usage
 pub replay-no-usage : (bytes : List ℕ) (answered : Answered) → IsReplayed bytes answered → status_of answered.verdict ≡ ended.Usage → ⊥
 replay-no-usage bytes answered (too_long long is) e = let s = same-status answered _ is e in cc
 replay-no-usage bytes answered (no_trace line short misfit is) e = let s = same-status answered _ is e in cc

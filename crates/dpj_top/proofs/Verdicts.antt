@@ -68,7 +68,7 @@ program-no-usage job text typed answered (to_elide asked is) e =
 program-no-usage job text typed answered (to_list asked is) e = listed-no-usage _ answered is.lists e
 program-no-usage job text typed answered (to_effects asked is) e = effects-no-usage _ answered is.tells e
 
--- the answer to a job isn't told as usage
+-- the answer to a job isn't reported as usage
 pub answer-no-usage : (job : Job) (text : List ℕ) (answered : Answered) → IsAnswer job text answered → status_of answered.verdict ≡ ended.Usage → ⊥
 answer-no-usage job text _ (too_long long) e = cc
 answer-no-usage job text _ (faulty refusal short fault) e = cc

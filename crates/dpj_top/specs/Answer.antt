@@ -72,7 +72,7 @@ pub record IsElided (job : Job) (typed : PlainProgram) (answered : Answered) : T
   pub comes : IsElisionOf typed job.arg (limits_of job) outcome
   pub is : answered ≡ only (Ran outcome)
 
--- the verdict on a run of a text, by its schedule and how it came out: a demo tells what it made, and a trace is told in place of a report
+-- the verdict on a run of a text, by its schedule and how it came out: a demo tells what it made, and a trace is reported in place of a report
 abbrev pub told_by : Command → Job → List ℕ → List ℕ → Outcome → Verdict
 told_by command.Demo job text schedule outcome = Demo job.n (length text) outcome
 told_by command.Trace job text schedule outcome = Traced outcome (trace_text job.arg (limits_of job) schedule text)

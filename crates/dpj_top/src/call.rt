@@ -44,18 +44,18 @@ pub fn dpj<R: Threads + Wait + Sync, S: Source, K: Sink, G: Gate + Sync>(
     sink: &mut K,
     gate: &G,
 ) -> Ended
-    // The answer to the words and the text is told by its status and its whole report, and its record is kept.
+    // The answer to the words and the text is reported by its status and its whole report, and its record is kept.
     ensures told { TellsOfVerdict result.status
         → Tells (map string_bytes words.now) (S.left source.old) (K.held sink.old) (K.held sink.new) result.status result.recorded }
     ensures usage { result.status ≡ Status.Usage → job (map string_bytes words.now) ≡ None }
-    // The promise: a run of an accepted program without nd constructs is told by its sequential elision, whatever the workers did.
+    // The promise: a run of an accepted program without nd constructs is reported by its sequential elision, whatever the workers did.
     ensures promised { TellsOfVerdict result.status
         → OwesElision (map string_bytes words.now) (S.left source.old) (K.held sink.old) (K.held sink.new) result.status }
     // With nd constructs or without, the recorded run is one of the source that can be gathered, and whose deterministic constructs can be
-    // put in sequence; and it is what is told.
+    // put in sequence; and it is what is reported.
     ensures reduced { TellsOfVerdict result.status
         → OwesReduction (map string_bytes words.now) (S.left source.old) (K.held sink.old) (K.held sink.new) result.status result.recorded }
-    // So is a run that a replay has made, which is told by its outcome: without nd constructs that is the elision.
+    // So is a run that a replay has made, which is reported by its outcome: without nd constructs that is the elision.
     ensures replayed { TellsOfVerdict result.status
         → OwesReplay (map string_bytes words.now) (S.left source.old) (K.held sink.old) (K.held sink.new) result.status result.recorded }
 

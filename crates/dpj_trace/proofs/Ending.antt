@@ -10,7 +10,7 @@ use Rattle.dpj_trace.proofs.Leading.{leads-less, trace-is, misfit-line}
 pub cut-less : (byte : ℕ) (text front rest : List ℕ) → IsCut byte text front rest → length rest < length text
 cut-less byte text front rest cut = omega (arith, ap length cut.is, length-append front (byte ∷ rest))
 
--- what is behind a further line isn't longer than the text
+-- what is after a further line isn't longer than the text
 pub behind-less : (bytes : List ℕ) (n : ℕ) (told : Told) (rest text behind : List ℕ) → Leads bytes n told rest → IsCut 10 rest text behind
     → (length behind ≤ length bytes) × (n ≤ length bytes)
 behind-less bytes n told rest text behind leads cut =

@@ -40,7 +40,7 @@ misfit-line bytes n told rest text behind leads unfinished cut none = record {
   unfit = λ other left after cut' fits. none after (subst (λ t. Fits told t after) (cut-unique 10 rest other left text behind cut' cut).0 fits);
 }
 
--- lines behind the first leave less
+-- lines after the first leave less
 pub leads-less : (bytes : List ℕ) (n : ℕ) (told : Told) (rest : List ℕ) → Leads bytes n told rest → length rest + n ≤ length bytes
 leads-less bytes _ _ _ start = omega arith
 leads-less bytes _ _ _ (next {n} {before} {after} {rest} {text} {behind} leads cut fits) =
@@ -112,7 +112,7 @@ leads-text bytes _ _ _ (next {n} {before} {after} {rest} {text} {behind} leads c
     ∙ sym (append_assoc (told_text before) (line text) behind)
     ∙ ap (λ t. t ++ behind) (sym f.1)
 
--- what is behind the front of a text
+-- what is after the front of a text
 behind-is : (bytes front behind : List ℕ) → bytes ≡ front ++ behind → behind ≡ drop (length bytes - length behind) bytes
 behind-is bytes front behind is =
     rw is (sym (drop_at front behind (length (front ++ behind) - length behind) (omega (arith, length-append front behind))))
@@ -148,7 +148,7 @@ leads-numbers bytes _ _ _ start = tt
 leads-numbers bytes _ _ _ (next {n} {before} {after} {rest} {text} {behind} leads cut fits) =
     fits-numbers before text after (leads-numbers bytes n before rest leads) fits
 
--- the line behind the schedule makes a trace
+-- the line after the schedule makes a trace
 pub trace-is : (bytes : List ℕ) (n : ℕ) (arg : ℤ) (limits : Limits) (events : ℕ) (schedule rest text behind : List ℕ)
     → Leads bytes n (listing arg limits events schedule) rest → AreLimits limits → events ≤ 2 * limits.steps + 2
     → IsCut 10 rest text behind → IsProgram text events schedule

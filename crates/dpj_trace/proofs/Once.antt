@@ -136,7 +136,7 @@ leads-unique bytes (suc n) t r u s l k =
 abbrev pub HasNext : Told → List ℕ → Type 0
 HasNext told rest = (text : List ℕ) × (behind : List ℕ) × (after : Told) × IsCut 10 rest text behind × Fits told text after
 
--- behind lines that are followed by more there is one
+-- after lines that are followed by more there is one
 pub leads-further : (bytes : List ℕ) (n : ℕ) (t : Told) (r : List ℕ) → Leads bytes n t r → (k m : ℕ) (u : Told) (s : List ℕ) → Leads bytes m u s → m ≡ suc (k + n) → HasNext t r
 leads-further bytes n t r l zero m u s far e =
     let p = leads-suc bytes m u s far n (omega (arith, e)) in

@@ -59,7 +59,7 @@ last_of-append [] y t = refl
 last_of-append (x ∷ []) y t = refl
 last_of-append (x ∷ z ∷ zs) y t = last_of-append (z ∷ zs) y t
 
--- the last number behind a run
+-- the last number after a run
 pub last_after : (s : List ℕ) (k n : ℕ) → 0 < n → last_of (s ++ replicate n k) ≡ Some k
 last_after s k zero some = absurd (omega (arith, some))
 last_after s k (suc m) some = last_of-append s k (replicate m k) ∙ last_of-equal k m
@@ -89,7 +89,7 @@ schedule_text-more s k (suc m) some other =
     (seam s (replicate (suc m) k) (λ j last first. other (last ∙ sym first)) ∙ ap (λ R. runs_of s ++ R) (runs_of-equal k m))
     ∙ sym (flat_map_more (λ r. line (run_text r)) [] (runs_of s) (run k (suc m)))
 
--- the line of a number that is in the first run, and of one behind it
+-- the line of a number that is in the first run, and of one after it
 pub line-here : (n : ℕ) (R : List Run) (r : Run) (rs : List Run) (at : ℕ) → R ≡ r ∷ rs → at < r.many → line_from n R at ≡ n
 line-here n R r rs at is h = rw is (cond-true (ltb at r.many) _ _ (grind (arith, h)))
 

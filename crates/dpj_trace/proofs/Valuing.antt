@@ -35,7 +35,7 @@ misspelled text least most v small e out n low high is =
     let value : digits_value 10 text ≡ n = (number-of text n (omega (arith, small, high)) is).1 in
     out (omega (arith, e, value, low, high, small)) (omega (arith, e, value, low, high, small))
 
--- a number below 0, behind its sign
+-- a number below 0, after its sign
 pub negative-none : (text digits : List ℕ) → text ≡ 45 ∷ digits → ((n : ℕ) → 1 ≤ n → n ≤ 2147483648 → digits ≡ decimal n → ⊥)
     → (z : ℤ) → FitsSigned w32 z → text ≡ signed_decimal z → ⊥
 negative-none text digits is none (pos n) fits e =

@@ -146,7 +146,7 @@ trace-leads bytes t is =
     let all = text-leads t.arg t.limits t.schedule (drop t.from bytes) is.arg is.limits is.tasks is.events in
     (all.0, subst (λ b. Leads b all.0 (whole t.arg t.limits t.schedule) (drop t.from bytes)) (sym is.is) all.1)
 
--- behind the last line there is none that fits
+-- after the last line there is none that fits
 no-further : (bytes : List ℕ) (n : ℕ) (arg : ℤ) (L : Limits) (s rest : List ℕ) → Leads bytes n (whole arg L s) rest → (m : ℕ) (u : Told) (r : List ℕ) → Leads bytes m u r → n < m → ⊥
 no-further bytes n arg L s rest leads m u r far less =
     let h = leads-further bytes n (whole arg L s) rest leads (m - suc n) m u r far (omega (arith, less)) in h.4

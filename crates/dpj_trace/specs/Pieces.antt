@@ -3,7 +3,7 @@ use Rattle.std.specs.Prelude.{◌≡◌, ◌≢◌, ◌<◌, ℕ, List, ◌∷�
 use Rattle.std.specs.List.{AllByRecursion}
 use Rattle.std.specs.Str.Parse.{AllDigits}
 
--- a text up to the first byte of this kind, and behind it
+-- a text up to the first byte of this kind, and after it
 pub record IsCut (byte : ℕ) (text front rest : List ℕ) : Type 0 where
   pub is : text ≡ front ++ byte ∷ rest
   pub first : AllByRecursion (λ b. b ≢ byte) front

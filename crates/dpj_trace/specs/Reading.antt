@@ -55,7 +55,7 @@ pub record IsRun (text before after : List ℕ) : Type 0 where
   pub other : last_of before ≡ Some task → ⊥
   pub adds : after ≡ before ++ replicate (digits_value 10 many) task
 
--- the line behind the schedule, where that has as many events as there are to be
+-- the line after the schedule, where that has as many events as there are to be
 pub record IsProgram (text : List ℕ) (events : ℕ) (schedule : List ℕ) : Type 0 where
   pub is : text ≡ codes "program"
   pub right : length schedule ≡ events
@@ -70,7 +70,7 @@ Fits (listing arg limits events schedule) text after =
     ⊎ (IsProgram text events schedule × (after ≡ whole arg limits schedule))
 Fits (whole arg limits schedule) text after = ⊥
 
--- the first so many lines fit one after the other, and this is left behind them
+-- the first so many lines fit one after the other, and this is left after them
 pub data Leads (bytes : List ℕ) : ℕ → Told → List ℕ → Type 0 where
   start : Leads bytes 0 nothing bytes
   next : {n : ℕ} {before after : Told} {rest text behind : List ℕ} → Leads bytes n before rest → IsCut 10 rest text behind → Fits before text after

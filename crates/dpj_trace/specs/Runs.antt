@@ -14,7 +14,7 @@ abbrev pub runs_of : List ℕ → List Run
 runs_of [] = []
 runs_of (task ∷ tasks) = put_first task (runs_of tasks)
 
--- the line that holds the number at a position, where the first of these runs has this line; behind them, the line after the last
+-- the line that holds the number at a position, where the first of these runs has this line; after them, the line after the last
 abbrev pub line_from : ℕ → List Run → ℕ → ℕ
 line_from line [] at = line
 line_from line (run ∷ runs) at = if nat_lt at run.many then line else line_from (suc line) runs (at - run.many)
@@ -25,6 +25,6 @@ last_of [] = None
 last_of (task ∷ []) = Some task
 last_of (task ∷ next ∷ tasks) = last_of (next ∷ tasks)
 
--- the line of a trace text that holds the number at a position of a schedule; behind the last, the line `program`
+-- the line of a trace text that holds the number at a position of a schedule; after the last, the line `program`
 abbrev pub line_of : List ℕ → ℕ → ℕ
 line_of schedule at = line_from 4 (runs_of schedule) at

@@ -1,7 +1,7 @@
 ghost use Rattle.std.specs.Prelude.{◌≡◌, ◌++◌, List, ℕ, MatchOption};
 ghost use Rattle.dpj_trace.specs.Pieces.{IsCut};
 
-/// A text up to its first byte of this kind, and what stands behind that.
+/// A text up to its first byte of this kind, and what stands after that.
 pub fn cut(text: &[u8], byte: u8) -> Option<(&[u8], &[u8])>
     ensures { MatchOption result
         ((front rest : List ℕ) → IsCut byte text.now front rest → ⊥)
@@ -15,7 +15,7 @@ pub fn cut(text: &[u8], byte: u8) -> Option<(&[u8], &[u8])>
     None
 }
 
-/// What stands behind a prefix of a text, if it has that.
+/// What stands after a prefix of a text, if it has that.
 pub fn behind<'a>(text: &'a [u8], prefix: &[u8]) -> Option<&'a [u8]>
     ensures { MatchOption result
         ((rest : List ℕ) → text.now ≡ prefix.now ++ rest → ⊥)

@@ -48,7 +48,7 @@ pub fn read_trace(alloc: Global, bytes: &[u8]) -> Result<Trace, TraceStop>
     }
 }
 
-/// Reads the schedule behind the first three lines.
+/// Reads the schedule after the first three lines.
 fn read_schedule(alloc: Global, bytes: &[u8], head: Head) -> Result<Trace, TraceStop>
     requires head { IsHead bytes.now head.settings head.events head.rest.now }
     ensures trace { IfOk result (IsTrace bytes.now) }
@@ -75,7 +75,7 @@ fn read_schedule(alloc: Global, bytes: &[u8], head: Head) -> Result<Trace, Trace
     Err(TraceStop::Bad(line))
 }
 
-/// Whether this is the line behind the schedule, and that has as many events as there are to be.
+/// Whether this is the line after the schedule, and that has as many events as there are to be.
 fn is_program(text: &[u8], listed: &Listed) -> bool
     ensures { IsTrue result ↔ ((text.now ≡ codes "program") × (listed.now.total ≡ listed.now.events)) }
 {

@@ -9,7 +9,7 @@ pub struct Run {
     pub many: usize,
 }
 
-/// The line of a trace text, from 1, whose run holds the number at a position of the schedule, from 0; behind the last number the line
+/// The line of a trace text, from 1, whose run holds the number at a position of the schedule, from 0; after the last number the line
 /// `program`. It takes no memory.
 pub fn trace_line(schedule: &[u32], at: u64) -> u64
     ensures { result ≡ line_of schedule.now at }

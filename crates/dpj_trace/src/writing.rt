@@ -46,7 +46,7 @@ fn run_line(alloc: Global, run: Run) -> Result<String, AllocError>
     format!(in alloc; "{task} {many}\n")
 }
 
-/// Puts the lines of a schedule behind a text.
+/// Puts the lines of a schedule after a text.
 fn extend_schedule(alloc: Global, text: &mut Bytes, schedule: &[u32]) -> Result<(), NoMemory>
     ensures { OnOk result (text.new ≡ text.old ++ schedule_text schedule.now) }
 {

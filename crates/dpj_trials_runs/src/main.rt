@@ -1,6 +1,6 @@
 //! Trials of the whole call: what no contract can say of threads, and ends that fail at a given call.
 //!
-//! A program of two branches that print is run twice, and the records of both runs are told: by two workers that a gate lets pass by
+//! A program of two branches that print is run twice, and the records of both runs are reported: by two workers that a gate lets pass by
 //! turns, and by one worker. That it is the workers who make the events, and neither their caller nor one worker after the other, shows
 //! in these alone. Then come calls over ends in memory: of each the words, which call of the source and which of the sink fails, the
 //! status, and what the sink holds then.

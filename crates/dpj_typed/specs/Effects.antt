@@ -78,7 +78,7 @@ begins_in rs _ = false
 abbrev pub outside_regions : List ℕ → List Own → List Own
 outside_regions rs E = filter (λ o. not (begins_in rs (effect_of o).rpl.elems)) E
 
--- behind a construct over parts, what its part was used for is done to the array, or to the part that was cut
+-- after a construct over parts, what its part was used for is done to the array, or to the part that was cut
 abbrev pub handed_on : Source → Effect → Own
 handed_on (of_array a) e = does e
 handed_on (of_part k) e = uses k e

@@ -1,4 +1,4 @@
--- The names that a typed program holds beside its plain form, for what is told of it.
+-- The names that a typed program holds beside its plain form, for what is reported of it.
 use Rattle.std.specs.Prelude.{ℕ, List, map}
 use Rattle.dpj_typed.specs.declared.program.Class.{Class}
 use Rattle.dpj_typed.specs.declared.program.Member.{Member}

@@ -18,7 +18,7 @@ abbrev pub params_from : ℕ → ℕ → List Rpl
 params_from p zero = []
 params_from p (suc n) = record { head = Param p; elems = [] } ∷ params_from (suc p) n
 
--- the region parameters of a class, and of a member behind those of its class
+-- the region parameters of a class, and of a member after those of its class
 abbrev pub own_paths : PlainClass → List Rpl
 own_paths k = params_from 0 (length k.params)
 

@@ -41,7 +41,7 @@ pub record LocalPath (P : PlainProgram) (L : Scope) (depth : ℕ) (a : Rpl) : Ty
   pub in_scope : IsTrue (L.regions region)
   pub elems : All (GoodElem P L depth) rest
 
--- region arguments for these parameters, behind others: as many, an atomic one for an atomic parameter, and with all of
+-- region arguments for these parameters, after others: as many, an atomic one for an atomic parameter, and with all of
 -- them put in, each constraint holds
 pub record GoodArgs (P : PlainProgram) (L : Scope) (depth : ℕ) (params : List Bool) (given : List Constraint) (others args : List Rpl) : Type 0 where
   pub arity : length args ≡ length params

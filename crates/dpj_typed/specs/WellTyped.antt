@@ -22,7 +22,7 @@ pub record GoodMain (P : PlainProgram) : Type 0 where
   pub result : member.result ≡ int
 
 pub record WellTyped (P : PlainProgram) : Type 0 where
-  -- an order of the classes in which each stands behind its superclass
+  -- an order of the classes in which each stands after its superclass
   pub rank : ℕ → ℕ
   -- members that never reach a `cobegin_nd` or `foreach_nd`; all are, where the program has none
   pub never_nd : ℕ → Bool

@@ -4,7 +4,7 @@
 //! summaries and all theory begin here. Nothing after it sees a name, a tree of the parser or a class table, and
 //! nothing before it knows frames, rows of methods at run time or instructions.
 //!
-//! Classes, members, fields, rows, locals and local regions are told by number. A local is its slot: slot 0 is
+//! Classes, members, fields, rows, locals and local regions go by number. A local is its slot: slot 0 is
 //! `this`, then come the formals, then each declared local and loop variable of the member in the order of the
 //! text, without reuse. So the identity of an index variable comes from counting, and two are never one.
 //!

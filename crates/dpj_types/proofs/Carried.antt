@@ -20,7 +20,7 @@ heads-behind (Param p) (Param q) b e h = h
 heads-behind (Param p) Root b e h = begins-behind b e h
 heads-behind Root (Param q) b e h = absurd (false≢true h)
 
--- what lies in a path lies in it with the same elements behind both
+-- what lies in a path lies in it with the same elements after both
 within-behind : (a b : Rpl) (e : List Elem) → within a b ≡ true → within (behind a e) (behind b e) ≡ true
 unfolding within
 within-behind a b e h =

@@ -21,7 +21,7 @@ use Rattle.dpj_walk.proofs.Residual.{Ran, items_run, level_run, with_operand, wh
 use Rattle.dpj_walk.proofs.Ends.{meaning_is, fell_kept}
 
 module _ (P : PlainProgram) where
-  -- behind an operation of a level its value stands on top
+  -- after an operation of a level its value stands on top
   abbrev pub onto : Level → Value ℕ → Frame ℕ LocalRegion → Store → Ran
   onto g v f x = items_run P g.left g.items (v ∷ g.operands) f x
 

@@ -48,7 +48,7 @@ module _ (P : PlainProgram) (d : ℕ) where
       → bind (run sequential (and_then (expr a f) j) w) (λ r u. proceeds K r u) ≡ bind (run sequential (expr a f) w) (λ r u. proceeds L r u)
   one_operand a j K L f w h = then_run sequential (expr a f) j K w ∙ behind (run sequential (expr a f) w) _ L h
 
-  -- actuals, behind those that have these values, above other operands
+  -- actuals, after those that have these values, above other operands
   actuals : (es : TypedExprs) (i : Item) (is : List Item) (J : List (Value ℕ) → Frame ℕ LocalRegion → Prog ℕ LocalRegion) (K : Follows) (us vs : List (Value ℕ)) (f : Frame ℕ LocalRegion) (w : Store)
       → ((xs : List (Value ℕ)) (g : Frame ℕ LocalRegion) (x : Store) → length xs ≡ count es + length us
       → bind (run sequential (J xs g) x) (λ r u. proceeds K r u) ≡ items_run P d (i ∷ is) (xs ++ vs) g x)

@@ -82,7 +82,7 @@ loop_leaves T B ht hb zero f w = now w
 loop_leaves T B ht hb (suc n) f w =
     leaves_bind w (T f w) _ (ht f w) (λ r v h. tested_leaves B (λ g u. loop One_turn T B n g u) hb (λ g u. loop_leaves T B ht hb n g u) r v)
 
--- behind what leaves a later store
+-- after what leaves a later store
 bind_later : {V U : Type 0} (w : Store) (o : out ℕ LocalRegion V Store) (j k : V → Store → out ℕ LocalRegion U Store)
     → Leaves w o → ((x : V) (v : Store) → Later w v → j x v ≡ k x v) → bind o j ≡ bind o k
 bind_later w (Done x v) j k h e = e x v h
@@ -95,7 +95,7 @@ rounded_same : (a b : Step) (n : ℕ) → ((g : Frame ℕ LocalRegion) (z : Stor
 rounded_same a b n e (Goes_on x g) z h = e g z h
 rounded_same a b n e (Returns x) z h = refl
 
--- behind a turn there are fewer
+-- after a turn there are fewer
 turned_same : (B a b : Step) → ((f : Frame ℕ LocalRegion) (w : Store) → Leaves w (B f w)) → (g : Frame ℕ LocalRegion) (v : Store) (t : ℕ) → v.turns ≡ t
     → ((g : Frame ℕ LocalRegion) (z : Store) → z.turns < v.turns → a g z ≡ b g z)
     → bind (one_turn t v) (λ u w'. bind (B g w') (λ r w''. rounded a r w'')) ≡ bind (one_turn t v) (λ u w'. bind (B g w') (λ r w''. rounded b r w''))
@@ -128,7 +128,7 @@ loop_same T B ht hb (suc n) (suc m) f w h k =
     bind_later w (T f w) _ _ (ht f w) (λ r v l. tested_same B (λ g u. loop One_turn T B n g u) (λ g u. loop One_turn T B m g u) hb r v
     (λ g z i. loop_same T B ht hb n m g z (let q : v.turns ≤ w.turns = l.turns in omega (arith, q)) (let q : v.turns ≤ w.turns = l.turns in omega (arith, q))))
 
--- behind a step
+-- after a step
 pub stepped : {V : Type 0} (w : Store) (o : out ℕ LocalRegion V Store) → Leaves (one_step w) o → Leaves w o
 stepped w (Done x v) k = record { turns = k.turns; steps = omega arith; cells = k.cells }
 stepped w (out.Trapped t p v) k = record { turns = k.turns; steps = omega arith; cells = k.cells }

@@ -34,7 +34,7 @@ item_run P d (turn e s) vs f w =
     tested (λ v. one_turn v.turns v) (λ g v. run sequential (of_stmt in_order P (deeper_at P d) s g) v) (λ g v. again P d e s g v) (Goes_on (slot_value vs 0) f) w
 item_run P d leave vs f w = run sequential (Act Exit (λ c. gives none f)) w
 
--- the operands behind it, where it gives a value
+-- the operands after it, where it gives a value
 abbrev pub stacked : Item → List (Value ℕ) → Value ℕ → List (Value ℕ)
 stacked (evaluate e) vs v = v ∷ vs
 stacked (operate e) vs v = v ∷ drop (count (operands_of e)) vs
@@ -70,7 +70,7 @@ joins_run P c xs w =
     bind (run sequential (joined c.copies c.outer.frame (brought {M = LocalRegion} (joined_or (first_or c.fell (first_trap xs)) (c.back ++ all_locals xs)))) w)
     (λ r u. proceeds (λ v g x. items_run P c.outer.left c.outer.items c.outer.operands g x) r u)
 
--- what waits goes on behind the body at work
+-- what waits goes on after the body at work
 abbrev pub whole : PlainProgram → List Waiting → Ran → out ℕ LocalRegion (Ending ℕ) Store
 whole P [] o = at_end root_work o
 whole P (for_value g ∷ ws) o = whole P ws (bind o (λ r u. with_operand P (value_of r) g u))

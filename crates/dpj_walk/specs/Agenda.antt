@@ -28,7 +28,7 @@ pub data Item : Type 0 where
   -- a loop over parts, whose count is on top
   counted : TypedStmt → Item
   goes_on : TypedStmts → Item
-  -- a while loop in front of its test, and behind it
+  -- a while loop in front of its test, and after it
   test : TypedExpr → TypedStmt → Item
   turn : TypedExpr → TypedStmt → Item
   -- the end of an atomic block

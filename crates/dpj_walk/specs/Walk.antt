@@ -93,7 +93,7 @@ abbrev pub earlier : Option (Trap × Place) → Trap × Place → Trap × Place
 earlier None fell = fell
 earlier (Some first) fell = first
 
--- a trap ends the body at work and those that called it, up to a branch; the next branch begins, or behind the last one the
+-- a trap ends the body at work and those that called it, up to a branch; the next branch begins, or after the last one the
 -- first trap goes on
 abbrev pub falls : List Waiting → Trap → Place → Store → State
 falls [] t p w = Off (Done (Trapped t p) (fallen t p w))
@@ -240,7 +240,7 @@ counts (statement at (stmt.foreach_parts k (of_array a) many s)) g ws w =
 counts (statement at (stmt.foreach_parts k (of_part j) many s)) g ws w = parts_at at k s g ws w
 counts s g ws w = At g ws w
 
--- behind the test of a while loop: a turn and the body, where it is true
+-- after the test of a while loop: a turn and the body, where it is true
 abbrev pub turns : ℕ → TypedExpr → TypedStmt → Level → List Waiting → Store → State
 turns zero e s g ws w = Off (Lost w)
 turns (suc n) e s g ws w = At (doing (carry_out s) (doing (test e s) g)) ws (record w { steps = suc w.steps; turns = n })

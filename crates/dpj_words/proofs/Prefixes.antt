@@ -6,7 +6,7 @@ use Rattle.std.specs.Str.Pattern.{FindsTextPrefix, StripsPrefix}
 use Rattle.std.proofs.lemmas.Str.Pattern.{starts_text}
 use Rattle.dpj_words.specs.Words.{behind}
 
--- the call's clause gives what stands behind the prefix
+-- the call's clause gives what stands after the prefix
 pub behind_stripped : (p s : List ℕ) (r : Option (Bor (List ℕ))) → MatchOption r (FindsTextPrefix p s None) (λ x. StripsPrefix (FindsTextPrefix p) s x.now) → option_map (λ (x : Bor (List ℕ)). x.now) r ≡ behind p s
 behind_stripped p s None h = let e : starts_with eqb s p ≡ false = sym (starts_text false p s h) in rw e refl
 behind_stripped p s (Some x) h =

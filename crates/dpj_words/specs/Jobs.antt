@@ -49,7 +49,7 @@ job_with _ _ _ _ _ _ _ = None
 abbrev pub fields_job : List (List ℕ) → Command → Option Job
 fields_job words command = job_with command (workers_of words) (steps_of words) (cells_of words) (argument_of words) (classes_of words) (made_by words)
 
--- the job of a command with the words behind it, each of which sets one of its keys
+-- the job of a command with the words after it, each of which sets one of its keys
 abbrev pub settings_job : List (List ℕ) → Command → Option Job
 settings_job words command = if list_all (sets_key_of command) words then fields_job words command else None
 

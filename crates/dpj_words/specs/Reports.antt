@@ -1,4 +1,4 @@
--- What a verdict is told by: the bytes of its report, and its status.
+-- What a verdict is reported by: the bytes of its report, and its status.
 use Rattle.std.specs.Prelude.{ℕ, List, [], ◌∷◌, ◌++◌, codes}
 use Rattle.std.specs.Fmt.{decimal, signed_decimal}
 use Rattle.dpj_base.specs.declared.outcome.Outcome.{Outcome}
@@ -32,7 +32,7 @@ demo_ending_report classes bytes steps (ending.Done value) =
 demo_ending_report classes bytes steps (ending.Trapped trap place) = ending_report [] (ending.Trapped trap place)
 demo_ending_report classes bytes steps ending.Limited = ending_report [] ending.Limited
 
--- the bytes that a verdict is told by
+-- the bytes that a verdict is reported by
 abbrev pub report_of : Verdict → List ℕ
 report_of verdict.Usage = line (codes "usage: dpj COMMAND [NAME=VALUE]...")
 report_of (verdict.Refused refusal) = line (codes "refused " ++ refusal_text refusal)

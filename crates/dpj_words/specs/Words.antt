@@ -40,7 +40,7 @@ key_name key.Arg = codes "arg"
 key_name key.Number = codes "n"
 key_name key.Mode = codes "mode"
 
--- the keys that may stand behind a command
+-- the keys that may stand after a command
 abbrev pub keys_of : Command → List Key
 keys_of command.Check = []
 keys_of command.Run = key.Workers ∷ key.Steps ∷ key.Cells ∷ key.Arg ∷ key.Mode ∷ []
@@ -51,11 +51,11 @@ keys_of command.Trace = key.Workers ∷ key.Steps ∷ key.Cells ∷ key.Arg ∷ 
 keys_of command.Replay = []
 keys_of command.Effects = []
 
--- what stands behind a prefix
+-- what stands after a prefix
 abbrev pub behind : List ℕ → List ℕ → Option (List ℕ)
 behind prefix word = if starts_with nat_eq word prefix then Some (drop (length prefix) word) else None
 
--- the value that a word gives to a key: what stands behind the key's name and `=`
+-- the value that a word gives to a key: what stands after the key's name and `=`
 abbrev pub value_for : Key → List ℕ → Option (List ℕ)
 value_for key word = behind (key_name key ++ codes "=") word
 

@@ -63,7 +63,7 @@ impl Command {
             .find(|command| command.name() == word)
     }
 
-    /// The keys that may stand behind it.
+    /// The keys that may stand after it.
     pub fn keys(self) -> &'static [Key]
         ensures { result.now ≡ keys_of self }
     {

@@ -4,7 +4,7 @@
 //! for a key of that command. It gives the job that the tables of commands and keys give for the whole list,
 //! and `Usage` exactly where they give none. It takes no memory.
 //!
-//! `report` writes the bytes that a verdict is told by, and `status` gives the number that the program ends
+//! `report` writes the bytes that a verdict is reported by, and `status` gives the number that the program ends
 //! with; both are the tables of reports and statuses, row by row.
 #![tactic(auto)]
 

@@ -6,7 +6,7 @@ use crate::verdict::{Status, Verdict};
 use dpj_base::{Bytes, Ending, NoMemory, Outcome, Plain};
 use std::alloc::Global;
 
-/// The bytes that a verdict is told by. Each line of them ends with a line feed.
+/// The bytes that a verdict is reported by. Each line of them ends with a line feed.
 pub fn report(alloc: Global, verdict: &Verdict) -> Result<Bytes, NoMemory>
     ensures { IfOk result (λ bytes. bytes ≡ report_of verdict.now) }
 {

@@ -1,4 +1,4 @@
--- Each part of a text that is no statement and no expression leaves terminals behind it.
+-- Each part of a text that is no statement and no expression leaves terminals after it.
 use Rattle.std.proofs.Common.{suc, ◌+◌, ◌≤◌, List, length, Bool, Option, ap, arith}
 use Rattle.dpj_tokens.specs.declared.token.Keyword.{Keyword}
 use Rattle.dpj_terminals.specs.declared.terminal.Placed.{Placed}

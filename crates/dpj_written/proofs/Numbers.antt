@@ -24,7 +24,7 @@ pub record Small (list : List Placed) : Type 0 where
   pub numbers : AllSayFitting list
   pub few : length list ≤ 4294967295
 
--- the terminals before a part of the text are some, and those that are left behind it
+-- the terminals before a part of the text are some, and those that are left after it
 pub record Leaves (before after : List Placed) : Type 0 where
   pub front : List Placed
   pub whole : before ≡ front ++ after
@@ -52,7 +52,7 @@ still_small {after = after} p small = record {
   few = omega (arith, small.few, fewer p);
 }
 
--- a part of the text has this property, where the terminals before it are small, and leaves terminals behind it
+-- a part of the text has this property, where the terminals before it are small, and leaves terminals after it
 pub record Fits (Is : Type 0) (before after : List Placed) : Type 0 where
   pub is : Small before → Is
   pub left : Leaves before after

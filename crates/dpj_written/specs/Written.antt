@@ -66,7 +66,7 @@ abbrev mutual
   StmtsFitting no_stmts = Unit {0}
   StmtsFitting (more_stmts s ss) = StmtFitting s × StmtsFitting ss
 
--- constraints stand behind region parameters alone
+-- constraints stand after region parameters alone
 abbrev pub HasParams : Params → Type 0
 HasParams params = params.list ≡ [] → params.given ≡ []
 

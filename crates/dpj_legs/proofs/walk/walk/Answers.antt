@@ -45,7 +45,7 @@ loop-way-smaller c =
     let both : c.stretch-in-loop-way.new.way.ends.0 < c.loop-way.way.ends.0 = omega (arith, less, near) in
     search (rules, both)
 
--- a step, and the stretch behind it
+-- a step, and the stretch after it
 goes_on : (c : After-stretch-in-loop-way) → Reaches (plain_code c.args.way.now.code.now) c.args.way.now.task c.stretch-in-loop-way.new.way.task
 goes_on c =
     let o = rw c.in_default.is at c.in_ok-action.ensures.ok in
