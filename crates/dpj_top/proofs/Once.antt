@@ -16,7 +16,7 @@ use Rattle.dpj_words.specs.declared.command.Command.TheVariants as command
 use Rattle.dpj_words.specs.declared.job.Job.{Job}
 use Rattle.dpj_words.specs.declared.verdict.Verdict.TheVariants.{Effects, Listed, Refused}
 use Rattle.dpj_top.specs.declared.answered.Answered.{Answered}
-use Rattle.dpj_top.specs.Answer.{IsAcceptedAs, IsAnswer, IsAnswerOn, IsListing, IsRan, IsWithin, OneAnswer, asks_run, faulty, limits_of, of_program, only, told_of, to_check, to_effects, to_elide, to_list, to_run, too_long, TellsEffects}
+use Rattle.dpj_top.specs.Answer.{IsAcceptedAs, IsAnswer, IsAnswerOn, IsListing, IsRan, IsWithin, OneAnswer, asks_run, faulty, limits_of, of_program, only, verdict_of, to_check, to_effects, to_elide, to_list, to_run, too_long, TellsEffects}
 use Rattle.dpj_top.specs.Promise.{KeepsPromise}
 use Rattle.dpj_top.proofs.Promised.{made_run}
 
@@ -34,8 +34,8 @@ ran_once job text typed first second a b same =
     let come = (made_run job.mode typed (limits_of job) job.arg job.workers r a.run).1 in
     let came = (made_run job.mode typed (limits_of job) job.arg job.workers q b.run).1 in
     let outcome_same : r.outcome ≡ q.outcome = some_same (sym come ∙ ap (λ (k : Record). k.machine.outcome) record_same ∙ came) in
-    a.is ∙ ap (λ (k : Record). record { verdict = told_of job text k.machine.schedule r.outcome; recorded = Some k }) record_same
-    ∙ ap (λ (o : Outcome). record { verdict = told_of job text q.record.machine.schedule o; recorded = Some q.record }) outcome_same ∙ sym b.is
+    a.is ∙ ap (λ (k : Record). record { verdict = verdict_of job text k.machine.schedule r.outcome; recorded = Some k }) record_same
+    ∙ ap (λ (o : Outcome). record { verdict = verdict_of job text q.record.machine.schedule o; recorded = Some q.record }) outcome_same ∙ sym b.is
 
 listed_once : OneNaming → (text : List ℕ) (typed : PlainProgram) (first second : Answered) → IsListing text typed first → IsListing text typed second → first ≡ second
 listed_once naming text typed first second a b =

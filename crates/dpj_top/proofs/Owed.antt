@@ -13,7 +13,7 @@ use Rattle.dpj_words.specs.declared.verdict.Status.TheVariants as ended
 use Rattle.dpj_words.specs.declared.verdict.Verdict.{Verdict}
 use Rattle.dpj_words.specs.declared.verdict.Verdict.TheVariants.{Ran, Usage}
 use Rattle.dpj_top.specs.declared.answered.Answered.{Answered}
-use Rattle.dpj_top.specs.Answer.{IsAnswer, IsAnswerOn, IsElided, IsRan, IsWithin, asks_run, faulty, of_program, only, told_by, told_of, to_check, to_effects, to_elide, to_list, to_run, too_long}
+use Rattle.dpj_top.specs.Answer.{IsAnswer, IsAnswerOn, IsElided, IsRan, IsWithin, asks_run, faulty, of_program, only, verdict_by, verdict_of, to_check, to_effects, to_elide, to_list, to_run, too_long}
 use Rattle.dpj_top.specs.Call.{Answers, AnswersBy, Appends, IsAnswered, Tells, TellsOfVerdict, text_for}
 use Rattle.dpj_top.specs.Promise.{AsksElision, GivesJob, IsReported, KeepsPromise, ReportsElision, ReportsReduced, elision_for}
 use Rattle.dpj_top.proofs.Ranges.{words_within}
@@ -85,18 +85,18 @@ module _ (keeps : KeepsPromise) (verdict : OneVerdict) (one : OnePassing) (words
       by (to_list c is) = absurd (cc (sym elide ∙ c))
       by (to_effects c is) = absurd (cc (sym elide ∙ c))
 
-  told_elided : (c : Command) → c ≡ command.Elide → told_by c asked text [] (elision_for asked typed) ≡ Ran (elision_for asked typed)
-  told_elided c e = ap (λ d. told_by d asked text [] (elision_for asked typed)) e
+  told_elided : (c : Command) → c ≡ command.Elide → verdict_by c asked text [] (elision_for asked typed) ≡ Ran (elision_for asked typed)
+  told_elided c e = ap (λ d. verdict_by d asked text [] (elision_for asked typed)) e
 
   pub owed_elision : AsksElision asked typed → ReportsElision asked text typed before after status
   owed_elision (inl run) =
       let told = keeps.run asked text gives.place typed tells.answered within gives.accepted run.1 (ran_so run.0) in
-      record { schedule = told.schedule; reported = verdict_told (told_of asked text told.schedule (elision_for asked typed)) told.is }
+      record { schedule = told.schedule; reported = verdict_told (verdict_of asked text told.schedule (elision_for asked typed)) told.is }
   owed_elision (inr elide) =
       let told = keeps.elide asked text gives.place typed tells.answered within gives.accepted (elided_so elide) in
       record {
         schedule = [];
-        reported = verdict_told (told_of asked text [] (elision_for asked typed)) (ap (λ (a : Answered). a.verdict) told ∙ sym (told_elided asked.command elide));
+        reported = verdict_told (verdict_of asked text [] (elision_for asked typed)) (ap (λ (a : Answered). a.verdict) told ∙ sym (told_elided asked.command elide));
       }
 
   pub owed_reduction : asks_run asked.command ≡ true → ReportsReduced asked text typed before after status recorded
@@ -106,7 +106,7 @@ module _ (keeps : KeepsPromise) (verdict : OneVerdict) (one : OnePassing) (words
         well_typed = told.well_typed;
         made = told.made;
         is = tells.run_recorded ∙ ap (λ (a : Answered). a.recorded) told.is;
-        reported = verdict_told (told_of asked text told.made.record.machine.schedule told.made.outcome) (ap (λ (a : Answered). a.verdict) told.is);
+        reported = verdict_told (verdict_of asked text told.made.record.machine.schedule told.made.outcome) (ap (λ (a : Answered). a.verdict) told.is);
         reduced = told.reduced;
         inside = told.inside;
       }

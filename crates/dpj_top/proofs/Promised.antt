@@ -35,7 +35,7 @@ use Rattle.dpj_words.specs.declared.key.Mode.TheVariants as mode
 use Rattle.dpj_words.specs.declared.job.Job.{Job}
 use Rattle.dpj_words.specs.declared.verdict.Verdict.TheVariants.{Ran}
 use Rattle.dpj_top.specs.declared.answered.Answered.{Answered}
-use Rattle.dpj_top.specs.Answer.{IsAcceptedAs, IsElided, IsRan, IsRunBy, IsWithin, limits_of, only, told_of}
+use Rattle.dpj_top.specs.Answer.{IsAcceptedAs, IsElided, IsRan, IsRunBy, IsWithin, limits_of, only, verdict_of}
 use Rattle.dpj_top.specs.Promise.{FollowsReduced, GoesOn, KeepsPromise, TellsElision, TellsReduced, elision_for}
 
 module _ (typed : PlainProgram) (keeps : Keeps typed) (L : Limits) (argument : ℤ) (few : L.steps ≤ 20000000) (fits : FitsSigned w32 argument) where
@@ -184,7 +184,7 @@ keeps_promise machines greedy reduce inside never_stuck goes passed = record { t
         let m = made job typed r ran.run in
         record {
           schedule = r.record.machine.schedule;
-          is = ap (λ (a : Answered). a.verdict) ran.is ∙ ap (λ o. told_of job text r.record.machine.schedule o)
+          is = ap (λ (a : Answered). a.verdict) ran.is ∙ ap (λ o. verdict_of job text r.record.machine.schedule o)
               (told_elision typed (kept text place typed accepted) (limits_of job) job.arg within.0.steps_most within.1 machines none r.record.machine r.outcome m.0 m.1);
         }
 

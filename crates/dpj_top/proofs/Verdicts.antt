@@ -31,14 +31,14 @@ use Rattle.dpj_typed.specs.Plain.{PlainProgram}
 use Rattle.dpj_run.specs.declared.recorded.Recorded.{Recorded}
 use Rattle.dpj_front.specs.Front.{AreNames, IsFault}
 use Rattle.dpj_top.specs.declared.answered.Answered.{Answered}
-use Rattle.dpj_top.specs.Answer.{IsAcceptedAs, IsAnswer, too_long, faulty, of_program, IsRan, IsRunBy, IsElided, IsListing, IsAnswerOn, to_check, to_run, to_elide, to_list, to_effects, TellsEffects, told_by, told_of, limits_of, only, asks_run, max_text}
+use Rattle.dpj_top.specs.Answer.{IsAcceptedAs, IsAnswer, too_long, faulty, of_program, IsRan, IsRunBy, IsElided, IsListing, IsAnswerOn, to_check, to_run, to_elide, to_list, to_effects, TellsEffects, verdict_by, verdict_of, limits_of, only, asks_run, max_text}
 
 pub ending_status-no-usage : (ending : Ending) → ending_status ending ≡ ended.Usage → ⊥
 ending_status-no-usage (Done value) e = cc
 ending_status-no-usage (Trapped trap place) e = cc
 ending_status-no-usage Limited e = cc
 
-told-no-usage : (c : Command) (job : Job) (text schedule : List ℕ) (outcome : Outcome) → status_of (told_by c job text schedule outcome) ≡ ended.Usage → ⊥
+told-no-usage : (c : Command) (job : Job) (text schedule : List ℕ) (outcome : Outcome) → status_of (verdict_by c job text schedule outcome) ≡ ended.Usage → ⊥
 told-no-usage command.Demo job text schedule outcome e = ending_status-no-usage outcome.ending e
 told-no-usage command.Trace job text schedule outcome e = ending_status-no-usage outcome.ending e
 told-no-usage command.Check job text schedule outcome e = ending_status-no-usage outcome.ending e
@@ -135,9 +135,9 @@ run_in_mode asked made typed L limits a argument workers result is same given ru
 -- the verdict on the run of a program
 pub ran-so : (asked : Job) (text : List ℕ) (typed : PlainProgram) (r : Recorded) (schedule : List ℕ) (verdict : Verdict)
     → IsRunBy asked.mode typed (limits_of asked) asked.arg asked.workers (Some r) → schedule ≡ r.record.machine.schedule
-    → verdict ≡ told_of asked text schedule r.outcome → IsRan asked text typed (record { verdict = verdict; recorded = Some r.record })
+    → verdict ≡ verdict_of asked text schedule r.outcome → IsRan asked text typed (record { verdict = verdict; recorded = Some r.record })
 ran-so asked text typed r schedule verdict runs same is =
-    record { made = r; run = runs; is = ap (λ v. record { verdict = v; recorded = Some r.record }) (is ∙ ap (λ ks. told_of asked text ks r.outcome) same) }
+    record { made = r; run = runs; is = ap (λ v. record { verdict = v; recorded = Some r.record }) (is ∙ ap (λ ks. verdict_of asked text ks r.outcome) same) }
 
 -- the listing of a code that is the compiled program's, with the titles that its names give
 pub listing-so : (text : List ℕ) (made typed : PlainProgram) (own names : ProgramNames) (code : Code) (listed : List ℕ) (answered : Answered) → TellsPlainCode

@@ -52,7 +52,7 @@ only verdict = record { verdict = verdict; recorded = None }
 abbrev pub refused_at : Kind → ℕ → Verdict
 refused_at kind line = Refused (record { kind = kind; place = record { line = min line 4294967295; col = 1 } })
 
--- a refusal of the text as a whole, told at its first byte
+-- a refusal of the text as a whole, reported at its first byte
 abbrev pub refused_at_start : Kind → Verdict
 refused_at_start kind = refused_at kind 1
 
@@ -73,13 +73,13 @@ pub record IsElided (job : Job) (typed : PlainProgram) (answered : Answered) : T
   pub is : answered ≡ only (Ran outcome)
 
 -- the verdict on a run of a text, by its schedule and how it came out: a demo tells what it made, and a trace is reported in place of a report
-abbrev pub told_by : Command → Job → List ℕ → List ℕ → Outcome → Verdict
-told_by command.Demo job text schedule outcome = Demo job.n (length text) outcome
-told_by command.Trace job text schedule outcome = Traced outcome (trace_text job.arg (limits_of job) schedule text)
-told_by _ job text schedule outcome = Ran outcome
+abbrev pub verdict_by : Command → Job → List ℕ → List ℕ → Outcome → Verdict
+verdict_by command.Demo job text schedule outcome = Demo job.n (length text) outcome
+verdict_by command.Trace job text schedule outcome = Traced outcome (trace_text job.arg (limits_of job) schedule text)
+verdict_by _ job text schedule outcome = Ran outcome
 
-abbrev pub told_of : Job → List ℕ → List ℕ → Outcome → Verdict
-told_of job text schedule outcome = told_by job.command job text schedule outcome
+abbrev pub verdict_of : Job → List ℕ → List ℕ → Outcome → Verdict
+verdict_of job text schedule outcome = verdict_by job.command job text schedule outcome
 
 -- the run that a mode asks for, with its record: by workers, or in rounds, of which the caller makes all events; or that there is none
 abbrev pub IsRunBy : Mode → PlainProgram → Limits → ℤ → ℕ → Option Recorded → Type 0
@@ -90,7 +90,7 @@ IsRunBy mode.Rounds = ComesByRounds
 pub record IsRan (job : Job) (text : List ℕ) (typed : PlainProgram) (answered : Answered) : Type 0 where
   pub made : Recorded
   pub run : IsRunBy job.mode typed (limits_of job) job.arg job.workers (Some made)
-  pub is : answered ≡ record { verdict = told_of job text made.record.machine.schedule made.outcome; recorded = Some made.record }
+  pub is : answered ≡ record { verdict = verdict_of job text made.record.machine.schedule made.outcome; recorded = Some made.record }
 
 -- the listing of the code of a program, with the names of the text
 pub record IsListing (text : List ℕ) (typed : PlainProgram) (answered : Answered) : Type 0 where

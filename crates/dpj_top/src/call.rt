@@ -45,7 +45,7 @@ pub fn dpj<R: Threads + Wait + Sync, S: Source, K: Sink, G: Gate + Sync>(
     gate: &G,
 ) -> Ended
     // The answer to the words and the text is reported by its status and its whole report, and its record is kept.
-    ensures told { TellsOfVerdict result.status
+    ensures answered { TellsOfVerdict result.status
         → Tells (map string_bytes words.now) (S.left source.old) (K.held sink.old) (K.held sink.new) result.status result.recorded }
     ensures usage { result.status ≡ Status.Usage → job (map string_bytes words.now) ≡ None }
     // The promise: a run of an accepted program without nd constructs is reported by its sequential elision, whatever the workers did.

@@ -5,7 +5,7 @@ ghost use Rattle.dpj_front.specs.Judging.{CanRun, names_of_passed, typed_of};
 ghost use Rattle.dpj_typed.specs.Plain.{plain_program};
 ghost use Rattle.dpj_words.specs.Jobs.{IsInRange};
 ghost use Rattle.dpj_words.specs.declared.command.Command.TheVariants.{Replay};
-ghost use Rattle.dpj_top.specs.Answer.{IsAcceptedAs, IsAnswer, IsElided, IsListing, IsRan, IsRunBy, TellsEffects, limits_of, told_of};
+ghost use Rattle.dpj_top.specs.Answer.{IsAcceptedAs, IsAnswer, IsElided, IsListing, IsRan, IsRunBy, TellsEffects, limits_of, verdict_of};
 
 use crate::answered::{Answered, limits};
 use crate::laws::promise;
@@ -70,7 +70,7 @@ fn ran<R: Threads + Wait + Sync, G: Gate + Sync>(
         unreachable!("an accepted program goes on until it has come out")
     };
     let Recorded { record, outcome } = run;
-    let verdict = told(alloc, job, text, record.machine.schedule(), outcome)?;
+    let verdict = verdict_on(alloc, job, text, record.machine.schedule(), outcome)?;
     Ok(Answered {
         verdict,
         recorded: Some(record),
@@ -97,14 +97,14 @@ fn made<R: Threads + Wait + Sync, G: Gate + Sync>(
 }
 
 /// The verdict on a run of a text, by its schedule and how it came out.
-fn told(
+fn verdict_on(
     alloc: Global,
     job: &Job,
     text: &[u8],
     schedule: &[u32],
     outcome: Outcome,
 ) -> Result<Verdict, NoMemory>
-    ensures { IfOk result (λ verdict. verdict ≡ told_of job.now text.now schedule.now outcome) }
+    ensures { IfOk result (λ verdict. verdict ≡ verdict_of job.now text.now schedule.now outcome) }
 {
     Ok(match job.command {
         Command::Demo => Verdict::Demo {
