@@ -261,7 +261,7 @@ def main():
     if is_proved:
         run_proved(cases)
     else:
-        print("tests/run: the sources are newer than the proved program, so they run unproved")
+        print("tests/run: the sources are newer than the proved program, so they run unproved, which takes ten minutes and more", flush=True)
         run_unproved(cases)
     passed, failed = random_campaigns(options.show) if is_random else (0, 0)
     for case in cases:
