@@ -87,27 +87,6 @@ impl<'p> Level<'p> {
         }
     }
 
-    /// A value and so many operands, the lowest first.
-    pub fn actuals(
-        &self,
-        alloc: Global,
-        first: Value,
-        many: usize,
-    ) -> Result<Items<Value>, NoMemory>
-        ensures { IfOk result (λ values. map plain_value values ≡ plain_value first ∷ reverse (take many (map plain_value self.now.operands))) }
-    {
-        let mut values = Items::new(alloc);
-        values.push(first)?;
-        let many = many.min(self.operands.len());
-        for at in 0..many {
-            let Some(value) = self.operands.get(many - 1 - at) else {
-                unreachable!()
-            };
-            values.push(*value)?;
-        }
-        Ok(values)
-    }
-
     /// The slots of a part of the array on top, or of a part, up to its count.
     pub fn start_parts(&mut self, part: Slot, source: &PartSource)
         ensures { plain_level self.new ≡ parts_begun part.number source.now (plain_level self.old) }

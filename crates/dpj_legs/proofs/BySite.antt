@@ -12,7 +12,8 @@ use Rattle.dpj_code.specs.Machine.{Stuck, unless_null, unless_long, calls, creat
 use Rattle.dpj_code.specs.Plain.{PlainCode, plain_site, constructor_of}
 use Rattle.dpj_legs.specs.declared.step.Step.{Step}
 use Rattle.dpj_legs.specs.declared.task.Level.{Level}
-use Rattle.dpj_legs.specs.Names.{names_of, plain_value}
+use Rattle.dpj_frames.specs.Names.{plain_value}
+use Rattle.dpj_legs.specs.Names.{names_of}
 use Rattle.dpj_legs.specs.Steps.{Comes, Acts, Looks, Creates}
 use Rattle.dpj_legs.specs.Tasks.{plain_frame, plain_level}
 use Rattle.dpj_legs.proofs.Taken.{taken_short, taken_all, taken_none, taken_one}
