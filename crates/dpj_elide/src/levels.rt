@@ -1,4 +1,4 @@
-ghost use Rattle.std.specs.Prelude.{◌≡◌, ◌+◌, ◌∷◌, List, map, take, drop, reverse, OnOk, IfOk};
+ghost use Rattle.std.specs.Prelude.{◌≡◌, ◌+◌, ◌∷◌, List, map, drop, OnOk, IfOk};
 ghost use Rattle.dpj_typed.specs.Plain.{PlainProgram, plain_expr, plain_stmt, exprs_of, stmts_of};
 ghost use Rattle.dpj_meaning.specs.Counts.{slot_value};
 ghost use Rattle.dpj_meaning.specs.Elision.{Store};

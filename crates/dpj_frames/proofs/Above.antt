@@ -1,28 +1,23 @@
 -- A step up the chain of superclasses.
-use Rattle.std.proofs.Common.{rules, ◌≡◌, ℕ, zero, suc, ◌==◌, eq-eqb, Bool, true, false, cond, List, refl, sym, ap, ◌∙◌, Option, Some, None}
+use Rattle.std.proofs.Common.{rules, ◌≡◌, ℕ, zero, suc, ◌==◌, eq-eqb, Bool, true, false, cond, List, map, refl, sym, ap, ◌∙◌, Option, Some, None}
 use Rattle.std.specs.Prelude.{option_map, option_and_then, slice_get}
 use Rattle.std.proofs.lemmas.Option.{slice_get-map}
 use Rattle.dpj_typed.specs.Plain.{PlainParent}
 use Rattle.dpj_meaning.specs.Values.{Region, Naming}
 use Rattle.dpj_meaning.specs.Counts.{is_below}
 use Rattle.dpj_meaning.specs.Regions.{handed_up, regions_above}
-use Rattle.dpj_typed.specs.declared.program.Class.{Class as DeclaredClass}
-use Rattle.dpj_typed.specs.declared.program.Program.{Program}
-use Rattle.dpj_typed.specs.Plain.{plain_class, plain_program}
-use Rattle.dpj_typed.specs.Scope.{parent_of}
 
 differs : (c d : ℕ) → (c ≡ d → ⊥) → (c == d) ≡ false
 differs c d h = search (rules, h)
 
--- the superclass of a class that is found
-pub parent_found : (C : Program) (c : ℕ) (o : Option DeclaredClass) → o ≡ slice_get C.classes c
-    → parent_of (plain_program C) c ≡ option_and_then (λ k. (plain_class k).parent) o
-parent_found C c o e =
-    ap (option_and_then (λ k. k.parent)) (slice_get-map plain_class C.classes c ∙ ap (option_map plain_class) (sym e)) ∙ seen o
-  where
-    seen : (o : Option DeclaredClass) → option_and_then (λ k. k.parent) (option_map plain_class o) ≡ option_and_then (λ k. (plain_class k).parent) o
-    seen None = refl
-    seen (Some k) = refl
+seen_in : {A B C : Type 0} (f : A → B) (g : B → Option C) (o : Option A) → option_and_then g (option_map f o) ≡ option_and_then (λ x. g (f x)) o
+seen_in f g None = refl
+seen_in f g (Some x) = refl
+
+-- what is read off an item that is found, as off its class its superclass
+pub found_in : {A B C : Type 0} (f : A → B) (g : B → Option C) (xs : List A) (k : ℕ) (o : Option A) → o ≡ slice_get xs k
+    → option_and_then g (slice_get (map f xs) k) ≡ option_and_then (λ x. g (f x)) o
+found_in f g xs k o e = ap (option_and_then g) (slice_get-map f xs k ∙ ap (option_map f) (sym e)) ∙ seen_in f g o
 
 module _ (parent : ℕ → Option PlainParent) where
   pub here_below : (k c d : ℕ) → c ≡ d → is_below parent k c d ≡ true

@@ -3,3 +3,4 @@ pub mod Above
 pub mod Padding
 pub mod Locals
 pub mod Dropped
+pub mod Counting

@@ -1,4 +1,3 @@
-pub mod Parents
 pub mod Taken
 pub mod BySite
 pub mod Bodies

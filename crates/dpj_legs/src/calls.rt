@@ -1,4 +1,4 @@
-ghost use Rattle.std.specs.Prelude.{◌≡◌, ◌∷◌, ◌++◌, ℕ, suc, map, take, reverse, drop, Some, option_map, IfOk, OnOk, OnErr};
+ghost use Rattle.std.specs.Prelude.{◌≡◌, ◌∷◌, ◌++◌, ℕ, suc, map, drop, Some, option_map, IfOk, OnOk, OnErr};
 ghost use Rattle.dpj_base.specs.declared.place.Place.{Place};
 ghost use Rattle.dpj_meaning.specs.Counts.{class_seen};
 ghost use Rattle.dpj_meaning.specs.Regions.{around, concrete};
