@@ -1,7 +1,5 @@
 -- An array that is made.
-use Rattle.std.proofs.Common.{◌≡◌, ◌∙◌, ℕ, ℤ, pos, negsuc, List, sym, ap, rules, Bool, false, cond}
-use Rattle.std.proofs.Math.IntN.{nat_abs}
-use Rattle.std.specs.Int.Signed.{lt_z}
+use Rattle.std.proofs.Common.{◌≡◌, ◌∙◌, ℕ, ℤ, pos, List, sym, ap, rules, Bool, false, cond}
 use Rattle.dpj_base.specs.declared.place.Place.{Place}
 use Rattle.dpj_base.specs.declared.region.Rpl.{Rpl}
 use Rattle.dpj_base.specs.declared.ty.Ty.{Ty, the_lemmas}
@@ -36,7 +34,3 @@ module _ (g : Level) (push : Value ℕ → List (Value ℕ)) (ws : List Waiting)
       (Act (New (An_array (concrete in_order (around f) a) k y) false) (λ x. gives (name_made x) f))) w)) first
       ∙ ap (λ j. lands g push ws (run sequential (made_array in_order at (array elem a named) j f) w)) (sym len)
       ∙ ap (λ y. lands g push ws (run sequential (made_array in_order at y i f) w)) (sym type)
-
-pub counts_len : (i j : ℤ) → j ≡ i → lt_z j (pos 0) ≡ false → i ≡ pos (nat_abs j)
-counts_len i (pos k) e h = sym e
-counts_len i (negsuc k) e h = absurd (cc)

@@ -1,10 +1,19 @@
 -- The operands of an expression, put on the agenda from the last on.
-use Rattle.std.proofs.Common.{◌≡◌, ◌∙◌, ℕ, suc, ◌+◌, ◌-◌, ◌<◌, ◌≤◌, List, [], ◌∷◌, map, length, drop, get_or, refl, sym, ap, arith}
+use Rattle.std.proofs.Common.{◌≡◌, ◌∙◌, ℕ, suc, ◌+◌, ◌-◌, ◌<◌, ◌≤◌, List, [], ◌∷◌, map, length, drop, drop-cons, get_or, refl, sym, ap, arith}
 use Rattle.dpj_typed.specs.declared.expr.Expr.{Expr}
 use Rattle.dpj_typed.specs.Plain.{plain_expr, exprs_of}
+use Rattle.dpj_frames.proofs.Dropped.{drop_all}
 use Rattle.dpj_walk.specs.Agenda.{Item, evaluate}
 use Rattle.dpj_walk.specs.Walk.{each}
-use Rattle.dpj_elide.proofs.Taken.{drop_all, one_up}
+
+-- one more item, from the end
+one_up : {A : Type 0} (xs : List A) (k : ℕ) (d : A) → k < length xs
+    → drop (length xs - (k + 1)) xs ≡ get_or xs (length xs - 1 - k) d ∷ drop (length xs - k) xs
+one_up xs k d h =
+    let i : length xs - (k + 1) ≡ length xs - 1 - k = omega arith in
+    let j : suc (length xs - 1 - k) ≡ length xs - k = omega arith in
+    let l : length xs - 1 - k < length xs = omega arith in
+    ap (λ n. drop n xs) i ∙ drop-cons xs (length xs - 1 - k) d l ∙ ap (λ n. get_or xs (length xs - 1 - k) d ∷ drop n xs) j
 
 -- the last so many of them
 abbrev pub last_of : ℕ → List Expr → List Item → List Item

@@ -1,6 +1,5 @@
 pub mod Forms
 pub mod Costs
-pub mod Taken
 pub mod Evaluating
 pub mod Beginning
 pub mod Programs

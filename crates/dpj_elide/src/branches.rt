@@ -1,5 +1,4 @@
-ghost use Rattle.std.specs.Prelude.{◌≡◌, ◌<◌, ◌^◌, ◌-◌, ℕ, suc, [], pos, IfOk};
-ghost use Rattle.std.specs.Int.{w32, int_wrapping_add};
+ghost use Rattle.std.specs.Prelude.{◌≡◌, ◌<◌, ◌^◌, ◌-◌, ℕ, suc, [], IfOk};
 ghost use Rattle.dpj_typed.specs.Plain.{plain_stmt};
 ghost use Rattle.dpj_meaning.specs.Statements.{branch_of, numbered_frame, begun, iterations};
 ghost use Rattle.dpj_frames.specs.Names.{plain_frame};
@@ -11,8 +10,8 @@ ghost use Rattle.dpj_elide.specs.declared.waiting.Rest.TheVariants as rest;
 
 use crate::level::Level;
 use crate::waiting::{Fork, Numbers, Rest};
-use dpj_base::{Items, NoMemory, Plain, Value};
-use dpj_frames::{Frame, set_slot, take_part};
+use dpj_base::{NoMemory, Value};
+use dpj_frames::{Frame, plus, set_slot, take_part};
 use std::alloc::Global;
 use std::slice;
 
@@ -49,7 +48,7 @@ impl<'p> Fork<'p> {
             return Ok(None);
         }
         let branch = &self.branches[at];
-        let frame = deeper(alloc, &outer.frame)?;
+        let frame = outer.frame.deeper(alloc)?;
         self.running = branch.copies.as_slice();
         self.rest = Rest::Branches(at + 1);
         Ok(Some(Level::beginning(alloc, slice::from_ref(&branch.body), frame)?))
@@ -62,7 +61,7 @@ impl<'p> Numbers<'p> {
         requires { self.now.next < 2 ^ 31 }
         ensures { IfOk result (λ f. plain_frame f ≡ begun self.now.takes (branch_of self.now.takes [] (plain_stmt self.now.body.now) (numbered_frame self.now.slot self.now.start self.now.next (plain_frame outer.now))).frame) }
     {
-        let mut frame = deeper(alloc, outer)?;
+        let mut frame = outer.deeper(alloc)?;
         let number = plus(self.start, self.next);
         set_slot(&mut frame.values, self.slot, Value::Int(number));
         if let Some(part) = self.takes {
@@ -85,31 +84,4 @@ impl<'p> Numbers<'p> {
             left: self.left - 1,
         }
     }
-}
-
-/// An equal frame, one call deeper.
-fn deeper(alloc: Global, frame: &Frame) -> Result<Frame, NoMemory>
-    ensures { IfOk result (λ f. plain_frame f ≡ record (plain_frame frame.now) { left = frame.now.left - 1 }) }
-{
-    Ok(Frame {
-        values: copied(alloc, frame.values.as_slice())?,
-        regions: frame.regions.copy(alloc)?,
-        locals: copied(alloc, frame.locals.as_slice())?,
-        left: frame.left.saturating_sub(1),
-    })
-}
-
-/// The same items, with room for no more.
-fn copied<T: Copy + Drop>(alloc: Global, items: &[T]) -> Result<Items<T>, NoMemory>
-    ensures { IfOk result (λ copies. copies ≡ items.now) }
-{
-    Ok(Items::from_vec(Vec::from_slice(alloc, items)?))
-}
-
-/// A number and so many more.
-fn plus(number: i32, more: usize) -> i32
-    requires { more < 2 ^ 31 }
-    ensures { result ≡ int_wrapping_add w32 number (pos more) }
-{
-    number.wrapping_add(more as i32)
 }

@@ -19,8 +19,8 @@ use crate::waiting::{Awaited, Waiting};
 use crate::walker::{Over, Walker};
 use dpj_base::{Items, NoMemory, Place, Plain, Region, Rpl, Trap, Ty, Value};
 use dpj_frames::{
-    Seen, class_entered, concrete, concrete_all, constructor_of, entered, is_long, number,
-    reference, regions_above, some_long,
+    Seen, call_values, class_entered, concrete, concrete_all, constructor_of, entered, is_long,
+    number, reference, regions_above, some_long,
 };
 use dpj_store::Halt;
 use dpj_typed::{Member, Program};
@@ -53,7 +53,7 @@ impl<'p> Walker<'p> {
         if some_long(&own) {
             return self.fall(Trap::Stack, call.place);
         }
-        let values = self.level.actuals(self.alloc, receiver, call.actuals)?;
+        let values = call_values(self.alloc, receiver, &self.level.operands, call.actuals)?;
         self.level.operands.drop_top(call.actuals);
         self.level.operands.drop_top(1);
         let seen = self.store.look_class(self.alloc, object)?;
@@ -158,7 +158,7 @@ impl<'p> Walker<'p> {
         let regions = own.copy(self.alloc)?;
         let fields = first_values(self.alloc, program, class)?;
         let object = self.store.make_object(class, own, fields.as_slice(), true)?;
-        let values = self.level.actuals(self.alloc, object, actuals)?;
+        let values = call_values(self.alloc, object, &self.level.operands, actuals)?;
         self.level.operands.drop_top(actuals);
         let Some(member) = program.members.get(constructor as usize) else {
             return self.give(0, object);

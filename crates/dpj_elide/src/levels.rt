@@ -1,4 +1,4 @@
-ghost use Rattle.std.specs.Prelude.{◌≡◌, ◌+◌, ◌∷◌, List, map, take, drop, reverse, OnOk, IfOk};
+ghost use Rattle.std.specs.Prelude.{◌≡◌, ◌+◌, ◌∷◌, List, map, drop, OnOk, IfOk};
 ghost use Rattle.dpj_typed.specs.Plain.{PlainProgram, plain_expr, plain_stmt, exprs_of, stmts_of};
 ghost use Rattle.dpj_meaning.specs.Counts.{slot_value};
 ghost use Rattle.dpj_meaning.specs.Elision.{Store};
@@ -85,27 +85,6 @@ impl<'p> Level<'p> {
             Some(value) => *value,
             None => Value::Null,
         }
-    }
-
-    /// A value and so many operands, the lowest first.
-    pub fn actuals(
-        &self,
-        alloc: Global,
-        first: Value,
-        many: usize,
-    ) -> Result<Items<Value>, NoMemory>
-        ensures { IfOk result (λ values. map plain_value values ≡ plain_value first ∷ reverse (take many (map plain_value self.now.operands))) }
-    {
-        let mut values = Items::new(alloc);
-        values.push(first)?;
-        let many = many.min(self.operands.len());
-        for at in 0..many {
-            let Some(value) = self.operands.get(many - 1 - at) else {
-                unreachable!()
-            };
-            values.push(*value)?;
-        }
-        Ok(values)
     }
 
     /// The slots of a part of the array on top, or of a part, up to its count.

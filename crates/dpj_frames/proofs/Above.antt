@@ -1,30 +1,23 @@
 -- A step up the chain of superclasses.
-use Rattle.std.proofs.Common.{rules, ◌≡◌, ℕ, zero, suc, ◌==◌, eq-eqb, Bool, true, false, cond, List, refl, sym, ap, ◌∙◌, Option, Some, None}
+use Rattle.std.proofs.Common.{rules, ◌≡◌, ℕ, zero, suc, ◌==◌, eq-eqb, Bool, true, false, cond, List, map, refl, sym, ap, ◌∙◌, Option, Some, None}
 use Rattle.std.specs.Prelude.{option_map, option_and_then, slice_get}
 use Rattle.std.proofs.lemmas.Option.{slice_get-map}
 use Rattle.dpj_typed.specs.Plain.{PlainParent}
-use Rattle.dpj_meaning.specs.Values.{Region}
+use Rattle.dpj_meaning.specs.Values.{Region, Naming}
 use Rattle.dpj_meaning.specs.Counts.{is_below}
 use Rattle.dpj_meaning.specs.Regions.{handed_up, regions_above}
-use Rattle.dpj_meaning.specs.Elision.{LocalRegion}
-use Rattle.dpj_typed.specs.declared.program.Class.{Class as DeclaredClass}
-use Rattle.dpj_typed.specs.declared.program.Program.{Program}
-use Rattle.dpj_typed.specs.Plain.{plain_class, plain_program}
-use Rattle.dpj_typed.specs.Scope.{parent_of}
-use Rattle.dpj_meaning.specs.Elision.{in_order}
 
 differs : (c d : ℕ) → (c ≡ d → ⊥) → (c == d) ≡ false
 differs c d h = search (rules, h)
 
--- the superclass of a class that is found
-pub parent_found : (C : Program) (c : ℕ) (o : Option DeclaredClass) → o ≡ slice_get C.classes c
-    → parent_of (plain_program C) c ≡ option_and_then (λ k. (plain_class k).parent) o
-parent_found C c o e =
-    ap (option_and_then (λ k. k.parent)) (slice_get-map plain_class C.classes c ∙ ap (option_map plain_class) (sym e)) ∙ seen o
-  where
-    seen : (o : Option DeclaredClass) → option_and_then (λ k. k.parent) (option_map plain_class o) ≡ option_and_then (λ k. (plain_class k).parent) o
-    seen None = refl
-    seen (Some k) = refl
+seen_in : {A B C : Type 0} (f : A → B) (g : B → Option C) (o : Option A) → option_and_then g (option_map f o) ≡ option_and_then (λ x. g (f x)) o
+seen_in f g None = refl
+seen_in f g (Some x) = refl
+
+-- what is read off an item that is found, as off its class its superclass
+pub found_in : {A B C : Type 0} (f : A → B) (g : B → Option C) (xs : List A) (k : ℕ) (o : Option A) → o ≡ slice_get xs k
+    → option_and_then g (slice_get (map f xs) k) ≡ option_and_then (λ x. g (f x)) o
+found_in f g xs k o e = ap (option_and_then g) (slice_get-map f xs k ∙ ap (option_map f) (sym e)) ∙ seen_in f g o
 
 module _ (parent : ℕ → Option PlainParent) where
   pub here_below : (k c d : ℕ) → c ≡ d → is_below parent k c d ≡ true
@@ -48,15 +41,15 @@ module _ (parent : ℕ → Option PlainParent) where
   up_below k c d q h e =
       ap (λ b. cond b true (elim (parent c) [ None ↦ false | Some p ↦ is_below parent k p.class d ])) (differs c d h) ∙ its_parent k d q (parent c) e
 
-  module _ (above : ℕ) where
-    abbrev step_up : ℕ → List (Region LocalRegion) → Option PlainParent → List (Region LocalRegion)
-    step_up k rs o = elim o [ None ↦ rs | Some p ↦ regions_above in_order parent k p.class (handed_up in_order rs p.args) above ]
+  module _ {N M : Type 0} (names : Naming N M) (above : ℕ) where
+    abbrev step_up : ℕ → List (Region M) → Option PlainParent → List (Region M)
+    step_up k rs o = elim o [ None ↦ rs | Some p ↦ regions_above names parent k p.class (handed_up names rs p.args) above ]
 
-    pub here_above : (k c : ℕ) (rs : List (Region LocalRegion)) → c ≡ above → regions_above in_order parent k c rs above ≡ rs
+    pub here_above : (k c : ℕ) (rs : List (Region M)) → c ≡ above → regions_above names parent k c rs above ≡ rs
     here_above zero c rs e = refl
     here_above (suc k) c rs e = ap (λ b. cond b rs (step_up k rs (parent c))) (eq-eqb c above e)
 
-    pub top_above : (k c : ℕ) (rs : List (Region LocalRegion)) → parent c ≡ None → regions_above in_order parent k c rs above ≡ rs
+    pub top_above : (k c : ℕ) (rs : List (Region M)) → parent c ≡ None → regions_above names parent k c rs above ≡ rs
     top_above zero c rs e = refl
     top_above (suc k) c rs e = ap (λ o. cond (c == above) rs (step_up k rs o)) e ∙ either (c == above)
       where
@@ -64,6 +57,6 @@ module _ (parent : ℕ → Option PlainParent) where
         either true = refl
         either false = refl
 
-    pub up_above : (k c : ℕ) (rs : List (Region LocalRegion)) (p : PlainParent) → (c ≡ above → ⊥) → parent c ≡ Some p
-        → regions_above in_order parent (suc k) c rs above ≡ regions_above in_order parent k p.class (handed_up in_order rs p.args) above
+    pub up_above : (k c : ℕ) (rs : List (Region M)) (p : PlainParent) → (c ≡ above → ⊥) → parent c ≡ Some p
+        → regions_above names parent (suc k) c rs above ≡ regions_above names parent k p.class (handed_up names rs p.args) above
     up_above k c rs p h e = ap (λ b. cond b rs (step_up k rs (parent c))) (differs c above h) ∙ ap (step_up k rs) e

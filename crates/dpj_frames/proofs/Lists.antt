@@ -1,5 +1,5 @@
 -- Lists turned round, and lists with a function put over them.
-use Rattle.std.proofs.Common.{◌≡◌, ℕ, zero, suc, ◌+◌, ◌-◌, ◌<◌, ◌≤◌, List, [], ◌∷◌, ◌++◌, map, length, reverse, take, drop, get_or, refl, sym, ap, ◌∙◌, arith, None}
+use Rattle.std.proofs.Common.{◌≡◌, ℕ, zero, suc, ◌+◌, ◌-◌, ◌<◌, ◌≤◌, List, [], ◌∷◌, ◌++◌, map, length, reverse, take, drop, get_or, refl, sym, ap, ◌∙◌, arith, Some, None}
 use Rattle.std.specs.Prelude.{slice_get}
 use Rattle.std.proofs.Math.ListN.{set}
 use Rattle.std.proofs.Math.Seq.{set-append_seam}
@@ -44,6 +44,11 @@ none_there f [] k d e = refl
 none_there f (x ∷ xs) zero d e = absurd (cc)
 none_there f (x ∷ xs) (suc k) d e = none_there f xs k d e
 
+pub some_there : {A B : Type 0} (f : A → B) (xs : List A) (k : ℕ) (d : B) (x : A) → slice_get xs k ≡ Some x → get_or (map f xs) k d ≡ f x
+some_there f [] k d x e = absurd (cc)
+some_there f (y ∷ xs) zero d x e = let g : y ≡ x = cc in ap f g
+some_there f (y ∷ xs) (suc k) d x e = some_there f xs k d x e
+
 pub empty_of : {A : Type 0} (xs : List A) → slice_get xs 0 ≡ None → xs ≡ []
 empty_of [] e = refl
 empty_of (x ∷ xs) e = absurd (cc)
@@ -66,3 +71,8 @@ pub none_at : {A : Type 0} (xs : List A) (k : ℕ) (d : A) → slice_get xs k �
 none_at [] k d e = refl
 none_at (x ∷ xs) zero d e = absurd (cc)
 none_at (x ∷ xs) (suc k) d e = none_at xs k d e
+
+pub some_at : {A : Type 0} (xs : List A) (k : ℕ) (d x : A) → slice_get xs k ≡ Some x → get_or xs k d ≡ x
+some_at [] k d x e = absurd (cc)
+some_at (y ∷ xs) zero d x e = cc
+some_at (y ∷ xs) (suc k) d x e = some_at xs k d x e

@@ -2,8 +2,11 @@
 use Rattle.std.specs.Prelude.{ℕ, List, map}
 use Rattle.dpj_meaning.specs.Values.{Region}
 use Rattle.dpj_meaning.specs.Elision.{LocalRegion}
-use Rattle.dpj_frames.specs.Names.{plain_region}
+use Rattle.dpj_frames.specs.Names.{Reading, In_order, LocalOf, region_by}
 use Rattle.dpj_frames.specs.declared.classes.Seen.{Seen}
 
+abbrev pub seen_by : (k : Reading) → Seen → ℕ × List (Region (LocalOf k))
+seen_by k s = (s.class, map (region_by k) s.regions)
+
 abbrev pub plain_seen : Seen → ℕ × List (Region LocalRegion)
-plain_seen s = (s.class, map plain_region s.regions)
+plain_seen = seen_by In_order

@@ -4,7 +4,7 @@ ghost use Rattle.dpj_meaning.specs.Regions.{handed_up, regions_above};
 ghost use Rattle.dpj_typed.specs.Plain.{plain_program};
 ghost use Rattle.dpj_typed.specs.Scope.{parent_of, constructor_of};
 ghost use Rattle.dpj_meaning.specs.Elision.{in_order};
-ghost use Rattle.dpj_frames.specs.Names.{plain_region};
+ghost use Rattle.dpj_frames.specs.Names.{Reading, names_by, region_by, plain_region};
 ghost use Rattle.dpj_frames.specs.Classes.{plain_seen};
 
 use crate::frame::Frame;
@@ -104,12 +104,13 @@ pub fn regions_above(
 }
 
 /// What a class hands to its superclass. It speaks of parameters and names alone.
-fn handed_up(
+pub fn handed_up(
     alloc: Global,
     regions: Items<Region>,
     args: &Items<Rpl>,
 ) -> Result<Items<Region>, NoMemory>
-    ensures { IfOk result (λ rs. map plain_region rs ≡ handed_up in_order (map plain_region regions) args.now) }
+    ghost reading: { Reading }
+    ensures { IfOk result (λ rs. map (region_by reading) rs ≡ handed_up (names_by reading) (map (region_by reading) regions) args.now) }
 {
     let frame = Frame {
         values: Items::new(alloc),

@@ -10,6 +10,7 @@ use dpj_base::Value;
 use dpj_typed::BinaryOp;
 
 /// The value of an operation on two values; None where it divides by zero.
+#[inline]
 pub fn operated(op: BinaryOp, left: Value, right: Value) -> Option<Value>
     ensures { option_map plain_value result ≡ operated same_object op (plain_value left) (plain_value right) }
 {

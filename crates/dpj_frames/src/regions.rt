@@ -1,9 +1,7 @@
 ghost use Rattle.std.specs.Prelude.{◌≡◌, map, slice_index_or, IfOk};
 ghost use Rattle.dpj_meaning.specs.Values.{Local};
-ghost use Rattle.dpj_meaning.specs.Elision.{Unmade};
 ghost use Rattle.dpj_meaning.specs.Regions.{around, concrete, head_region, part_of, index_part, is_long, some_long};
-ghost use Rattle.dpj_meaning.specs.Elision.{in_order};
-ghost use Rattle.dpj_frames.specs.Names.{plain_frame, plain_local, plain_index, plain_part, plain_region, plain_value};
+ghost use Rattle.dpj_frames.specs.Names.{Reading, LocalOf, names_by, unmade_by, locals_by, plain_index, part_by, region_by, frame_by, plain_value};
 
 use crate::frame::Frame;
 use crate::values::{number, slot};
@@ -15,7 +13,8 @@ const MOST_PARTS: usize = 500;
 
 /// The region that a path stands for in a frame.
 pub fn concrete(alloc: Global, frame: &Frame, path: &Rpl) -> Result<Region, NoMemory>
-    ensures { IfOk result (λ region. plain_region region ≡ concrete in_order (around (plain_frame frame.now)) path.now) }
+    ghost reading: { Reading }
+    ensures { IfOk result (λ region. region_by reading region ≡ concrete (names_by reading) (around (frame_by reading frame.now)) path.now) }
 {
     let mut elems = head_elems(alloc, &frame.regions, path.head)?;
     for elem in path.elems.as_slice() {
@@ -27,7 +26,8 @@ pub fn concrete(alloc: Global, frame: &Frame, path: &Rpl) -> Result<Region, NoMe
 /// The elements of the region of a parameter, and none where it has none.
 #[tactic(auto, using(crate::proofs::Lists::none_there))]
 fn head_elems(alloc: Global, regions: &Items<Region>, head: Head) -> Result<Elems, NoMemory>
-    ensures { IfOk result (λ elems. map plain_part elems ≡ head_region (map plain_region regions.now) head) }
+    ghost reading: { Reading }
+    ensures { IfOk result (λ elems. map (part_by reading) elems ≡ head_region (map (region_by reading) regions.now) head) }
 {
     let Head::Param(parameter) = head else {
         return Ok(Elems::new(alloc));
@@ -40,7 +40,8 @@ fn head_elems(alloc: Global, regions: &Items<Region>, head: Head) -> Result<Elem
 
 /// What an element stands for in a frame.
 fn part(frame: &Frame, elem: Elem) -> Elem
-    ensures { plain_part result ≡ part_of in_order (around (plain_frame frame.now)) elem }
+    ghost reading: { Reading }
+    ensures { part_by reading result ≡ part_of (names_by reading) (around (frame_by reading frame.now)) elem }
 {
     match elem {
         Elem::Name(name) => Elem::Name(name),
@@ -53,7 +54,8 @@ fn part(frame: &Frame, elem: Elem) -> Elem
 
 /// What an index stands for in a frame.
 fn index_in(frame: &Frame, index: Index) -> Index
-    ensures { plain_index result ≡ index_part (map plain_value frame.now.values) index }
+    ghost reading: { Reading }
+    ensures { plain_index {M = LocalOf reading} result ≡ index_part (map plain_value frame.now.values) index }
 {
     match index {
         Index::Literal(n) => Index::Literal(n),
@@ -64,9 +66,10 @@ fn index_in(frame: &Frame, index: Index) -> Index
 }
 
 /// The local region of a declaration.
-#[tactic(auto, using(crate::proofs::Lists::none_there))]
+#[tactic(auto, using(crate::proofs::Locals::none_local, crate::proofs::Locals::some_local))]
 fn local(frame: &Frame, declaration: u32) -> Elem
-    ensures { plain_part result ≡ Local (slice_index_or (map plain_local frame.now.locals) declaration (Unmade declaration)) }
+    ghost reading: { Reading }
+    ensures { part_by reading result ≡ Local (slice_index_or (locals_by reading frame.now.locals) declaration (unmade_by reading declaration)) }
 {
     match frame.locals.get(declaration as usize) {
         Some(made) => Elem::Local(made.0, made.1),
@@ -80,7 +83,8 @@ pub fn concrete_all(
     frame: &Frame,
     paths: &Items<Rpl>,
 ) -> Result<Items<Region>, NoMemory>
-    ensures { IfOk result (λ regions. map plain_region regions ≡ map (concrete in_order (around (plain_frame frame.now))) paths.now) }
+    ghost reading: { Reading }
+    ensures { IfOk result (λ regions. map (region_by reading) regions ≡ map (concrete (names_by reading) (around (frame_by reading frame.now))) paths.now) }
 {
     let mut regions = Items::new(alloc);
     for path in paths.as_slice() {
@@ -91,14 +95,16 @@ pub fn concrete_all(
 
 /// Whether a region has more elements than may be.
 pub fn is_long(region: &Region) -> bool
-    ensures { result ≡ is_long (plain_region region.now) }
+    ghost reading: { Reading }
+    ensures { result ≡ is_long (region_by reading region.now) }
 {
     region.elems.len() > MOST_PARTS
 }
 
 /// Whether one of the regions has.
 pub fn some_long(regions: &Items<Region>) -> bool
-    ensures { result ≡ some_long (map plain_region regions.now) }
+    ghost reading: { Reading }
+    ensures { result ≡ some_long (map (region_by reading) regions.now) }
 {
     for region in regions.as_slice() {
         if is_long(region) {

@@ -1,4 +1,5 @@
 ghost use Rattle.std.specs.Prelude.{◌≡◌, ◌<◌, ◌^◌, pos, map, slice_set};
+ghost use Rattle.std.specs.Int.{w32, int_wrapping_add};
 ghost use Rattle.dpj_meaning.specs.Counts.{number, truth, reference, how_many, slot_value};
 ghost use Rattle.dpj_frames.specs.Names.{plain_value};
 
@@ -50,6 +51,14 @@ pub fn counted(count: i32) -> i32
     ensures { result ≡ pos (how_many count) }
 {
     count.max(0)
+}
+
+/// A number and so many more.
+pub fn plus(number: i32, more: usize) -> i32
+    requires { more < 2 ^ 31 }
+    ensures { result ≡ int_wrapping_add w32 number (pos more) }
+{
+    number.wrapping_add(more as i32)
 }
 
 /// The value of a slot.

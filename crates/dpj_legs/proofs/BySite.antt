@@ -1,18 +1,27 @@
 -- What calls and creations come to, by their sites.
-use Rattle.std.proofs.Common.{◌≡◌, ℕ, suc, ◌<◌, ◌≤◌, List, map, length, reverse, take, drop, sym, ap, ◌∙◌, subst, Some, None}
+use Rattle.std.proofs.Common.{◌≡◌, ◌∷◌, ℕ, pos, refl, false, suc, ◌<◌, ◌≤◌, List, map, length, reverse, take, drop, sym, ap, ◌∙◌, subst, Some, None}
 use Rattle.std.specs.Prelude.{slice_get, option_map}
 use Rattle.std.proofs.lemmas.Option.{slice_get-map}
 use Rattle.dpj_base.specs.declared.place.Place.{Place}
+use Rattle.dpj_base.specs.declared.region.Region.{Region}
 use Rattle.dpj_base.specs.declared.region.Rpl.{Rpl}
 use Rattle.dpj_base.specs.declared.value.Value.{Value as Constant}
-use Rattle.dpj_meaning.specs.Regions.{around, concrete, some_long}
+use Rattle.dpj_meaning.specs.Actions as meaning
+use Rattle.dpj_meaning.specs.Actions.{Do, New}
+use Rattle.dpj_meaning.specs.Counts.{name_made, number}
+use Rattle.dpj_meaning.specs.Regions.{around, concrete, is_long, some_long}
+use Rattle.dpj_meaning.specs.Values.{An_array}
+use Rattle.dpj_meaning.specs.Values.{Region as Regions}
 use Rattle.dpj_code.specs.declared.code.Site.{Site}
 use Rattle.dpj_code.specs.declared.code.Site.TheVariants as site
-use Rattle.dpj_code.specs.Machine.{Stuck, unless_null, unless_long, calls, creates, called, created}
+use Rattle.dpj_code.specs.Machine.{State, Stand, Waits, Stuck, one, next, unless_null, unless_long, calls, creates, called, created, first_value, array_of, makes_array}
 use Rattle.dpj_code.specs.Plain.{PlainCode, plain_site, constructor_of}
+use Rattle.dpj_legs.specs.declared.action.Action.TheVariants as action
 use Rattle.dpj_legs.specs.declared.step.Step.{Step}
+use Rattle.dpj_legs.specs.declared.step.Step.TheVariants as step
 use Rattle.dpj_legs.specs.declared.task.Level.{Level}
-use Rattle.dpj_legs.specs.Names.{names_of, plain_value}
+use Rattle.dpj_frames.specs.Names.{plain_value}
+use Rattle.dpj_legs.specs.Names.{names_of, plain_region}
 use Rattle.dpj_legs.specs.Steps.{Comes, Acts, Looks, Creates}
 use Rattle.dpj_legs.specs.Tasks.{plain_frame, plain_level}
 use Rattle.dpj_legs.proofs.Taken.{taken_short, taken_all, taken_none, taken_one}
@@ -51,3 +60,22 @@ module _ (C : PlainCode) (at : Place) (sites : List Site) (i : ℕ) (g : Level) 
       (creates (names_of task) C at c (map (concrete (names_of task) (around (plain_frame g.frame))) regions) (reverse vs) (constructor_of C c) (plain_level g) st
       (map plain_level fs))) h in
       subst (λ o. Comes C o g fs s g fs) (sym is) (m task (reverse (take n (map plain_value g.stack))) (drop n (map plain_value g.stack)) fs)
+
+  pub array_made : (region : Rpl) (first v u : Constant) (rest : List Constant) (made : Region) (k : ℕ) → slice_get sites i ≡ Some (site.Array region first)
+      → g.stack ≡ v ∷ rest → number (plain_value v) ≡ pos k → plain_region made ≡ concrete (names_of 0) (around (plain_frame g.frame)) region
+      → plain_value u ≡ first_value first → is_long (plain_region made) ≡ false
+      → Acts C (λ names fs. makes_array names at (slice_get (map plain_site sites) i) (plain_level g) fs) g (step.Waits (action.NewArray made k u))
+  array_made region first v u rest made k e stack len is value short task fs =
+      let there : Regions (ℕ × ℕ) = concrete (names_of task) (around (plain_frame g.frame)) region in
+      let on : meaning.Answer ℕ (ℕ × ℕ) → State ℕ (ℕ × ℕ) = λ a. next (plain_level g) (name_made a ∷ map plain_value rest) (map plain_level fs) in
+      (record {
+        does = Do (New (An_array (plain_region made) k (plain_value u)) false);
+        then_on = on;
+        waits = ap (λ o. makes_array (names_of task) at o (plain_level g) (map plain_level fs)) (site_found sites i (site.Array region first) e)
+            ∙ ap (λ st. one (map plain_value st) (λ w more. array_of at there first (number w) (plain_level g) more (map plain_level fs))) stack
+            ∙ ap (λ z. array_of at there first z (plain_level g) (map plain_value rest) (map plain_level fs)) len
+            ∙ ap (λ r. unless_long (is_long r) at (Waits (Do (New (An_array r k (first_value first)) false)) on)) (sym is)
+            ∙ ap (λ b. unless_long b at (Waits (Do (New (An_array (plain_region made) k (first_value first)) false)) on)) short
+            ∙ ap (λ y. Waits (Do (New (An_array (plain_region made) k y) false)) on) (sym value);
+        says = refl;
+      }, refl, refl)

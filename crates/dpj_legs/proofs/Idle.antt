@@ -13,7 +13,8 @@ use Rattle.dpj_code.specs.Plain.{PlainCode}
 use Rattle.dpj_code.specs.declared.instr.Instr.{Instr}
 use Rattle.dpj_code.specs.declared.instr.Instr.TheVariants as i
 use Rattle.dpj_legs.specs.Answers.{LeadsTo}
-use Rattle.dpj_legs.specs.Names.{same_object, names_of}
+use Rattle.dpj_frames.specs.Names.{same_object}
+use Rattle.dpj_legs.specs.Names.{names_of}
 
 module _ (x : meaning.Answer ℕ (ℕ × ℕ)) (s : State ℕ (ℕ × ℕ)) where
   one_idle : (st : List (Value ℕ)) (k : Value ℕ → List (Value ℕ) → Stand ℕ (ℕ × ℕ)) → ((v : Value ℕ) (rest : List (Value ℕ)) → LeadsTo (k v rest) x s) → LeadsTo (one st k) x s

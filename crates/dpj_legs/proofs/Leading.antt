@@ -15,10 +15,15 @@ use Rattle.dpj_code.specs.Machine.{Level, State, Stand, On, Waits, Nowhere, one,
 use Rattle.dpj_code.specs.Plain.{PlainCode, body_at, Method, parent_of, method_at, constructor_of, call_site, new_site, fork_site}
 use Rattle.dpj_legs.specs.Answers.{LeadsTo, method_start, first_at}
 use Rattle.dpj_legs.specs.Frames.{frame_of}
-use Rattle.dpj_legs.specs.Names.{names_of, plain_value}
-use Rattle.dpj_legs.proofs.Padding.{unmade_any}
+use Rattle.dpj_frames.specs.Names.{plain_value}
+use Rattle.dpj_legs.specs.Names.{names_of}
 use Rattle.dpj_legs.proofs.Taken.{taken_none, taken_one}
-use Rattle.dpj_legs.proofs.Dropped.{map_drop}
+use Rattle.dpj_frames.proofs.Dropped.{map_drop}
+
+-- whatever the task
+unmade_any : (task r n : ℕ) → unmade_from (names_of task) r n ≡ unmade_from (names_of 0) r n
+unmade_any task r zero = refl
+unmade_any task r (suc n) = ap (λ l. (r, 0) ∷ l) (unmade_any task (suc r) n)
 
 module _ (x : meaning.Answer ℕ (ℕ × ℕ)) (s : State ℕ (ℕ × ℕ)) (place : Place) where
   pub unless : (v : Value ℕ) (k : ℕ → Stand ℕ (ℕ × ℕ)) → ((n : ℕ) → v ≡ Object n → LeadsTo (k n) x s) → LeadsTo (unless_null place v k) x s

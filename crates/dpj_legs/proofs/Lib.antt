@@ -1,5 +1,3 @@
-pub mod Lists
-pub mod Above
 pub mod Taken
 pub mod BySite
 pub mod Bodies
@@ -8,7 +6,6 @@ pub mod Starting
 pub mod Stepping
 pub mod Resuming
 pub mod Walking
-pub mod Padding
 pub mod Dropped
 pub mod Leading
 pub mod Idle

@@ -8,8 +8,9 @@ use Rattle.dpj_meaning.specs.Statements.{numbered_frame}
 use Rattle.dpj_meaning.specs.Values.{Value, Int}
 use Rattle.dpj_code.specs.Machine.{below, started, each_started}
 use Rattle.dpj_legs.specs.Branches.{spread_starts}
-use Rattle.dpj_legs.specs.declared.frame.Frame.{Frame}
-use Rattle.dpj_legs.specs.Names.{plain_value, plain_region}
+use Rattle.dpj_frames.specs.declared.frame.Frame.{Frame}
+use Rattle.dpj_frames.specs.Names.{plain_value}
+use Rattle.dpj_legs.specs.Names.{plain_region}
 use Rattle.dpj_legs.specs.Tasks.{plain_frame}
 use Rattle.dpj_legs.proofs.Taken.{length_each}
 

@@ -5,7 +5,7 @@ use Rattle.dpj_base.specs.declared.value.Value.{Value as Constant}
 use Rattle.dpj_meaning.specs.Values.{Value}
 use Rattle.dpj_meaning.specs.Actions.{Frame}
 use Rattle.dpj_code.specs.Machine.{Stand, Stuck, one, taken, each_started}
-use Rattle.dpj_legs.specs.Names.{plain_value}
+use Rattle.dpj_frames.specs.Names.{plain_value}
 
 module _ {M : Type 0} where
   pub taken_short : (n : ℕ) (st : List (Value ℕ)) (k : List (Value ℕ) → List (Value ℕ) → Stand ℕ M) → length st < n → taken n st k ≡ Stuck

@@ -17,7 +17,8 @@ use Rattle.dpj_legs.specs.declared.action.Action.TheVariants as action
 use Rattle.dpj_legs.specs.declared.step.Step.{Step}
 use Rattle.dpj_legs.specs.declared.step.Step.TheVariants as step
 use Rattle.dpj_legs.specs.declared.task.Level.{Level}
-use Rattle.dpj_legs.specs.Names.{names_of, plain_value}
+use Rattle.dpj_frames.specs.Names.{plain_value}
+use Rattle.dpj_legs.specs.Names.{names_of}
 use Rattle.dpj_legs.specs.Tasks.{plain_frame, plain_level, plain_ending, Says}
 
 -- an instruction and its place

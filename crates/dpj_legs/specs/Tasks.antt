@@ -13,17 +13,19 @@ use Rattle.dpj_legs.specs.declared.action.Answer.TheVariants as answer
 use Rattle.dpj_legs.specs.declared.action.Ending.{Ending}
 use Rattle.dpj_legs.specs.declared.action.Ending.TheVariants as ending
 use Rattle.dpj_legs.specs.declared.action.SlotValue.{SlotValue}
-use Rattle.dpj_legs.specs.declared.classes.Seen.{Seen}
-use Rattle.dpj_legs.specs.declared.frame.Frame.{Frame}
 use Rattle.dpj_legs.specs.declared.task.Level.{Level}
 use Rattle.dpj_legs.specs.declared.task.Standing.{Standing}
 use Rattle.dpj_legs.specs.declared.task.Standing.TheVariants as standing
 use Rattle.dpj_legs.specs.declared.task.Start.{Start}
 use Rattle.dpj_legs.specs.declared.task.Task.{Task}
-use Rattle.dpj_legs.specs.Names.{plain_value, plain_region, plain_effect}
+use Rattle.dpj_frames.specs.declared.classes.Seen.{Seen}
+use Rattle.dpj_frames.specs.declared.frame.Frame.{Frame}
+use Rattle.dpj_frames.specs.Names.{Of_task, frame_by, plain_value}
+use Rattle.dpj_frames.specs.Classes.{seen_by}
+use Rattle.dpj_legs.specs.Names.{plain_region, plain_effect}
 
 abbrev pub plain_frame : Frame → meaning.Frame ℕ (ℕ × ℕ)
-plain_frame f = record { values = map plain_value f.values; regions = map plain_region f.regions; locals = f.locals; left = f.left }
+plain_frame = frame_by (Of_task 0)
 
 abbrev pub plain_level : Level → machine.Level ℕ (ℕ × ℕ)
 plain_level g = record { body = g.body; at = g.at; frame = plain_frame g.frame; stack = map plain_value g.stack }
@@ -32,7 +34,7 @@ abbrev pub plain_start : Start → machine.Start ℕ (ℕ × ℕ)
 plain_start b = record { body = b.body; frame = plain_frame b.frame }
 
 abbrev pub plain_seen : Seen → ℕ × List (Region (ℕ × ℕ))
-plain_seen s = (s.class, map plain_region s.regions)
+plain_seen = seen_by (Of_task 0)
 
 abbrev pub plain_slot : SlotValue → ℕ × Value ℕ
 plain_slot l = (l.slot, plain_value l.value)

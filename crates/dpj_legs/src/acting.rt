@@ -9,8 +9,8 @@ ghost use Rattle.dpj_legs.specs.Tasks.{plain_level};
 use crate::action::{Action, Ending};
 use crate::step::Step;
 use crate::task::Level;
-use crate::values::{number, reference};
 use dpj_base::{Place, Trap};
+use dpj_frames::{number, reference};
 
 /// The end by a null.
 fn null(place: Place) -> Step

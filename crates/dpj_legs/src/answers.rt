@@ -3,14 +3,14 @@ ghost use Rattle.dpj_meaning.specs.Counts.{value_read, is_out, length_seen, name
 ghost use Rattle.dpj_meaning.specs.Values.{Int};
 ghost use Rattle.dpj_code.specs.Machine.{cell_read, cell_written, next, joined};
 ghost use Rattle.dpj_legs.specs.Answers.{IsIn, IsCounted, below_top};
-ghost use Rattle.dpj_legs.specs.Names.{plain_value};
+ghost use Rattle.dpj_frames.specs.Names.{plain_value};
 ghost use Rattle.dpj_legs.specs.Steps.{HasNext};
 ghost use Rattle.dpj_legs.specs.Tasks.{plain_level, plain_answer, plain_slot};
 
 use crate::action::{Answer, Ending, SlotValue};
 use crate::task::{Level, Standing};
-use crate::values::set_slot;
 use dpj_base::{Items, NoMemory, Place, Trap, Value};
+use dpj_frames::set_slot;
 
 /// The value that a read is answered; None where the index is out of bounds.
 fn value_read(answer: &Answer) -> Option<Value>

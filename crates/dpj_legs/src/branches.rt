@@ -1,41 +1,19 @@
 ghost use Rattle.std.specs.Prelude.{◌≡◌, ℕ, ◌<◌, ◌^◌, ◌-◌, pos, IfOk, Some, length, slice_get};
-ghost use Rattle.std.specs.Int.{w32, int_wrapping_add, int_wrapping_sub};
+ghost use Rattle.std.specs.Int.{w32, int_wrapping_sub};
 ghost use Rattle.dpj_code.specs.Fit.{site_at};
-ghost use Rattle.dpj_code.specs.Machine.{below, site_of, line_before};
+ghost use Rattle.dpj_code.specs.Machine.{site_of, line_before};
 ghost use Rattle.dpj_code.specs.Plain.{plain_code, plain_site, body_at};
 ghost use Rattle.dpj_meaning.specs.Counts.{number, how_many};
-ghost use Rattle.dpj_legs.specs.Names.{plain_value};
+ghost use Rattle.dpj_frames.specs.Names.{plain_value};
 ghost use Rattle.dpj_legs.specs.Branches.{starts_at, starts_of, spread_starts};
-ghost use Rattle.dpj_legs.specs.Tasks.{state_of, plain_start, plain_frame, plain_level};
+ghost use Rattle.dpj_legs.specs.Tasks.{state_of, plain_start, plain_level};
 
-use crate::frame::Frame;
 use crate::joins::site_before;
 use crate::task::{Level, Standing, Start, Task};
-use crate::values::{how_many, number, set_slot};
-use dpj_base::{Items, NoMemory, Plain, Value};
+use dpj_base::{NoMemory, Value};
 use dpj_code::{Code, Site};
+use dpj_frames::{how_many, number, plus, set_slot};
 use std::alloc::Global;
-
-impl Frame {
-    /// An equal frame, one call deeper.
-    fn deeper(&self, alloc: Global) -> Result<Frame, NoMemory>
-        ensures { IfOk result (λ frame. plain_frame frame ≡ below (plain_frame self.now)) }
-    {
-        Ok(Frame {
-            values: copied(alloc, self.values.as_slice())?,
-            regions: self.regions.copy(alloc)?,
-            locals: copied(alloc, self.locals.as_slice())?,
-            left: self.left.saturating_sub(1),
-        })
-    }
-}
-
-/// The same items, with room for no more.
-fn copied<T: Copy + Drop>(alloc: Global, items: &[T]) -> Result<Items<T>, NoMemory>
-    ensures { IfOk result (λ copies. copies ≡ items.now) }
-{
-    Ok(Items::from_vec(Vec::from_slice(alloc, items)?))
-}
 
 impl Task {
     /// How many branches a task has that stands in front of their join: none, where it stands elsewhere.
@@ -145,14 +123,6 @@ impl Level {
         set_slot(&mut frame.values, slot, Value::Int(plus(first, branch)));
         Ok(Start { body, frame })
     }
-}
-
-/// A number and so many more.
-fn plus(number: i32, more: usize) -> i32
-    requires { more < 2 ^ 31 }
-    ensures { result ≡ int_wrapping_add w32 number (pos more) }
-{
-    number.wrapping_add(more as i32)
 }
 
 /// The number of the first branch, where so many are left of all, and the next has this number.

@@ -1,24 +1,23 @@
-ghost use Rattle.std.specs.Prelude.{◌≡◌, ◌∷◌, ◌++◌, ℕ, suc, map, take, reverse, drop, Some, option_map, IfOk, OnOk, OnErr};
+ghost use Rattle.std.specs.Prelude.{◌≡◌, ◌∷◌, ◌++◌, ℕ, suc, map, drop, Some, option_map, IfOk, OnOk, OnErr};
 ghost use Rattle.dpj_base.specs.declared.place.Place.{Place};
 ghost use Rattle.dpj_meaning.specs.Counts.{class_seen};
 ghost use Rattle.dpj_meaning.specs.Regions.{around, concrete};
 ghost use Rattle.dpj_code.specs.Machine.{called, created};
 ghost use Rattle.dpj_code.specs.Plain.{plain_code, plain_method, method_at, call_site, new_site};
 ghost use Rattle.dpj_legs.specs.Answers.{LeadsTo, below_top, first_at, method_start};
-ghost use Rattle.dpj_legs.specs.Names.{names_of, plain_value, plain_region};
+ghost use Rattle.dpj_frames.specs.Names.{plain_value};
+ghost use Rattle.dpj_legs.specs.Names.{names_of, plain_region};
 ghost use Rattle.dpj_legs.specs.Steps.{HasNext};
 ghost use Rattle.dpj_legs.specs.Tasks.{plain_level, plain_frame, plain_start, plain_answer, plain_seen, state_in};
 
 use crate::action::Answer;
 use crate::answers::name_made;
-use crate::classes::{Seen, class_entered, constructor_of, regions_above};
-use crate::frame::Frame;
+use crate::classes::{class_entered, constructor_of, regions_above};
 use crate::frames::frame_of;
-use crate::regions::{concrete, concrete_all};
-use crate::stack::Stack;
 use crate::task::{Level, Standing, Start};
 use dpj_base::{Items, NoMemory, Region, Rpl, Value};
 use dpj_code::{Code, MethodCode};
+use dpj_frames::{Frame, Seen, Stack, call_values, concrete, concrete_all};
 use std::alloc::Global;
 
 /// What a look at a receiver is answered.
@@ -36,27 +35,6 @@ fn method_at(code: &Code, class: u32, row: u32) -> Option<MethodCode>
     ensures { option_map plain_method result ≡ method_at (plain_code code.now) class row }
 {
     Some(*code.classes.get(class as usize)?.methods.get(row as usize)?)
-}
-
-/// A value and the values on top of a stack, the lowest first.
-fn actuals(
-    alloc: Global,
-    first: Value,
-    stack: &Stack<Value>,
-    many: usize,
-) -> Result<Items<Value>, NoMemory>
-    ensures { IfOk result (λ values. map plain_value values ≡ plain_value first ∷ reverse (take many (map plain_value stack.now))) }
-{
-    let mut values = Items::new(alloc);
-    values.push(first)?;
-    let many = many.min(stack.len());
-    for at in 0..many {
-        let Some(value) = stack.get(many - 1 - at) else {
-            unreachable!()
-        };
-        values.push(*value)?;
-    }
-    Ok(values)
 }
 
 /// The regions of the class, and then the row's own.
@@ -151,7 +129,7 @@ pub fn after_call(
     let Some(method) = method_at(code, seen.class, call.row) else {
         return Ok(Standing::Nowhere);
     };
-    let values = actuals(alloc, *receiver, &level.stack, call.formals)?;
+    let values = call_values(alloc, *receiver, &level.stack, call.formals)?;
     let start = method_start(
         alloc,
         code,
@@ -221,7 +199,7 @@ pub fn after_creation(
         return level.after_making(formals, answer);
     };
     let made = name_made(answer);
-    let values = actuals(alloc, made, &level.stack, formals)?;
+    let values = call_values(alloc, made, &level.stack, formals)?;
     let regions = concrete_all(alloc, &level.frame, regions)?;
     let left = level.frame.left.saturating_sub(1);
     let frame = frame_of(alloc, code, body, values, regions, left)?;

@@ -1,22 +1,14 @@
 ghost use Rattle.std.specs.Prelude.{◌≡◌, length, map, option_map, IfOk};
 ghost use Rattle.dpj_meaning.specs.Counts.{is_below, class_entered};
-ghost use Rattle.dpj_meaning.specs.Regions.{handed_up, regions_above};
+ghost use Rattle.dpj_meaning.specs.Regions.{regions_above};
 ghost use Rattle.dpj_code.specs.Plain.{plain_code, parent_of, constructor_of};
 ghost use Rattle.dpj_legs.specs.Names.{names_of, plain_region};
 ghost use Rattle.dpj_legs.specs.Tasks.{plain_seen};
 
-use crate::frame::Frame;
-use crate::regions::concrete_all;
-use dpj_base::{Items, NoMemory, Region, Rpl};
+use dpj_base::{Items, NoMemory, Region};
 use dpj_code::Code;
+use dpj_frames::{Seen, handed_up};
 use std::alloc::Global;
-
-/// A class with its region arguments.
-#[derive(Drop)]
-pub struct Seen {
-    pub class: u32,
-    pub regions: Items<Region>,
-}
 
 /// The superclass of a class.
 fn parent(code: &Code, class: u32) -> Option<u32>
@@ -95,21 +87,4 @@ pub fn regions_above(
         at = parent;
     }
     Ok(regions)
-}
-
-/// What a class hands to its superclass. It speaks of parameters and names alone.
-fn handed_up(
-    alloc: Global,
-    regions: Items<Region>,
-    args: &Items<Rpl>,
-) -> Result<Items<Region>, NoMemory>
-    ensures { IfOk result (λ rs. map plain_region rs ≡ handed_up (names_of 0) (map plain_region regions) args.now) }
-{
-    let frame = Frame {
-        values: Items::new(alloc),
-        regions,
-        locals: Items::new(alloc),
-        left: 0,
-    };
-    concrete_all(alloc, &frame, args)
 }

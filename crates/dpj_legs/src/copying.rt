@@ -2,13 +2,13 @@ ghost use Rattle.std.specs.Prelude.{◌≡◌, ◌==◌, map, true, IsTrue};
 ghost use Rattle.std.specs.List.{list_any};
 ghost use Rattle.dpj_meaning.specs.Counts.{copied};
 ghost use Rattle.dpj_code.specs.Machine.{all_copied};
-ghost use Rattle.dpj_legs.specs.Names.{plain_value};
+ghost use Rattle.dpj_frames.specs.Names.{plain_value};
 ghost use Rattle.dpj_legs.specs.Tasks.{plain_slot};
 
 use crate::action::SlotValue;
-use crate::values::set_slot;
 use dpj_base::{Items, Value};
 use dpj_code::BranchCopies;
+use dpj_frames::set_slot;
 
 /// Where among the slots that a join copies back one stands. The branches gave them in the same order, so each is looked for first
 /// where the last one was found.

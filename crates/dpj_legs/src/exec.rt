@@ -8,11 +8,11 @@ ghost use Rattle.dpj_legs.specs.Tasks.{plain_level};
 
 use crate::action::Action;
 use crate::local::{leave, return_value};
-use crate::stack::Stack;
 use crate::step::Step;
 use crate::task::Level;
 use dpj_base::{NoMemory, Place};
 use dpj_code::{Code, Instr};
+use dpj_frames::Stack;
 use std::alloc::Global;
 
 /// One instruction that isn't one of values and jumps. After want of memory all is as it was.

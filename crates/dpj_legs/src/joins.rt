@@ -2,18 +2,17 @@ ghost use Rattle.std.specs.Prelude.{◌≡◌, map, IfOk, Some};
 ghost use Rattle.dpj_meaning.specs.Counts.{assigned, number, how_many};
 ghost use Rattle.dpj_code.specs.Machine.{joins, ends_branch, joins_site, copies_at, copies_of, branch_site, site_of, line_before};
 ghost use Rattle.dpj_code.specs.Plain.{PlainCode, plain_code, plain_site, body_at};
-ghost use Rattle.dpj_legs.specs.Names.{plain_value};
+ghost use Rattle.dpj_frames.specs.Names.{plain_value};
 ghost use Rattle.dpj_legs.specs.Steps.{Acts, Comes, JoinsFork, JoinsSpread, next_branch};
 ghost use Rattle.dpj_legs.specs.Tasks.{plain_slot, plain_level};
 
 use crate::action::{Action, Ending, SlotValue};
 use crate::lines::line;
-use crate::stack::Stack;
 use crate::step::Step;
 use crate::task::Level;
-use crate::values::{how_many, number, slot};
 use dpj_base::{Items, NoMemory, Value};
 use dpj_code::{Code, Instr, Site, Title};
+use dpj_frames::{Stack, how_many, number, slot};
 use std::alloc::Global;
 
 /// The site of a fork or a spread.
@@ -135,7 +134,7 @@ fn copied_slots(code: &Code, body: usize) -> &[u32]
 }
 
 /// The slots that are copied back from a branch of a site.
-#[tactic(auto, using(crate::proofs::Lists::none_there))]
+#[tactic(auto, using(dpj_frames::proofs::Lists::none_there))]
 fn copies_at(site: &Site, number: usize) -> &[u32]
     ensures { result.now ≡ copies_at (Some (plain_site site.now)) number }
 {

@@ -3,12 +3,12 @@ ghost use Rattle.dpj_code.specs.Plain.{plain_code};
 ghost use Rattle.dpj_legs.specs.Halts.{Halts, OnTheWay, front_of, Tells, IsAsking, Ends, Paced};
 
 use crate::action::Action;
-use crate::frame::Frame;
 use crate::task::{Start, Task};
 use crate::walk::walk;
 use crate::way::Way;
 use dpj_base::{Items, NoMemory};
 use dpj_code::Code;
+use dpj_frames::Frame;
 use std::alloc::Global;
 use std::mem;
 

@@ -6,21 +6,21 @@ ghost use Rattle.dpj_meaning.specs.Values.{Int};
 ghost use Rattle.dpj_typed.specs.declared.expr.UnaryOp.TheVariants.{Negate, Not};
 ghost use Rattle.dpj_code.specs.Machine.{exec, pushes, one, two, next, operates, in_part, returned, left_with, Goes, Turns, On};
 ghost use Rattle.dpj_code.specs.Plain.{PlainCode};
-ghost use Rattle.dpj_legs.specs.Names.{names_of, plain_value};
+ghost use Rattle.dpj_frames.specs.Names.{plain_value};
+ghost use Rattle.dpj_legs.specs.Names.{names_of};
 ghost use Rattle.dpj_legs.specs.Paces.{Paces, IsOwn, is_own};
 ghost use Rattle.dpj_legs.specs.Steps.{Comes, Local, HasNext};
 ghost use Rattle.dpj_legs.specs.Tasks.{plain_level};
 
 use crate::action::Ending;
-use crate::operations::{inverted, negated, operated};
 use crate::pace::Pace;
-use crate::parts::{part_place, take_part};
-use crate::stack::Stack;
 use crate::step::Step;
 use crate::task::Level;
-use crate::values::{number, set_slot, slot, truth};
 use dpj_base::{NoMemory, Place, Trap, Value};
 use dpj_code::Instr;
+use dpj_frames::{
+    Stack, inverted, negated, number, operated, part_place, set_slot, slot, take_part, truth,
+};
 use dpj_typed::BinaryOp;
 
 impl Level {

@@ -1,77 +1,11 @@
-ghost use Rattle.std.specs.Prelude.{◌≡◌, map, slice_index_or, IfOk};
-ghost use Rattle.dpj_meaning.specs.Values.{Local};
-ghost use Rattle.dpj_meaning.specs.Regions.{around, concrete, concrete_effect, head_region, part_of, index_part, is_long, some_long};
-ghost use Rattle.dpj_legs.specs.Names.{names_of, plain_index, plain_part, plain_region, plain_effect, plain_value};
+ghost use Rattle.std.specs.Prelude.{◌≡◌, map, IfOk};
+ghost use Rattle.dpj_meaning.specs.Regions.{around, concrete_effect};
+ghost use Rattle.dpj_legs.specs.Names.{names_of, plain_effect};
 ghost use Rattle.dpj_legs.specs.Tasks.{plain_frame};
 
-use crate::frame::Frame;
-use crate::values::{number, slot};
-use dpj_base::{Effect, Elem, Elems, Head, Index, Items, NoMemory, Plain, Region, Rpl};
+use dpj_base::{Effect, Head, Items, NoMemory, Rpl};
+use dpj_frames::{Frame, concrete};
 use std::alloc::Global;
-
-/// The most elements of a region argument, and of the region of a created array.
-const MOST_PARTS: usize = 500;
-
-/// The region that a path stands for in a frame.
-pub fn concrete(alloc: Global, frame: &Frame, path: &Rpl) -> Result<Region, NoMemory>
-    ensures { IfOk result (λ region. plain_region region ≡ concrete (names_of 0) (around (plain_frame frame.now)) path.now) }
-{
-    let mut elems = head_elems(alloc, &frame.regions, path.head)?;
-    for elem in path.elems.as_slice() {
-        elems.push(part(frame, *elem))?;
-    }
-    Ok(Region { elems })
-}
-
-/// The elements of the region of a parameter, and none where it has none.
-#[tactic(auto, using(crate::proofs::Lists::none_there))]
-fn head_elems(alloc: Global, regions: &Items<Region>, head: Head) -> Result<Elems, NoMemory>
-    ensures { IfOk result (λ elems. map plain_part elems ≡ head_region (map plain_region regions.now) head) }
-{
-    let Head::Param(parameter) = head else {
-        return Ok(Elems::new(alloc));
-    };
-    match regions.get(parameter as usize) {
-        Some(region) => region.elems.copy(alloc),
-        None => Ok(Elems::new(alloc)),
-    }
-}
-
-/// What an element stands for in a frame.
-fn part(frame: &Frame, elem: Elem) -> Elem
-    ensures { plain_part result ≡ part_of (names_of 0) (around (plain_frame frame.now)) elem }
-{
-    match elem {
-        Elem::Name(name) => Elem::Name(name),
-        Elem::At(index) => Elem::At(index_in(frame, index)),
-        Elem::Any => Elem::Any,
-        Elem::Star => Elem::Star,
-        Elem::Local(declaration, _) => local(frame, declaration),
-    }
-}
-
-/// What an index stands for in a frame.
-fn index_in(frame: &Frame, index: Index) -> Index
-    ensures { plain_index result ≡ index_part (map plain_value frame.now.values) index }
-{
-    match index {
-        Index::Literal(n) => Index::Literal(n),
-        Index::Variable(x) => Index::Literal(number(slot(&frame.values, x as usize))),
-        Index::Renamed(x) => Index::Literal(number(slot(&frame.values, x as usize))),
-        Index::Own(depth) => Index::Own(depth),
-    }
-}
-
-/// The local region of a declaration.
-#[tactic(auto, using(crate::proofs::Lists::none_at))]
-fn local(frame: &Frame, declaration: u32) -> Elem
-    ensures { plain_part result ≡ Local (slice_index_or frame.now.locals declaration (declaration, 0)) }
-{
-    match frame.locals.get(declaration as usize) {
-        Some(made) => Elem::Local(made.0, made.1),
-        None => Elem::Local(declaration, 0),
-    }
-}
 
 /// The effect that an access to a path is in a frame. Its path begins at the root.
 pub fn concrete_effect(alloc: Global, frame: &Frame, effect: &Effect) -> Result<Effect, NoMemory>
@@ -88,21 +22,6 @@ pub fn concrete_effect(alloc: Global, frame: &Frame, effect: &Effect) -> Result<
     })
 }
 
-/// The regions of paths.
-pub fn concrete_all(
-    alloc: Global,
-    frame: &Frame,
-    paths: &Items<Rpl>,
-) -> Result<Items<Region>, NoMemory>
-    ensures { IfOk result (λ regions. map plain_region regions ≡ map (concrete (names_of 0) (around (plain_frame frame.now))) paths.now) }
-{
-    let mut regions = Items::new(alloc);
-    for path in paths.as_slice() {
-        regions.push(concrete(alloc, frame, path)?)?;
-    }
-    Ok(regions)
-}
-
 /// The effects of accesses.
 pub fn concrete_effects(
     alloc: Global,
@@ -116,23 +35,4 @@ pub fn concrete_effects(
         effects.push(concrete_effect(alloc, frame, access)?)?;
     }
     Ok(effects)
-}
-
-/// Whether a region has more elements than may be.
-pub fn is_long(region: &Region) -> bool
-    ensures { result ≡ is_long (plain_region region.now) }
-{
-    region.elems.len() > MOST_PARTS
-}
-
-/// Whether one of the regions has.
-pub fn some_long(regions: &Items<Region>) -> bool
-    ensures { result ≡ some_long (map plain_region regions.now) }
-{
-    for region in regions.as_slice() {
-        if is_long(region) {
-            return true;
-        }
-    }
-    false
 }

@@ -7,7 +7,7 @@ ghost use Rattle.dpj_meaning.specs.Values.{Int};
 ghost use Rattle.dpj_code.specs.Machine.{one, two, next, all_copied, joined, joins_fork, joins_spread, spread};
 ghost use Rattle.dpj_code.specs.Plain.{spread_site};
 ghost use Rattle.dpj_legs.specs.Answers.{IsIn, Leads, below_top};
-ghost use Rattle.dpj_legs.specs.Names.{plain_value};
+ghost use Rattle.dpj_frames.specs.Names.{plain_value};
 ghost use Rattle.dpj_legs.specs.Steps.{HasNext};
 ghost use Rattle.dpj_legs.specs.Tasks.{plain_level, plain_answer};
 
@@ -15,9 +15,9 @@ use crate::action::Answer;
 use crate::answers::trapped;
 use crate::copying::copy_back;
 use crate::task::{Level, Standing};
-use crate::values::{counted, number};
 use dpj_base::{NoMemory, Value};
 use dpj_code::BranchCopies;
+use dpj_frames::{counted, number};
 
 impl Level {
     /// After the join of all branches, with so many values less.

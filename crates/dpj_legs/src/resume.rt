@@ -12,10 +12,10 @@ ghost use Rattle.dpj_legs.specs.Tasks.{plain_level, plain_answer, state_in};
 use crate::action::Answer;
 use crate::calls::{CallSite, after_call, after_creation};
 use crate::joins::site_before;
-use crate::stack::Stack;
 use crate::task::{Level, Standing};
 use dpj_base::{NoMemory, Place};
 use dpj_code::{Code, Instr, Site};
+use dpj_frames::Stack;
 use std::alloc::Global;
 
 /// Goes on after the answer to the action at which an instruction waits. After want of memory all is as it was.

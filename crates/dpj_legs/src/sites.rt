@@ -2,18 +2,18 @@ ghost use Rattle.std.specs.Prelude.{◌≡◌, map, slice_get, IfOk};
 ghost use Rattle.dpj_meaning.specs.Regions.{around, concrete, some_long};
 ghost use Rattle.dpj_code.specs.Machine.{called, created, makes_array, forked, spread, first_value};
 ghost use Rattle.dpj_code.specs.Plain.{plain_code};
-ghost use Rattle.dpj_legs.specs.Names.{names_of, plain_value};
+ghost use Rattle.dpj_frames.specs.Names.{plain_value};
+ghost use Rattle.dpj_legs.specs.Names.{names_of};
 ghost use Rattle.dpj_legs.specs.Steps.{Acts, Looks, Creates, Spreads};
 ghost use Rattle.dpj_legs.specs.Tasks.{plain_frame, plain_level};
 
 use crate::action::{Action, Ending};
 use crate::classes::constructor_of;
-use crate::regions::{concrete, concrete_all, is_long, some_long};
 use crate::step::Step;
 use crate::task::Level;
-use crate::values::{how_many, number, reference};
 use dpj_base::{Items, NoMemory, Place, Region, Rpl, Trap, Value};
 use dpj_code::{Code, Site};
+use dpj_frames::{concrete, concrete_all, how_many, is_long, number, reference, some_long};
 use dpj_typed::Forking;
 use std::alloc::Global;
 

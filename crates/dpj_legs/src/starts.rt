@@ -5,10 +5,10 @@ ghost use Rattle.dpj_legs.specs.Names.{names_of};
 ghost use Rattle.dpj_legs.specs.Tasks.{state_of, plain_start};
 
 use crate::frames::frame_of;
-use crate::stack::Stack;
 use crate::task::{Level, Standing, Start, Task};
 use dpj_base::{Items, NoMemory, Value};
 use dpj_code::Code;
+use dpj_frames::Stack;
 use std::alloc::Global;
 
 /// How the root of a run starts: `main` on an object and its argument.

@@ -1,7 +1,6 @@
 use crate::action::Ending;
-use crate::frame::Frame;
-use crate::stack::Stack;
 use dpj_base::Value;
+use dpj_frames::{Frame, Stack};
 
 /// A body at work.
 #[derive(Drop)]

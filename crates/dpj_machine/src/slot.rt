@@ -7,7 +7,8 @@ ghost use Rattle.dpj_machine.specs.Running.{Running, Goes, StandsFor, IsFirst};
 use crate::answers::copied;
 use dpj_base::{Items, NoMemory};
 use dpj_code::Code;
-use dpj_legs::{Action, Answer, Frame, Start, Task};
+use dpj_frames::Frame;
+use dpj_legs::{Action, Answer, Start, Task};
 use std::alloc::Global;
 
 /// A task that has begun and not ended.

@@ -10,7 +10,8 @@ ghost use Rattle.dpj_machine.specs.Wants.{WantsRightly, wants_at, wanted_after, 
 
 use dpj_base::{Effect, Elem, Elems, Head, Index, Items, NoMemory, Rpl};
 use dpj_code::{Code, Instr, Site};
-use dpj_legs::{Action, Frame, Standing, Task, concrete_effect, line};
+use dpj_frames::Frame;
+use dpj_legs::{Action, Standing, Task, concrete_effect, line};
 use std::alloc::Global;
 
 /// The effects of the entry at a position of a body, if there is one.

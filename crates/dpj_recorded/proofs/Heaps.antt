@@ -20,7 +20,8 @@ use Rattle.dpj_runs.proofs.Mine.{mine_same}
 use Rattle.dpj_runs.proofs.Things.{thing_later, same_some}
 use Rattle.dpj_heap.specs.Heap.{Object, instance, array, values_of, with_values, object_at, no_object, Contents}
 use Rattle.dpj_heap.specs.Heap.{written as contents_written}
-use Rattle.dpj_legs.specs.Names.{plain_value, plain_region}
+use Rattle.dpj_frames.specs.Names.{plain_value}
+use Rattle.dpj_legs.specs.Names.{plain_region}
 use Rattle.dpj_legs.specs.Tasks.{plain_answer}
 use Rattle.dpj_legs.specs.declared.action.Answer.{Answer as DeclaredAnswer}
 use Rattle.dpj_legs.specs.declared.action.Answer.TheVariants as answer

@@ -20,7 +20,8 @@ use Rattle.dpj_runs.specs.Objects.{Path, LocalRegion}
 use Rattle.dpj_runs.specs.Runs.{Run}
 use Rattle.dpj_heap.specs.Heap.{instance, array, Contents, object_at, values_of}
 use Rattle.dpj_heap.specs.Heap.{written as contents_written}
-use Rattle.dpj_legs.specs.Names.{plain_value, plain_region, plain_effect}
+use Rattle.dpj_frames.specs.Names.{plain_value}
+use Rattle.dpj_legs.specs.Names.{plain_region, plain_effect}
 use Rattle.dpj_legs.specs.declared.action.Action.TheVariants as action
 use Rattle.dpj_legs.specs.declared.action.Answer.TheVariants as answer
 use Rattle.dpj_tasks.specs.Tree.{printed_task}

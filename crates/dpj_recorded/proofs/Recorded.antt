@@ -72,7 +72,7 @@ use Rattle.dpj_meaning.specs.Values.{Value}
 use Rattle.dpj_meaning.specs.Counts.{number}
 use Rattle.dpj_runs.specs.Objects.{Name}
 use Rattle.dpj_legs.specs.Tasks.{plain_ending}
-use Rattle.dpj_legs.specs.Names.{plain_value}
+use Rattle.dpj_frames.specs.Names.{plain_value}
 use Rattle.dpj_legs.specs.declared.action.Ending.TheVariants as ending
 use Rattle.dpj_world.specs.World.{trap_in as machine_trap}
 use Rattle.dpj_elided.proofs.Worlds.{Names, ValueLike, int_like, boolean_like, null_like, object_like, EndingLike, returned_like, assigned_like, trapped_like}

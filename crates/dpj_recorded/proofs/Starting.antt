@@ -39,7 +39,8 @@ use Rattle.dpj_steps.specs.Steps.{first_name, named_by, stepped}
 use Rattle.dpj_going.specs.Going.{HasMain}
 use Rattle.dpj_heap.specs.Heap.{instance, with_object}
 use Rattle.dpj_heap.specs.Heap.{Object as HeapObject}
-use Rattle.dpj_legs.specs.Names.{names_of, plain_value}
+use Rattle.dpj_frames.specs.Names.{plain_value}
+use Rattle.dpj_legs.specs.Names.{names_of}
 use Rattle.dpj_tasks.specs.Tree.{Tasks, fresh, only_root}
 use Rattle.dpj_tasks.specs.declared.task.Task.{Task as Live}
 use Rattle.dpj_tasks.proofs.Numbers.{get_inserted, same_number}

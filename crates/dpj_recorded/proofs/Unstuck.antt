@@ -28,7 +28,7 @@ use Rattle.dpj_runs.proofs.Mine.{Found, found}
 use Rattle.dpj_runs.proofs.Numbers.{begins_nil, begins_step}
 use Rattle.dpj_base.specs.declared.value.Value.{Value as Constant}
 use Rattle.dpj_typed.specs.declared.stmt.Forking.{Forking}
-use Rattle.dpj_legs.specs.Names.{plain_value}
+use Rattle.dpj_frames.specs.Names.{plain_value}
 use Rattle.dpj_legs.specs.declared.action.Ending.{Ending as DeclaredEnding}
 use Rattle.dpj_legs.specs.Halts.{Tells}
 use Rattle.dpj_legs.specs.Branches.{starts_at}

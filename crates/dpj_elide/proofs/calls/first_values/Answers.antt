@@ -3,7 +3,7 @@ use Rattle.std.proofs.lemmas.List.{append-nil}
 use Rattle.dpj_base.specs.Types.{plain_type}
 use Rattle.dpj_meaning.specs.Expressions.{first_of}
 use Rattle.dpj_frames.specs.Names.{plain_value}
-use Rattle.dpj_elide.proofs.Taken.{drop_all}
+use Rattle.dpj_frames.proofs.Dropped.{drop_all}
 use Rattle.dpj_elide.proofs.Programs.{first_values}
 use Rattle.dpj_elide.proofs.calls.first_values.Goals as goal
 

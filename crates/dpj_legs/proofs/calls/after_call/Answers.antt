@@ -5,7 +5,7 @@ use Rattle.dpj_meaning.specs.Counts.{class_entered, class_seen}
 use Rattle.dpj_code.specs.Machine.{Nowhere, On}
 use Rattle.dpj_code.specs.Plain.{plain_class, plain_code, plain_method, parent_of, method_at}
 use Rattle.dpj_legs.specs.Answers.{first_at, method_start}
-use Rattle.dpj_legs.specs.Names.{plain_value}
+use Rattle.dpj_frames.specs.Names.{plain_value}
 use Rattle.dpj_legs.specs.Tasks.{plain_level, plain_frame, plain_seen, plain_answer}
 use Rattle.dpj_legs.proofs.Leading.{call_short, call_leads, no_row, enters_row}
 use Rattle.dpj_legs.proofs.calls.after_call.Goals as goal

@@ -7,7 +7,8 @@ use Rattle.dpj_code.specs.Machine.{On}
 use Rattle.dpj_code.specs.Plain.{plain_code}
 use Rattle.dpj_legs.specs.Answers.{first_at}
 use Rattle.dpj_legs.specs.Frames.{frame_of}
-use Rattle.dpj_legs.specs.Names.{names_of, plain_value, plain_region}
+use Rattle.dpj_frames.specs.Names.{plain_value}
+use Rattle.dpj_legs.specs.Names.{names_of, plain_region}
 use Rattle.dpj_legs.specs.Tasks.{plain_level, plain_frame, plain_answer, state_in}
 use Rattle.dpj_legs.proofs.Leading.{make_leads, construct_leads}
 use Rattle.dpj_legs.proofs.calls.after_creation.Goals as goal

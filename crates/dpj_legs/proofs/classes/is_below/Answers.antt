@@ -1,6 +1,6 @@
 use Rattle.std.proofs.Common.{ℕ, suc, ◌-◌, length, arith, sym, ◌∙◌}
 use Rattle.dpj_code.specs.Plain.{plain_code, parent_of}
-use Rattle.dpj_legs.proofs.Above.{here_below, top_below, up_below}
+use Rattle.dpj_frames.proofs.Above.{here_below, top_below, up_below}
 use Rattle.dpj_legs.proofs.classes.is_below.Goals as goal
 
 pub returns-then-at-above : goal.returns-then-at-above

@@ -2,6 +2,7 @@ use Rattle.std.proofs.Common.{◌≡◌, ℕ, ◌+◌, length, map}
 use Rattle.dpj_meaning.specs.Regions.{regions_above}
 use Rattle.dpj_code.specs.Plain.{plain_code, parent_of}
 use Rattle.dpj_legs.specs.Names.{names_of, plain_region}
+use Rattle.dpj_frames.specs.Names.{Of_task}
 use Rattle.dpj_legs.proofs.classes.regions_above.Given as goal
 
 abbrev pub invariant-loop-up : goal.invariant-loop-up
@@ -9,3 +10,6 @@ invariant-loop-up l =
     (k : ℕ) → k + l.up ≡ length l.code.classes
     → regions_above (names_of 0) (parent_of (plain_code l.code)) k l.at (map plain_region l.regions) l.above
     ≡ regions_above (names_of 0) (parent_of (plain_code l.code)) (length l.code.classes) l.class (map plain_region l.fn.regions) l.above
+
+abbrev pub ghost-handed_up : goal.ghost-handed_up
+ghost-handed_up a = Of_task 0

@@ -1,7 +1,7 @@
 use Rattle.std.proofs.Common.{◌≡◌, drop, map}
 use Rattle.dpj_meaning.specs.Counts.{copied}
 use Rattle.dpj_code.specs.Machine.{all_copied}
-use Rattle.dpj_legs.specs.Names.{plain_value}
+use Rattle.dpj_frames.specs.Names.{plain_value}
 use Rattle.dpj_legs.specs.Tasks.{plain_slot}
 use Rattle.dpj_legs.proofs.copying.copy_back.Given as goal
 

@@ -3,7 +3,7 @@ use Rattle.std.proofs.lemmas.Result.{IfOk-weaker}
 use Rattle.dpj_code.specs.Machine.{Nowhere}
 use Rattle.dpj_legs.proofs.Idle.{idle}
 use Rattle.dpj_code.specs.Plain.{plain_code}
-use Rattle.dpj_legs.specs.Names.{plain_value}
+use Rattle.dpj_frames.specs.Names.{plain_value}
 use Rattle.dpj_legs.specs.Tasks.{plain_level, plain_answer, state_in}
 use Rattle.dpj_legs.proofs.Leading.{get_leads, element_leads, put_leads, put_element_leads, length_leads, print_leads}
 use Rattle.dpj_legs.proofs.resume.resume.Goals as goal

@@ -2,7 +2,7 @@ use Rattle.std.proofs.Common.{◌∙◌, ◌+◌, ap, ap₂, map}
 use Rattle.std.specs.Prelude.{slice_set}
 use Rattle.dpj_frames.specs.Names.{plain_value}
 use Rattle.dpj_elide.specs.States.{plain_level}
-use Rattle.dpj_elide.proofs.Taken.{map_drop}
+use Rattle.dpj_frames.proofs.Dropped.{map_drop}
 use Rattle.dpj_elide.proofs.level.Level.take_count.Goals as goal
 
 pub returns : goal.returns

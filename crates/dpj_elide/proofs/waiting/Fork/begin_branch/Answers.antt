@@ -17,7 +17,7 @@ returns c =
       task = branch_of None (map (λ slot. slot.number) branch.copies) (plain_stmt branch.body) f;
       first = ap (λ r. rest_of (record c.args.self.now { rest = r }) (plain_level c.args.outer.now)) c.requires
           ∙ next_branch c.args.self.now.branches.now c.args.at branch f below c.index-self-at.is;
-      level = level_is _ _ _ branch.body _ c.in_ok-beginning.ensures (c.from_ref.ensures.value ∙ ap (λ (b : Branch). b.body ∷ []) (sym c.index-self-at.is)) c.in_ok-frame.ensures;
+      level = level_is _ _ _ branch.body _ c.in_ok-beginning.ensures (c.from_ref.ensures.value ∙ ap (λ (b : Branch). b.body ∷ []) (sym c.index-self-at.is)) (ap plain_frame c.in_ok-frame.ensures);
       work = ap work_of same;
       kept = refl;
     }

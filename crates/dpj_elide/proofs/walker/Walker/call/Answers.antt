@@ -15,7 +15,7 @@ use Rattle.dpj_store.specs.Stores.{Holds}
 use Rattle.dpj_elide.specs.States.{ComesTo, IsOverAt, plain_level, plain_waiting}
 use Rattle.dpj_elide.proofs.Calling.{object_of, drop_more, called_is, enters_over, enters_same}
 use Rattle.dpj_elide.proofs.Halting.{refused}
-use Rattle.dpj_elide.proofs.Taken.{map_drop}
+use Rattle.dpj_frames.proofs.Dropped.{map_drop}
 use Rattle.dpj_elide.proofs.walker.Walker.call.Goals as goal
 
 pub returns-in_err-seen : goal.returns-in_err-seen

@@ -16,7 +16,7 @@ use Rattle.dpj_elide.specs.States.{ComesTo, IsOverAt, plain_level, plain_waiting
 use Rattle.dpj_elide.proofs.Calling.{Regions, made_with, constructs_over, constructed_is, unconstructed_is}
 use Rattle.dpj_elide.proofs.Halting.{refused}
 use Rattle.dpj_elide.proofs.Programs.{member_is, no_member}
-use Rattle.dpj_elide.proofs.Taken.{map_drop}
+use Rattle.dpj_frames.proofs.Dropped.{map_drop}
 use Rattle.dpj_elide.proofs.walker.Walker.construct.Goals as goal
 
 pub returns-in_err-object : goal.returns-in_err-object

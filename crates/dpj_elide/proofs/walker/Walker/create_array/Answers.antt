@@ -14,7 +14,8 @@ use Rattle.dpj_meaning.specs.Values.{An_array}
 use Rattle.dpj_frames.specs.Names.{plain_region, plain_value}
 use Rattle.dpj_store.specs.Stores.{Holds}
 use Rattle.dpj_elide.specs.States.{ComesTo, IsOverAt, plain_level, plain_waiting}
-use Rattle.dpj_elide.proofs.Arrays.{at_array, array_made, counts_len}
+use Rattle.dpj_frames.proofs.Counting.{counts_len}
+use Rattle.dpj_elide.proofs.Arrays.{at_array, array_made}
 use Rattle.dpj_elide.proofs.Halting.{refused}
 use Rattle.dpj_elide.proofs.walker.Walker.create_array.Goals as goal
 

@@ -1,7 +1,7 @@
 use Rattle.std.proofs.Common.{refl, ap, ◌∙◌, map}
 use Rattle.dpj_frames.specs.Names.{plain_value}
 use Rattle.dpj_elide.specs.States.{plain_level}
-use Rattle.dpj_elide.proofs.Taken.{map_drop}
+use Rattle.dpj_frames.proofs.Dropped.{map_drop}
 use Rattle.dpj_elide.proofs.walker.Walker.discard.Goals as goal
 
 pub returns : goal.returns

@@ -7,7 +7,7 @@ use Rattle.dpj_meaning.specs.Statements.{iterations}
 use Rattle.dpj_frames.specs.Names.{plain_value}
 use Rattle.dpj_walk.specs.Walk.{forks_at, without}
 use Rattle.dpj_elide.specs.States.{ComesTo, plain_level, plain_waiting}
-use Rattle.dpj_elide.proofs.Taken.{map_drop}
+use Rattle.dpj_frames.proofs.Dropped.{map_drop}
 use Rattle.dpj_elide.proofs.walker.Walker.iterate.Goals as goal
 
 pub returns : goal.returns

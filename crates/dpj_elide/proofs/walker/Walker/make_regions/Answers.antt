@@ -6,7 +6,7 @@ use Rattle.dpj_store.specs.Stores.{Holds, with_region}
 use Rattle.dpj_elide.specs.States.{IsOverAt, StandsAt, plain_item, plain_level, plain_waiting}
 use Rattle.dpj_elide.proofs.Halting.{refused}
 use Rattle.dpj_elide.proofs.Making.{makes_from, makes_over, next_made, next_number}
-use Rattle.dpj_elide.proofs.Taken.{drop_all}
+use Rattle.dpj_frames.proofs.Dropped.{drop_all}
 use Rattle.dpj_elide.proofs.walker.Walker.make_regions.Goals as goal
 
 pub loop-region-preserved : goal.loop-region-preserved

@@ -2,7 +2,7 @@ use Rattle.std.proofs.Common.{sym, ap, arith, ◌∙◌, Some}
 use Rattle.std.proofs.lemmas.List.{length-map}
 use Rattle.std.proofs.lemmas.Result.{IfOk-weaker}
 use Rattle.dpj_code.specs.Plain.{plain_code}
-use Rattle.dpj_legs.specs.Names.{plain_value}
+use Rattle.dpj_frames.specs.Names.{plain_value}
 use Rattle.dpj_legs.proofs.BySite.{create_short, create_makes}
 use Rattle.dpj_legs.proofs.task.Level.create.Goals as goal
 

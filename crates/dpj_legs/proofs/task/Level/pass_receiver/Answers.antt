@@ -1,5 +1,5 @@
 use Rattle.std.proofs.Common.{suc, ap, ◌∙◌}
-use Rattle.dpj_legs.specs.Names.{plain_value}
+use Rattle.dpj_frames.specs.Names.{plain_value}
 use Rattle.dpj_legs.specs.Tasks.{plain_level}
 use Rattle.dpj_legs.proofs.Dropped.{without_receiver}
 use Rattle.dpj_legs.proofs.task.Level.pass_receiver.Goals as goal

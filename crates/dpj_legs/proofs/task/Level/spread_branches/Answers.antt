@@ -5,7 +5,7 @@ use Rattle.std.proofs.lemmas.Int.{to_z-of_z}
 use Rattle.std.specs.Int.{w32}
 use Rattle.dpj_meaning.specs.Counts.{how_many}
 use Rattle.dpj_legs.specs.Branches.{spread_starts}
-use Rattle.dpj_legs.specs.Names.{plain_value}
+use Rattle.dpj_frames.specs.Names.{plain_value}
 use Rattle.dpj_legs.specs.Tasks.{plain_frame}
 use Rattle.dpj_legs.proofs.Starting.{spread_count}
 use Rattle.dpj_legs.proofs.task.Level.spread_branches.Goals as goal

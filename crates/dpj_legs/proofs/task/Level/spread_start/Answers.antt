@@ -6,7 +6,7 @@ use Rattle.std.specs.Int.{w32, int_wrapping_add, int_wrapping_sub}
 use Rattle.dpj_meaning.specs.Counts.{number, how_many}
 use Rattle.dpj_meaning.specs.Values.{Int}
 use Rattle.dpj_legs.specs.Branches.{spread_starts}
-use Rattle.dpj_legs.specs.Names.{plain_value}
+use Rattle.dpj_frames.specs.Names.{plain_value}
 use Rattle.dpj_legs.specs.Tasks.{plain_frame}
 use Rattle.dpj_legs.proofs.Starting.{numbered_there, spread_there, spread_count}
 use Rattle.dpj_legs.proofs.task.Level.spread_start.Goals as goal
@@ -29,5 +29,5 @@ returns c =
     ∙ spread_there c.args.body c.args.slot c.args.branch (plain_frame c.args.self.now.frame) (plain_value c.in-Some.left) (plain_value c.in-Some.next) (plain_value c.in-Some.total)
     (map plain_value (drop 3 c.args.self.now.stack)) (omega (arith, h, k))
     ∙ ap (λ f. Some (record { body = c.args.body; frame = f })) (numbered_there c.in_ok-frame.frame (plain_frame c.args.self.now.frame) (map plain_value c.set_slot.new.values) c.args.slot c.args.branch
-    (int_wrapping_sub w32 (number (plain_value c.in-Some.next)) (pos (how_many (number (plain_value c.in-Some.total)) - how_many (number (plain_value c.in-Some.left))))) c.in_ok-frame.ensures
+    (int_wrapping_sub w32 (number (plain_value c.in-Some.next)) (pos (how_many (number (plain_value c.in-Some.total)) - how_many (number (plain_value c.in-Some.left))))) (ap plain_frame c.in_ok-frame.ensures)
     (is_set ∙ ap (λ k. slice_set (map plain_value c.in_ok-frame.frame.values) c.args.slot (Int k)) (added ∙ ap (λ z. int_wrapping_add w32 z (pos c.args.branch)) c.first_number-first.ensures.first)))

@@ -1,4 +1,0 @@
-use Rattle.dpj_legs.proofs.classes.handed_up.Goals as goal
-
-pub returns : goal.returns
-returns c = rw (c.new.ensures, c.new-2.ensures) at c.concrete_all.ensures

@@ -1,9 +1,0 @@
-use Rattle.std.proofs.Common.{◌≡◌, map, take}
-use Rattle.dpj_meaning.specs.Regions.{around, concrete}
-use Rattle.dpj_legs.specs.Names.{names_of, plain_region}
-use Rattle.dpj_legs.specs.Tasks.{plain_frame}
-use Rattle.dpj_legs.proofs.regions.concrete_all.Given as goal
-
-abbrev pub invariant-loop-path : goal.invariant-loop-path
-invariant-loop-path l =
-    map plain_region l.regions ≡ map (concrete (names_of 0) (around (plain_frame l.frame))) (take l.path-index l.path-items)
