@@ -14,7 +14,7 @@ use Rattle.dpj_meaning.specs.Values.{An_array}
 use Rattle.dpj_meaning.specs.Values.{Region as Regions}
 use Rattle.dpj_code.specs.declared.code.Site.{Site}
 use Rattle.dpj_code.specs.declared.code.Site.TheVariants as site
-use Rattle.dpj_code.specs.Machine.{State, Stand, Waits, Stuck, one, next, unless_null, unless_long, calls, creates, called, created, first_value, array_of, makes_array}
+use Rattle.dpj_code.specs.Machine.{State, Waits, Stuck, one, next, unless_null, unless_long, calls, creates, called, created, first_value, array_of, makes_array}
 use Rattle.dpj_code.specs.Plain.{PlainCode, plain_site, constructor_of}
 use Rattle.dpj_legs.specs.declared.action.Action.TheVariants as action
 use Rattle.dpj_legs.specs.declared.step.Step.{Step}
