@@ -14,7 +14,7 @@ use Rattle.dpj_meaning.specs.Values.{An_array}
 use Rattle.dpj_meaning.specs.Values.{Region as Regions}
 use Rattle.dpj_code.specs.declared.code.Site.{Site}
 use Rattle.dpj_code.specs.declared.code.Site.TheVariants as site
-use Rattle.dpj_code.specs.Machine.{State, Stand, Waits, Stuck, one, next, unless_null, unless_long, calls, creates, called, created, first_value, array_of, makes_array}
+use Rattle.dpj_code.specs.Machine.{State, Waits, Stuck, one, next, unless_null, unless_long, calls, creates, called, created, first_value, array_of, makes_array}
 use Rattle.dpj_code.specs.Plain.{PlainCode, plain_site, constructor_of}
 use Rattle.dpj_legs.specs.declared.action.Action.TheVariants as action
 use Rattle.dpj_legs.specs.declared.step.Step.{Step}
@@ -67,15 +67,18 @@ module _ (C : PlainCode) (at : Place) (sites : List Site) (i : ℕ) (g : Level) 
       → Acts C (λ names fs. makes_array names at (slice_get (map plain_site sites) i) (plain_level g) fs) g (step.Waits (action.NewArray made k u))
   array_made region first v u rest made k e stack len is value short task fs =
       let there : Regions (ℕ × ℕ) = concrete (names_of task) (around (plain_frame g.frame)) region in
-      let on : meaning.Answer ℕ (ℕ × ℕ) → State ℕ (ℕ × ℕ) = λ a. next (plain_level g) (name_made a ∷ map plain_value rest) (map plain_level fs) in
-      (record {
-        does = Do (New (An_array (plain_region made) k (plain_value u)) false);
-        then_on = on;
-        waits = ap (λ o. makes_array (names_of task) at o (plain_level g) (map plain_level fs)) (site_found sites i (site.Array region first) e)
-            ∙ ap (λ st. one (map plain_value st) (λ w more. array_of at there first (number w) (plain_level g) more (map plain_level fs))) stack
-            ∙ ap (λ z. array_of at there first z (plain_level g) (map plain_value rest) (map plain_level fs)) len
-            ∙ ap (λ r. unless_long (is_long r) at (Waits (Do (New (An_array r k (first_value first)) false)) on)) (sym is)
-            ∙ ap (λ b. unless_long b at (Waits (Do (New (An_array (plain_region made) k (first_value first)) false)) on)) short
-            ∙ ap (λ y. Waits (Do (New (An_array (plain_region made) k y) false)) on) (sym value);
-        says = refl;
-      }, refl, refl)
+      let on : meaning.Answer ℕ (ℕ × ℕ) → State ℕ (ℕ × ℕ) = λ a. next (plain_level g) (name_made a ∷ map plain_value rest) (map plain_level fs) in (
+        record {
+          does = Do (New (An_array (plain_region made) k (plain_value u)) false);
+          then_on = on;
+          waits = ap (λ o. makes_array (names_of task) at o (plain_level g) (map plain_level fs)) (site_found sites i (site.Array region first) e)
+              ∙ ap (λ st. one (map plain_value st) (λ w more. array_of at there first (number w) (plain_level g) more (map plain_level fs))) stack
+              ∙ ap (λ z. array_of at there first z (plain_level g) (map plain_value rest) (map plain_level fs)) len
+              ∙ ap (λ r. unless_long (is_long r) at (Waits (Do (New (An_array r k (first_value first)) false)) on)) (sym is)
+              ∙ ap (λ b. unless_long b at (Waits (Do (New (An_array (plain_region made) k (first_value first)) false)) on)) short
+              ∙ ap (λ y. Waits (Do (New (An_array (plain_region made) k y) false)) on) (sym value);
+          says = refl;
+        },
+        refl,
+        refl,
+      )
