@@ -1,10 +1,11 @@
 ghost use Rattle.std.specs.Option.{option_copied};
 ghost use Rattle.std.specs.Prelude.{◌≡◌, true, false, Some, Ok, Err, map, OnOk, IsTrue};
 ghost use Rattle.dpj_tree.specs.Plain.{plain_expr, plain_exprs};
+ghost use Rattle.dpj_exprs.specs.declared.found.Found.{Found};
 ghost use Rattle.dpj_exprs.specs.Answer.{gives, refused, Says};
 ghost use Rattle.dpj_exprs.specs.Env.{local_of};
 ghost use Rattle.dpj_exprs.specs.Locals.{local_typed, measured};
-ghost use Rattle.dpj_exprs.specs.Shape.{form_of, is_access, is_operation, is_leaf};
+ghost use Rattle.dpj_exprs.specs.Shape.{form_of, is_binary, is_element, is_field, is_invocation, is_leaf, is_operation};
 ghost use Rattle.dpj_exprs.specs.Typed.{plain_node, plain_typed};
 ghost use Rattle.dpj_exprs.specs.Typing.{all_give, one_refused, leaf_typed, Typing, TypingAll};
 
@@ -25,8 +26,28 @@ use dpj_typed::{Expr, ExprForm};
 use std::alloc::Global;
 
 /// The typed expression that an expression gives. Its effects are added to those that were found.
+///
+/// A function has room for the locals of all its arms, and fills it at each call, so each arm that needs much is a
+/// function of its own.
 #[cycle(exprs)]
 pub fn expr(alloc: Global, env: &Env, found: &mut Found, e: &Tree) -> Result<Typed, Stop>
+    ensures answer { Says result (λ given. gives (plain_typed given) found.new) refused (Typing env.now (plain_expr e.now) found.old) }
+    ensures nd { OnOk result (IsTrue found.old.reaches_nd → IsTrue found.new.reaches_nd) }
+{
+    match &e.kind {
+        ExprKind::Field { .. } => field(alloc, env, found, e),
+        ExprKind::Element { .. } => element(alloc, env, found, e),
+        ExprKind::Binary { .. } => two_operands(alloc, env, found, e),
+        ExprKind::Unary { .. } | ExprKind::NewArray { .. } => operation(alloc, env, found, e),
+        ExprKind::Call { .. } | ExprKind::New { .. } => invocation(alloc, env, found, e),
+        _ => single(alloc, env, e),
+    }
+}
+
+/// A read of a field.
+#[cycle(exprs)]
+fn field(alloc: Global, env: &Env, found: &mut Found, e: &Tree) -> Result<Typed, Stop>
+    requires { is_field (form_of (plain_expr e.now)) ≡ true }
     ensures answer { Says result (λ given. gives (plain_typed given) found.new) refused (Typing env.now (plain_expr e.now) found.old) }
     ensures nd { OnOk result (IsTrue found.old.reaches_nd → IsTrue found.new.reaches_nd) }
 {
@@ -38,6 +59,18 @@ pub fn expr(alloc: Global, env: &Env, found: &mut Found, e: &Tree) -> Result<Typ
                 read_field(alloc, env, found, of, *name, e.place)
             }
         },
+        _ => unreachable!(),
+    }
+}
+
+/// A read of an element.
+#[cycle(exprs)]
+fn element(alloc: Global, env: &Env, found: &mut Found, e: &Tree) -> Result<Typed, Stop>
+    requires { is_element (form_of (plain_expr e.now)) ≡ true }
+    ensures answer { Says result (λ given. gives (plain_typed given) found.new) refused (Typing env.now (plain_expr e.now) found.old) }
+    ensures nd { OnOk result (IsTrue found.old.reaches_nd → IsTrue found.new.reaches_nd) }
+{
+    match &e.kind {
         ExprKind::Element { array, index } => match env.part(array.get()) {
             Some(row) => {
                 let at = expr(alloc, env, found, index.get())?;
@@ -49,14 +82,31 @@ pub fn expr(alloc: Global, env: &Env, found: &mut Found, e: &Tree) -> Result<Typ
                 read_element(alloc, env, found, array, index.get(), at, e.place)
             }
         },
-        _ => operation(alloc, env, found, e),
+        _ => unreachable!(),
     }
 }
 
-/// An operation, or another expression that is no access.
+/// An operation of two operands.
+#[cycle(exprs)]
+fn two_operands(alloc: Global, env: &Env, found: &mut Found, e: &Tree) -> Result<Typed, Stop>
+    requires { is_binary (form_of (plain_expr e.now)) ≡ true }
+    ensures answer { Says result (λ given. gives (plain_typed given) found.new) refused (Typing env.now (plain_expr e.now) found.old) }
+    ensures nd { OnOk result (IsTrue found.old.reaches_nd → IsTrue found.new.reaches_nd) }
+{
+    match &e.kind {
+        ExprKind::Binary { op, left, right } => {
+            let left = expr(alloc, env, found, left.get())?;
+            let right = expr(alloc, env, found, right.get())?;
+            Ok(Typed::Known(binary(alloc, *op, left, right, e.place)?))
+        }
+        _ => unreachable!(),
+    }
+}
+
+/// An operation of one operand, or the creation of an array.
 #[cycle(exprs)]
 fn operation(alloc: Global, env: &Env, found: &mut Found, e: &Tree) -> Result<Typed, Stop>
-    requires { is_access (form_of (plain_expr e.now)) ≡ false }
+    requires { is_operation (form_of (plain_expr e.now)) ≡ true }
     ensures answer { Says result (λ given. gives (plain_typed given) found.new) refused (Typing env.now (plain_expr e.now) found.old) }
     ensures nd { OnOk result (IsTrue found.old.reaches_nd → IsTrue found.new.reaches_nd) }
 {
@@ -64,11 +114,6 @@ fn operation(alloc: Global, env: &Env, found: &mut Found, e: &Tree) -> Result<Ty
         ExprKind::Unary { op, arg } => {
             let arg = expr(alloc, env, found, arg.get())?;
             Ok(Typed::Known(unary(alloc, *op, arg, e.place)?))
-        }
-        ExprKind::Binary { op, left, right } => {
-            let left = expr(alloc, env, found, left.get())?;
-            let right = expr(alloc, env, found, right.get())?;
-            Ok(Typed::Known(binary(alloc, *op, left, right, e.place)?))
         }
         ExprKind::NewArray {
             base,
@@ -88,15 +133,14 @@ fn operation(alloc: Global, env: &Env, found: &mut Found, e: &Tree) -> Result<Ty
             let length = length.into_node(e.place);
             Ok(Typed::Known(nodes::create_array(alloc, e.place, ty, length)?))
         }
-        _ => invocation(alloc, env, found, e),
+        _ => unreachable!(),
     }
 }
 
-/// A call or the creation of an object, or an expression without expressions in it.
+/// A call or the creation of an object.
 #[cycle(exprs)]
 fn invocation(alloc: Global, env: &Env, found: &mut Found, e: &Tree) -> Result<Typed, Stop>
-    requires access { is_access (form_of (plain_expr e.now)) ≡ false }
-    requires operation { is_operation (form_of (plain_expr e.now)) ≡ false }
+    requires { is_invocation (form_of (plain_expr e.now)) ≡ true }
     ensures answer { Says result (λ given. gives (plain_typed given) found.new) refused (Typing env.now (plain_expr e.now) found.old) }
     ensures nd { OnOk result (IsTrue found.old.reaches_nd → IsTrue found.new.reaches_nd) }
 {
@@ -122,7 +166,7 @@ fn invocation(alloc: Global, env: &Env, found: &mut Found, e: &Tree) -> Result<T
             let made = creation(alloc, env, found, *class, regions, actuals, e.place)?;
             Ok(Typed::Known(made))
         }
-        _ => Ok(Typed::Known(leaf(alloc, env, e)?)),
+        _ => unreachable!(),
     }
 }
 
@@ -147,6 +191,17 @@ pub fn measured<'e>(env: &'e Env, of: &Tree, name: u32) -> Option<&'e LocalRow>
         env.part(of)
     } else {
         None
+    }
+}
+
+/// An expression without expressions in it.
+fn single(alloc: Global, env: &Env, e: &Tree) -> Result<Typed, Stop>
+    requires { is_leaf (form_of (plain_expr e.now)) ≡ true }
+    ensures { (found : Found) → Says result (λ given. gives (plain_typed given) found) refused (Typing env.now (plain_expr e.now) found) }
+{
+    match leaf(alloc, env, e) {
+        Ok(made) => Ok(Typed::Known(made)),
+        Err(stop) => Err(stop),
     }
 }
 

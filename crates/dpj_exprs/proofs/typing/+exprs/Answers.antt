@@ -19,59 +19,59 @@ use Rattle.dpj_exprs.proofs.Passing.{passed_on}
 use Rattle.dpj_exprs.proofs.Several.{one_so_far, one_stopped, all_so_far}
 use Rattle.dpj_exprs.proofs.typing.+exprs.Goals as goal
 
-pub expr-returns-in-Some-clause-answer : goal.expr-returns-in-Some-clause-answer
-expr-returns-in-Some-clause-answer t c =
+pub field-returns-in-Some-clause-answer : goal.field-returns-in-Some-clause-answer
+field-returns-in-Some-clause-answer t c =
     length_typed c.args.env.now c.args.e.now c.in-Field.of c.get.result.now c.in-Field.name c.in-Some.row.now c.args.found.now (plain_node c.part_length.result) c.in-Field.is c.get.ensures c.in-Some.ensures c.part_length.ensures
 
-pub expr-returns-in_err-of-in-None-clause-answer : goal.expr-returns-in_err-of-in-None-clause-answer
-expr-returns-in_err-of-in-None-clause-answer t c =
+pub field-returns-in_err-of-in-None-clause-answer : goal.field-returns-in_err-of-in-None-clause-answer
+field-returns-in_err-of-in-None-clause-answer t c =
     exits c.args.env.now c.args.e.now c.args.found.now _ (Refuses c.args.env.now c.get-in-None.result.now c.args.found.now)
     c.from_residual.result c.in_err-of-in-None.field-0.0 c.from_residual.ensures.1
     (λ q d. receiver_refused c.args.env.now c.args.e.now c.in-Field.of c.get.result.now c.get-in-None.result.now c.in-Field.name c.args.found.now q c.in-Field.is c.get.ensures c.in-None.ensures c.get-in-None.ensures d)
     c.in_err-of-in-None.ensures.answer
 
-pub expr-returns-in_ok-of-in-None-clause-answer : goal.expr-returns-in_ok-of-in-None-clause-answer
-expr-returns-in_ok-of-in-None-clause-answer t c =
+pub field-returns-in_ok-of-in-None-clause-answer : goal.field-returns-in_ok-of-in-None-clause-answer
+field-returns-in_ok-of-in-None-clause-answer t c =
     ends c.args.env.now c.args.e.now c.args.found.now _ (λ a. read_field c.args.env.now (plain_typed c.in_ok-of-in-None.of) c.in-Field.name c.args.e.now.place c.expr.new.found ≡ a) c.read_field.result
     (λ a d. field_typed c.args.env.now c.args.e.now c.in-Field.of c.get.result.now c.get-in-None.result.now c.in-Field.name c.args.found.now c.expr.new.found (plain_typed c.in_ok-of-in-None.of) a
     c.in-Field.is c.get.ensures c.in-None.ensures c.get-in-None.ensures c.in_ok-of-in-None.ensures.answer d)
     c.read_field.ensures.answer
 
-pub expr-returns-in_err-at-in-Some-part-clause-answer : goal.expr-returns-in_err-at-in-Some-part-clause-answer
-expr-returns-in_err-at-in-Some-part-clause-answer t c =
-    exits c.args.env.now c.args.e.now c.args.found.now _ (Refuses c.args.env.now c.get-in-Some-part.result.now c.args.found.now)
-    c.from_residual-in_err-at-in-Some-part.result c.in_err-at-in-Some-part.field-0.0 c.from_residual-in_err-at-in-Some-part.ensures.1
-    (λ q d. part_index_refused c.args.env.now c.args.e.now c.in-Element.array c.in-Element.index c.get-in-Element.result.now c.get-in-Some-part.result.now c.in-Some-part.row.now c.args.found.now q c.in-Element.is c.get-in-Element.ensures c.in-Some-part.ensures c.get-in-Some-part.ensures d)
-    c.in_err-at-in-Some-part.ensures.answer
+pub element-returns-in_err-at-in-Some-clause-answer : goal.element-returns-in_err-at-in-Some-clause-answer
+element-returns-in_err-at-in-Some-clause-answer t c =
+    exits c.args.env.now c.args.e.now c.args.found.now _ (Refuses c.args.env.now c.get-in-Some.result.now c.args.found.now)
+    c.from_residual.result c.in_err-at-in-Some.field-0.0 c.from_residual.ensures.1
+    (λ q d. part_index_refused c.args.env.now c.args.e.now c.in-Element.array c.in-Element.index c.get.result.now c.get-in-Some.result.now c.in-Some.row.now c.args.found.now q c.in-Element.is c.get.ensures c.in-Some.ensures c.get-in-Some.ensures d)
+    c.in_err-at-in-Some.ensures.answer
 
-pub expr-returns-in_ok-at-in-Some-part-clause-answer : goal.expr-returns-in_ok-at-in-Some-part-clause-answer
-expr-returns-in_ok-at-in-Some-part-clause-answer t c =
-    ends c.args.env.now c.args.e.now c.args.found.now _ (λ a. read_part c.in-Some-part.row.now (plain_typed c.in_ok-at-in-Some-part.at) c.args.e.now.place c.expr-in-Some-part.new.found ≡ a) c.read_part.result
-    (λ a d. part_element_typed c.args.env.now c.args.e.now c.in-Element.array c.in-Element.index c.get-in-Element.result.now c.get-in-Some-part.result.now c.in-Some-part.row.now c.args.found.now c.expr-in-Some-part.new.found (plain_typed c.in_ok-at-in-Some-part.at) a
-    c.in-Element.is c.get-in-Element.ensures c.in-Some-part.ensures c.get-in-Some-part.ensures c.in_ok-at-in-Some-part.ensures.answer d)
+pub element-returns-in_ok-at-in-Some-clause-answer : goal.element-returns-in_ok-at-in-Some-clause-answer
+element-returns-in_ok-at-in-Some-clause-answer t c =
+    ends c.args.env.now c.args.e.now c.args.found.now _ (λ a. read_part c.in-Some.row.now (plain_typed c.in_ok-at-in-Some.at) c.args.e.now.place c.expr.new.found ≡ a) c.read_part.result
+    (λ a d. part_element_typed c.args.env.now c.args.e.now c.in-Element.array c.in-Element.index c.get.result.now c.get-in-Some.result.now c.in-Some.row.now c.args.found.now c.expr.new.found (plain_typed c.in_ok-at-in-Some.at) a
+    c.in-Element.is c.get.ensures c.in-Some.ensures c.get-in-Some.ensures c.in_ok-at-in-Some.ensures.answer d)
     c.read_part.ensures.answer
 
-pub expr-returns-in_err-array-in-None-part-clause-answer : goal.expr-returns-in_err-array-in-None-part-clause-answer
-expr-returns-in_err-array-in-None-part-clause-answer t c =
-    exits c.args.env.now c.args.e.now c.args.found.now _ (Refuses c.args.env.now c.get-in-None-part.result.now c.args.found.now)
-    c.from_residual-in_err-array-in-None-part.result c.in_err-array-in-None-part.field-0.0 c.from_residual-in_err-array-in-None-part.ensures.1
-    (λ q d. array_refused c.args.env.now c.args.e.now c.in-Element.array c.in-Element.index c.get-in-Element.result.now c.get-in-None-part.result.now c.args.found.now q c.in-Element.is c.get-in-Element.ensures c.in-None-part.ensures c.get-in-None-part.ensures d)
-    c.in_err-array-in-None-part.ensures.answer
+pub element-returns-in_err-array-in-None-clause-answer : goal.element-returns-in_err-array-in-None-clause-answer
+element-returns-in_err-array-in-None-clause-answer t c =
+    exits c.args.env.now c.args.e.now c.args.found.now _ (Refuses c.args.env.now c.get-in-None.result.now c.args.found.now)
+    c.from_residual-in_err-array-in-None.result c.in_err-array-in-None.field-0.0 c.from_residual-in_err-array-in-None.ensures.1
+    (λ q d. array_refused c.args.env.now c.args.e.now c.in-Element.array c.in-Element.index c.get.result.now c.get-in-None.result.now c.args.found.now q c.in-Element.is c.get.ensures c.in-None.ensures c.get-in-None.ensures d)
+    c.in_err-array-in-None.ensures.answer
 
-pub expr-returns-in_err-at-in-None-part-clause-answer : goal.expr-returns-in_err-at-in-None-part-clause-answer
-expr-returns-in_err-at-in-None-part-clause-answer t c =
-    exits c.args.env.now c.args.e.now c.args.found.now _ (Refuses c.args.env.now c.get-in-None-part-2.result.now c.expr-in-None-part.new.found)
-    c.from_residual-in_err-at-in-None-part.result c.in_err-at-in-None-part.field-0.0 c.from_residual-in_err-at-in-None-part.ensures.1
-    (λ q d. index_refused c.args.env.now c.args.e.now c.in-Element.array c.in-Element.index c.get-in-Element.result.now c.get-in-None-part.result.now c.get-in-None-part-2.result.now c.args.found.now c.expr-in-None-part.new.found (plain_typed c.in_ok-array-in-None-part.array) q
-    c.in-Element.is c.get-in-Element.ensures c.in-None-part.ensures c.get-in-None-part.ensures c.get-in-None-part-2.ensures c.in_ok-array-in-None-part.ensures.answer d)
-    c.in_err-at-in-None-part.ensures.answer
+pub element-returns-in_err-at-in-None-clause-answer : goal.element-returns-in_err-at-in-None-clause-answer
+element-returns-in_err-at-in-None-clause-answer t c =
+    exits c.args.env.now c.args.e.now c.args.found.now _ (Refuses c.args.env.now c.get-in-None-2.result.now c.expr-in-None.new.found)
+    c.from_residual-in_err-at-in-None.result c.in_err-at-in-None.field-0.0 c.from_residual-in_err-at-in-None.ensures.1
+    (λ q d. index_refused c.args.env.now c.args.e.now c.in-Element.array c.in-Element.index c.get.result.now c.get-in-None.result.now c.get-in-None-2.result.now c.args.found.now c.expr-in-None.new.found (plain_typed c.in_ok-array-in-None.array) q
+    c.in-Element.is c.get.ensures c.in-None.ensures c.get-in-None.ensures c.get-in-None-2.ensures c.in_ok-array-in-None.ensures.answer d)
+    c.in_err-at-in-None.ensures.answer
 
-pub expr-returns-in_ok-at-in-None-part-clause-answer : goal.expr-returns-in_ok-at-in-None-part-clause-answer
-expr-returns-in_ok-at-in-None-part-clause-answer t c =
-    ends c.args.env.now c.args.e.now c.args.found.now _ (λ a. read_element c.args.env.now (plain_typed c.in_ok-array-in-None-part.array) (plain_expr c.get-in-None-part-3.result.now) (plain_typed c.in_ok-at-in-None-part.at) c.args.e.now.place c.expr-in-None-part-2.new.found ≡ a) c.read_element.result
-    (λ a d. element_typed c.args.env.now c.args.e.now c.in-Element.array c.in-Element.index c.get-in-Element.result.now c.get-in-None-part.result.now c.get-in-None-part-2.result.now c.get-in-None-part-3.result.now c.args.found.now c.expr-in-None-part.new.found c.expr-in-None-part-2.new.found
-    (plain_typed c.in_ok-array-in-None-part.array) (plain_typed c.in_ok-at-in-None-part.at) a c.in-Element.is c.get-in-Element.ensures c.in-None-part.ensures c.get-in-None-part.ensures c.get-in-None-part-2.ensures c.get-in-None-part-3.ensures
-    c.in_ok-array-in-None-part.ensures.answer c.in_ok-at-in-None-part.ensures.answer d)
+pub element-returns-in_ok-at-in-None-clause-answer : goal.element-returns-in_ok-at-in-None-clause-answer
+element-returns-in_ok-at-in-None-clause-answer t c =
+    ends c.args.env.now c.args.e.now c.args.found.now _ (λ a. read_element c.args.env.now (plain_typed c.in_ok-array-in-None.array) (plain_expr c.get-in-None-3.result.now) (plain_typed c.in_ok-at-in-None.at) c.args.e.now.place c.expr-in-None-2.new.found ≡ a) c.read_element.result
+    (λ a d. element_typed c.args.env.now c.args.e.now c.in-Element.array c.in-Element.index c.get.result.now c.get-in-None.result.now c.get-in-None-2.result.now c.get-in-None-3.result.now c.args.found.now c.expr-in-None.new.found c.expr-in-None-2.new.found
+    (plain_typed c.in_ok-array-in-None.array) (plain_typed c.in_ok-at-in-None.at) a c.in-Element.is c.get.ensures c.in-None.ensures c.get-in-None.ensures c.get-in-None-2.ensures c.get-in-None-3.ensures
+    c.in_ok-array-in-None.ensures.answer c.in_ok-at-in-None.ensures.answer d)
     c.read_element.ensures.answer
 
 pub exprs-returns-in_err-expr-clause-answer : goal.exprs-returns-in_err-expr-clause-answer
@@ -151,17 +151,6 @@ invocation-returns-in_ok-made-in-New-clause-answer t c =
     c.args.found.now c.exprs-in-New.new.found c.in_ok-regions-in-New.regions (gives (Some (plain_node c.in_ok-made-in-New.made)) c.creation.new.found) c.in-New.is c.as_slice-in-New.ensures c.as_slice-in-New-2.ensures refl
     c.in_ok-regions-in-New.ensures.read c.in_ok-regions-in-New.ensures.told c.in_ok-actuals-in-New.ensures.answer c.in_ok-made-in-New.ensures.answer
 
-pub invocation-returns-in_err-leaf-in_default-clause-answer : goal.invocation-returns-in_err-leaf-in_default-clause-answer
-invocation-returns-in_err-leaf-in_default-clause-answer t c =
-    exits c.args.env.now c.args.e.now c.args.found.now _ (λ q. leaf_typed c.args.env.now c.args.e.now.place (form_of (plain_expr c.args.e.now)) ≡ Some (Err q))
-    c.from_residual-in_err-leaf-in_default.result c.in_err-leaf-in_default.field-0.0 c.from_residual-in_err-leaf-in_default.ensures.1
-    (λ q d. leaf_given c.args.env.now c.args.e.now c.args.found.now (Err q) d)
-    c.in_err-leaf-in_default.ensures
-
-pub invocation-returns-in_ok-leaf-in_default-clause-answer : goal.invocation-returns-in_ok-leaf-in_default-clause-answer
-invocation-returns-in_ok-leaf-in_default-clause-answer t c =
-    leaf_given c.args.env.now c.args.e.now c.args.found.now (Ok (plain_node c.in_ok-leaf-in_default.field-0)) c.in_ok-leaf-in_default.ensures
-
 pub operation-returns-in_err-arg-in-Unary-clause-answer : goal.operation-returns-in_err-arg-in-Unary-clause-answer
 operation-returns-in_err-arg-in-Unary-clause-answer t c =
     exits c.args.env.now c.args.e.now c.args.found.now _ (Refuses c.args.env.now c.get.result.now c.args.found.now)
@@ -180,34 +169,34 @@ pub operation-returns-in_ok-unary-in-Unary-clause-answer : goal.operation-return
 operation-returns-in_ok-unary-in-Unary-clause-answer t c =
     operation_typed c.args.env.now c.args.e.now c.in-Unary.arg c.get.result.now c.in-Unary.op c.args.found.now c.expr.new.found (plain_typed c.in_ok-arg-in-Unary.arg) (Ok (plain_node c.in_ok-unary-in-Unary.field-0)) c.in-Unary.is c.get.ensures c.in_ok-arg-in-Unary.ensures.answer c.in_ok-unary-in-Unary.ensures
 
-pub operation-returns-in_err-left-in-Binary-clause-answer : goal.operation-returns-in_err-left-in-Binary-clause-answer
-operation-returns-in_err-left-in-Binary-clause-answer t c =
-    exits c.args.env.now c.args.e.now c.args.found.now _ (Refuses c.args.env.now c.get-in-Binary.result.now c.args.found.now)
-    c.from_residual-in_err-left-in-Binary.result c.in_err-left-in-Binary.field-0.0 c.from_residual-in_err-left-in-Binary.ensures.1
-    (λ q d. left_refused c.args.env.now c.args.e.now c.in-Binary.left c.in-Binary.right c.get-in-Binary.result.now c.in-Binary.op c.args.found.now q c.in-Binary.is c.get-in-Binary.ensures d)
+pub two_operands-returns-in_err-left-in-Binary-clause-answer : goal.two_operands-returns-in_err-left-in-Binary-clause-answer
+two_operands-returns-in_err-left-in-Binary-clause-answer t c =
+    exits c.args.env.now c.args.e.now c.args.found.now _ (Refuses c.args.env.now c.get.result.now c.args.found.now)
+    c.from_residual.result c.in_err-left-in-Binary.field-0.0 c.from_residual.ensures.1
+    (λ q d. left_refused c.args.env.now c.args.e.now c.in-Binary.left c.in-Binary.right c.get.result.now c.in-Binary.op c.args.found.now q c.in-Binary.is c.get.ensures d)
     c.in_err-left-in-Binary.ensures.answer
 
-pub operation-returns-in_err-right-in-Binary-clause-answer : goal.operation-returns-in_err-right-in-Binary-clause-answer
-operation-returns-in_err-right-in-Binary-clause-answer t c =
-    exits c.args.env.now c.args.e.now c.args.found.now _ (Refuses c.args.env.now c.get-in-Binary-2.result.now c.expr-in-Binary.new.found)
+pub two_operands-returns-in_err-right-in-Binary-clause-answer : goal.two_operands-returns-in_err-right-in-Binary-clause-answer
+two_operands-returns-in_err-right-in-Binary-clause-answer t c =
+    exits c.args.env.now c.args.e.now c.args.found.now _ (Refuses c.args.env.now c.get-in-Binary.result.now c.expr.new.found)
     c.from_residual-in_err-right-in-Binary.result c.in_err-right-in-Binary.field-0.0 c.from_residual-in_err-right-in-Binary.ensures.1
-    (λ q d. right_refused c.args.env.now c.args.e.now c.in-Binary.left c.in-Binary.right c.get-in-Binary.result.now c.get-in-Binary-2.result.now c.in-Binary.op c.args.found.now c.expr-in-Binary.new.found (plain_typed c.in_ok-left-in-Binary.left) q
-    c.in-Binary.is c.get-in-Binary.ensures c.get-in-Binary-2.ensures c.in_ok-left-in-Binary.ensures.answer d)
+    (λ q d. right_refused c.args.env.now c.args.e.now c.in-Binary.left c.in-Binary.right c.get.result.now c.get-in-Binary.result.now c.in-Binary.op c.args.found.now c.expr.new.found (plain_typed c.in_ok-left-in-Binary.left) q
+    c.in-Binary.is c.get.ensures c.get-in-Binary.ensures c.in_ok-left-in-Binary.ensures.answer d)
     c.in_err-right-in-Binary.ensures.answer
 
-pub operation-returns-in_err-binary-in-Binary-clause-answer : goal.operation-returns-in_err-binary-in-Binary-clause-answer
-operation-returns-in_err-binary-in-Binary-clause-answer t c =
+pub two_operands-returns-in_err-binary-in-Binary-clause-answer : goal.two_operands-returns-in_err-binary-in-Binary-clause-answer
+two_operands-returns-in_err-binary-in-Binary-clause-answer t c =
     exits c.args.env.now c.args.e.now c.args.found.now _ (λ q. binary_typed c.in-Binary.op (plain_typed c.in_ok-left-in-Binary.left) (plain_typed c.in_ok-right-in-Binary.right) c.args.e.now.place ≡ Err q)
     c.from_residual-in_err-binary-in-Binary.result c.in_err-binary-in-Binary.field-0.0 c.from_residual-in_err-binary-in-Binary.ensures.1
-    (λ q d. operations_typed c.args.env.now c.args.e.now c.in-Binary.left c.in-Binary.right c.get-in-Binary.result.now c.get-in-Binary-2.result.now c.in-Binary.op c.args.found.now c.expr-in-Binary.new.found c.expr-in-Binary-2.new.found
-    (plain_typed c.in_ok-left-in-Binary.left) (plain_typed c.in_ok-right-in-Binary.right) (Err q) c.in-Binary.is c.get-in-Binary.ensures c.get-in-Binary-2.ensures
+    (λ q d. operations_typed c.args.env.now c.args.e.now c.in-Binary.left c.in-Binary.right c.get.result.now c.get-in-Binary.result.now c.in-Binary.op c.args.found.now c.expr.new.found c.expr-in-Binary.new.found
+    (plain_typed c.in_ok-left-in-Binary.left) (plain_typed c.in_ok-right-in-Binary.right) (Err q) c.in-Binary.is c.get.ensures c.get-in-Binary.ensures
     c.in_ok-left-in-Binary.ensures.answer c.in_ok-right-in-Binary.ensures.answer d)
     c.in_err-binary-in-Binary.ensures
 
-pub operation-returns-in_ok-binary-in-Binary-clause-answer : goal.operation-returns-in_ok-binary-in-Binary-clause-answer
-operation-returns-in_ok-binary-in-Binary-clause-answer t c =
-    operations_typed c.args.env.now c.args.e.now c.in-Binary.left c.in-Binary.right c.get-in-Binary.result.now c.get-in-Binary-2.result.now c.in-Binary.op c.args.found.now c.expr-in-Binary.new.found c.expr-in-Binary-2.new.found
-    (plain_typed c.in_ok-left-in-Binary.left) (plain_typed c.in_ok-right-in-Binary.right) (Ok (plain_node c.in_ok-binary-in-Binary.field-0)) c.in-Binary.is c.get-in-Binary.ensures c.get-in-Binary-2.ensures
+pub two_operands-returns-in_ok-binary-in-Binary-clause-answer : goal.two_operands-returns-in_ok-binary-in-Binary-clause-answer
+two_operands-returns-in_ok-binary-in-Binary-clause-answer t c =
+    operations_typed c.args.env.now c.args.e.now c.in-Binary.left c.in-Binary.right c.get.result.now c.get-in-Binary.result.now c.in-Binary.op c.args.found.now c.expr.new.found c.expr-in-Binary.new.found
+    (plain_typed c.in_ok-left-in-Binary.left) (plain_typed c.in_ok-right-in-Binary.right) (Ok (plain_node c.in_ok-binary-in-Binary.field-0)) c.in-Binary.is c.get.ensures c.get-in-Binary.ensures
     c.in_ok-left-in-Binary.ensures.answer c.in_ok-right-in-Binary.ensures.answer c.in_ok-binary-in-Binary.ensures
 
 pub operation-returns-in_err-read-in-NewArray-clause-answer : goal.operation-returns-in_err-read-in-NewArray-clause-answer
