@@ -27,7 +27,7 @@ fn made(place: Place, kind: StmtKind) -> Stmt
 }
 
 /// `Stmt`
-#[tactic(auto, using(crate::proofs::Stating::stmt_form, crate::proofs::Stating::stmt_stays, crate::proofs::StmtParts::of_stmt))]
+#[tactic(auto, using(crate::proofs::StmtParts::of_stmt))]
 #[cycle(stmts)]
 fn stmt(alloc: Global, cursor: &mut Cursor) -> Result<Stmt, Stop>
     ensures moves { OnOk result (Reads cursor.old cursor.new) }
@@ -37,38 +37,84 @@ fn stmt(alloc: Global, cursor: &mut Cursor) -> Result<Stmt, Stop>
 {
     let outer = cursor.joined;
     cursor.joined = 0;
-    let place = cursor.place();
-    let stmt = match form(alloc, cursor)? {
-        Some(kind) => made(place, kind),
-        None => simple(alloc, cursor)?,
-    };
+    let stmt = begun(alloc, cursor)?;
     cursor.joined = outer;
     Ok(stmt)
 }
 
-/// A statement that holds other ones, but for its place; None where one begins that holds none.
-#[tactic(auto, using(crate::proofs::Stating::block_form, crate::proofs::StmtParts::of_begin))]
+/// A statement that counts anew. One that holds no other is read without the room for those that do.
 #[cycle(stmts)]
-fn form(alloc: Global, cursor: &mut Cursor) -> Result<Option<StmtKind>, Stop>
-    ensures moves { IfOk result (λ found. MatchOption found (cursor.new ≡ cursor.old) (λ kind. Reads cursor.old cursor.new)) }
-    ensures reads { IfOk result (λ found. IfSome found (λ kind. Reading (stmt_begins cursor.old.rest.now) cursor.old cursor.new)) }
-    ensures alone { IfOk result (λ found. found ≡ None → next_is holds_others (next_of cursor.old.rest.now) ≡ false) }
+fn begun(alloc: Global, cursor: &mut Cursor) -> Result<Stmt, Stop>
+    requires { cursor.old.joined ≡ 0 }
+    ensures moves { OnOk result (Reads cursor.old cursor.new) }
+    ensures reads { OnOk result (Completed (stmt_begins cursor.old.rest.now) cursor.old cursor.new) }
     ensures stops { IfErr result (λ stop. StopsAt (stmt_begins cursor.old.rest.now) cursor.old stop) }
-    ensures derives { IfOk result (λ found. IfSome found (λ kind. DerivesForm cursor.old.rest.now cursor.new.rest.now (plain_stmt_kind kind))) }
+    ensures derives { IfOk result (λ s. DerivesStmt cursor.old.rest.now cursor.new.rest.now (plain_stmt s)) }
+{
+    if holds_others(cursor) {
+        return compound(alloc, cursor);
+    }
+    simple(alloc, cursor)
+}
+
+/// Whether a statement begins that holds other ones.
+fn holds_others(cursor: &Cursor) -> bool
+    ensures { result ≡ next_is holds_others (next_of cursor.now.rest.now) }
 {
     match cursor.next() {
-        Some(Terminal::Symbol(Symbol::OpenBrace)) => {
-            Ok(Some(StmtKind::Block(block(alloc, cursor)?)))
-        }
-        Some(Terminal::Keyword(Keyword::If)) => Ok(Some(choice(alloc, cursor)?)),
-        Some(Terminal::Keyword(Keyword::While)) => Ok(Some(while_loop(alloc, cursor)?)),
-        Some(Terminal::Keyword(Keyword::Cobegin)) => Ok(Some(cobegin(alloc, cursor, false)?)),
-        Some(Terminal::Keyword(Keyword::CobeginNd)) => Ok(Some(cobegin(alloc, cursor, true)?)),
-        Some(Terminal::Keyword(Keyword::Foreach)) => Ok(Some(foreach(alloc, cursor, false)?)),
-        Some(Terminal::Keyword(Keyword::ForeachNd)) => Ok(Some(foreach(alloc, cursor, true)?)),
-        Some(Terminal::Keyword(Keyword::ForeachParts)) => Ok(Some(foreach_parts(alloc, cursor)?)),
-        Some(Terminal::Keyword(Keyword::Atomic)) => Ok(Some(atomic(alloc, cursor)?)),
-        _ => Ok(None),
+        Some(Terminal::Symbol(Symbol::OpenBrace)) => true,
+        Some(
+            Terminal::Keyword(
+                Keyword::If
+                | Keyword::While
+                | Keyword::Cobegin
+                | Keyword::CobeginNd
+                | Keyword::Foreach
+                | Keyword::ForeachNd
+                | Keyword::ForeachParts
+                | Keyword::Atomic,
+            ),
+        ) => true,
+        _ => false,
+    }
+}
+
+/// A statement that holds other ones.
+#[tactic(auto, using(crate::proofs::Stating::stmt_form))]
+#[cycle(stmts)]
+fn compound(alloc: Global, cursor: &mut Cursor) -> Result<Stmt, Stop>
+    requires { next_is holds_others (next_of cursor.old.rest.now) ≡ true }
+    ensures moves { OnOk result (Reads cursor.old cursor.new) }
+    ensures reads { OnOk result (Completed (stmt_begins cursor.old.rest.now) cursor.old cursor.new) }
+    ensures stops { IfErr result (λ stop. StopsAt (stmt_begins cursor.old.rest.now) cursor.old stop) }
+    ensures derives { IfOk result (λ s. DerivesStmt cursor.old.rest.now cursor.new.rest.now (plain_stmt s)) }
+{
+    let place = cursor.place();
+    let kind = form(alloc, cursor)?;
+    Ok(made(place, kind))
+}
+
+/// A statement that holds other ones, but for its place.
+#[tactic(auto, using(crate::proofs::Stating::block_form, crate::proofs::StmtParts::of_begin))]
+#[cycle(stmts)]
+fn form(alloc: Global, cursor: &mut Cursor) -> Result<StmtKind, Stop>
+    requires { next_is holds_others (next_of cursor.old.rest.now) ≡ true }
+    ensures moves { OnOk result (Reads cursor.old cursor.new) }
+    ensures reads { OnOk result (Reading (stmt_begins cursor.old.rest.now) cursor.old cursor.new) }
+    ensures stops { IfErr result (λ stop. StopsAt (stmt_begins cursor.old.rest.now) cursor.old stop) }
+    ensures derives { IfOk result (λ kind. DerivesForm cursor.old.rest.now cursor.new.rest.now (plain_stmt_kind kind)) }
+{
+    match cursor.next() {
+        Some(Terminal::Symbol(Symbol::OpenBrace)) => Ok(StmtKind::Block(block(alloc, cursor)?)),
+        Some(Terminal::Keyword(Keyword::If)) => choice(alloc, cursor),
+        Some(Terminal::Keyword(Keyword::While)) => while_loop(alloc, cursor),
+        Some(Terminal::Keyword(Keyword::Cobegin)) => cobegin(alloc, cursor, false),
+        Some(Terminal::Keyword(Keyword::CobeginNd)) => cobegin(alloc, cursor, true),
+        Some(Terminal::Keyword(Keyword::Foreach)) => foreach(alloc, cursor, false),
+        Some(Terminal::Keyword(Keyword::ForeachNd)) => foreach(alloc, cursor, true),
+        Some(Terminal::Keyword(Keyword::ForeachParts)) => foreach_parts(alloc, cursor),
+        Some(Terminal::Keyword(Keyword::Atomic)) => atomic(alloc, cursor),
+        _ => unreachable!(),
     }
 }
 
