@@ -1,6 +1,8 @@
 -- Which statements complete.
 use Rattle.std.specs.Prelude.{Bool, true, false, ◌&&◌, ◌||◌}
 use Rattle.dpj_tree.specs.Plain.{PlainStmt, statement, StmtForm, block, declare, assign_local, assign_field, assign_element, perform, choice, choice_else, while_loop, return_nothing, return_value, print, print_text, cobegin, foreach, foreach_parts, atomic, local_regions, PlainStmts, no_stmts, more_stmts}
+use Rattle.dpj_tree.specs.declared.stmt.StmtKind.{StmtKind}
+use Rattle.dpj_tree.specs.declared.stmt.StmtKind.TheVariants as tree
 
 -- a statement completes unless it is a `return`, a block with a statement that doesn't complete, or an `if` with an
 -- `else` neither part of which completes
@@ -43,6 +45,20 @@ form_goes_on form = true
 
 abbrev pub goes_on : PlainStmt → Bool
 goes_on (statement place form) = form_goes_on form
+
+abbrev pub is_block : StmtKind → Bool
+is_block (tree.Block all) = true
+is_block kind = false
+
+-- an `if`, with or without an `else`
+abbrev pub is_choice : StmtKind → Bool
+is_choice (tree.If test then_part else_part) = true
+is_choice kind = false
+
+-- a `return`, with or without a value
+abbrev pub is_return : StmtKind → Bool
+is_return (tree.Return value) = true
+is_return kind = false
 
 -- a `while`, a `foreach` or a `foreach_parts`
 abbrev pub form_is_loop : StmtForm → Bool

@@ -3,7 +3,7 @@ ghost use Rattle.std.specs.Option.{option_copied, option_map_or};
 ghost use Rattle.dpj_tree.specs.Nd.{holds_nd, some_holds_nd};
 ghost use Rattle.dpj_tree.specs.Plain.{plain_stmt, plain_stmts, return_form};
 ghost use Rattle.dpj_check.specs.Checking.{form_of, Checking, InBlock, InOrder, InScope, Standing};
-ghost use Rattle.dpj_check.specs.Completes.{completes, all_complete, goes_on, is_loop, is_single, is_store, is_act};
+ghost use Rattle.dpj_check.specs.Completes.{completes, all_complete, goes_on, is_block, is_choice, is_return, is_loop, is_single, is_store, is_act};
 ghost use Rattle.dpj_check.specs.Deciding.{is_misplaced};
 ghost use Rattle.dpj_check.specs.Keeping.{Keeps, AllKeep};
 ghost use Rattle.dpj_check.specs.declared.node.Around.{Around};
@@ -46,6 +46,8 @@ pub struct CheckedBlock {
 }
 
 /// Checks a statement, and says whether it completes. `follows` says that it stands after one that doesn't.
+///
+/// A function has room for the locals of all its arms, and fills it at each call, so the arms are functions of their own.
 #[cycle(statements)]
 pub fn statement(
     body: &mut Body,
@@ -54,6 +56,34 @@ pub fn statement(
     follows: bool,
     out: &mut Found,
 ) -> Result<Checked, Stop>
+    ensures completes { IfOk result (λ done. done.completes ≡ completes (plain_stmt stmt.now)) }
+    ensures after { OnOk result (follows ≡ false) }
+    ensures keeps { OnOk result (Keeps around (plain_stmt stmt.now)) }
+    ensures nd { OnOk result (IsTrue (out.old.reaches_nd || holds_nd (plain_stmt stmt.now)) → IsTrue out.new.reaches_nd) }
+    ensures home { OnOk result (home_of body.new ≡ home_of body.old) }
+    ensures checks { Says result (λ made. passes (typed_stmt made.stmt) (walk_of body.new out.new)) refused (Standing body.old.atomic_params around follows (plain_stmt stmt.now) (walk_of body.old out.old)) }
+{
+    match &stmt.kind {
+        StmtKind::Block(_) => nested(body, around, stmt, follows, out),
+        StmtKind::If { .. } => branching(body, around, stmt, follows, out),
+        StmtKind::Return(_) => returning(body, around, stmt, follows, out),
+        _ => {
+            let node = Node::of(stmt, follows);
+            completing(body, around, node, stmt, out)
+        }
+    }
+}
+
+/// A block.
+#[cycle(statements)]
+fn nested(
+    body: &mut Body,
+    around: Around,
+    stmt: &Stmt,
+    follows: bool,
+    out: &mut Found,
+) -> Result<Checked, Stop>
+    requires { IsTrue (is_block stmt.now.kind) }
     ensures completes { IfOk result (λ done. done.completes ≡ completes (plain_stmt stmt.now)) }
     ensures after { OnOk result (follows ≡ false) }
     ensures keeps { OnOk result (Keeps around (plain_stmt stmt.now)) }
@@ -72,6 +102,30 @@ pub fn statement(
                 stmt: made::blocked(place, done.stmts),
             })
         }
+        _ => unreachable!(),
+    }
+}
+
+/// An `if`.
+#[cycle(statements)]
+fn branching(
+    body: &mut Body,
+    around: Around,
+    stmt: &Stmt,
+    follows: bool,
+    out: &mut Found,
+) -> Result<Checked, Stop>
+    requires { IsTrue (is_choice stmt.now.kind) }
+    ensures completes { IfOk result (λ done. done.completes ≡ completes (plain_stmt stmt.now)) }
+    ensures after { OnOk result (follows ≡ false) }
+    ensures keeps { OnOk result (Keeps around (plain_stmt stmt.now)) }
+    ensures nd { OnOk result (IsTrue (out.old.reaches_nd || holds_nd (plain_stmt stmt.now)) → IsTrue out.new.reaches_nd) }
+    ensures home { OnOk result (home_of body.new ≡ home_of body.old) }
+    ensures checks { Says result (λ made. passes (typed_stmt made.stmt) (walk_of body.new out.new)) refused (Standing body.old.atomic_params around follows (plain_stmt stmt.now) (walk_of body.old out.old)) }
+{
+    let mut node = Node::of(stmt, follows);
+    let place = node.place;
+    match &stmt.kind {
         StmtKind::If { test, then, other } => {
             let given = body.boolean(test, out, &mut node)?;
             let first = scoped(body, around, then.get(), out)?;
@@ -88,6 +142,29 @@ pub fn statement(
                 }
             }
         }
+        _ => unreachable!(),
+    }
+}
+
+/// A `return`.
+#[cycle(statements)]
+fn returning(
+    body: &mut Body,
+    around: Around,
+    stmt: &Stmt,
+    follows: bool,
+    out: &mut Found,
+) -> Result<Checked, Stop>
+    requires { IsTrue (is_return stmt.now.kind) }
+    ensures completes { IfOk result (λ done. done.completes ≡ completes (plain_stmt stmt.now)) }
+    ensures after { OnOk result (follows ≡ false) }
+    ensures keeps { OnOk result (Keeps around (plain_stmt stmt.now)) }
+    ensures nd { OnOk result (IsTrue (out.old.reaches_nd || holds_nd (plain_stmt stmt.now)) → IsTrue out.new.reaches_nd) }
+    ensures home { OnOk result (home_of body.new ≡ home_of body.old) }
+    ensures checks { Says result (λ made. passes (typed_stmt made.stmt) (walk_of body.new out.new)) refused (Standing body.old.atomic_params around follows (plain_stmt stmt.now) (walk_of body.old out.old)) }
+{
+    let node = Node::of(stmt, follows);
+    match &stmt.kind {
         StmtKind::Return(value) => {
             let stmt = returns(body, around, node, value.as_ref(), out)?;
             Ok(Checked {
@@ -95,7 +172,7 @@ pub fn statement(
                 stmt,
             })
         }
-        _ => completing(body, around, node, stmt, out),
+        _ => unreachable!(),
     }
 }
 

@@ -82,9 +82,9 @@ statements::scoped-returns-clause-checks t c =
     c.statement.new.out c.leave.new.self c.mark-scope.result (typed_stmt c.in_ok-done.done.stmt) c.in_ok-done.ensures.checks c.mark-scope.ensures
     c.leave.ensures.whole
 
-pub statements::statement-returns-in_err-done-in-Block-clause-checks :
-    goal.statements::statement-returns-in_err-done-in-Block-clause-checks
-statements::statement-returns-in_err-done-in-Block-clause-checks t c =
+pub statements::nested-returns-in_err-done-in-Block-clause-checks :
+    goal.statements::nested-returns-in_err-done-in-Block-clause-checks
+statements::nested-returns-in_err-done-in-Block-clause-checks t c =
     stopped (λ q. InBlock c.args.body.now.atomic_params c.args.around (plain_stmts (map plain_stmt c.as_slice.result.now))
     (walk_of c.args.body.now c.args.out.now) (verdict.refused q))
     (Standing c.args.body.now.atomic_params c.args.around c.args.follows (plain_stmt c.args.stmt.now) (walk_of c.args.body.now c.args.out.now))
@@ -94,9 +94,9 @@ statements::statement-returns-in_err-done-in-Block-clause-checks t c =
     (walk_of c.args.body.now c.args.out.now) (verdict.refused q) (verdict.refused q) c.in-Block.is c.as_slice.ensures c.of-node.ensures.node d refl)
     c.in_err-done-in-Block.ensures.checks
 
-pub statements::statement-returns-in_err-settle-in-Block-clause-checks :
-    goal.statements::statement-returns-in_err-settle-in-Block-clause-checks
-statements::statement-returns-in_err-settle-in-Block-clause-checks t c =
+pub statements::nested-returns-in_err-settle-in-Block-clause-checks :
+    goal.statements::nested-returns-in_err-settle-in-Block-clause-checks
+statements::nested-returns-in_err-settle-in-Block-clause-checks t c =
     settle_stopped (Standing c.args.body.now.atomic_params c.args.around c.args.follows (plain_stmt c.args.stmt.now) (walk_of c.args.body.now c.args.out.now))
     (fault_of c.of-node.result) c.from_residual-in_err-settle-in-Block.result c.in_err-settle-in-Block.field-0.0 _
     c.from_residual-in_err-settle-in-Block.ensures.1 c.in_err-settle-in-Block.ensures.result
@@ -107,9 +107,9 @@ statements::statement-returns-in_err-settle-in-Block-clause-checks t c =
     (then_told (fault_of c.of-node.result) (λ ss. statement c.of-node.result.place (made.block (stmts_of ss))) (map typed_stmt
     c.in_ok-done-in-Block.done.stmts) (walk_of c.block.new.body c.block.new.out) q told))
 
-pub statements::statement-returns-in_ok-settle-in-Block-clause-checks :
-    goal.statements::statement-returns-in_ok-settle-in-Block-clause-checks
-statements::statement-returns-in_ok-settle-in-Block-clause-checks t c =
+pub statements::nested-returns-in_ok-settle-in-Block-clause-checks :
+    goal.statements::nested-returns-in_ok-settle-in-Block-clause-checks
+statements::nested-returns-in_ok-settle-in-Block-clause-checks t c =
     block_stands c.args.body.now.atomic_params c.args.around c.args.follows c.of-node.result c.args.stmt.now c.in-Block.all c.as_slice.result.now
     (walk_of c.args.body.now c.args.out.now) (passes (map typed_stmt c.in_ok-done-in-Block.done.stmts) (walk_of c.block.new.body c.block.new.out))
     (passes (typed_stmt c.blocked.result) (walk_of c.block.new.body c.block.new.out)) c.in-Block.is c.as_slice.ensures c.of-node.ensures.node
@@ -118,21 +118,21 @@ statements::statement-returns-in_ok-settle-in-Block-clause-checks t c =
     c.in_ok-done-in-Block.done.stmts) (walk_of c.block.new.body c.block.new.out)
     (typed_stmt c.blocked.result) c.in_ok-settle-in-Block.ensures.clean c.blocked.ensures)
 
-pub statements::statement-returns-in_err-given-in-If-clause-checks :
-    goal.statements::statement-returns-in_err-given-in-If-clause-checks
-statements::statement-returns-in_err-given-in-If-clause-checks t c =
+pub statements::branching-returns-in_err-given-in-If-clause-checks :
+    goal.statements::branching-returns-in_err-given-in-If-clause-checks
+statements::branching-returns-in_err-given-in-If-clause-checks t c =
     stopped (λ q. Typing c.args.body.now.env (plain_expr c.in-If.test) c.args.out.now (refused q))
     (Standing c.args.body.now.atomic_params c.args.around c.args.follows (plain_stmt c.args.stmt.now) (walk_of c.args.body.now c.args.out.now))
-    c.from_residual-in_err-given-in-If.result _ c.in_err-given-in-If.field-0.0 c.from_residual-in_err-given-in-If.ensures.1
+    c.from_residual.result _ c.in_err-given-in-If.field-0.0 c.from_residual.ensures.1
     (λ q d.
     choice_stands c.args.body.now.atomic_params c.args.around c.args.follows c.of-node.result c.args.stmt.now c.in-If.test c.in-If.then c.in-If.other
     (walk_of c.args.body.now c.args.out.now) (verdict.refused q) c.in-If.is c.of-node.ensures.node
     (choosing.test_refused d))
     c.in_err-given-in-If.ensures.answer
 
-pub statements::statement-returns-in_err-first-in-If-clause-checks :
-    goal.statements::statement-returns-in_err-first-in-If-clause-checks
-statements::statement-returns-in_err-first-in-If-clause-checks t c =
+pub statements::branching-returns-in_err-first-in-If-clause-checks :
+    goal.statements::branching-returns-in_err-first-in-If-clause-checks
+statements::branching-returns-in_err-first-in-If-clause-checks t c =
     stopped (λ q. InScope c.args.body.now.atomic_params c.args.around (plain_stmt c.get.result.now) (walk_of c.args.body.now c.boolean.new.out)
     (verdict.refused q))
     (Standing c.args.body.now.atomic_params c.args.around c.args.follows (plain_stmt c.args.stmt.now) (walk_of c.args.body.now c.args.out.now))
@@ -144,9 +144,9 @@ statements::statement-returns-in_err-first-in-If-clause-checks t c =
     c.args.out.now c.boolean.new.out (plain_typed c.in_ok-given-in-If.given) q c.in_ok-given-in-If.ensures.answer c.get.ensures d))
     c.in_err-first-in-If.ensures.checks
 
-pub statements::statement-returns-in_err-second-in-Some-clause-checks :
-    goal.statements::statement-returns-in_err-second-in-Some-clause-checks
-statements::statement-returns-in_err-second-in-Some-clause-checks t c =
+pub statements::branching-returns-in_err-second-in-Some-clause-checks :
+    goal.statements::branching-returns-in_err-second-in-Some-clause-checks
+statements::branching-returns-in_err-second-in-Some-clause-checks t c =
     let met : FirstMet c.args.body.now c.scoped.new.body c.args.around c.of-node.result c.boolean.new.node c.in-If.test c.in-If.then c.get.result.now
     c.args.out.now c.boolean.new.out c.scoped.new.out (plain_typed c.in_ok-given-in-If.given) (typed_stmt c.in_ok-first-in-If.first.stmt) = record {
       typing = c.in_ok-given-in-If.ensures.answer;
@@ -166,9 +166,9 @@ statements::statement-returns-in_err-second-in-Some-clause-checks t c =
     (verdict.refused q) (verdict.refused q) c.in-If.is c.in-Some.is c.of-node.ensures.node met c.get-in-Some.ensures d refl)
     c.in_err-second-in-Some.ensures.checks
 
-pub statements::statement-returns-in_err-settle-in-Some-clause-checks :
-    goal.statements::statement-returns-in_err-settle-in-Some-clause-checks
-statements::statement-returns-in_err-settle-in-Some-clause-checks t c =
+pub statements::branching-returns-in_err-settle-in-Some-clause-checks :
+    goal.statements::branching-returns-in_err-settle-in-Some-clause-checks
+statements::branching-returns-in_err-settle-in-Some-clause-checks t c =
     let met : FirstMet c.args.body.now c.scoped.new.body c.args.around c.of-node.result c.boolean.new.node c.in-If.test c.in-If.then c.get.result.now
     c.args.out.now c.boolean.new.out c.scoped.new.out (plain_typed c.in_ok-given-in-If.given) (typed_stmt c.in_ok-first-in-If.first.stmt) = record {
       typing = c.in_ok-given-in-If.ensures.answer;
@@ -191,9 +191,9 @@ statements::statement-returns-in_err-settle-in-Some-clause-checks t c =
     (choice_form (node_of (plain_expr c.in-If.test) (plain_typed c.in_ok-given-in-If.given)) (typed_stmt c.in_ok-first-in-If.first.stmt) z))
     (Some (typed_stmt c.in_ok-second-in-Some.second.stmt)) (walk_of c.scoped-in-Some.new.body c.scoped-in-Some.new.out) q told))
 
-pub statements::statement-returns-in_ok-choose-in-Some-clause-checks :
-    goal.statements::statement-returns-in_ok-choose-in-Some-clause-checks
-statements::statement-returns-in_ok-choose-in-Some-clause-checks t c =
+pub statements::branching-returns-in_ok-choose-in-Some-clause-checks :
+    goal.statements::branching-returns-in_ok-choose-in-Some-clause-checks
+statements::branching-returns-in_ok-choose-in-Some-clause-checks t c =
     let met : FirstMet c.args.body.now c.scoped.new.body c.args.around c.of-node.result c.boolean.new.node c.in-If.test c.in-If.then c.get.result.now
     c.args.out.now c.boolean.new.out c.scoped.new.out (plain_typed c.in_ok-given-in-If.given) (typed_stmt c.in_ok-first-in-If.first.stmt) = record {
       typing = c.in_ok-given-in-If.ensures.answer;
@@ -219,9 +219,9 @@ statements::statement-returns-in_ok-choose-in-Some-clause-checks t c =
     (typed_stmt c.in_ok-first-in-If.first.stmt) (Some (typed_stmt c.in_ok-second-in-Some.second.stmt)) (typed_stmt c.in_ok-choose-in-Some.field-0.stmt)
     c.into_node-test.ensures c.in_ok-choose-in-Some.ensures.stmt))
 
-pub statements::statement-returns-in_err-settle-in-None-clause-checks :
-    goal.statements::statement-returns-in_err-settle-in-None-clause-checks
-statements::statement-returns-in_err-settle-in-None-clause-checks t c =
+pub statements::branching-returns-in_err-settle-in-None-clause-checks :
+    goal.statements::branching-returns-in_err-settle-in-None-clause-checks
+statements::branching-returns-in_err-settle-in-None-clause-checks t c =
     let met : FirstMet c.args.body.now c.scoped.new.body c.args.around c.of-node.result c.boolean.new.node c.in-If.test c.in-If.then c.get.result.now
     c.args.out.now c.boolean.new.out c.scoped.new.out (plain_typed c.in_ok-given-in-If.given) (typed_stmt c.in_ok-first-in-If.first.stmt) = record {
       typing = c.in_ok-given-in-If.ensures.answer;
@@ -243,9 +243,9 @@ statements::statement-returns-in_err-settle-in-None-clause-checks t c =
     (choice_form (node_of (plain_expr c.in-If.test) (plain_typed c.in_ok-given-in-If.given)) (typed_stmt c.in_ok-first-in-If.first.stmt) z))
     None (walk_of c.scoped.new.body c.scoped.new.out) q told))
 
-pub statements::statement-returns-in_ok-choose-in-None-clause-checks :
-    goal.statements::statement-returns-in_ok-choose-in-None-clause-checks
-statements::statement-returns-in_ok-choose-in-None-clause-checks t c =
+pub statements::branching-returns-in_ok-choose-in-None-clause-checks :
+    goal.statements::branching-returns-in_ok-choose-in-None-clause-checks
+statements::branching-returns-in_ok-choose-in-None-clause-checks t c =
     let met : FirstMet c.args.body.now c.scoped.new.body c.args.around c.of-node.result c.boolean.new.node c.in-If.test c.in-If.then c.get.result.now
     c.args.out.now c.boolean.new.out c.scoped.new.out (plain_typed c.in_ok-given-in-If.given) (typed_stmt c.in_ok-first-in-If.first.stmt) = record {
       typing = c.in_ok-given-in-If.ensures.answer;
@@ -266,13 +266,13 @@ statements::statement-returns-in_ok-choose-in-None-clause-checks t c =
     (typed_stmt c.in_ok-first-in-If.first.stmt) None (typed_stmt c.in_ok-choose-in-None.field-0.stmt)
     c.into_node-test.ensures c.in_ok-choose-in-None.ensures.stmt))
 
-pub statements::statement-returns-in_err-stmt-in-Return-clause-checks :
-    goal.statements::statement-returns-in_err-stmt-in-Return-clause-checks
-statements::statement-returns-in_err-stmt-in-Return-clause-checks t c =
+pub statements::returning-returns-in_err-stmt-in-Return-clause-checks :
+    goal.statements::returning-returns-in_err-stmt-in-Return-clause-checks
+statements::returning-returns-in_err-stmt-in-Return-clause-checks t c =
     stopped (λ q. Checking c.args.body.now.atomic_params c.args.around c.of-node.result (return_form (option_copied c.as_ref.result))
     (walk_of c.args.body.now c.args.out.now) (verdict.refused q))
     (Standing c.args.body.now.atomic_params c.args.around c.args.follows (plain_stmt c.args.stmt.now) (walk_of c.args.body.now c.args.out.now))
-    c.from_residual-in_err-stmt-in-Return.result _ c.in_err-stmt-in-Return.field-0.0 c.from_residual-in_err-stmt-in-Return.ensures.1
+    c.from_residual.result _ c.in_err-stmt-in-Return.field-0.0 c.from_residual.ensures.1
     (λ q d.
     as_statement c.args.body.now.atomic_params c.args.around c.args.follows c.of-node.result c.args.stmt.now (return_form (option_copied c.as_ref.result))
     (walk_of c.args.body.now c.args.out.now) (verdict.refused q)
@@ -280,9 +280,9 @@ statements::statement-returns-in_err-stmt-in-Return-clause-checks t c =
     c.of-node.ensures.node d)
     (c.in_err-stmt-in-Return.ensures.checks c.args.body.now.atomic_params)
 
-pub statements::statement-returns-in_ok-stmt-in-Return-clause-checks :
-    goal.statements::statement-returns-in_ok-stmt-in-Return-clause-checks
-statements::statement-returns-in_ok-stmt-in-Return-clause-checks t c =
+pub statements::returning-returns-in_ok-stmt-in-Return-clause-checks :
+    goal.statements::returning-returns-in_ok-stmt-in-Return-clause-checks
+statements::returning-returns-in_ok-stmt-in-Return-clause-checks t c =
     as_statement c.args.body.now.atomic_params c.args.around c.args.follows c.of-node.result c.args.stmt.now (return_form (option_copied c.as_ref.result))
     (walk_of c.args.body.now c.args.out.now) (passes (typed_stmt c.in_ok-stmt-in-Return.stmt) (walk_of c.args.body.now c.returns.new.out))
     (at_Return c.args.stmt.now (option_copied c.as_ref.result) (c.in-Return.is ∙ ap tree.Return (sym c.as_ref.ensures.value)))
