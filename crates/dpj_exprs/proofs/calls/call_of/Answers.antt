@@ -1,4 +1,4 @@
-use Rattle.std.proofs.Common.{◌≡◌, ◌∙◌, Some, map, ap}
+use Rattle.std.proofs.Common.{◌∙◌, Some, map, ap}
 use Rattle.dpj_classes.specs.declared.table.Table.{Table}
 use Rattle.dpj_classes.specs.Table.{headers_of, row_of}
 use Rattle.dpj_exprs.specs.Answer.{gives, refused}
