@@ -14,7 +14,6 @@ use Rattle.dpj_tree.specs.declared.expr.ExprKind.TheVariants as expr_kind
 use Rattle.dpj_tree.specs.declared.stmt.Stmt.{Stmt}
 use Rattle.dpj_tree.specs.declared.stmt.StmtKind.TheVariants as kind
 use Rattle.dpj_tree.specs.Plain.{PlainExpr, expression, PlainStmt, statement, StmtForm, perform, plain_expr, plain_stmt, plain_stmts}
-use Rattle.dpj_parse.specs.declared.cursor.Cursor.{Cursor}
 use Rattle.dpj_parse.specs.Taking.{Takes, TakesSymbol, TakesKeyword, TakesName, TakesOne, TakesNext, TakesIf, Next, NoNext, StandsAt, Many, Listed}
 use Rattle.dpj_parse.specs.Types.{DerivesType}
 use Rattle.dpj_parse.specs.Expressions.{DerivesExpr, DerivesPostfix, as_field, as_element, as_call, as_creation}

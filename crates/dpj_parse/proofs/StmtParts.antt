@@ -1,5 +1,5 @@
 -- The parts of the grammar's Stmt productions, by what they begin with.
-use Rattle.std.proofs.Common.{◌≡◌, ◌+◌, ◌-◌, ◌∙◌, arith, ℕ, List, [], ◌∷◌, Bool, true, false, cond, Some, Result, Ok, Err, OnOk, refl, ap, subst, sym}
+use Rattle.std.proofs.Common.{◌≡◌, ◌+◌, ◌-◌, arith, ℕ, List, [], ◌∷◌, Bool, true, false, cond, Some, Result, Ok, Err, OnOk, refl, ap, subst, sym}
 use Rattle.dpj_base.specs.Refused.{IfRefused}
 use Rattle.dpj_base.specs.declared.place.Place.{Place}
 use Rattle.dpj_base.specs.declared.refusal.Kind.{Kind}
