@@ -11,7 +11,6 @@ use Rattle.std.proofs.lemmas.List.{take_at, append_cancel_left}
 use Rattle.dpj_base.specs.Lexical.{is_blank, is_letter, is_digit, is_name_byte, keywords, decimal_value}
 use Rattle.dpj_base.specs.declared.refusal.Kind.{Kind}
 use Rattle.dpj_base.specs.declared.refusal.Kind.TheVariants as kinds
-use Rattle.dpj_tokens.specs.declared.table.TheConstants.{SYMBOLS, KEYWORDS}
 use Rattle.dpj_tokens.specs.declared.token.TokenKind.{TokenKind}
 use Rattle.dpj_tokens.specs.declared.token.TokenKind.TheVariants as tokens
 use Rattle.dpj_tokens.specs.declared.token.Symbol.{Symbol}
@@ -148,14 +147,28 @@ closes-unique bytes i j a b = elim (cases_lt i j) [
 ]
 
 -- each symbol and keyword by its spelling
+abbrev pub every_symbol : List Symbol
+every_symbol =
+    symbol.AtMost ∷ symbol.AtLeast ∷ symbol.Equal ∷ symbol.NotEqual ∷ symbol.And ∷ symbol.Or ∷ symbol.OpenBrace ∷ symbol.CloseBrace
+    ∷ symbol.OpenParen ∷ symbol.CloseParen ∷ symbol.OpenBracket ∷ symbol.CloseBracket ∷ symbol.Less ∷ symbol.Greater ∷ symbol.Assign
+    ∷ symbol.Plus ∷ symbol.Minus ∷ symbol.Star ∷ symbol.Slash ∷ symbol.Percent ∷ symbol.Not ∷ symbol.Semicolon ∷ symbol.Comma
+    ∷ symbol.Dot ∷ symbol.Colon ∷ symbol.Hash ∷ symbol.Bar ∷ symbol.Question ∷ []
+
 abbrev pub symbol_spelled : List ℕ → Symbol
-symbol_spelled text = unwrap_or (find (λ s. bytes_eq (symbol_text s) text) SYMBOLS) symbol.AtMost
+symbol_spelled text = unwrap_or (find (λ s. bytes_eq (symbol_text s) text) every_symbol) symbol.AtMost
 
 symbol-back : (s : Symbol) → symbol_spelled (symbol_text s) ≡ s
 symbol-back s = elim s as (λ s. symbol_spelled (symbol_text s) ≡ s) [ symbol.AtMost ↦ refl | _ ↦ refl ]
 
+abbrev pub every_keyword : List Keyword
+every_keyword =
+    keyword.Class ∷ keyword.Extends ∷ keyword.Region ∷ keyword.Atomic ∷ keyword.In ∷ keyword.Reads ∷ keyword.Writes ∷ keyword.Pure
+    ∷ keyword.Int ∷ keyword.Boolean ∷ keyword.Void ∷ keyword.Final ∷ keyword.If ∷ keyword.Else ∷ keyword.While ∷ keyword.Return
+    ∷ keyword.Print ∷ keyword.Cobegin ∷ keyword.CobeginNd ∷ keyword.Foreach ∷ keyword.ForeachNd ∷ keyword.ForeachParts ∷ keyword.New
+    ∷ keyword.This ∷ keyword.True ∷ keyword.False ∷ keyword.Null ∷ keyword.Root ∷ []
+
 abbrev pub keyword_spelled : List ℕ → Keyword
-keyword_spelled text = unwrap_or (find (λ k. bytes_eq (keyword_text k) text) KEYWORDS) keyword.Class
+keyword_spelled text = unwrap_or (find (λ k. bytes_eq (keyword_text k) text) every_keyword) keyword.Class
 
 keyword-back : (k : Keyword) → keyword_spelled (keyword_text k) ≡ k
 keyword-back k = elim k as (λ k. keyword_spelled (keyword_text k) ≡ k) [ keyword.Class ↦ refl | _ ↦ refl ]
