@@ -17,7 +17,7 @@ use Rattle.dpj_exprs.specs.declared.found.Found.{Found}
 use Rattle.dpj_exprs.specs.declared.assigned.Target.{Target}
 use Rattle.dpj_exprs.specs.Answer.{gives}
 use Rattle.dpj_exprs.specs.Env.{local_of, slots_in, supers_of, table_of}
-use Rattle.dpj_exprs.specs.Targeting.{PlainSpot, Targeting, aims, plain_spot, plain_target, with_write}
+use Rattle.dpj_exprs.specs.Targeting.{PlainSpot, PlainTarget, Targeting, aims, plain_spot, plain_target, with_write}
 use Rattle.dpj_exprs.specs.Typed.{may_be, is_value, type_in, FitsAs}
 use Rattle.dpj_exprs.specs.Typing.{Typing}
 use Rattle.dpj_check.specs.declared.body.Body.{Body}
@@ -25,7 +25,7 @@ use Rattle.dpj_check.specs.declared.node.Around.{Around}
 use Rattle.dpj_check.specs.declared.node.Node.{Node}
 use Rattle.dpj_check.specs.Deciding.{local_fault, is_misplaced, Returned}
 use Rattle.dpj_check.specs.Noting.{fault_of, with_found, with_fault_if}
-use Rattle.dpj_check.specs.Simple.{may_print, target_fault, declared_type, declared_told, declaration_noted, local_declared, node_of, place_of, printed_form, stored, FitIs, AssigningLocal, AssigningPlace, Declaring, Performing, Printing, Returning}
+use Rattle.dpj_check.specs.Simple.{may_print, target_fault, declared_type, declared_told, declaration_noted, local_declared, node_of, place_of, printed_form, stored, FitIs, AssigningLocal, AssigningPlace, Declaring, Performing, Printing, Putting, Returning}
 use Rattle.dpj_check.specs.Walks.{Walk, Verdict, passes, refused, judged, scope_so, walk_of, with_env}
 use Rattle.dpj_check.proofs.Passing.{judged_at, judged_none, judged_some, passes_so}
 
@@ -129,74 +129,63 @@ stored_so node noted target e row b f g t fit reason x s k x_is s_is none =
     stored_as node noted target e row b f g t fit reason _ k
     (clean_passes (fault_of noted) s _ _ _ none (s_is ∙ ap (λ (z : TypedExpr). typed.statement target.place (typed.store row.slot z)) x_is) refl)
 
--- a target where every value fits
-pub record Anything (node noted : Node) (target value : PlainExpr) (b : Body) (f g h : Found) (t : Option TypedExpr) (is_val : Bool) : Type 0 where
-  pub aimed : Targeting b.env target f (aims None g)
-  pub typing : Typing b.env value g (gives t h)
-  pub value_is : is_val ≡ may_be is_value (type_in t)
-  pub noted_is : noted ≡ with_fault_if node kind.Type (not is_val)
-
-anything_as : (node noted : Node) (target value : PlainExpr) (b : Body) (f g h : Found) (t : Option TypedExpr) (is_val : Bool) (v : Verdict TypedStmt) →
-    Anything node noted target value b f g h t is_val →
-    judged (fault_of noted) (typed.statement (place_of target) (typed.perform (node_of value t))) (walk_of b h) ≡ v →
+-- an assignment to what comes from a part of what is no array
+pub anything_as : (node : Node) (target value : PlainExpr) (b : Body) (f g h : Found) (t : Option TypedExpr) (place : Place) (made : TypedExpr)
+    (v : Verdict TypedStmt) → Targeting b.env target f (aims None g) → Typing b.env value g (gives t h) → place_of target ≡ place → made ≡ node_of value t →
+    judged (fault_of (with_fault_if node kind.Type (not (may_be is_value (type_in t))))) (typed.statement place (typed.perform made)) (walk_of b h) ≡ v →
     AssigningPlace node target value (walk_of b f) v
-anything_as node noted target value b f g h t is_val v k is =
-    AssigningPlace.anything_assigned k.aimed k.typing
-    (judged_at (with_fault_if node kind.Type (not (may_be is_value (type_in t)))) noted _ (walk_of b h)
-    (k.noted_is ∙ ap (λ (z : Bool). with_fault_if node kind.Type (not z)) k.value_is) ∙ is)
+anything_as node target value b f g h t place made v aimed typing place_is made_is is =
+    let told : Option Refusal = fault_of (with_fault_if node kind.Type (not (may_be is_value (type_in t)))) in
+    AssigningPlace.anything_assigned aimed typing
+    (ap (λ (z : Place). judged told (typed.statement z (typed.perform (node_of value t))) (walk_of b h)) place_is
+    ∙ ap (λ (z : TypedExpr). judged told (typed.statement place (typed.perform z)) (walk_of b h)) (sym made_is) ∙ is)
 
-pub anything_told : (node noted : Node) (target value : PlainExpr) (b : Body) (f g h : Found) (t : Option TypedExpr) (is_val : Bool) (q : Refusal) →
-    Anything node noted target value b f g h t is_val → fault_of noted ≡ Some q → AssigningPlace node target value (walk_of b f) (refused q)
-anything_told node noted target value b f g h t is_val q k told =
-    anything_as node noted target value b f g h t is_val (refused q) k (judged_some (fault_of noted) _ _ q told)
-
-pub anything_so : (node noted : Node) (target value : PlainExpr) (b : Body) (f g h : Found) (t : Option TypedExpr) (is_val : Bool) (place : Place)
-    (x : TypedExpr) (s : TypedStmt) → Anything node noted target value b f g h t is_val → place_of target ≡ place → x ≡ node_of value t →
-    s ≡ typed.statement place (typed.perform x) → fault_of noted ≡ None → AssigningPlace node target value (walk_of b f) (passes s (walk_of b h))
-anything_so node noted target value b f g h t is_val place x s k place_is x_is s_is none =
-    anything_as node noted target value b f g h t is_val _ k
-    (clean_passes (fault_of noted) s _ _ _ none
-    (s_is ∙ ap (λ (z : Place). typed.statement z (typed.perform x)) (sym place_is)
-    ∙ ap (λ (z : TypedExpr). typed.statement (place_of target) (typed.perform z)) x_is) refl)
-
--- what is known of an assignment to a field or an element after its parts
-pub record Placed (node noted : Node) (target value : PlainExpr) (aim : Target) (b : Body) (f g h : Found) (t : Option TypedExpr) (fit : Bool)
-    (reason : Option Kind) : Type 0 where
-  pub aimed : Targeting b.env target f (aims (Some (plain_target aim)) g)
-  pub typing : Typing b.env value g (gives t h)
+-- what is known of an assignment to a target
+pub record Put (node noted : Node) (aim : Target) (b : Body) (t : Option TypedExpr) (fit : Bool) (reason : Option Kind) : Type 0 where
   pub fits : IsTrue fit ↔ FitsAs (supers_of b.env) (type_in t) (plain_type aim.ty)
   pub reason_is : reason ≡ target_fault fit aim.may_write
   pub noted_is : noted ≡ with_found node reason
 
-placed_so : (node noted : Node) (target value : PlainExpr) (aim : Target) (b : Body) (f g h : Found) (t : Option TypedExpr) (fit : Bool)
-    (reason : Option Kind) (v : Verdict TypedStmt) →
-    Placed node noted target value aim b f g h t fit reason →
-    judged (fault_of noted) (typed.statement (place_of target) (stored (plain_spot aim.spot) (node_of value t))) (walk_of b (with_write h (plain_target aim))) ≡ v →
-    AssigningPlace node target value (walk_of b f) v
-placed_so node noted target value aim b f g h t fit reason v k is =
-    AssigningPlace.place_assigned k.aimed k.typing k.fits
+put_so : (node noted : Node) (place : Place) (aim : Target) (b : Body) (h : Found) (t : Option TypedExpr) (value : TypedExpr) (fit : Bool)
+    (reason : Option Kind) (v : Verdict TypedStmt) → Put node noted aim b t fit reason →
+    judged (fault_of noted) (typed.statement place (stored (plain_spot aim.spot) value)) (walk_of b (with_write h (plain_target aim))) ≡ v →
+    Putting node place (plain_target aim) t value (walk_of b h) v
+put_so node noted place aim b h t value fit reason v k is =
+    Putting.put k.fits
     (judged_at (with_found node (target_fault fit aim.may_write)) noted _ (walk_of b (with_write h (plain_target aim)))
     (k.noted_is ∙ ap (with_found node) k.reason_is)
     ∙ is)
 
-pub target_refused : (node noted : Node) (target value : PlainExpr) (aim : Target) (b : Body) (f g h : Found) (t : Option TypedExpr) (fit : Bool)
-    (reason : Option Kind) (q : Refusal) →
-    Placed node noted target value aim b f g h t fit reason → fault_of noted ≡ Some q → AssigningPlace node target value (walk_of b f) (refused q)
-target_refused node noted target value aim b f g h t fit reason q k is =
-    placed_so node noted target value aim b f g h t fit reason (refused q) k (judged_some (fault_of noted) _ _ q is)
+pub put_told : (node noted : Node) (place : Place) (aim : Target) (b : Body) (h : Found) (t : Option TypedExpr) (value : TypedExpr) (fit : Bool)
+    (reason : Option Kind) (q : Refusal) → Put node noted aim b t fit reason → fault_of noted ≡ Some q →
+    Putting node place (plain_target aim) t value (walk_of b h) (refused q)
+put_told node noted place aim b h t value fit reason q k told =
+    put_so node noted place aim b h t value fit reason (refused q) k (judged_some (fault_of noted) _ _ q told)
 
-pub target_written : (node noted : Node) (target value : PlainExpr) (aim : Target) (b : Body) (f g h k : Found) (t : Option TypedExpr) (fit : Bool)
-    (reason : Option Kind) (place : Place) (at : PlainSpot) (x : TypedExpr) (s : TypedStmt) →
-    Placed node noted target value aim b f g h t fit reason → fault_of noted ≡ None → k ≡ with_write h (plain_target aim) → place_of target ≡ place →
-    at ≡ plain_spot aim.spot → x ≡ node_of value t → s ≡ typed.statement place (stored at x) →
-    AssigningPlace node target value (walk_of b f) (passes s (walk_of b k))
-target_written node noted target value aim b f g h k t fit reason place at x s p none written place_is at_is x_is s_is =
-    placed_so node noted target value aim b f g h t fit reason _ p
+pub put_written : (node noted : Node) (place : Place) (aim : Target) (b : Body) (h k : Found) (t : Option TypedExpr) (value : TypedExpr) (fit : Bool)
+    (reason : Option Kind) (at : PlainSpot) (x : TypedExpr) (s : TypedStmt) → Put node noted aim b t fit reason → fault_of noted ≡ None →
+    k ≡ with_write h (plain_target aim) → at ≡ plain_spot aim.spot → x ≡ value → s ≡ typed.statement place (stored at x) →
+    Putting node place (plain_target aim) t value (walk_of b h) (passes s (walk_of b k))
+put_written node noted place aim b h k t value fit reason at x s p none written at_is x_is s_is =
+    put_so node noted place aim b h t value fit reason _ p
     (clean_passes (fault_of noted) s _ (walk_of b k) _ none
-    (s_is ∙ ap (λ (z : Place). typed.statement z (stored at x)) (sym place_is)
-    ∙ ap (λ (z : PlainSpot). typed.statement (place_of target) (stored z x)) at_is
-    ∙ ap (λ (z : TypedExpr). typed.statement (place_of target) (stored (plain_spot aim.spot) z)) x_is)
+    (s_is ∙ ap (λ (z : PlainSpot). typed.statement place (stored z x)) at_is
+    ∙ ap (λ (z : TypedExpr). typed.statement place (stored (plain_spot aim.spot) z)) x_is)
     (ap (λ (z : Found). walk_of b z) written))
+
+placed_at : (node : Node) (target value : PlainExpr) (aim : PlainTarget) (b : Body) (f g h : Found) (t : Option TypedExpr) {v : Verdict TypedStmt} →
+    Targeting b.env target f (aims (Some aim) g) → Typing b.env value g (gives t h) →
+    Putting node (place_of target) aim t (node_of value t) (walk_of b h) v → AssigningPlace node target value (walk_of b f) v
+placed_at node target value aim b f g h t aimed typing (Putting.put fits is) = AssigningPlace.place_assigned aimed typing fits is
+
+-- an assignment to a field or an element, of what is said of its target
+pub placed_as : (node : Node) (target value : PlainExpr) (aim : PlainTarget) (b : Body) (f g h : Found) (t : Option TypedExpr) (place : Place)
+    (made : TypedExpr) (v : Verdict TypedStmt) → Targeting b.env target f (aims (Some aim) g) → Typing b.env value g (gives t h) →
+    place_of target ≡ place → made ≡ node_of value t → Putting node place aim t made (walk_of b h) v → AssigningPlace node target value (walk_of b f) v
+placed_as node target value aim b f g h t place made v aimed typing place_is made_is d =
+    placed_at node target value aim b f g h t aimed typing
+    (subst (λ (z : Place). Putting node z aim t (node_of value t) (walk_of b h) v) (sym place_is)
+    (subst (λ (z : TypedExpr). Putting node place aim t z (walk_of b h) v) made_is d))
 
 -- what is known of a declaration after its parts
 pub record Declared (node : Node) (tree : TypeTree) (name : ℕ) (value : PlainExpr) (b : Body) (f g : Found) (made : Ty) (t : Option TypedExpr)

@@ -51,9 +51,6 @@ use Rattle.dpj_check.specs.Noting.{node_at, with_found, with_fault_if, fault_of,
 use Rattle.dpj_check.specs.Simple.{node_of, declaration_noted, local_declared, part_declared, Declaring, AssigningLocal, AssigningPlace, Performing, Returning, Printing, regions_declared}
 use Rattle.dpj_check.specs.Walks.{Walk, Verdict, passes, refused, found_so, scope_so, nothing_found, apart_from, left_scope, judged, behind}
 
-abbrev pub form_of : PlainStmt → StmtForm
-form_of (statement place f) = f
-
 -- with an nd construct, where it is one
 abbrev pub with_nd : Bool → Found → Found
 with_nd nd found = record found { reaches_nd = found.reaches_nd || nd }

@@ -110,6 +110,14 @@ stored (to_part part index) value = typed.store_part part index value
 abbrev pub target_fault : Bool → Bool → Option Kind
 target_fault fit may_write = cond fit (cond may_write None (Some kind.PartialWrite)) (Some kind.Type)
 
+-- a value, which fits or not, goes to a target that was read
+pub data Putting (node : Node) (place : Place) (aim : PlainTarget) (t : Option TypedExpr) (value : TypedExpr) (w : Walk) : Verdict TypedStmt → Type 0 where
+  put : {fit : Bool} {v : Verdict TypedStmt} →
+      FitIs w.env (type_in t) aim.ty fit →
+      judged (fault_of (with_found node (target_fault fit aim.may_write))) (typed.statement place (stored aim.spot value))
+      (found_so w (with_write w.found aim)) ≡ v →
+      Putting node place aim t value w v
+
 -- `target = value;` for a field or an element: the target, the value, then the assignment
 pub data AssigningPlace (node : Node) (target value : PlainExpr) (w : Walk) : Verdict TypedStmt → Type 0 where
   target_refused : {refusal : Refusal} → Targeting w.env target w.found (misses refusal) → AssigningPlace node target value w (refused refusal)

@@ -10,7 +10,7 @@ use Rattle.dpj_check.specs.Noting.{fault_of, with_fault_if}
 use Rattle.dpj_check.specs.Simple.{Returning}
 use Rattle.dpj_check.specs.Walks.{walk_of, judged}
 use Rattle.dpj_check.proofs.Passing.{says_all}
-use Rattle.dpj_check.proofs.statements.returns.Goals as goal
+use Rattle.dpj_check.proofs.statements.returning.Goals as goal
 
 pub returns-in-None-clause-checks : goal.returns-in-None-clause-checks
 returns-in-None-clause-checks c params =
