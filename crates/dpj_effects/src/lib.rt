@@ -8,10 +8,8 @@
 #![tactic(auto)]
 
 mod effect;
-mod index;
 pub mod laws;
 mod set;
 
 pub use effect::{covers, interferes};
-pub use index::{elem_number, number_of};
 pub use set::EffectSet;

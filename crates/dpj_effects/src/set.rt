@@ -2,43 +2,42 @@ ghost use Rattle.std.specs.Prelude.{◌≡◌, ◌↔◌, [], true, length, IsTr
 ghost use Rattle.dpj_base.specs.Effects.{has_effect, some_covers, set_covers, added, gathered, all_marked, with_mark};
 
 use crate::effect::covers;
-use crate::index::{any_at, any_covers_at, note, number_of};
-use dpj_base::{Effect, Items, NoMemory, Plain};
+use dpj_base::{Access, Effect, NoMemory, Plain};
+use indexmap::IndexSet;
 use std::alloc::Global;
-use std::collections::BTreeMap;
 use std::marker::Model;
+
+/// Up to so many effects are looked through sooner than one is looked up.
+const FEW: usize = 8;
+
+/// What an effect of one path can be: an access, marked or not.
+const KINDS: [(Access, bool); 4] = [
+    (Access::Write, false),
+    (Access::Write, true),
+    (Access::Read, false),
+    (Access::Read, true),
+];
 
 /// Distinct effects, in the order in which they were added. A contract sees the list.
 #[derive(Debug)]
 pub struct EffectSet {
-    effects: Items<Effect>,
-    /// The places in the list, each under the number of its effect, so that none is looked for twice.
-    spots: BTreeMap<u32, Items<usize>>,
-    alloc: Global,
+    effects: IndexSet<Effect>,
 }
 
 // By hand, so that letting one go is one call to what is proved of a caller.
 impl Drop for EffectSet {
     fn drop(self) {
-        let EffectSet {
-            effects: _,
-            spots: _,
-            alloc: _,
-        } = self;
+        let EffectSet { effects: _ } = self;
     }
 }
 
 impl Model for EffectSet {
-    ghost use Rattle.std.specs.Prelude.{List, IsTrue};
-    ghost use Rattle.dpj_base.specs.Effects.{all_distinct};
+    ghost use Rattle.std.specs.Prelude.{List};
     ghost use Rattle.dpj_base.specs.declared.effect.Effect.{Effect};
-    ghost use Rattle.dpj_effects.specs.Index.{Indexed};
 
     ghost Value = { List Effect };
 
-    ghost view = { λ set. set.effects };
-
-    ghost invariant = { λ set. IsTrue (all_distinct set.effects) × Indexed set.effects set.spots };
+    ghost view = { λ set. set.effects.keys };
 }
 
 impl EffectSet {
@@ -47,9 +46,7 @@ impl EffectSet {
         ensures { result ≡ [] }
     {
         EffectSet {
-            effects: Items::new(alloc),
-            spots: BTreeMap::new(alloc),
-            alloc,
+            effects: IndexSet::new(alloc),
         }
     }
 
@@ -76,12 +73,7 @@ impl EffectSet {
         ensures ok { OnOk result (self.new ≡ added self.old e) }
         ensures err { OnErr result (self.new ≡ self.old) }
     {
-        if self.has(&e) {
-            return Ok(());
-        }
-        let place = self.effects.len();
-        note(self.alloc, &mut self.spots, number_of(&e), place)?;
-        self.effects.push(e)?;
+        self.effects.insert(e)?;
         Ok(())
     }
 
@@ -89,28 +81,35 @@ impl EffectSet {
     pub fn has(&self, e: &Effect) -> bool
         ensures { result ≡ has_effect self.now e.now }
     {
-        match self.spots.get(&number_of(e)) {
-            None => false,
-            Some(places) => any_at(self.effects.as_slice(), places.as_slice(), e),
-        }
+        self.effects.contains(e)
     }
 
-    /// Whether an effect that is noted under the same number covers this one: most are covered by one of the same
-    /// path.
+    /// Whether the set has this effect, or another of the same path that covers it: most are covered so. Another is
+    /// looked for under a copy of the path, and without memory for that the answer is no.
     fn covers_beside(&self, f: &Effect) -> bool
         ensures { IsTrue result → IsTrue (some_covers self.now f.now) }
     {
-        match self.spots.get(&number_of(f)) {
-            None => false,
-            Some(places) => any_covers_at(self.effects.as_slice(), places.as_slice(), f),
+        if self.has(f) {
+            return true;
         }
+        let Ok(mut other) = f.copy(*self.effects.allocator()) else {
+            return false;
+        };
+        for (access, atomic) in KINDS {
+            other.access = access;
+            other.atomic = atomic;
+            if covers(&other, f) && self.has(&other) {
+                return true;
+            }
+        }
+        false
     }
 
     /// Whether some effect of the set covers this one. It takes no memory.
     pub fn covers_effect(&self, f: &Effect) -> bool
         ensures { result ≡ some_covers self.now f.now }
     {
-        self.covers_beside(f) || some_covers(self.effects.as_slice(), f)
+        (self.effects.len() > FEW && self.covers_beside(f)) || some_covers(self.effects.as_slice(), f)
     }
 
     /// Whether each effect of the other set is covered by one of this. It takes no memory.
@@ -158,7 +157,7 @@ impl Plain for EffectSet {
     }
 
     fn same(&self, other: &EffectSet) -> bool {
-        self.effects.same(&other.effects)
+        self.as_slice() == other.as_slice()
     }
 }
 
