@@ -2,13 +2,15 @@
 use Rattle.std.proofs.Common.{◌≡◌, ℕ, Bool, true, false, not, ◌&&◌, ◌||◌, cond, List, [], ◌∷◌, Option, Some, None, refl, sym, ap, ◌∙◌}
 use Rattle.std.specs.List.{filter}
 use Rattle.std.proofs.lemmas.Bool.{and_right, eq-eqb, false≢true}
+use Rattle.dpj_base.specs.declared.elems.Elem.{Elem}
+use Rattle.dpj_base.proofs.Equal.{elems_decides}
 use Rattle.dpj_base.specs.declared.effect.Effect.{Effect}
 use Rattle.dpj_base.specs.declared.effect.Constraint.{Constraint}
 use Rattle.dpj_base.specs.Apart.{apart}
 use Rattle.dpj_base.specs.Effects.{is_write, interferes}
 use Rattle.dpj_base.specs.Branches.{Atomic, clashes, some_clashes}
 use Rattle.dpj_interfere.specs.declared.key.Key.{Key}
-use Rattle.dpj_interfere.specs.Groups.{key_of, is_number}
+use Rattle.dpj_interfere.specs.Groups.{key_of, is_key}
 use Rattle.dpj_interfere.specs.InGroups.{is_none, is_in, is_in_none, in_group, in_no_group}
 use Rattle.dpj_interfere.proofs.Filtered.{quiet-clash}
 use Rattle.dpj_interfere.proofs.Keys.{keys-apart}
@@ -50,14 +52,14 @@ module _ (given : List Constraint) (nd : Option Atomic) where
       ∙ ap (λ z. clashes given nd e f || z) (two-filters p q e h fs)
 
 -- effects of different groups don't interfere
-other-group : (given : List Constraint) (key : Key) (e f : Effect) (k : ℕ) → key_of key e ≡ Some k → is_in key k f ≡ false → is_in_none key f ≡ false →
+other-group : (given : List Constraint) (key : Key) (e f : Effect) (k : List Elem) → key_of key e ≡ Some k → is_in key k f ≡ false → is_in_none key f ≡ false →
     interferes given e f ≡ false
 unfolding interferes
 other-group given key e f k ke out keyed = and_right (is_write e.access || is_write f.access) _ (ap not (by_key (key_of key f) refl out keyed))
   where
-    by_key : (o : Option ℕ) → key_of key f ≡ o → is_number o k ≡ false → is_none o ≡ false → apart given e.rpl f.rpl ≡ true
+    by_key : (o : Option (List Elem)) → key_of key f ≡ o → is_key o k ≡ false → is_none o ≡ false → apart given e.rpl f.rpl ≡ true
     by_key None kf a b = absurd (false≢true (sym b))
-    by_key (Some l) kf a b = keys-apart given key e f k l ke kf (λ s. false≢true (sym a ∙ eq-eqb l k (sym s)))
+    by_key (Some l) kf a b = keys-apart given key e f k l ke kf (λ s. false≢true (sym a ∙ (elems_decides l k).1 (sym s)))
 
 or-false : (b : Bool) → b || false ≡ b
 or-false true = refl
@@ -67,7 +69,7 @@ pub clashes-by_group : (given : List Constraint) (nd : Option Atomic) (key : Key
     some_clashes given nd e (in_group key (key_of key e) fs) || some_clashes given nd e (in_no_group key (key_of key e) fs) ≡ some_clashes given nd e fs
 clashes-by_group given nd key e fs = by_key (key_of key e) refl
   where
-    by_key : (o : Option ℕ) → key_of key e ≡ o →
+    by_key : (o : Option (List Elem)) → key_of key e ≡ o →
         some_clashes given nd e (in_group key o fs) || some_clashes given nd e (in_no_group key o fs) ≡ some_clashes given nd e fs
     by_key None ke = or-false (some_clashes given nd e fs)
     by_key (Some k) ke =

@@ -5,6 +5,8 @@ use Rattle.std.specs.List.{All}
 use Rattle.std.proofs.lemmas.Bool.{and_parts, and_from, or_cases, or_left, or_right, false≢true, eq-eqb, cond_both, cases_eq}
 use Rattle.std.proofs.lemmas.List.{get_or_read}
 use Rattle.std.proofs.lemmas.List.Elements.{All-more, All-weaker}
+use Rattle.dpj_base.specs.declared.elems.Elem.{Elem}
+use Rattle.dpj_base.proofs.Equal.{elems_decides}
 use Rattle.dpj_base.specs.declared.effect.Access.{Access}
 use Rattle.dpj_base.specs.declared.effect.Access.TheVariants.{Read, Write}
 use Rattle.dpj_base.specs.declared.effect.Effect.{Effect}
@@ -13,7 +15,7 @@ use Rattle.dpj_interfere.specs.declared.seen.Seen.{Seen}
 use Rattle.dpj_interfere.specs.declared.seen.Seen.TheVariants.{Nobody, One, Many}
 use Rattle.dpj_interfere.specs.declared.seen.Group.{Group}
 use Rattle.dpj_interfere.specs.declared.grouping.Groups.{Groups}
-use Rattle.dpj_interfere.specs.Groups.{seen_with, seen, group_with, group_shows, key_of, keyed_group, group_at, shows, is_number, with_unkeyed, Noted, Shows}
+use Rattle.dpj_interfere.specs.Groups.{seen_with, seen, group_with, group_shows, key_of, keyed_group, group_at, shows, is_key, with_unkeyed, Noted, Shows}
 use Rattle.dpj_interfere.specs.Groups.{ShowsFirst}
 
 seen-kept : (s : Seen) (i j : ℕ) → seen s i ≡ true → seen (seen_with s j) i ≡ true
@@ -43,31 +45,31 @@ writers-there s j Read = refl
 group-there : (g : Group) (j : ℕ) (access : Access) → group_shows (group_with g j access) j access ≡ true
 group-there g j access = and_from _ _ (seen-there g.any j) (writers-there g.writers j access)
 
-unkeyed-kept : (o : Option ℕ) (g : Group) (i j : ℕ) (v access : Access) → group_shows g i v ≡ true → group_shows (with_unkeyed o g j access) i v ≡ true
+unkeyed-kept : (o : Option (List Elem)) (g : Group) (i j : ℕ) (v access : Access) → group_shows g i v ≡ true → group_shows (with_unkeyed o g j access) i v ≡ true
 unkeyed-kept None g i j v access h = group-kept g i j v access h
 unkeyed-kept (Some k) g i j v access h = h
 
-group_at-kept : (old new : Groups) (j : ℕ) (e : Effect) → Noted old new j e → (o : Option ℕ) (i : ℕ) (v : Access) → group_shows (group_at old o) i v ≡ true →
+group_at-kept : (old new : Groups) (j : ℕ) (e : Effect) → Noted old new j e → (o : Option (List Elem)) (i : ℕ) (v : Access) → group_shows (group_at old o) i v ≡ true →
     group_shows (group_at new o) i v ≡ true
 group_at-kept old new j e n None i v h =
     subst (λ g. group_shows g i v ≡ true) (sym n.unkeyed) (unkeyed-kept (key_of old.key e) old.unkeyed i j v e.access h)
 group_at-kept old new j e n (Some q) i v h =
     subst (λ g. group_shows g i v ≡ true) (sym (n.keyed q))
     (cond_both
-    (is_number (key_of old.key e) q)
+    (is_key (key_of old.key e) q)
     (group_with (keyed_group old.keyed q) j e.access)
     (keyed_group old.keyed q)
     (λ g. group_shows g i v ≡ true)
     (λ _. group-kept (keyed_group old.keyed q) i j v e.access h)
     (λ _. h))
 
-group_at-there : (old new : Groups) (j : ℕ) (access : Access) (o : Option ℕ) → new.unkeyed ≡ with_unkeyed o old.unkeyed j access →
-    ((q : ℕ) → keyed_group new.keyed q ≡ cond (is_number o q) (group_with (keyed_group old.keyed q) j access) (keyed_group old.keyed q)) →
+group_at-there : (old new : Groups) (j : ℕ) (access : Access) (o : Option (List Elem)) → new.unkeyed ≡ with_unkeyed o old.unkeyed j access →
+    ((q : List Elem) → keyed_group new.keyed q ≡ cond (is_key o q) (group_with (keyed_group old.keyed q) j access) (keyed_group old.keyed q)) →
     group_shows (group_at new o) j access ≡ true
 group_at-there old new j access None u k = subst (λ g. group_shows g j access ≡ true) (sym u) (group-there old.unkeyed j access)
 group_at-there old new j access (Some q) u k =
     subst (λ g. group_shows g j access ≡ true)
-    (sym (k q ∙ ap (λ b. cond b (group_with (keyed_group old.keyed q) j access) (keyed_group old.keyed q)) (eq-eqb q q refl)))
+    (sym (k q ∙ ap (λ b. cond b (group_with (keyed_group old.keyed q) j access) (keyed_group old.keyed q)) ((elems_decides q q).1 refl)))
     (group-there (keyed_group old.keyed q) j access)
 
 noted-kept : (old new : Groups) (j : ℕ) (e : Effect) → Noted old new j e → (i : ℕ) (f : Effect) → shows old i f ≡ true → shows new i f ≡ true

@@ -21,13 +21,14 @@ pub fn iterations_clash(
 ) -> Result<bool, NoMemory>
     ensures { IfOk result (λ clash. clash ≡ iterations_clash given.now (plain_nd nd.entry) var body.now) }
 {
-    let another = ByGroup::new(alloc, renamed_all(alloc, body.as_slice(), var)?)?;
+    let renamed = renamed_all(alloc, body.as_slice(), var)?;
+    let another = ByGroup::new(alloc, renamed.as_slice())?;
     Ok(clashes_by_group(body.as_slice(), &another, given, nd))
 }
 
 fn clashes_by_group(
     effects: &[Effect],
-    others: &ByGroup,
+    others: &ByGroup<'_>,
     given: &[Constraint],
     nd: Option<Atomic<'_>>,
 ) -> bool
@@ -42,7 +43,7 @@ fn clashes_by_group(
 }
 
 /// Whether the effect clashes with one of the others: those of other groups need no look.
-fn clashes_with(e: &Effect, others: &ByGroup, given: &[Constraint], nd: Option<Atomic<'_>>) -> bool
+fn clashes_with(e: &Effect, others: &ByGroup<'_>, given: &[Constraint], nd: Option<Atomic<'_>>) -> bool
     ensures { result ≡ some_clashes given.now (plain_nd nd.entry) e.now others.now.1 }
 {
     some_clashes(e, others.in_group(e), given, nd)
