@@ -2,7 +2,7 @@
 use Rattle.std.proofs.Common.{◌≡◌, ◌≢◌, ℕ, ◌-◌, take, drop, ◌<◌, Bool, true, false, ◌&&◌, cond, List, [], ◌∷◌, ◌++◌, length, reverse, Option, Some, None, refl, sym, ap}
 use Rattle.std.proofs.Common.{◌∙◌, subst, inl, inr, ◌⊎◌, ⊎_elim, arith}
 use Rattle.std.proofs.lemmas.Bool.{and_parts, and_from, or_left, or_right, false≢true, cases_Bool}
-use Rattle.std.proofs.lemmas.List.{reverse-append, take_append_drop}
+use Rattle.std.proofs.lemmas.List.{reverse-append, take-append-drop}
 use Rattle.dpj_base.specs.declared.elems.Elem.{Elem}
 use Rattle.dpj_base.specs.declared.region.Head.{Head}
 use Rattle.dpj_base.specs.declared.region.Rpl.{Rpl}
@@ -63,7 +63,7 @@ firsts-front (x ∷ a) (y ∷ b) p q e f ne =
 
 -- the last element of a list, and what stands before it
 ends : (a : List Elem) (x : Elem) (n : ℕ) → drop n a ≡ x ∷ [] → reverse a ≡ x ∷ reverse (take n a)
-ends a x n e = ap reverse (sym (take_append_drop n a) ∙ ap (λ z. take n a ++ z) e) ∙ reverse-append (take n a) (x ∷ [])
+ends a x n e = ap reverse (sym (take-append-drop n a) ∙ ap (λ z. take n a ++ z) e) ∙ reverse-append (take n a) (x ∷ [])
 
 lasts-front : (a b p q : List Elem) → fixed_one (drop (length a - 1) a) ≡ Some p → fixed_one (drop (length b - 1) b) ≡ Some q → p ≢ q →
     apart_front (reverse a) (reverse b) ≡ true

@@ -1,11 +1,13 @@
 -- What groups show of branches, and what an effect more keeps.
-use Rattle.std.proofs.Common.{◌≡◌, ◌==◌, ◌+◌, ◌<◌, ℕ, true, not, ◌||◌, cond, IsTrue, List, take, length, get_or, Option, Some, None, refl, sym, ap}
+use Rattle.std.proofs.Common.{◌≡◌, ◌==◌, ◌+◌, ◌<◌, ℕ, Bool, true, false, not, ◌||◌, cond, IsTrue, List, take, length, get_or, Option, Some, None, refl, sym, ap}
 use Rattle.std.proofs.Common.{◌∙◌, subst, ⊎_elim, arith}
 use Rattle.std.specs.List.{All}
+use Rattle.std.specs.Prelude.{unwrap_or}
 use Rattle.std.proofs.lemmas.Bool.{and_parts, and_from, or_cases, or_left, or_right, false≢true, eq-eqb, cond_both, cases_eq}
 use Rattle.std.proofs.lemmas.List.{get_or_read}
 use Rattle.std.proofs.lemmas.List.Elements.{All-more, All-weaker}
 use Rattle.dpj_base.specs.declared.elems.Elem.{Elem}
+use Rattle.dpj_base.specs.Keys.{elems_eq}
 use Rattle.dpj_base.proofs.Equal.{elems_decides}
 use Rattle.dpj_base.specs.declared.effect.Access.{Access}
 use Rattle.dpj_base.specs.declared.effect.Access.TheVariants.{Read, Write}
@@ -44,6 +46,19 @@ writers-there s j Read = refl
 
 group-there : (g : Group) (j : ℕ) (access : Access) → group_shows (group_with g j access) j access ≡ true
 group-there g j access = and_from _ _ (seen-there g.any j) (writers-there g.writers j access)
+
+-- a value that may have been put
+pub unwrapped : {X : Type 0} (b : Bool) (v d : X) (o : Option X) → unwrap_or (cond b (Some v) o) d ≡ cond b v (unwrap_or o d)
+unwrapped true v d o = refl
+unwrapped false v d o = refl
+
+-- where the elements are these, the value may be that of these
+pub cond_at : {X : Type 0} (p q : List Elem) (f : List Elem → X) (x : X) → cond (elems_eq p q) (f p) x ≡ cond (elems_eq p q) (f q) x
+cond_at p q f x = by (elems_eq p q) (λ t. ap f ((elems_decides p q).0 t))
+  where
+    by : (b : Bool) → (b ≡ true → f p ≡ f q) → cond b (f p) x ≡ cond b (f q) x
+    by true h = h refl
+    by false h = refl
 
 unkeyed-kept : (o : Option (List Elem)) (g : Group) (i j : ℕ) (v access : Access) → group_shows g i v ≡ true → group_shows (with_unkeyed o g j access) i v ≡ true
 unkeyed-kept None g i j v access h = group-kept g i j v access h

@@ -37,7 +37,7 @@ fn note_keyed<'a>(
     branch: u32,
     access: Access,
 ) -> Result<(), NoMemory>
-    ensures { OnOk result ((q : List Element) → keyed_group keyed.new q ≡ cond (elems_eq common.now q) (group_with (keyed_group keyed.old common.now) branch access) (keyed_group keyed.old q)) }
+    ensures { OnOk result ((q : List Element) → keyed_group keyed.new q ≡ cond (elems_eq common.now q) (group_with (keyed_group keyed.old q) branch access) (keyed_group keyed.old q)) }
 {
     let group = keyed_group(keyed, common).with(branch, access);
     let _ = keyed.insert(common, group)?;
