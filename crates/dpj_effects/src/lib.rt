@@ -4,7 +4,8 @@
 //! effects in the order in which they came. What they are good for is said in `laws`: what is covered by effects
 //! that don't interfere doesn't interfere.
 //!
-//! Only what makes or grows a set takes memory. If memory runs out, a set is as it was.
+//! What makes or grows a set takes memory, and if it runs out, a set is as it was. A look-up takes memory alone where the
+//! set is large and the path long, and does without if there is none.
 #![tactic(auto)]
 
 mod effect;

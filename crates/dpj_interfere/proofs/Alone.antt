@@ -1,6 +1,6 @@
 -- Effects that are alone interfere with no effect of another branch.
 use Rattle.std.proofs.Common.{◌≡◌, ◌≢◌, ℕ, true, false, not, ◌||◌, List, Option, Some, None, refl, sym, ap, ◌∙◌, subst, ⊎_elim}
-use Rattle.std.proofs.lemmas.Bool.{and_parts, and_left, and_right, or_cases, false≢true, not-true, not-false, ne_eqb, eqb-true, cases_Bool, cases_eq}
+use Rattle.std.proofs.lemmas.Bool.{and_parts, and_left, and_right, or_cases, false≢true, not-true, not-false, ne_eqb, eqb-true, cases_Bool}
 use Rattle.dpj_base.specs.declared.elems.Elem.{Elem}
 use Rattle.dpj_base.specs.declared.effect.Access.{Access}
 use Rattle.dpj_base.specs.declared.effect.Access.TheVariants.{Read, Write}
