@@ -32,7 +32,7 @@ same_access-refl : (a : Access) → same_access a a ≡ true
 same_access-refl Read = refl
 same_access-refl Write = refl
 
-same_effect-is : (e f : Effect) → same_effect e f ≡ true → e ≡ f
+pub same_effect-is : (e f : Effect) → same_effect e f ≡ true → e ≡ f
 unfolding same_effect
 same_effect-is e f h =
     let p = and_parts (same_access e.access f.access && same_bool e.atomic f.atomic) _ h in
