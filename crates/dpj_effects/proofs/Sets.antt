@@ -5,12 +5,13 @@ use Rattle.std.specs.List.{list_any, AllByRecursion, IsDistinct}
 use Rattle.std.proofs.lemmas.Bool.{and_parts, and_from, or_from, or_cases, or_left, or_right, false≢true, not-true}
 use Rattle.std.proofs.lemmas.Bool.Decides.{Decides-like, same_from_decides}
 use Rattle.std.proofs.lemmas.List.{append-nil}
-use Rattle.std.proofs.lemmas.Map.Keys.{IsDistinct-head, IsDistinct-tail}
+use Rattle.std.proofs.lemmas.Map.Keys.{IsDistinct-push, IsDistinct-head, IsDistinct-tail}
 use Rattle.indexmap.specs.IndexSet.{insert_key}
 use Rattle.dpj_base.specs.declared.effect.Access.{Access}
 use Rattle.dpj_base.specs.declared.effect.Access.TheVariants.{Read, Write}
 use Rattle.dpj_base.specs.declared.effect.Effect.{Effect}
 use Rattle.dpj_base.specs.contracts.effect.EffectPartialEq.TheImpl.{eq-value}
+use Rattle.dpj_base.specs.contracts.effect.EffectEq.TheImpl.Laws as eq_laws
 use Rattle.dpj_base.specs.Effects.{same_access, same_bool, same_effect, has_effect, added, gathered, covers_effect, some_covers}
 use Rattle.dpj_base.proofs.Equal.{effect_decides}
 use Rattle.dpj_regions.proofs.Same.{same_rpl-is, same_rpl-from}
@@ -51,7 +52,7 @@ same_effect-decides : (e f : Effect) → Decides (same_effect e f) (e ≡ f)
 same_effect-decides e f = (same_effect-is e f, λ s. subst (λ z. same_effect e z ≡ true) s (same_effect-refl e))
 
 -- `==` either way round
-eq-same : (e f : Effect) → eq-value.it e f ≡ same_effect e f
+pub eq-same : (e f : Effect) → eq-value.it e f ≡ same_effect e f
 eq-same e f = same_from_decides _ _ (effect_decides e f) (same_effect-decides e f)
 
 eq-swapped : (e f : Effect) → eq-value.it f e ≡ same_effect e f
@@ -74,6 +75,14 @@ has-covers (d ∷ es) e f h k =
     (λ t. or_left _ _ (subst (λ z. covers_effect z f ≡ true) (sym (same_effect-is d e t)) k))
     (λ t. or_right (covers_effect d f) _ (has-covers es e f t k))
     (or_cases (same_effect d e) _ h)
+
+-- one effect more keeps them distinct, where it isn't there yet
+pub distinct-nil : IsDistinct eq-value.it []
+unfolding IsDistinct
+distinct-nil = tt
+
+pub distinct-push : (es : List Effect) (f : Effect) → IsDistinct eq-value.it es → has_effect es f ≡ false → IsDistinct eq-value.it (es ++ f ∷ [])
+distinct-push es f d h = IsDistinct-push eq_laws.laws-law es f d (any-has es f ∙ h)
 
 -- distinct effects, gathered again
 one_of : (P : Effect → Type 0) (es fs : List Effect) (f : Effect) → AllByRecursion P (es ++ f ∷ fs) → P f

@@ -4,8 +4,8 @@
 //! effects in the order in which they came. What they are good for is said in `laws`: what is covered by effects
 //! that don't interfere doesn't interfere.
 //!
-//! What makes or grows a set takes memory, and if it runs out, a set is as it was. A look-up takes memory alone where the
-//! set is large and the path long, and does without if there is none.
+//! What makes or grows a set takes memory, and if it runs out, a set is as it was. A few effects are kept as a list, and
+//! more of them in an `IndexSet`.
 #![tactic(auto)]
 
 mod effect;

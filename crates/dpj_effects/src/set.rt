@@ -1,13 +1,13 @@
 ghost use Rattle.std.specs.Prelude.{◌≡◌, ◌↔◌, [], true, length, IsTrue, IfOk, OnOk, OnErr};
-ghost use Rattle.dpj_base.specs.Effects.{has_effect, some_covers, set_covers, added, gathered, all_marked, with_mark};
+ghost use Rattle.dpj_base.specs.Effects.{same_effect, has_effect, some_covers, set_covers, added, gathered, all_marked, with_mark};
 
 use crate::effect::covers;
-use dpj_base::{Access, Effect, NoMemory, Plain};
+use dpj_base::{Access, Effect, Items, NoMemory, Plain};
 use indexmap::IndexSet;
 use std::alloc::Global;
 use std::marker::Model;
 
-/// Up to so many effects are looked through sooner than one is looked up.
+/// Up to so many effects are looked through, which takes less than to hash them.
 const FEW: usize = 8;
 
 /// What an effect of one path can be: an access, marked or not.
@@ -18,26 +18,51 @@ const KINDS: [(Access, bool); 4] = [
     (Access::Read, true),
 ];
 
+/// The effects of a set: a list as long as they are few, as in most sets, since a hash table would take four blocks of
+/// memory for the first of them.
+#[derive(Debug)]
+enum Effects {
+    Few(Items<Effect>),
+    Many(IndexSet<Effect>),
+}
+
 /// Distinct effects, in the order in which they were added. A contract sees the list.
 #[derive(Debug)]
 pub struct EffectSet {
-    effects: IndexSet<Effect>,
+    effects: Effects,
+    alloc: Global,
 }
 
 // By hand, so that letting one go is one call to what is proved of a caller.
+impl Drop for Effects {
+    fn drop(self) {
+        match self {
+            Effects::Few(_) => {}
+            Effects::Many(_) => {}
+        }
+    }
+}
+
 impl Drop for EffectSet {
     fn drop(self) {
-        let EffectSet { effects: _ } = self;
+        let EffectSet {
+            effects: _,
+            alloc: _,
+        } = self;
     }
 }
 
 impl Model for EffectSet {
     ghost use Rattle.std.specs.Prelude.{List};
     ghost use Rattle.dpj_base.specs.declared.effect.Effect.{Effect};
+    ghost use Rattle.std.specs.List.{IsDistinct};
+    ghost use Rattle.dpj_effects.specs.Listed.{listed, effect_eq};
 
     ghost Value = { List Effect };
 
-    ghost view = { λ set. set.effects.keys };
+    ghost view = { λ set. listed set.effects };
+
+    ghost invariant = { λ set. IsDistinct effect_eq (listed set.effects) };
 }
 
 impl EffectSet {
@@ -46,26 +71,30 @@ impl EffectSet {
         ensures { result ≡ [] }
     {
         EffectSet {
-            effects: IndexSet::new(alloc),
+            effects: Effects::Few(Items::new(alloc)),
+            alloc,
         }
     }
 
     pub fn as_slice(&self) -> &[Effect]
         ensures { result.now ≡ self.now }
     {
-        self.effects.as_slice()
+        match &self.effects {
+            Effects::Few(effects) => effects.as_slice(),
+            Effects::Many(effects) => effects.as_slice(),
+        }
     }
 
     pub fn len(&self) -> usize
         ensures { result ≡ length self.now }
     {
-        self.effects.len()
+        self.as_slice().len()
     }
 
     pub fn is_empty(&self) -> bool
         ensures { IsTrue result ↔ (self.now ≡ []) }
     {
-        self.effects.is_empty()
+        self.as_slice().is_empty()
     }
 
     /// Puts the effect last, unless it is there already. If memory runs out, the set is as it was.
@@ -73,7 +102,32 @@ impl EffectSet {
         ensures ok { OnOk result (self.new ≡ added self.old e) }
         ensures err { OnErr result (self.new ≡ self.old) }
     {
-        self.effects.insert(e)?;
+        match &mut self.effects {
+            Effects::Few(effects) => {
+                if among(effects.as_slice(), &e) {
+                    return Ok(());
+                }
+                if effects.len() < FEW {
+                    effects.push(e)?;
+                    return Ok(());
+                }
+            }
+            Effects::Many(effects) => {
+                effects.insert(e)?;
+                return Ok(());
+            }
+        }
+        self.add_to_many(e)
+    }
+
+    /// The same, where the effects are hashed from now on.
+    fn add_to_many(&mut self, e: Effect) -> Result<(), NoMemory>
+        ensures ok { OnOk result (self.new ≡ added self.old e) }
+        ensures err { OnErr result (self.new ≡ self.old) }
+    {
+        let mut many = hashed(self.alloc, self.as_slice())?;
+        many.insert(e)?;
+        self.effects = Effects::Many(many);
         Ok(())
     }
 
@@ -81,18 +135,21 @@ impl EffectSet {
     pub fn has(&self, e: &Effect) -> bool
         ensures { result ≡ has_effect self.now e.now }
     {
-        self.effects.contains(e)
+        match &self.effects {
+            Effects::Few(effects) => among(effects.as_slice(), e),
+            Effects::Many(effects) => effects.contains(e),
+        }
     }
 
     /// Whether the set has this effect, or another of the same path that covers it: most are covered so. Another is
-    /// looked for under a copy of the path, and without memory for that the answer is no.
+    /// looked up by a copy of the path, and without memory for that the answer is no.
     fn covers_beside(&self, f: &Effect) -> bool
         ensures { IsTrue result → IsTrue (some_covers self.now f.now) }
     {
         if self.has(f) {
             return true;
         }
-        let Ok(mut other) = f.copy(*self.effects.allocator()) else {
+        let Ok(mut other) = f.copy(self.alloc) else {
             return false;
         };
         for (access, atomic) in KINDS {
@@ -105,18 +162,19 @@ impl EffectSet {
         false
     }
 
-    /// Whether some effect of the set covers this one. It takes no memory.
+    /// Whether some effect of the set covers this one. It takes no memory but for a copy of a path of many elements, and
+    /// does without where there is none.
     pub fn covers_effect(&self, f: &Effect) -> bool
         ensures { result ≡ some_covers self.now f.now }
     {
-        (self.effects.len() > FEW && self.covers_beside(f)) || some_covers(self.effects.as_slice(), f)
+        (self.len() > FEW && self.covers_beside(f)) || some_covers(self.as_slice(), f)
     }
 
-    /// Whether each effect of the other set is covered by one of this. It takes no memory.
+    /// Whether each effect of the other set is covered by one of this. It takes memory as `covers_effect` does.
     pub fn set_covers(&self, other: &EffectSet) -> bool
         ensures { result ≡ set_covers self.now other.now }
     {
-        for f in other.effects.as_slice() {
+        for f in other.as_slice() {
             if !self.covers_effect(f) {
                 return false;
             }
@@ -129,7 +187,7 @@ impl EffectSet {
     pub fn add_all(&mut self, alloc: Global, other: &EffectSet) -> Result<(), NoMemory>
         ensures { OnOk result (self.new ≡ gathered self.old other.now) }
     {
-        for e in other.effects.as_slice() {
+        for e in other.as_slice() {
             self.add(e.copy(alloc)?)?;
         }
         Ok(())
@@ -140,7 +198,7 @@ impl EffectSet {
         ensures { IfOk result (λ set. set ≡ all_marked true self.now) }
     {
         let mut set = EffectSet::new(alloc);
-        for e in self.effects.as_slice() {
+        for e in self.as_slice() {
             set.add(marked(alloc, e)?)?;
         }
         Ok(set)
@@ -149,16 +207,44 @@ impl EffectSet {
 
 impl Plain for EffectSet {
     fn copy(&self, alloc: Global) -> Result<EffectSet, NoMemory> {
-        let mut set = EffectSet::new(alloc);
-        for e in self.effects.as_slice() {
-            set.add(e.copy(alloc)?)?;
-        }
-        Ok(set)
+        let effects = match &self.effects {
+            Effects::Few(effects) => Effects::Few(effects.copy(alloc)?),
+            Effects::Many(effects) => Effects::Many(hashed(alloc, effects.as_slice())?),
+        };
+        Ok(EffectSet { effects, alloc })
     }
 
     fn same(&self, other: &EffectSet) -> bool {
         self.as_slice() == other.as_slice()
     }
+}
+
+fn same(e: &Effect, f: &Effect) -> bool
+    ensures { result ≡ same_effect e.now f.now }
+{
+    *e == *f
+}
+
+fn among(effects: &[Effect], e: &Effect) -> bool
+    ensures { result ≡ has_effect effects.now e.now }
+{
+    for f in effects {
+        if same(f, e) {
+            return true;
+        }
+    }
+    false
+}
+
+/// Copies of the effects, each once, hashed.
+fn hashed(alloc: Global, effects: &[Effect]) -> Result<IndexSet<Effect>, NoMemory>
+    ensures { IfOk result (λ set. set.keys ≡ gathered [] effects.now) }
+{
+    let mut set = IndexSet::new(alloc);
+    for e in effects {
+        set.insert(e.copy(alloc)?)?;
+    }
+    Ok(set)
 }
 
 fn some_covers(effects: &[Effect], f: &Effect) -> bool

@@ -1,7 +1,12 @@
-use Rattle.std.proofs.Common.{◌∙◌, ap}
+use Rattle.std.proofs.Common.{◌∙◌, ap, sym}
 use Rattle.dpj_base.specs.Effects.{has_effect}
+use Rattle.dpj_effects.specs.Listed.{listed}
 use Rattle.dpj_effects.proofs.Sets.{any-has}
 use Rattle.dpj_effects.proofs.set.EffectSet.has.Goals as goal
 
-pub returns : goal.returns
-returns c = c.contains.ensures ∙ any-has c.self.inside.effects.keys c.args.e.now ∙ ap (λ es. has_effect es c.args.e.now) c.self.view_is
+pub returns-in-Many : goal.returns-in-Many
+returns-in-Many c =
+    let e = c.args.e.now in
+    c.contains.ensures ∙ any-has c.in-Many.effects.keys e
+    ∙ ap (λ kept. has_effect (listed kept) e) (sym c.in-Many.is)
+    ∙ ap (λ es. has_effect es e) c.self.view_is
