@@ -55,11 +55,7 @@ fn note<'a>(groups: &mut Groups<'a>, e: &'a Effect, branch: u32) -> Result<(), N
     Ok(())
 }
 
-fn note_all<'a>(
-    groups: &mut Groups<'a>,
-    effects: &'a [Effect],
-    branch: u32,
-) -> Result<(), NoMemory>
+fn note_all<'a>(groups: &mut Groups<'a>, effects: &'a [Effect], branch: u32) -> Result<(), NoMemory>
     ensures { OnOk result (Shows groups.old groups.new branch effects.now) }
 {
     for e in effects {

@@ -43,7 +43,12 @@ fn clashes_by_group(
 }
 
 /// Whether the effect clashes with one of the others: those of other groups need no look.
-fn clashes_with(e: &Effect, others: &ByGroup<'_>, given: &[Constraint], nd: Option<Atomic<'_>>) -> bool
+fn clashes_with(
+    e: &Effect,
+    others: &ByGroup<'_>,
+    given: &[Constraint],
+    nd: Option<Atomic<'_>>,
+) -> bool
     ensures { result ≡ some_clashes given.now (plain_nd nd.entry) e.now others.now.1 }
 {
     some_clashes(e, others.in_group(e), given, nd)
