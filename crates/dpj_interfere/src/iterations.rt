@@ -4,11 +4,14 @@ ghost use Rattle.dpj_interfere.specs.Nd.{plain_nd};
 
 use crate::atomic::Atomic;
 use crate::by_group::ByGroup;
-use crate::clash::some_clashes;
+use crate::clash::{lists_clash, some_clashes};
 use crate::renaming::renamed_all;
 use dpj_base::{Constraint, Effect, NoMemory};
 use dpj_effects::EffectSet;
 use std::alloc::Global;
+
+/// Up to so many effects are compared with each other, which takes less than to put them into groups.
+const FEW: usize = 16;
 
 /// Whether an effect of a loop's body clashes with one of another iteration: `var` is the slot of the loop
 /// variable. `nd` says what is declared atomic where the loop is one of nd.
@@ -22,6 +25,9 @@ pub fn iterations_clash(
     ensures { IfOk result (λ clash. clash ≡ iterations_clash given.now (plain_nd nd.entry) var body.now) }
 {
     let renamed = renamed_all(alloc, body.as_slice(), var)?;
+    if body.len() <= FEW {
+        return Ok(lists_clash(body.as_slice(), renamed.as_slice(), given, nd));
+    }
     let another = ByGroup::new(alloc, renamed.as_slice())?;
     Ok(clashes_by_group(body.as_slice(), &another, given, nd))
 }
