@@ -11,7 +11,7 @@ use dpj_effects::EffectSet;
 use std::alloc::Global;
 
 /// Up to so many effects of all branches are compared with each other, which takes less than to put them into groups.
-const FEW: usize = 32;
+const FEW: usize = 24;
 
 /// The first two branches, in their order, of which an effect of one clashes with an effect of the other. `nd` says
 /// what is declared atomic where the construct is one of nd. Of many effects such as can't interfere with another branch
