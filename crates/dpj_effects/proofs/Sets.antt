@@ -1,17 +1,17 @@
 -- What a set looks up and puts last, by `==` of effects, and that gathering distinct effects leaves them as they are.
-use Rattle.std.proofs.Common.{◌≡◌, Bool, true, false, ◌&&◌, ◌||◌, cond, List, [], ◌∷◌, ◌++◌, refl, sym, ap, ◌∙◌, subst, ⊎_elim, append_assoc}
+use Rattle.std.proofs.Common.{◌≡◌, Bool, true, false, ◌&&◌, ◌||◌, cond, List, [], ◌∷◌, ◌++◌, map, refl, sym, ap, ◌∙◌, subst, ⊎_elim, append_assoc}
 use Rattle.std.specs.Bool.{Decides}
 use Rattle.std.specs.List.{list_any, AllByRecursion, IsDistinct}
 use Rattle.std.proofs.lemmas.Bool.{and_parts, and_from, or_from, or_cases, or_left, or_right, false≢true, not-true}
 use Rattle.std.proofs.lemmas.Bool.Decides.{Decides-like, same_from_decides}
 use Rattle.std.proofs.lemmas.List.{append-nil}
-use Rattle.std.proofs.lemmas.Map.Keys.{IsDistinct-head, IsDistinct-tail}
+use Rattle.std.proofs.lemmas.Map.Keys.{IsDistinct-head, IsDistinct-tail, IsDistinct-cons}
 use Rattle.indexmap.specs.IndexSet.{insert_key}
 use Rattle.dpj_base.specs.declared.effect.Access.{Access}
 use Rattle.dpj_base.specs.declared.effect.Access.TheVariants.{Read, Write}
 use Rattle.dpj_base.specs.declared.effect.Effect.{Effect}
 use Rattle.dpj_base.specs.contracts.effect.EffectPartialEq.TheImpl.{eq-value}
-use Rattle.dpj_base.specs.Effects.{same_access, same_bool, same_effect, has_effect, added, gathered, covers_effect, some_covers}
+use Rattle.dpj_base.specs.Effects.{same_access, same_bool, same_effect, has_effect, added, gathered, with_mark, all_marked, covers_effect, some_covers}
 use Rattle.dpj_base.proofs.Equal.{effect_decides}
 use Rattle.dpj_regions.proofs.Same.{same_rpl-is, same_rpl-from}
 
@@ -96,3 +96,19 @@ gathered-more es (f ∷ fs) h =
 
 pub gathered-distinct : (es : List Effect) → IsDistinct eq-value.it es → gathered [] es ≡ es
 gathered-distinct es h = gathered-more [] es h
+
+-- plain effects that are distinct stay so under marks
+apart_marked : (e : Effect) (es : List Effect) → AllByRecursion (λ y. eq-value.it (with_mark false e) y ≡ false) (map (with_mark false) es) →
+    AllByRecursion (λ y. eq-value.it (with_mark true e) y ≡ false) (map (with_mark true) es)
+apart_marked e [] h = h
+apart_marked e (f ∷ fs) h = (h.0, apart_marked e fs h.1)
+
+distinct_marked : (es : List Effect) → IsDistinct eq-value.it (map (with_mark false) es) → IsDistinct eq-value.it (map (with_mark true) es)
+distinct_marked [] h = h
+distinct_marked (e ∷ es) h =
+    IsDistinct-cons eq-value.it (with_mark true e) (map (with_mark true) es)
+    (apart_marked e es (IsDistinct-head eq-value.it (with_mark false e) (map (with_mark false) es) h))
+    (distinct_marked es (IsDistinct-tail eq-value.it (with_mark false e) (map (with_mark false) es) h))
+
+pub marked-plain : (es : List Effect) → IsDistinct eq-value.it es → map (with_mark false) es ≡ es → all_marked true es ≡ map (with_mark true) es
+marked-plain es h p = gathered-distinct (map (with_mark true) es) (distinct_marked es (subst (IsDistinct eq-value.it) (sym p) h))

@@ -1,9 +1,12 @@
-ghost use Rattle.std.specs.Prelude.{◌≡◌, ◌↔◌, [], true, length, IsTrue, IfOk, OnOk, OnErr};
+ghost use Rattle.std.specs.Prelude.{◌≡◌, ◌↔◌, [], true, false, length, map, IsTrue, IfOk, OnOk, OnErr};
+ghost use Rattle.std.specs.Map.Iter.{GivesInOrder};
+ghost use Rattle.dpj_base.specs.declared.effect.Effect.{Effect};
 ghost use Rattle.dpj_base.specs.Effects.{has_effect, some_covers, set_covers, added, gathered, all_marked, with_mark};
 
 use crate::effect::covers;
-use dpj_base::{Access, Effect, NoMemory, Plain};
+use dpj_base::{Access, Effect, Items, NoMemory, Plain};
 use indexmap::IndexSet;
+use indexmap::set::IntoIter;
 use std::alloc::Global;
 use std::marker::Model;
 
@@ -135,6 +138,59 @@ impl EffectSet {
         Ok(())
     }
 
+    /// The effects themselves, in their order.
+    pub fn into_effects(self) -> IntoIter<Effect>
+        ensures rest { result ≡ self }
+        ensures runs { GivesInOrder Effect }
+    {
+        let EffectSet { effects } = self;
+        effects.into_iter()
+    }
+
+    /// Adds another set's effects, one after another. If memory runs out, some of them may be there. Where this set is
+    /// empty, it takes no memory.
+    pub fn take_all(&mut self, other: EffectSet) -> Result<(), NoMemory>
+        ensures { OnOk result (self.new ≡ gathered self.old other) }
+    {
+        if other.effects.len() == 0 {
+            return Ok(());
+        }
+        if self.is_empty() {
+            *self = other;
+            return Ok(());
+        }
+        for e in other.into_effects() {
+            self.add(e)?;
+        }
+        Ok(())
+    }
+
+    /// Whether no effect is marked.
+    fn is_plain(&self) -> bool
+        ensures { IsTrue result ↔ (map (with_mark false) self.now ≡ self.now) }
+    {
+        for e in self.effects.as_slice() {
+            if e.atomic {
+                return false;
+            }
+        }
+        true
+    }
+
+    /// The same effects, each marked, each once and at its first place.
+    pub fn marked_effects(&self, alloc: Global) -> Result<Items<Effect>, NoMemory>
+        ensures { IfOk result (λ effects. effects ≡ all_marked true self.now) }
+    {
+        if self.is_plain() {
+            return marked_copies(alloc, self.effects.as_slice());
+        }
+        let mut effects = Items::new(alloc);
+        for e in self.marked(alloc)?.into_effects() {
+            effects.push(e)?;
+        }
+        Ok(effects)
+    }
+
     /// The same effects, each marked, each once and at its first place.
     pub fn marked(&self, alloc: Global) -> Result<EffectSet, NoMemory>
         ensures { IfOk result (λ set. set ≡ all_marked true self.now) }
@@ -180,4 +236,14 @@ fn marked(alloc: Global, e: &Effect) -> Result<Effect, NoMemory>
         atomic: true,
         rpl: e.rpl.copy(alloc)?,
     })
+}
+
+fn marked_copies(alloc: Global, effects: &[Effect]) -> Result<Items<Effect>, NoMemory>
+    ensures { IfOk result (λ copies. copies ≡ map (with_mark true) effects.now) }
+{
+    let mut copies = Items::new(alloc);
+    for e in effects {
+        copies.push(marked(alloc, e)?)?;
+    }
+    Ok(copies)
 }
