@@ -136,7 +136,7 @@ fn move_use(part_use: PartUse, view: u32, outer: u32) -> PartUse
 fn add_left(set: &mut EffectSet, effects: EffectSet, leaving: Leaving) -> Result<(), NoMemory>
     ensures { OnOk result (set.new ≡ gathered set.old (all_left leaving effects)) }
 {
-    if set.is_empty() && leaving.leaves(effects.as_slice()) {
+    if set.is_empty() && leaving.keeps_all(effects.as_slice()) {
         return set.take_all(effects);
     }
     for e in effects.into_effects() {
@@ -167,9 +167,10 @@ fn of_view(part_use: PartUse, view: u32) -> PartUse
 fn with_uses(alloc: Global, set: EffectSet, uses: &[PartUse]) -> Result<EffectSet, NoMemory>
     ensures { IfOk result (λ made. made ≡ with_uses set uses.now) }
 {
-    let mut set = set;
-    if !uses.is_empty() {
-        set.add_all(alloc, &as_effects(alloc, uses)?)?;
+    if uses.is_empty() {
+        return Ok(set);
     }
+    let mut set = set;
+    set.take_all(as_effects(alloc, uses)?)?;
     Ok(set)
 }

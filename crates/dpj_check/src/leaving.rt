@@ -1,4 +1,4 @@
-ghost use Rattle.std.specs.Prelude.{◌≡◌, ◌↔◌, IsTrue};
+ghost use Rattle.std.specs.Prelude.{◌≡◌, ◌↔◌, map, IsTrue};
 ghost use Rattle.dpj_check.specs.Leaving.{left_elem, left_path, left_mark, begins_inside, left_effect, from_here};
 ghost use Rattle.dpj_check.specs.Gathering.{all_left};
 
@@ -37,19 +37,33 @@ impl Leaving {
     }
 
     /// Whether all of these effects are left as they are.
-    pub fn leaves(&self, effects: &[Effect]) -> bool
+    pub fn keeps_all(&self, effects: &[Effect]) -> bool
         ensures { IsTrue result ↔ (all_left self.now effects.now ≡ effects.now) }
     {
-        effects.iter().all(|e| self.leaves_effect(e))
+        for e in effects {
+            if !self.keeps(e) {
+                return false;
+            }
+        }
+        true
     }
 
-    fn leaves_effect(&self, e: &Effect) -> bool
+    fn keeps(&self, e: &Effect) -> bool
         ensures { IsTrue result ↔ (left_effect self.now e.now ≡ Some e.now) }
     {
         let elems = e.rpl.elems.as_slice();
-        !self.begins_inside(elems)
-            && self.mark(e.atomic) == e.atomic
-            && elems.iter().all(|elem| self.left_elem(*elem) == *elem)
+        !self.begins_inside(elems) && self.mark(e.atomic) == e.atomic && self.keeps_path(elems)
+    }
+
+    fn keeps_path(&self, elems: &[Elem]) -> bool
+        ensures { IsTrue result ↔ (map (left_elem self.now.first_slot) elems.now ≡ elems.now) }
+    {
+        for elem in elems {
+            if self.left_elem(*elem) != *elem {
+                return false;
+            }
+        }
+        true
     }
 
     /// What is left of an effect after the scope: `[?]` for each index variable, and nothing of an effect on a

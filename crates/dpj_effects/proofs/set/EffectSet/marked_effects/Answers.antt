@@ -1,7 +1,7 @@
 use Rattle.std.proofs.Common.{◌≡◌, ◌∙◌, true, map, IfOk, sym, ap, subst}
 use Rattle.std.specs.List.{IsDistinct}
 use Rattle.dpj_base.specs.contracts.effect.EffectPartialEq.TheImpl.{eq-value}
-use Rattle.dpj_base.specs.Effects.{with_mark, all_marked}
+use Rattle.dpj_base.specs.Effects.{with_mark}
 use Rattle.dpj_effects.proofs.Sets.{marked-plain}
 use Rattle.dpj_effects.proofs.set.EffectSet.marked_effects.Goals as goal
 
