@@ -45,18 +45,7 @@ pub fn entered(alloc: Global, found: &Found) -> Result<Items<Effect>, NoMemory>
         return found.effects.marked_effects(alloc);
     }
     let marked = found.effects.marked(alloc)?;
-    effects_of(alloc, with_uses(alloc, marked, found.uses.as_slice())?)
-}
-
-/// The effects of a set, in their order.
-fn effects_of(alloc: Global, set: EffectSet) -> Result<Items<Effect>, NoMemory>
-    ensures { IfOk result (λ effects. effects ≡ set) }
-{
-    let mut effects = Items::new(alloc);
-    for e in set.into_effects() {
-        effects.push(e)?;
-    }
-    Ok(effects)
+    with_uses(alloc, marked, found.uses.as_slice())?.into_items(alloc)
 }
 
 /// Makes effects of the uses of a part, or uses of the part that it is of.

@@ -147,6 +147,17 @@ impl EffectSet {
         effects.into_iter()
     }
 
+    /// The effects themselves as a list, in their order.
+    pub fn into_items(self, alloc: Global) -> Result<Items<Effect>, NoMemory>
+        ensures { IfOk result (λ items. items ≡ self) }
+    {
+        let mut items = Items::new(alloc);
+        for e in self.into_effects() {
+            items.push(e)?;
+        }
+        Ok(items)
+    }
+
     /// Adds another set's effects, one after another. If memory runs out, some of them may be there. Where this set is
     /// empty, it takes no memory.
     pub fn take_all(&mut self, other: EffectSet) -> Result<(), NoMemory>
@@ -184,11 +195,7 @@ impl EffectSet {
         if self.is_plain() {
             return marked_copies(alloc, self.effects.as_slice());
         }
-        let mut effects = Items::new(alloc);
-        for e in self.marked(alloc)?.into_effects() {
-            effects.push(e)?;
-        }
-        Ok(effects)
+        self.marked(alloc)?.into_items(alloc)
     }
 
     /// The same effects, each marked, each once and at its first place.

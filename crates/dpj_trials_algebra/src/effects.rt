@@ -1,5 +1,5 @@
 use dpj_base::Access::{Read, Write};
-use dpj_base::{Access, Effect, Elem, Elems, Head, Index, NoMemory, Rpl};
+use dpj_base::{Access, Effect, Elem, Elems, Head, Index, NoMemory, Plain, Rpl};
 use dpj_effects::{EffectSet, covers, interferes};
 use std::alloc::Global;
 use std::test::Fail;
@@ -48,6 +48,44 @@ fn a_set(rt: HostRuntime) -> Result<(), Fail> {
     assert_eq!(rt; marked.len(), 1);
     assert!(rt; set.set_covers(&marked));
     assert!(rt; !marked.set_covers(&set));
+    Ok(())
+}
+
+/// A set is taken into another one, empty or not, and given up in its order.
+#[test]
+fn a_set_in_another(rt: HostRuntime) -> Result<(), Fail> {
+    let alloc = rt.alloc();
+    let mut first = EffectSet::new(alloc);
+    first.add(effect(alloc, Write, false, &[Elem::Name(1)])?)?;
+    let mut second = EffectSet::new(alloc);
+    second.add(effect(alloc, Read, false, &[Elem::Name(0)])?)?;
+    second.add(effect(alloc, Write, false, &[Elem::Name(1)])?)?;
+    first.take_all(second)?;
+    let mut all = EffectSet::new(alloc);
+    all.take_all(first)?;
+    assert_eq!(rt; all.len(), 2);
+    let mut names = 0;
+    for e in all.into_items(alloc)?.into_vec() {
+        match e.rpl.elems.as_slice().first() {
+            Some(Elem::Name(name)) if *name < 2 => names = 2 * names + *name,
+            _ => return Err(Fail::new("another element")),
+        }
+    }
+    assert_eq!(rt; names, 2);
+    Ok(())
+}
+
+/// The marked effects of a set are those of the marked set.
+#[test]
+fn marked_effects(rt: HostRuntime) -> Result<(), Fail> {
+    let alloc = rt.alloc();
+    let mut set = EffectSet::new(alloc);
+    set.add(effect(alloc, Write, false, &[Elem::Name(0)])?)?;
+    set.add(effect(alloc, Read, false, &[Elem::Name(0)])?)?;
+    let plain = set.marked_effects(alloc)?;
+    assert_eq!(rt; plain.len(), 2);
+    set.add(effect(alloc, Write, true, &[Elem::Name(0)])?)?;
+    assert!(rt; set.marked_effects(alloc)?.same(&plain));
     Ok(())
 }
 
