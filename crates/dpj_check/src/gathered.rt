@@ -125,6 +125,9 @@ fn move_use(part_use: PartUse, view: u32, outer: u32) -> PartUse
 fn add_left(set: &mut EffectSet, effects: EffectSet, leaving: Leaving) -> Result<(), NoMemory>
     ensures { OnOk result (set.new ≡ gathered set.old (all_left leaving effects)) }
 {
+    if effects.is_empty() {
+        return Ok(());
+    }
     if set.is_empty() && leaving.keeps_all(effects.as_slice()) {
         return set.take_all(effects);
     }

@@ -112,7 +112,8 @@ impl EffectSet {
     pub fn covers_effect(&self, f: &Effect) -> bool
         ensures { result ≡ some_covers self.now f.now }
     {
-        (self.effects.len() > FEW && self.covers_beside(f)) || some_covers(self.effects.as_slice(), f)
+        (self.effects.len() > FEW && self.covers_beside(f))
+            || some_covers(self.effects.as_slice(), f)
     }
 
     /// Whether each effect of the other set is covered by one of this. It takes no memory.
@@ -163,6 +164,7 @@ impl EffectSet {
     pub fn take_all(&mut self, other: EffectSet) -> Result<(), NoMemory>
         ensures { OnOk result (self.new ≡ gathered self.old other) }
     {
+        // The length also says that the effects are distinct.
         if other.effects.len() == 0 {
             return Ok(());
         }
@@ -188,7 +190,7 @@ impl EffectSet {
         true
     }
 
-    /// The same effects, each marked, each once and at its first place.
+    /// The same effects as a list, each marked, each once and at its first place.
     pub fn marked_effects(&self, alloc: Global) -> Result<Items<Effect>, NoMemory>
         ensures { IfOk result (λ effects. effects ≡ all_marked true self.now) }
     {

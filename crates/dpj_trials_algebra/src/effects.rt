@@ -1,5 +1,5 @@
 use dpj_base::Access::{Read, Write};
-use dpj_base::{Access, Effect, Elem, Elems, Head, Index, NoMemory, Plain, Rpl};
+use dpj_base::{Access, Effect, Elem, Elems, Head, Index, Items, NoMemory, Plain, Rpl};
 use dpj_effects::{EffectSet, covers, interferes};
 use std::alloc::Global;
 use std::test::Fail;
@@ -55,23 +55,18 @@ fn a_set(rt: HostRuntime) -> Result<(), Fail> {
 #[test]
 fn a_set_in_another(rt: HostRuntime) -> Result<(), Fail> {
     let alloc = rt.alloc();
-    let mut first = EffectSet::new(alloc);
-    first.add(effect(alloc, Write, false, &[Elem::Name(1)])?)?;
-    let mut second = EffectSet::new(alloc);
-    second.add(effect(alloc, Read, false, &[Elem::Name(0)])?)?;
-    second.add(effect(alloc, Write, false, &[Elem::Name(1)])?)?;
-    first.take_all(second)?;
+    let mut set = EffectSet::new(alloc);
+    set.add(effect(alloc, Write, false, &[Elem::Name(1)])?)?;
+    let mut more = EffectSet::new(alloc);
+    more.add(effect(alloc, Read, false, &[Elem::Name(0)])?)?;
+    more.add(effect(alloc, Write, false, &[Elem::Name(1)])?)?;
+    set.take_all(more)?;
     let mut all = EffectSet::new(alloc);
-    all.take_all(first)?;
-    assert_eq!(rt; all.len(), 2);
-    let mut names = 0;
-    for e in all.into_items(alloc)?.into_vec() {
-        match e.rpl.elems.as_slice().first() {
-            Some(Elem::Name(name)) if *name < 2 => names = 2 * names + *name,
-            _ => return Err(Fail::new("another element")),
-        }
-    }
-    assert_eq!(rt; names, 2);
+    all.take_all(set)?;
+    let mut wanted = Items::new(alloc);
+    wanted.push(effect(alloc, Write, false, &[Elem::Name(1)])?)?;
+    wanted.push(effect(alloc, Read, false, &[Elem::Name(0)])?)?;
+    assert!(rt; all.into_items(alloc)?.same(&wanted));
     Ok(())
 }
 

@@ -30,6 +30,6 @@ returns-then-not-keeps c =
     drop-cons es c.loop-e.e-index c.e-item.result (omega arith) ∙ ap (λ e. e ∷ rest) (sym c.e-item.is) in (
       λ h. absurd (false≢true h),
       λ h.
-      let left = subst (λ l. all_left c.args.self.now l ≡ l) front (c.loop-e.invariant.1 h) in
-      subst IsTrue c.if-not-keeps.true (c.keeps.ensures.1 (first_kept c.args.self.now rest c.e-item.result left)),
+          let left = subst (λ l. all_left c.args.self.now l ≡ l) front (c.loop-e.invariant.1 h) in
+          subst IsTrue c.if-not-keeps.true (c.keeps.ensures.1 (first_kept c.args.self.now rest c.e-item.result left)),
     )
