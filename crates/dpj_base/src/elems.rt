@@ -1,4 +1,4 @@
-ghost use Rattle.std.specs.Prelude.{◌≡◌, ◌↔◌, ◌∷◌, ◌++◌, [], length, IsTrue, IfOk, OnOk, OnErr};
+ghost use Rattle.std.specs.Prelude.{◌≡◌, ◌↔◌, ◌<◌, ◌∷◌, ◌++◌, [], length, slice_set, IsTrue, IfOk, OnOk, OnErr};
 
 use crate::memory::NoMemory;
 use crate::plain::Plain;
@@ -118,6 +118,14 @@ impl Elems {
     {
         self.items.extend_from_slice(more)?;
         Ok(())
+    }
+
+    /// Puts an element in the place of another.
+    pub fn set(&mut self, at: usize, elem: Elem)
+        requires { at < length self.old }
+        ensures { self.new ≡ slice_set self.old at elem }
+    {
+        self.items[at] = elem;
     }
 }
 
