@@ -1,5 +1,6 @@
 ghost use Rattle.std.specs.Prelude.{◌≡◌, ◌↔◌, [], true, length, IsTrue, IfOk, OnOk, OnErr};
 ghost use Rattle.dpj_base.specs.Effects.{same_effect, has_effect, some_covers, set_covers, added, gathered, all_marked, with_mark};
+ghost use Rattle.dpj_effects.specs.Listed.{listed};
 
 use crate::effect::covers;
 use dpj_base::{Access, Effect, Items, NoMemory, Plain};
@@ -63,6 +64,22 @@ impl Model for EffectSet {
     ghost view = { λ set. listed set.effects };
 
     ghost invariant = { λ set. IsDistinct effect_eq (listed set.effects) };
+}
+
+impl Effects {
+    fn into_items(self, alloc: Global) -> Result<Items<Effect>, NoMemory>
+        ensures { IfOk result (λ items. items ≡ listed self) }
+    {
+        let many = match self {
+            Effects::Few(effects) => return Ok(effects),
+            Effects::Many(effects) => effects,
+        };
+        let mut items = Items::new(alloc);
+        for e in many {
+            items.push(e)?;
+        }
+        Ok(items)
+    }
 }
 
 impl EffectSet {
@@ -182,15 +199,29 @@ impl EffectSet {
         true
     }
 
-    /// Adds copies of another set's effects, one after another. If memory runs out, some of them may be
-    /// there.
-    pub fn add_all(&mut self, alloc: Global, other: &EffectSet) -> Result<(), NoMemory>
-        ensures { OnOk result (self.new ≡ gathered self.old other.now) }
+    /// Adds another set's effects, one after another. If memory runs out, some of them may be there. An empty set takes the
+    /// other one whole.
+    pub fn take_all(&mut self, other: EffectSet) -> Result<(), NoMemory>
+        ensures { OnOk result (self.new ≡ gathered self.old other) }
     {
-        for e in other.as_slice() {
-            self.add(e.copy(alloc)?)?;
+        if self.is_empty() {
+            // The proof knows from here that the effects are distinct.
+            let _ = &other.effects;
+            *self = other;
+            return Ok(());
+        }
+        for e in other.into_items()?.into_vec() {
+            self.add(e)?;
         }
         Ok(())
+    }
+
+    /// The effects themselves as a list. Few of them take no memory.
+    pub fn into_items(self) -> Result<Items<Effect>, NoMemory>
+        ensures { IfOk result (λ items. items ≡ self) }
+    {
+        let EffectSet { effects, alloc } = self;
+        effects.into_items(alloc)
     }
 
     /// The same effects, each marked, each once and at its first place.
