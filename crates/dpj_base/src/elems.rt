@@ -160,37 +160,6 @@ impl Hash for Elems {
     }
 }
 
-// Compared and hashed as the list, which is all that a contract sees.
-impl PartialEq for Elems {
-    ghost use Rattle.dpj_base.specs.Keys.{elems_eq, elems_eq_partial_equiv};
-
-    ghost eq = { elems_eq };
-
-    ghost laws = { elems_eq_partial_equiv };
-
-    fn eq(&self, other: &Elems) -> bool {
-        self.as_slice() == other.as_slice()
-    }
-}
-
-impl Eq for Elems {
-    ghost use Rattle.dpj_base.specs.Keys.{elems_eq_equiv};
-
-    ghost laws = { elems_eq_equiv };
-}
-
-impl Hash for Elems {
-    ghost use Rattle.dpj_base.specs.Keys.{elems_input, elems_alike};
-
-    ghost hash_input = { elems_input };
-
-    ghost respects_eq = { elems_alike };
-
-    fn hash<H: Hasher>(&self, state: &mut H) {
-        self.as_slice().hash(state);
-    }
-}
-
 impl Plain for Elems {
     fn copy(&self, alloc: Global) -> Result<Elems, NoMemory> {
         Elems::from_slice(alloc, self.as_slice())

@@ -78,7 +78,7 @@ pub fn cobegin(
         })?;
         locals.push(names)?;
         effects.push(all_effects(body.alloc, &inner)?)?;
-        take_in(body.alloc, out, inner, leaving)?;
+        take_in(out, inner, leaving)?;
     }
     out.reaches_nd = out.reaches_nd || nd;
     node.note_if(Kind::Assign, has_clash(body.alloc, locals.as_slice())?);
@@ -149,7 +149,7 @@ pub fn foreach(
     let clash = iterations_interfere(body, nd, &inner, slot)?;
     node.note_if(interference(nd), clash);
     node.settle()?;
-    take_in(body.alloc, out, inner, leaving)?;
+    take_in(out, inner, leaving)?;
     Ok(Checked {
         completes: true,
         stmt: made::iterated(place, nd, slot, range, done.stmt),
@@ -188,7 +188,7 @@ pub fn atomic(
     node.note_if(Kind::AtomicBody, inner.reaches_nd);
     node.settle()?;
     let effects = entered(body.alloc, &inner)?;
-    take_in(body.alloc, out, inner, leaving)?;
+    take_in(out, inner, leaving)?;
     Ok(Checked {
         completes: true,
         stmt: made::entered(place, effects, done.stmts),

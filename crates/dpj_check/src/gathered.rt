@@ -12,12 +12,7 @@ use dpj_parts::as_effects;
 use std::alloc::Global;
 
 /// Adds what was found of a piece of the text, as it is after the piece.
-pub fn take_in(
-    _alloc: Global,
-    out: &mut Found,
-    inner: Found,
-    leaving: Leaving,
-) -> Result<(), NoMemory>
+pub fn take_in(out: &mut Found, inner: Found, leaving: Leaving) -> Result<(), NoMemory>
     ensures { OnOk result (out.new ≡ taken_in leaving out.old inner) }
 {
     let Found {

@@ -80,7 +80,7 @@ pub fn foreach_parts(
     node.note_if(Kind::Interferes, !passes);
     node.settle()?;
     let inner = hand_on_uses(body.alloc, inner, part, outer_part(&source))?;
-    take_in(body.alloc, out, inner, leaving)?;
+    take_in(out, inner, leaving)?;
     Ok(Checked {
         completes: true,
         stmt: made::parted(place, part, source, count, done.stmt),

@@ -286,7 +286,7 @@ pub fn block(
     let mut inner = Found::new(body.alloc);
     let done = statements(body, around, stmts, &mut inner)?;
     body.env.leave(scope);
-    take_in(body.alloc, out, inner, leaving)?;
+    take_in(out, inner, leaving)?;
     Ok(done)
 }
 
