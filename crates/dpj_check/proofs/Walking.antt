@@ -28,7 +28,7 @@ use Rattle.dpj_check.specs.Keeping.{Keeps, FormKeeps}
 use Rattle.dpj_check.specs.Leaving.{from_here}
 use Rattle.dpj_check.specs.Noting.{fault_of, with_fault_if}
 use Rattle.dpj_check.specs.Simple.{node_of}
-use Rattle.dpj_check.specs.Walks.{Walk, Verdict, passes, refused, behind, nothing_found, walk_of, home_of}
+use Rattle.dpj_check.specs.Walks.{Walk, Verdict, passes, refused, following, nothing_found, walk_of, home_of}
 use Rattle.dpj_check.proofs.Homes.{home_params}
 use Rattle.dpj_check.proofs.Passing.{judged_none, judged_some, walk_from, closed_is}
 
@@ -58,13 +58,13 @@ scope_passes params around s b c f g env scope made d scope_is env_is =
     (ap (λ (m : Mark). passes made (walk_from (left_to c.env m) g)) (sym scope_is) ∙ ap (λ (e : Env). passes made (walk_from e g)) (sym env_is))
 
 -- after a piece that passes a fault of the node is reported, or what was made of it goes on
-pub then_told : {T U : Type 0} (told : Option Refusal) (make : T → U) (made : T) (w : Walk) (q : Refusal) → told ≡ Some q →
-    behind told make (passes made w) ≡ refused q
-then_told told make made w q is = judged_some told (make made) w q is
+pub then_reported : {T U : Type 0} (reported : Option Refusal) (make : T → U) (made : T) (w : Walk) (q : Refusal) → reported ≡ Some q →
+    following reported make (passes made w) ≡ refused q
+then_reported reported make made w q is = judged_some reported (make made) w q is
 
-pub then_made : {T U : Type 0} (told : Option Refusal) (make : T → U) (made : T) (w : Walk) (whole : U) → told ≡ None → whole ≡ make made →
-    behind told make (passes made w) ≡ passes whole w
-then_made told make made w whole is whole_is = judged_none told (make made) w is ∙ ap (λ (z : _). passes z w) (sym whole_is)
+pub then_made : {T U : Type 0} (reported : Option Refusal) (make : T → U) (made : T) (w : Walk) (whole : U) → reported ≡ None → whole ≡ make made →
+    following reported make (passes made w) ≡ passes whole w
+then_made reported make made w whole is whole_is = judged_none reported (make made) w is ∙ ap (λ (z : _). passes z w) (sym whole_is)
 
 -- the form of an `if`, with or without an `else`
 pub choice_is : (params : List Bool) (around : Around) (node : Node) (test : PlainExpr) (part : PlainStmt) (other : Option PlainStmt) (w : Walk)
@@ -83,30 +83,30 @@ pub record FirstMet (b d : Body) (around : Around) (node noted : Node) (test : P
 choice_so : (b d : Body) (around : Around) (node noted : Node) (test : PlainExpr) (part : PlainStmt) (other : Option PlainStmt) (f g h : Found)
     (t : Option TypedExpr) (first : TypedStmt) (u : Verdict (Option TypedStmt)) (v : Verdict TypedStmt) →
     FirstMet b d around node noted test part f g h t first → InOther d.atomic_params around other (walk_of d h) u →
-    behind (fault_of noted) (λ z. typed.statement node.place (typed.choice_form (node_of test t) first z)) u ≡ v →
+    following (fault_of noted) (λ z. typed.statement node.place (typed.choice_form (node_of test t) first z)) u ≡ v →
     Choosing b.atomic_params around node test part other (walk_of b f) v
-choice_so b d around node noted test part other f g h t first u v k next told =
+choice_so b d around node noted test part other f g h t first u v k next reported =
     Choosing.chosen k.typing k.in_scope (subst (λ (z : List Bool). InOther z around other (walk_of d h) u) (home_params b d k.home) next)
-    (ap (λ (z : Node). behind (fault_of z) (λ part. typed.statement node.place (typed.choice_form (node_of test t) first part)) u) (sym k.noted_is) ∙ told)
+    (ap (λ (z : Node). following (fault_of z) (λ part. typed.statement node.place (typed.choice_form (node_of test t) first part)) u) (sym k.noted_is) ∙ reported)
 
 -- an `if` with an `else` whose first part passes, and one without it
 pub either_so : (b d : Body) (around : Around) (node noted : Node) (test : PlainExpr) (part : PlainStmt) (other : Option Stmt) (second shown : Stmt)
     (f g h : Found) (t : Option TypedExpr) (first : TypedStmt) (u v : Verdict TypedStmt) → other ≡ Some second →
     FirstMet b d around node noted test part f g h t first → shown ≡ second → InScope d.atomic_params around (plain_stmt shown) (walk_of d h) u →
-    behind (fault_of noted) (λ z. typed.statement node.place (typed.choice_form (node_of test t) first z)) (behind None Some u) ≡ v →
+    following (fault_of noted) (λ z. typed.statement node.place (typed.choice_form (node_of test t) first z)) (following None Some u) ≡ v →
     Choosing b.atomic_params around node test part (option_map plain_stmt other) (walk_of b f) v
-either_so b d around node noted test part other second shown f g h t first u v is k shows within told =
+either_so b d around node noted test part other second shown f g h t first u v is k shows within reported =
     subst (λ (z : Option Stmt). Choosing b.atomic_params around node test part (option_map plain_stmt z) (walk_of b f) v) (sym is)
-    (choice_so b d around node noted test part (Some (plain_stmt second)) f g h t first (behind None Some u) v k
-    (an_other (subst (λ (z : Stmt). InScope d.atomic_params around (plain_stmt z) (walk_of d h) u) shows within) refl) told)
+    (choice_so b d around node noted test part (Some (plain_stmt second)) f g h t first (following None Some u) v k
+    (an_other (subst (λ (z : Stmt). InScope d.atomic_params around (plain_stmt z) (walk_of d h) u) shows within) refl) reported)
 
 pub neither_so : (b d : Body) (around : Around) (node noted : Node) (test : PlainExpr) (part : PlainStmt) (other : Option Stmt) (f g h : Found)
     (t : Option TypedExpr) (first : TypedStmt) (v : Verdict TypedStmt) → other ≡ None → FirstMet b d around node noted test part f g h t first →
-    behind (fault_of noted) (λ z. typed.statement node.place (typed.choice_form (node_of test t) first z)) (passes None (walk_of d h)) ≡ v →
+    following (fault_of noted) (λ z. typed.statement node.place (typed.choice_form (node_of test t) first z)) (passes None (walk_of d h)) ≡ v →
     Choosing b.atomic_params around node test part (option_map plain_stmt other) (walk_of b f) v
-neither_so b d around node noted test part other f g h t first v is k told =
+neither_so b d around node noted test part other f g h t first v is k reported =
     subst (λ (z : Option Stmt). Choosing b.atomic_params around node test part (option_map plain_stmt z) (walk_of b f) v) (sym is)
-    (choice_so b d around node noted test part None f g h t first (passes None (walk_of d h)) v k no_other told)
+    (choice_so b d around node noted test part None f g h t first (passes None (walk_of d h)) v k no_other reported)
 
 -- whether it completes, and what it keeps to
 pub either_completes : (done first next : Bool) (test : PlainExpr) (part : PlainStmt) (other : Option Stmt) (second shown : Stmt) → other ≡ Some second →
@@ -140,11 +140,11 @@ neither_keeps around test part other is first =
 pub while_so : (around : Around) (node noted : Node) (test : PlainExpr) (part : PlainStmt) (b : Body) (f g : Found) (t : Option TypedExpr)
     (u v : Verdict TypedStmt) → Typing b.env test f (gives t g) → noted ≡ with_fault_if node kind.Type (not (may_be is_boolean (type_in t))) →
     InScope b.atomic_params around part (walk_of b g) u →
-    behind (fault_of noted) (λ z. typed.statement node.place (typed.while_loop (node_of test t) z)) u ≡ v →
+    following (fault_of noted) (λ z. typed.statement node.place (typed.while_loop (node_of test t) z)) u ≡ v →
     Checking b.atomic_params around node (form.while_loop test part) (walk_of b f) v
-while_so around node noted test part b f g t u v typing noted_is d told =
+while_so around node noted test part b f g t u v typing noted_is d reported =
     rule.of_while typing d
-    (ap (λ (z : Node). behind (fault_of z) (λ part. typed.statement node.place (typed.while_loop (node_of test t) part)) u) (sym noted_is) ∙ told)
+    (ap (λ (z : Node). following (fault_of z) (λ part. typed.statement node.place (typed.while_loop (node_of test t) part)) u) (sym noted_is) ∙ reported)
 
 -- a `foreach`
 pub foreach_so : (around : Around) (node first noted : Node) (nd : Bool) (var : Named) (start count : PlainExpr) (lowest size : TypedExpr)

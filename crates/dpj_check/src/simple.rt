@@ -5,7 +5,7 @@ ghost use Rattle.dpj_exprs.specs.declared.found.Found.{Found};
 ghost use Rattle.dpj_tree.specs.Plain.{plain_expr};
 ghost use Rattle.dpj_check.specs.Deciding.{is_misplaced, local_fault};
 ghost use Rattle.dpj_check.specs.Noting.{fault_of, with_fault_if};
-ghost use Rattle.dpj_check.specs.Simple.{declared_type, declared_told, is_region_name, may_print, region_noted, regions_declared, target_fault, AssigningLocal, AssigningPlace, Declaring, Performing, Printing, Putting, Returning};
+ghost use Rattle.dpj_check.specs.Simple.{declared_type, declared_reported, is_region_name, may_print, region_noted, regions_declared, target_fault, AssigningLocal, AssigningPlace, Declaring, Performing, Printing, Putting, Returning};
 ghost use Rattle.dpj_check.specs.Walks.{home_of, judged, passes, refused, walk_of, Walk};
 ghost use Rattle.dpj_exprs.specs.Answer.{Says};
 ghost use Rattle.dpj_typed.specs.Plain as typed;
@@ -61,8 +61,8 @@ pub fn declare(
 /// The type that a declaration names. In a body a type with a fault is refused at once.
 fn declared_type(body: &Body, tree: &TypeTree) -> Result<Ty, Stop>
     ensures ty { IfOk result (λ ty. plain_type ty ≡ declared_type body.now.env tree.now) }
-    ensures untold { OnOk result (declared_told body.now.env tree.now ≡ None) }
-    ensures told { IfErr result (λ stop. IfRefused stop (λ refusal. declared_told body.now.env tree.now ≡ Some refusal)) }
+    ensures unreported { OnOk result (declared_reported body.now.env tree.now ≡ None) }
+    ensures reported { IfErr result (λ stop. IfRefused stop (λ refusal. declared_reported body.now.env tree.now ≡ Some refusal)) }
 {
     let mut faults = Faults::by_number();
     match ty(body.alloc, &body.env.scope(), &mut faults, tree)? {

@@ -31,23 +31,23 @@ abbrev pub Refuses : Env → Expr → Found → Refusal → Type 0
 Refuses env e f q = Typing env (plain_expr e) f (refused q)
 
 -- what the code says where so much is found after it
-abbrev pub Told : Result Typed Stop → Found → (Answer → Type 0) → Type 0
-Told r g Q = Says r (λ t. gives (plain_typed t) g) refused Q
+abbrev pub Reported : Result Typed Stop → Found → (Answer → Type 0) → Type 0
+Reported r g Q = Says r (λ t. gives (plain_typed t) g) refused Q
 
 -- at the exit of a `?`, and at a call that says it all
 pub exits : (Q : Answer → Type 0) (g : Found) (P : Refusal → Type 0) (r : Result Typed Stop) (s : Stop) →
-    IsErrAnd r (λ x. x ≡ s) → ((q : Refusal) → P q → Q (refused q)) → IfRefused s P → Told r g Q
+    IsErrAnd r (λ x. x ≡ s) → ((q : Refusal) → P q → Q (refused q)) → IfRefused s P → Reported r g Q
 exits Q g P r s is next h = passed_on P Q (λ t. gives (plain_typed t) g) refused r s is next h
 
-pub ends : (Q : Answer → Type 0) (g : Found) (P : Answer → Type 0) (r : Result Typed Stop) → ((a : Answer) → P a → Q a) → Told r g P → Told r g Q
+pub ends : (Q : Answer → Type 0) (g : Found) (P : Answer → Type 0) (r : Result Typed Stop) → ((a : Answer) → P a → Q a) → Reported r g P → Reported r g Q
 ends Q g P r next h = says_all P Q (λ t. gives (plain_typed t) g) refused r next h
 
 -- what has no expressions in it
-pub of_leaf : (env : Env) (e : Expr) (k : ExprForm) (f : Found) (told : Result TypedExpr Refusal) (r : Result Typed Stop) → plain_expr e ≡ expression e.place k →
-    leaf_typed env e.place k ≡ Some told → Told r f (λ a. answer told f ≡ a) → Told r f (Typing env (plain_expr e) f)
-of_leaf env e k f told r is leaf h =
-    subst (λ (z : PlainExpr). Told r f (Typing env z f)) (sym is)
-    (ends (Typing env (expression e.place k) f) f (λ a. answer told f ≡ a) r (λ a same. Typing.no_parts leaf same) h)
+pub of_leaf : (env : Env) (e : Expr) (k : ExprForm) (f : Found) (reported : Result TypedExpr Refusal) (r : Result Typed Stop) → plain_expr e ≡ expression e.place k →
+    leaf_typed env e.place k ≡ Some reported → Reported r f (λ a. answer reported f ≡ a) → Reported r f (Typing env (plain_expr e) f)
+of_leaf env e k f reported r is leaf h =
+    subst (λ (z : PlainExpr). Reported r f (Typing env z f)) (sym is)
+    (ends (Typing env (expression e.place k) f) f (λ a. answer reported f ≡ a) r (λ a same. Typing.no_parts leaf same) h)
 
 -- what is so of the parts that the code reaches is so of those that the tree holds
 pub field_parts : {env : Env} {place : Place} {x of : Expr} {name : ℕ} {f : Found} {a : Answer} → x ≡ of →

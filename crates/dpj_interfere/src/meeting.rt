@@ -1,5 +1,5 @@
 ghost use Rattle.std.specs.Prelude.{◌≡◌, ◌<◌, length, IsTrue, IfOk};
-ghost use Rattle.dpj_base.specs.Pairs.{FirstPair, FirstBehind};
+ghost use Rattle.dpj_base.specs.Pairs.{FirstPair, FirstAfter};
 ghost use Rattle.dpj_base.specs.Branches.{lists_clash};
 ghost use Rattle.dpj_interfere.specs.Nd.{plain_nd};
 
@@ -85,7 +85,7 @@ fn first_after(
     i: usize,
 ) -> Option<usize>
     requires { i < length branches.now }
-    ensures { FirstBehind (λ es fs. IsTrue (lists_clash given.now (plain_nd nd.entry) es fs)) branches.now i result }
+    ensures { FirstAfter (λ es fs. IsTrue (lists_clash given.now (plain_nd nd.entry) es fs)) branches.now i result }
 {
     let effects = &branches[i];
     if effects.is_empty() {

@@ -50,8 +50,8 @@ pub made_else : (test : Expr) (body other : Stmt) {found : Bool} {before one two
     TakesKeyword Keyword.If before one place → DerivesCondition one two (plain_expr test) → DerivesStmt two three (plain_stmt body) →
     TakesIf (terminal.Keyword Keyword.Else) found three four → found ≡ true → DerivesStmt four after (plain_stmt other) →
     s ≡ statement place (plain_stmt_kind (kind.If test body (Some other))) → DerivesStmt before after s
-made_else test body other {found = found} takes tested d others there behind is =
-    rw (is, kind_If_else test body other) (DerivesStmt.at_first (stands takes) (DerivesForm.if_else takes tested d (takes_found found others there).takes behind))
+made_else test body other {found = found} takes tested d others there following is =
+    rw (is, kind_If_else test body other) (DerivesStmt.at_first (stands takes) (DerivesForm.if_else takes tested d (takes_found found others there).takes following))
 
 pub made_while : (test : Expr) (body : Stmt) {before one two after : List Placed} {s : PlainStmt} {place : Place} →
     TakesKeyword Keyword.While before one place → DerivesCondition one two (plain_expr test) → DerivesStmt two after (plain_stmt body) →

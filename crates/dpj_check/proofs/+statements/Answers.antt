@@ -22,17 +22,17 @@ use Rattle.dpj_check.specs.Noting.{fault_of}
 use Rattle.dpj_check.specs.Simple.{node_of, Declaring, AssigningLocal, AssigningPlace, Performing, Printing, regions_declared}
 use Rattle.dpj_check.specs.Walks.{walk_of, passes, judged}
 use Rattle.dpj_check.specs.Walks.{Verdict as verdict}
-use Rattle.dpj_check.proofs.Atomics.{atomic_refused, atomic_told, atomic_passes}
-use Rattle.dpj_check.proofs.Forks.{Branch, BranchesMet, branch_made, fork_more, fork_all, fork_stopped, fork_told, fork_ends, fork_passes, clash_is}
+use Rattle.dpj_check.proofs.Atomics.{atomic_refused, atomic_reported, atomic_passes}
+use Rattle.dpj_check.proofs.Forks.{Branch, BranchesMet, branch_made, fork_more, fork_all, fork_stopped, fork_reported, fork_ends, fork_passes, clash_is}
 use Rattle.dpj_check.proofs.Homes.{home_params, piece_begun}
-use Rattle.dpj_check.proofs.Iterations.{iteration_in, iteration_stopped, iteration_told, iterations_told, iterations_pass, second_noted, Iterated, IterationsMet}
+use Rattle.dpj_check.proofs.Iterations.{iteration_in, iteration_stopped, iteration_reported, iterations_reported, iterations_pass, second_noted, Iterated, IterationsMet}
 use Rattle.dpj_check.proofs.Nodes.{node_made, choice_made, while_made}
 use Rattle.dpj_check.proofs.Orders.{map_pushed, order_refused, order_more, order_all, and_then_so, and_else_so, complete_step, keep_step, fork_keeps}
-use Rattle.dpj_check.proofs.Parting.{range_stopped, part_stopped, Part, part_told, PartsMet, parts_told, parts_pass}
+use Rattle.dpj_check.proofs.Parting.{range_stopped, part_stopped, Part, part_reported, PartsMet, parts_reported, parts_pass}
 use Rattle.dpj_check.proofs.Passing.{says_all, stopped, settle_stopped}
 use Rattle.dpj_check.proofs.Reaching.{begun_nd, taken_nd, iterations_nd, parts_nd, either_nd, neither_nd, fork_nd, nd_step, or_then, or_else, reaching, reached_is}
 use Rattle.dpj_check.proofs.Stands.{as_said, at_Block, at_Declare, at_AssignLocal, at_AssignField, at_AssignElement, at_Do, at_Print, at_PrintText, at_Region, at_Cobegin, at_Atomic, at_If, at_While, at_Foreach, at_Parts, at_Return}
-use Rattle.dpj_check.proofs.Walking.{block_stops, block_closes, scope_passes, then_told, then_made, choice_is, FirstMet, either_so, neither_so, either_completes, neither_completes, either_keeps, neither_keeps, while_so, foreach_so}
+use Rattle.dpj_check.proofs.Walking.{block_stops, block_closes, scope_passes, then_reported, then_made, choice_is, FirstMet, either_so, neither_so, either_completes, neither_completes, either_keeps, neither_keeps, while_so, foreach_so}
 use Rattle.dpj_check.proofs.+statements.Goals as goal
 use Rattle.dpj_check.proofs.+statements.Goals.{statements::statements-then-completes, statements::statements-else-completes, constructs::foreach-then-inner, constructs::foreach-else-inner, constructs::cobegin-then-out, constructs::cobegin-else-out}
 
@@ -270,10 +270,10 @@ statements::nested-returns-in_err-settle-clause-checks t c =
     settle_stopped (Checking c.args.body.now.atomic_params c.args.around c.args.node (form.block (plain_stmts (map plain_stmt c.args.all.now))) (walk_of c.args.body.now c.args.out.now))
     (fault_of c.args.node) c.from_residual-in_err-settle.result c.in_err-settle.field-0.0 _ c.from_residual-in_err-settle.ensures.1
     c.in_err-settle.ensures.result
-    (λ q told.
+    (λ q reported.
     rule.of_block c.in_ok-done.ensures.checks
-    (then_told (fault_of c.args.node) (λ ss. statement c.args.node.place (made.block (stmts_of ss))) (map typed_stmt c.in_ok-done.done.stmts)
-    (walk_of c.block.new.body c.block.new.out) q told))
+    (then_reported (fault_of c.args.node) (λ ss. statement c.args.node.place (made.block (stmts_of ss))) (map typed_stmt c.in_ok-done.done.stmts)
+    (walk_of c.block.new.body c.block.new.out) q reported))
 
 pub statements::nested-returns-clause-checks : goal.statements::nested-returns-clause-checks
 statements::nested-returns-clause-checks t c =
@@ -327,7 +327,7 @@ statements::branching-returns-in_err-settle-in-Some-clause-checks t c =
     (option_map plain_stmt (option_copied c.args.other)) (walk_of c.args.body.now c.args.out.now))
     (fault_of c.boolean.new.node) c.from_residual-in_err-settle-in-Some.result c.in_err-settle-in-Some.field-0.0 _
     c.from_residual-in_err-settle-in-Some.ensures.1 c.in_err-settle-in-Some.ensures.result
-    (λ q told.
+    (λ q reported.
     let met : FirstMet c.args.body.now c.scoped.new.body c.args.around c.args.node c.boolean.new.node (plain_expr c.args.test.now)
     (plain_stmt c.args.then.now) c.args.out.now c.boolean.new.out c.scoped.new.out (plain_typed c.in_ok-given.given)
     (typed_stmt c.in_ok-first.first.stmt) = record {
@@ -341,10 +341,10 @@ statements::branching-returns-in_err-settle-in-Some-clause-checks t c =
     c.scoped.new.out (plain_typed c.in_ok-given.given) (typed_stmt c.in_ok-first.first.stmt)
     (passes (typed_stmt c.in_ok-second-in-Some.second.stmt) (walk_of c.scoped-in-Some.new.body c.scoped-in-Some.new.out)) (verdict.refused q)
     (ap option_copied c.in-Some.is) met c.get.ensures c.in_ok-second-in-Some.ensures.checks
-    (then_told (fault_of c.boolean.new.node)
+    (then_reported (fault_of c.boolean.new.node)
     (λ z. statement c.args.node.place
     (typed_choice (node_of (plain_expr c.args.test.now) (plain_typed c.in_ok-given.given)) (typed_stmt c.in_ok-first.first.stmt) z))
-    (Some (typed_stmt c.in_ok-second-in-Some.second.stmt)) (walk_of c.scoped-in-Some.new.body c.scoped-in-Some.new.out) q told))
+    (Some (typed_stmt c.in_ok-second-in-Some.second.stmt)) (walk_of c.scoped-in-Some.new.body c.scoped-in-Some.new.out) q reported))
 
 pub statements::branching-returns-in_ok-settle-in-Some-clause-completes : goal.statements::branching-returns-in_ok-settle-in-Some-clause-completes
 statements::branching-returns-in_ok-settle-in-Some-clause-completes t c =
@@ -394,7 +394,7 @@ statements::branching-returns-in_err-settle-in-None-clause-checks t c =
     (option_map plain_stmt (option_copied c.args.other)) (walk_of c.args.body.now c.args.out.now))
     (fault_of c.boolean.new.node) c.from_residual-in_err-settle-in-None.result c.in_err-settle-in-None.field-0.0 _
     c.from_residual-in_err-settle-in-None.ensures.1 c.in_err-settle-in-None.ensures.result
-    (λ q told.
+    (λ q reported.
     let met : FirstMet c.args.body.now c.scoped.new.body c.args.around c.args.node c.boolean.new.node (plain_expr c.args.test.now)
     (plain_stmt c.args.then.now) c.args.out.now c.boolean.new.out c.scoped.new.out (plain_typed c.in_ok-given.given)
     (typed_stmt c.in_ok-first.first.stmt) = record {
@@ -407,10 +407,10 @@ statements::branching-returns-in_err-settle-in-None-clause-checks t c =
     (plain_stmt c.args.then.now) (option_copied c.args.other) c.args.out.now c.boolean.new.out c.scoped.new.out
     (plain_typed c.in_ok-given.given) (typed_stmt c.in_ok-first.first.stmt)
     (verdict.refused q) (ap option_copied c.in-None.is) met
-    (then_told (fault_of c.boolean.new.node)
+    (then_reported (fault_of c.boolean.new.node)
     (λ z. statement c.args.node.place
     (typed_choice (node_of (plain_expr c.args.test.now) (plain_typed c.in_ok-given.given)) (typed_stmt c.in_ok-first.first.stmt) z))
-    None (walk_of c.scoped.new.body c.scoped.new.out) q told))
+    None (walk_of c.scoped.new.body c.scoped.new.out) q reported))
 
 pub statements::branching-returns-in_ok-settle-in-None-clause-completes : goal.statements::branching-returns-in_ok-settle-in-None-clause-completes
 statements::branching-returns-in_ok-settle-in-None-clause-completes t c =
@@ -525,14 +525,14 @@ statements::repeat-returns-in_err-settle-clause-checks t c =
     (form.while_loop (plain_expr c.args.test.now) (plain_stmt c.args.turn.now)) (walk_of c.args.body.now c.args.out.now))
     (fault_of c.boolean.new.node) c.from_residual-in_err-settle.result c.in_err-settle.field-0.0 _ c.from_residual-in_err-settle.ensures.1
     c.in_err-settle.ensures.result
-    (λ q told.
+    (λ q reported.
     while_so c.args.around c.args.node c.boolean.new.node (plain_expr c.args.test.now) (plain_stmt c.args.turn.now) c.args.body.now
     c.args.out.now c.boolean.new.out (plain_typed c.in_ok-given.given)
     (passes (typed_stmt c.in_ok-done.done.stmt) (walk_of c.scoped.new.body c.scoped.new.out)) (verdict.refused q)
     c.in_ok-given.ensures.answer c.in_ok-given.ensures.node c.in_ok-done.ensures.checks
-    (then_told (fault_of c.boolean.new.node)
+    (then_reported (fault_of c.boolean.new.node)
     (λ z. statement c.args.node.place (made.while_loop (node_of (plain_expr c.args.test.now) (plain_typed c.in_ok-given.given)) z))
-    (typed_stmt c.in_ok-done.done.stmt) (walk_of c.scoped.new.body c.scoped.new.out) q told))
+    (typed_stmt c.in_ok-done.done.stmt) (walk_of c.scoped.new.body c.scoped.new.out) q reported))
 
 pub statements::repeat-returns-clause-checks : goal.statements::repeat-returns-clause-checks
 statements::repeat-returns-clause-checks t c =
@@ -589,7 +589,7 @@ constructs::atomic-returns-in_err-done-clause-checks t c =
 
 pub constructs::atomic-returns-in_err-settle-clause-checks : goal.constructs::atomic-returns-in_err-settle-clause-checks
 constructs::atomic-returns-in_err-settle-clause-checks t c =
-    atomic_told c.args.body.now.atomic_params c.args.body.now c.block.new.body c.args.around c.inside.result c.args.node c.note_if.new.self
+    atomic_reported c.args.body.now.atomic_params c.args.body.now c.block.new.body c.args.around c.inside.result c.args.node c.note_if.new.self
     (plain_stmts (map plain_stmt c.args.stmts.now))
     c.args.out.now c.new-inner.result c.block.new.out (map typed_stmt c.in_ok-done.done.stmts) _ c.from_residual-in_err-settle.result
     c.in_err-settle.field-0.0 c.from_residual-in_err-settle.ensures.1 c.inside.ensures c.new-inner.ensures c.in_ok-done.ensures.checks c.note_if.ensures.node
@@ -634,7 +634,7 @@ constructs::foreach-returns-in_err-settle-clause-checks t c =
           c.inside.ensures c.in_ok-done.ensures.checks;
       assigning = c.in_ok-assigns_outer.ensures;
     } in
-    iteration_told c.args.body.now c.scoped.new.body c.args.around c.args.node c.note_if.new.self c.args.nd c.args.var (plain_node c.args.range.0)
+    iteration_reported c.args.body.now c.scoped.new.body c.args.around c.args.node c.note_if.new.self c.args.nd c.args.var (plain_node c.args.range.0)
     (plain_node c.args.range.1) (plain_stmt c.args.iteration.now)
     c.args.out.now c.scoped.new.out (typed_stmt c.in_ok-done.done.stmt) c.in_ok-assigns_outer.field-0 _ c.from_residual-in_err-settle.result
     c.in_err-settle.field-0.0
@@ -672,7 +672,7 @@ constructs::foreach-returns-in_err-settle-2-clause-checks t c =
       reason_is = c.interference.ensures;
       third_is = c.note_if-2.ensures.node;
     } in
-    iterations_told c.args.body.now c.scoped.new.body c.args.around c.args.node c.note_if.new.self c.settle.new.self c.note_if-2.new.self c.args.nd
+    iterations_reported c.args.body.now c.scoped.new.body c.args.around c.args.node c.note_if.new.self c.settle.new.self c.note_if-2.new.self c.args.nd
     c.in_ok-assigns_outer.field-0 c.in_ok-clash.clash c.args.var (plain_node c.args.range.0) (plain_node c.args.range.1) (plain_stmt c.args.iteration.now)
     c.slots-slot.result c.leave.new.self c.mark-scope.result
     c.args.out.now c.scoped.new.out (reaching c.scoped.new.out c.if-inner.inner) (typed_stmt c.in_ok-done.done.stmt) c.interference.result _
@@ -761,7 +761,7 @@ parts::foreach_parts-returns-in_err-settle-clause-checks t c =
           c.in_ok-done.ensures.checks;
       assigning = c.in_ok-assigns_outer.ensures;
     } in
-    part_told c.args.body.now c.open.new.body c.scoped.new.body c.args.around c.args.node c.open.new.node c.note_if.new.self c.args.view.now c.args.var.now
+    part_reported c.args.body.now c.open.new.body c.scoped.new.body c.args.around c.args.node c.open.new.node c.note_if.new.self c.args.view.now c.args.var.now
     (plain_expr c.args.array.now) (plain_expr c.args.count.now)
     (plain_stmt c.args.iteration.now) c.args.out.now c.open.new.out c.scoped.new.out (plain_source c.in_ok-source.source) (plain_node c.in_ok-source.count)
     (typed_stmt c.in_ok-done.done.stmt) c.in_ok-assigns_outer.field-0 _
@@ -794,7 +794,7 @@ parts::foreach_parts-returns-in_err-settle-2-clause-checks t c =
       settle_is = c.settle.ensures.forgotten;
       third_is = c.note_if-2.ensures.node;
     } in
-    parts_told c.args.body.now c.open.new.body c.scoped.new.body c.args.around c.args.node c.open.new.node c.note_if.new.self c.settle.new.self
+    parts_reported c.args.body.now c.open.new.body c.scoped.new.body c.args.around c.args.node c.open.new.node c.note_if.new.self c.settle.new.self
     c.note_if-2.new.self
     c.args.view.now c.args.var.now (plain_expr c.args.array.now) (plain_expr c.args.count.now) (plain_stmt c.args.iteration.now) c.args.out.now
     c.open.new.out c.scoped.new.out
@@ -917,7 +917,7 @@ constructs::cobegin-returns-in_err-settle-clause-checks t c =
     let clash : ClashIs c.loop-branch.locals c.in_ok-has_clash.field-0 =
     clash_is c.loop-branch.locals c.as_slice-2.result.now c.in_ok-has_clash.field-0 c.as_slice-2.ensures c.in_ok-has_clash.ensures.none
     c.in_ok-has_clash.ensures.some in
-    fork_told c.args.body.now.atomic_params c.args.around c.args.node c.note_if.new.self c.args.nd c.in_ok-has_clash.field-0
+    fork_reported c.args.body.now.atomic_params c.args.around c.args.node c.note_if.new.self c.args.nd c.in_ok-has_clash.field-0
     (plain_stmts (map plain_stmt c.args.branches.now))
     c.loop-branch.effects c.loop-branch.locals (map plain_branch c.loop-branch.made) (walk_of c.args.body.now c.args.out.now)
     (walk_of c.loop-branch.body c.loop-branch.out) _

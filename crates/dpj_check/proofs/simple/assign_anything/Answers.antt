@@ -16,10 +16,10 @@ returns-in_err-settle-clause-checks c w =
     judged (fault_of (with_fault_if c.args.node kind.Type (not (may_be is_value (value_type c.args.given)))))
     (statement c.args.place (perform (node_at c.args.value (plain_typed c.args.given)))) w ≡ v)
     (fault_of c.note_if.new.self) c.from_residual.result c.in_err-settle.field-0.0 _ c.from_residual.ensures.1 c.in_err-settle.ensures.result
-    (λ q told.
+    (λ q reported.
     judged_some _ _ _ q
     (ap fault_of
-    (sym (c.note_if.ensures.node ∙ ap (λ (z : Bool). with_fault_if c.args.node kind.Type (not z)) c.is_value.ensures)) ∙ told))
+    (sym (c.note_if.ensures.node ∙ ap (λ (z : Bool). with_fault_if c.args.node kind.Type (not z)) c.is_value.ensures)) ∙ reported))
 
 pub returns-clause-checks : goal.returns-clause-checks
 returns-clause-checks c w =

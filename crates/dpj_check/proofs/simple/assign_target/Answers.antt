@@ -4,7 +4,7 @@ use Rattle.dpj_exprs.specs.Typed.{node_at, plain_node, plain_typed}
 use Rattle.dpj_check.specs.Noting.{fault_of}
 use Rattle.dpj_check.specs.Simple.{Putting}
 use Rattle.dpj_check.specs.Walks.{walk_of}
-use Rattle.dpj_check.proofs.Leaves.{Put, put_told, put_written}
+use Rattle.dpj_check.proofs.Leaves.{Put, put_reported, put_written}
 use Rattle.dpj_check.proofs.Passing.{settle_stopped}
 use Rattle.dpj_check.proofs.simple.assign_target.Goals as goal
 
@@ -21,9 +21,9 @@ returns-in_err-settle-clause-checks c =
     (walk_of c.args.body.now c.args.out.now))
     (fault_of c.note_found.new.self) c.from_residual-in_err-settle.result c.in_err-settle.field-0.0 _ c.from_residual-in_err-settle.ensures.1
     c.in_err-settle.ensures.result
-    (λ q told.
-    put_told c.args.node c.note_found.new.self c.args.place c.args.target c.args.body.now c.args.out.now (plain_typed c.args.given)
-    (node_at c.args.value (plain_typed c.args.given)) c.in_ok-fits.fits c.target_fault.result q known told)
+    (λ q reported.
+    put_reported c.args.node c.note_found.new.self c.args.place c.args.target c.args.body.now c.args.out.now (plain_typed c.args.given)
+    (node_at c.args.value (plain_typed c.args.given)) c.in_ok-fits.fits c.target_fault.result q known reported)
 
 pub returns-clause-checks : goal.returns-clause-checks
 returns-clause-checks c =

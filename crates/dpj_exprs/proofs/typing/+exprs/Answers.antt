@@ -12,7 +12,7 @@ use Rattle.dpj_tree.specs.Plain.{expression, int, boolean, null, this, local, fi
 use Rattle.dpj_typed.specs.Plain.{TypedExpr, typed}
 use Rattle.dpj_typed.specs.Plain.{ExprForm as node}
 use Rattle.dpj_exprs.specs.Answer.{gives, refused}
-use Rattle.dpj_exprs.specs.Arrays.{made_names, front_told, created_array}
+use Rattle.dpj_exprs.specs.Arrays.{made_names, front_reported, created_array}
 use Rattle.dpj_exprs.specs.Elements.{read_element, read_part}
 use Rattle.dpj_exprs.specs.Env.{table_of, local_of, this_type_of}
 use Rattle.dpj_exprs.specs.Fields.{read_field}
@@ -20,9 +20,9 @@ use Rattle.dpj_exprs.specs.Locals.{local_typed}
 use Rattle.dpj_exprs.specs.Operations.{unary_typed, binary_typed}
 use Rattle.dpj_exprs.specs.Typed.{plain_node, plain_typed, type_in, node_at}
 use Rattle.dpj_exprs.specs.Typing.{answer, all_give, one_refused, Typing, TypingAll, TypingArray}
-use Rattle.dpj_exprs.specs.Uses.{args_told, callee_params, created_params, Call, Creation}
+use Rattle.dpj_exprs.specs.Uses.{args_reported, callee_params, created_params, Call, Creation}
 use Rattle.dpj_exprs.proofs.Built.{array_built}
-use Rattle.dpj_exprs.proofs.Constructs.{Refuses, Told, exits, ends, of_leaf, field_parts, element_parts, call_parts, object_parts, array_parts, unary_parts, binary_parts, array_answer}
+use Rattle.dpj_exprs.proofs.Constructs.{Refuses, Reported, exits, ends, of_leaf, field_parts, element_parts, call_parts, object_parts, array_parts, unary_parts, binary_parts, array_answer}
 use Rattle.dpj_exprs.proofs.Forms.{at_Int, at_Bool, at_Null, at_This, at_Local}
 use Rattle.dpj_exprs.proofs.Passing.{passed_on}
 use Rattle.dpj_exprs.proofs.Several.{one_so_far, one_stopped, all_so_far}
@@ -32,7 +32,7 @@ pub expr-returns-in-Int-clause-answer : goal.expr-returns-in-Int-clause-answer
 expr-returns-in-Int-clause-answer t c =
     let fits : SFits w32 c.in-Int.k = search rules in
     of_leaf c.args.env.now c.args.e.now (int c.in-Int.k) c.args.found.now (Ok (typed c.args.e.now.place ty.int (node.int c.in-Int.k))) c.int.result (at_Int c.args.e.now c.in-Int.k c.in-Int.is) refl
-    (subst (λ (k : ℤ). Told c.int.result c.args.found.now (λ a. gives (Some (typed c.args.e.now.place ty.int (node.int k))) c.args.found.now ≡ a)) (to_z-of_z fits) (c.int.ensures c.args.found.now))
+    (subst (λ (k : ℤ). Reported c.int.result c.args.found.now (λ a. gives (Some (typed c.args.e.now.place ty.int (node.int k))) c.args.found.now ≡ a)) (to_z-of_z fits) (c.int.ensures c.args.found.now))
 
 pub expr-returns-in-Bool-clause-answer : goal.expr-returns-in-Bool-clause-answer
 expr-returns-in-Bool-clause-answer t c =
@@ -127,50 +127,50 @@ method_call-returns-in_err-of-clause-answer t c =
 
 pub method_call-returns-in_err-regions-clause-answer : goal.method_call-returns-in_err-regions-clause-answer
 method_call-returns-in_err-regions-clause-answer t c =
-    exits (Typing c.args.env.now (expression c.args.place (call (plain_expr c.args.of.now) c.args.regions.now c.args.name (plain_exprs (map plain_expr c.args.actuals.now)))) c.args.found.now) _ (λ q. args_told c.args.env.now (callee_params (table_of c.args.env.now) (type_in (plain_typed c.in_ok-of.of)) c.args.name) c.as_slice.result.now ≡ Some q)
+    exits (Typing c.args.env.now (expression c.args.place (call (plain_expr c.args.of.now) c.args.regions.now c.args.name (plain_exprs (map plain_expr c.args.actuals.now)))) c.args.found.now) _ (λ q. args_reported c.args.env.now (callee_params (table_of c.args.env.now) (type_in (plain_typed c.in_ok-of.of)) c.args.name) c.as_slice.result.now ≡ Some q)
     c.from_residual-in_err-regions.result c.in_err-regions.field-0.0 c.from_residual-in_err-regions.ensures.1
     (λ q d. call_parts {all = c.args.actuals.now} c.get.ensures c.as_slice.ensures refl (Typing.call_args_refused c.in_ok-of.ensures.answer d))
-    c.in_err-regions.ensures.told
+    c.in_err-regions.ensures.reported
 
 pub method_call-returns-in_err-actuals-clause-answer : goal.method_call-returns-in_err-actuals-clause-answer
 method_call-returns-in_err-actuals-clause-answer t c =
     exits (Typing c.args.env.now (expression c.args.place (call (plain_expr c.args.of.now) c.args.regions.now c.args.name (plain_exprs (map plain_expr c.args.actuals.now)))) c.args.found.now) _ (λ q. TypingAll c.args.env.now (plain_exprs (map plain_expr c.as_slice-2.result.now)) c.expr.new.found (one_refused q))
     c.from_residual-in_err-actuals.result c.in_err-actuals.field-0.0 c.from_residual-in_err-actuals.ensures.1
-    (λ q d. call_parts c.get.ensures c.as_slice.ensures c.as_slice-2.ensures (Typing.call_actual_refused c.in_ok-of.ensures.answer c.in_ok-regions.ensures.told d))
+    (λ q d. call_parts c.get.ensures c.as_slice.ensures c.as_slice-2.ensures (Typing.call_actual_refused c.in_ok-of.ensures.answer c.in_ok-regions.ensures.reported d))
     c.in_err-actuals.ensures.answer
 
 pub method_call-returns-clause-answer : goal.method_call-returns-clause-answer
 method_call-returns-clause-answer t c =
     ends (Typing c.args.env.now (expression c.args.place (call (plain_expr c.args.of.now) c.args.regions.now c.args.name (plain_exprs (map plain_expr c.args.actuals.now)))) c.args.found.now) _ (Call c.args.env.now (plain_typed c.in_ok-of.of) c.args.name c.in_ok-regions.regions (map plain_typed c.in_ok-actuals.actuals) c.args.place c.exprs.new.found) c.call.result
-    (λ a d. call_parts c.get.ensures c.as_slice.ensures c.as_slice-2.ensures (Typing.method_call c.in_ok-of.ensures.answer c.in_ok-regions.ensures.told c.in_ok-actuals.ensures.answer
+    (λ a d. call_parts c.get.ensures c.as_slice.ensures c.as_slice-2.ensures (Typing.method_call c.in_ok-of.ensures.answer c.in_ok-regions.ensures.reported c.in_ok-actuals.ensures.answer
     (subst (λ (z : ReadArgs). Call c.args.env.now (plain_typed c.in_ok-of.of) c.args.name z (map plain_typed c.in_ok-actuals.actuals) c.args.place c.exprs.new.found a) c.in_ok-regions.ensures.read d)))
     c.call.ensures.answer
 
 pub new_array-returns-in_err-read-clause-answer : goal.new_array-returns-in_err-read-clause-answer
 new_array-returns-in_err-read-clause-answer t c =
-    exits (Typing c.args.env.now (expression c.args.place (create_array c.args.base.now c.args.suffixes.now (plain_expr c.args.length.now) c.args.rpl.now c.args.index.now)) c.args.found.now) _ (λ q. front_told c.args.env.now (made_names c.as_slice.result.now c.args.index.now) c.args.base.now ≡ Some q)
+    exits (Typing c.args.env.now (expression c.args.place (create_array c.args.base.now c.args.suffixes.now (plain_expr c.args.length.now) c.args.rpl.now c.args.index.now)) c.args.found.now) _ (λ q. front_reported c.args.env.now (made_names c.as_slice.result.now c.args.index.now) c.args.base.now ≡ Some q)
     c.from_residual.result c.in_err-read.field-0.0 c.from_residual.ensures.1
     (λ q d. array_parts {x = c.args.length.now} c.as_slice.ensures refl refl (TypingArray.front_refused d))
-    c.in_err-read.ensures.told
+    c.in_err-read.ensures.reported
 
 pub new_array-returns-in_err-length-clause-answer : goal.new_array-returns-in_err-length-clause-answer
 new_array-returns-in_err-length-clause-answer t c =
     exits (Typing c.args.env.now (expression c.args.place (create_array c.args.base.now c.args.suffixes.now (plain_expr c.args.length.now) c.args.rpl.now c.args.index.now)) c.args.found.now) _ (Refuses c.args.env.now c.get.result.now c.args.found.now)
     c.from_residual-in_err-length.result c.in_err-length.field-0.0 c.from_residual-in_err-length.ensures.1
-    (λ q d. array_parts c.as_slice.ensures c.get.ensures refl (TypingArray.length_refused c.in_ok-read.ensures.told d))
+    (λ q d. array_parts c.as_slice.ensures c.get.ensures refl (TypingArray.length_refused c.in_ok-read.ensures.reported d))
     c.in_err-length.ensures.answer
 
 pub new_array-returns-in_err-ty-clause-answer : goal.new_array-returns-in_err-ty-clause-answer
 new_array-returns-in_err-ty-clause-answer t c =
     exits (Typing c.args.env.now (expression c.args.place (create_array c.args.base.now c.args.suffixes.now (plain_expr c.args.length.now) c.args.rpl.now c.args.index.now)) c.args.found.now) _ (λ q. created_array c.args.env.now (made_names c.as_slice.result.now c.args.index.now) c.in_ok-read.read (type_in (plain_typed c.in_ok-length.length)) (option_copied c.as_ref.result) c.args.place ≡ Err q)
     c.from_residual-in_err-ty.result c.in_err-ty.field-0.0 c.from_residual-in_err-ty.ensures.1
-    (λ q d. array_parts c.as_slice.ensures c.get.ensures c.as_ref.ensures.value (TypingArray.array_created c.in_ok-read.ensures.told c.in_ok-length.ensures.answer
+    (λ q d. array_parts c.as_slice.ensures c.get.ensures c.as_ref.ensures.value (TypingArray.array_created c.in_ok-read.ensures.reported c.in_ok-length.ensures.answer
     (array_answer c.args.env.now (made_names c.as_slice.result.now c.args.index.now) c.args.base.now (option_copied c.as_ref.result) c.args.place c.expr.new.found (plain_typed c.in_ok-length.length) c.in_ok-read.read (Err q) (Err q) c.in_ok-read.ensures.read d refl)))
     c.in_err-ty.ensures.answer
 
 pub new_array-returns-clause-answer : goal.new_array-returns-clause-answer
 new_array-returns-clause-answer t c =
-    array_parts c.as_slice.ensures c.get.ensures c.as_ref.ensures.value (TypingArray.array_created c.in_ok-read.ensures.told c.in_ok-length.ensures.answer
+    array_parts c.as_slice.ensures c.get.ensures c.as_ref.ensures.value (TypingArray.array_created c.in_ok-read.ensures.reported c.in_ok-length.ensures.answer
     (array_answer c.args.env.now (made_names c.as_slice.result.now c.args.index.now) c.args.base.now (option_copied c.as_ref.result) c.args.place c.expr.new.found (plain_typed c.in_ok-length.length) c.in_ok-read.read
     (Ok (plain_type c.in_ok-ty.ty)) (Ok (plain_node c.in_ok-create_array.field-0)) c.in_ok-read.ensures.read c.in_ok-ty.ensures.answer
     (array_built c.args.place (plain_type c.in_ok-ty.ty) (node_at c.args.place (plain_typed c.in_ok-length.length)) (plain_node c.into_node-length.result) (plain_node c.in_ok-create_array.field-0) (Ok (plain_type c.in_ok-ty.ty))
@@ -178,29 +178,29 @@ new_array-returns-clause-answer t c =
 
 pub new_object-returns-in_err-regions-clause-answer : goal.new_object-returns-in_err-regions-clause-answer
 new_object-returns-in_err-regions-clause-answer t c =
-    exits (Typing c.args.env.now (expression c.args.place (create c.args.class c.args.regions.now (plain_exprs (map plain_expr c.args.actuals.now)))) c.args.found.now) _ (λ q. args_told c.args.env.now (created_params (table_of c.args.env.now) c.args.class) c.as_slice.result.now ≡ Some q)
+    exits (Typing c.args.env.now (expression c.args.place (create c.args.class c.args.regions.now (plain_exprs (map plain_expr c.args.actuals.now)))) c.args.found.now) _ (λ q. args_reported c.args.env.now (created_params (table_of c.args.env.now) c.args.class) c.as_slice.result.now ≡ Some q)
     c.from_residual.result c.in_err-regions.field-0.0 c.from_residual.ensures.1
     (λ q d. object_parts {all = c.args.actuals.now} c.as_slice.ensures refl (Typing.new_args_refused d))
-    c.in_err-regions.ensures.told
+    c.in_err-regions.ensures.reported
 
 pub new_object-returns-in_err-actuals-clause-answer : goal.new_object-returns-in_err-actuals-clause-answer
 new_object-returns-in_err-actuals-clause-answer t c =
     exits (Typing c.args.env.now (expression c.args.place (create c.args.class c.args.regions.now (plain_exprs (map plain_expr c.args.actuals.now)))) c.args.found.now) _ (λ q. TypingAll c.args.env.now (plain_exprs (map plain_expr c.as_slice-2.result.now)) c.args.found.now (one_refused q))
     c.from_residual-in_err-actuals.result c.in_err-actuals.field-0.0 c.from_residual-in_err-actuals.ensures.1
-    (λ q d. object_parts c.as_slice.ensures c.as_slice-2.ensures (Typing.new_actual_refused c.in_ok-regions.ensures.told d))
+    (λ q d. object_parts c.as_slice.ensures c.as_slice-2.ensures (Typing.new_actual_refused c.in_ok-regions.ensures.reported d))
     c.in_err-actuals.ensures.answer
 
 pub new_object-returns-in_err-made-clause-answer : goal.new_object-returns-in_err-made-clause-answer
 new_object-returns-in_err-made-clause-answer t c =
     exits (Typing c.args.env.now (expression c.args.place (create c.args.class c.args.regions.now (plain_exprs (map plain_expr c.args.actuals.now)))) c.args.found.now) _ (λ q. Creation c.args.env.now c.args.class c.in_ok-regions.regions (map plain_typed c.in_ok-actuals.actuals) c.args.place c.exprs.new.found (refused q))
     c.from_residual-in_err-made.result c.in_err-made.field-0.0 c.from_residual-in_err-made.ensures.1
-    (λ q d. object_parts c.as_slice.ensures c.as_slice-2.ensures (Typing.new_object c.in_ok-regions.ensures.told c.in_ok-actuals.ensures.answer
+    (λ q d. object_parts c.as_slice.ensures c.as_slice-2.ensures (Typing.new_object c.in_ok-regions.ensures.reported c.in_ok-actuals.ensures.answer
     (subst (λ (z : ReadArgs). Creation c.args.env.now c.args.class z (map plain_typed c.in_ok-actuals.actuals) c.args.place c.exprs.new.found (refused q)) c.in_ok-regions.ensures.read d)))
     c.in_err-made.ensures.answer
 
 pub new_object-returns-clause-answer : goal.new_object-returns-clause-answer
 new_object-returns-clause-answer t c =
-    object_parts c.as_slice.ensures c.as_slice-2.ensures (Typing.new_object c.in_ok-regions.ensures.told c.in_ok-actuals.ensures.answer
+    object_parts c.as_slice.ensures c.as_slice-2.ensures (Typing.new_object c.in_ok-regions.ensures.reported c.in_ok-actuals.ensures.answer
     (subst (λ (z : ReadArgs). Creation c.args.env.now c.args.class z (map plain_typed c.in_ok-actuals.actuals) c.args.place c.exprs.new.found (gives (Some (plain_node c.in_ok-made.made)) c.creation.new.found))
     c.in_ok-regions.ensures.read c.in_ok-made.ensures.answer))
 

@@ -6,16 +6,16 @@ use Rattle.dpj_base.specs.declared.refusal.Stop.TheVariants.{Refused, NoMemory}
 use Rattle.dpj_base.specs.Refused.{IfRefused}
 
 pub refused-so : (P Q : Refusal → Type 0) (stop : Stop) → ((refusal : Refusal) → P refusal → Q refusal) → IfRefused stop P → IfRefused stop Q
-refused-so P Q (Refused refusal) next told = next refusal told
-refused-so P Q NoMemory next told = tt
+refused-so P Q (Refused refusal) next reported = next refusal reported
+refused-so P Q NoMemory next reported = tt
 
-pub told-so : {T : Type 0} (P Q : Refusal → Type 0) (result : Result T Stop) → ((refusal : Refusal) → P refusal → Q refusal)
+pub reported-so : {T : Type 0} (P Q : Refusal → Type 0) (result : Result T Stop) → ((refusal : Refusal) → P refusal → Q refusal)
     → IfErr result (λ stop. IfRefused stop P) → IfErr result (λ stop. IfRefused stop Q)
-told-so P Q (Ok x) next told = tt
-told-so P Q (Err stop) next told = refused-so P Q stop next told
+reported-so P Q (Ok x) next reported = tt
+reported-so P Q (Err stop) next reported = refused-so P Q stop next reported
 
 -- the same where what stopped is handed on
 pub handed-so : {T : Type 0} (P Q : Refusal → Type 0) (result : Result T Stop) (stop : Stop) → IsErrAnd result (λ given. given ≡ stop)
     → ((refusal : Refusal) → P refusal → Q refusal) → IfRefused stop P → IfErr result (λ given. IfRefused given Q)
-handed-so P Q (Ok x) stop is next told = absurd is
-handed-so P Q (Err given) stop is next told = refused-so P Q given next (subst (λ (s : Stop). IfRefused s P) (sym is) told)
+handed-so P Q (Ok x) stop is next reported = absurd is
+handed-so P Q (Err given) stop is next reported = refused-so P Q given next (subst (λ (s : Stop). IfRefused s P) (sym is) reported)

@@ -20,21 +20,21 @@ pub fn recorded<R: Threads + Wait + Sync, G: Gate + Sync>(
     let words = split(alloc, words)?;
     let mut source = PlainSource::new(Vec::from_slice(alloc, TEXT.as_bytes())?);
     let mut sink = PlainSink::new(alloc, 64)?;
-    told(
+    reported(
         alloc,
         dpj(rt, alloc, words.as_slice(), &mut source, &mut sink, gate),
     )
 }
 
-fn told(alloc: Global, ended: Ended) -> Result<String, anyhow::Error> {
+fn reported(alloc: Global, ended: Ended) -> Result<String, anyhow::Error> {
     match ended.recorded {
-        Some(record) => told_by(alloc, record),
+        Some(record) => reported_by(alloc, record),
         None => Ok(String::from_str(alloc, "no run")?),
     }
 }
 
 /// What a record tells. The record goes before any of it can fail.
-fn told_by(alloc: Global, made: Record) -> Result<String, anyhow::Error> {
+fn reported_by(alloc: Global, made: Record) -> Result<String, anyhow::Error> {
     let schedule = made.machine.schedule().to_vec(alloc);
     let Record { shares, own, .. } = made;
     let (schedule, shares) = (schedule?, shares.into_vec());

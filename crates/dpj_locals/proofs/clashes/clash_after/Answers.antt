@@ -2,7 +2,7 @@ use Rattle.std.proofs.Common.{arith}
 use Rattle.std.proofs.lemmas.Bool.{iff_false}
 use Rattle.dpj_base.proofs.PairSteps.{at_read, none_between-more, none_between-all}
 use Rattle.dpj_locals.specs.Clash.{Clash}
-use Rattle.dpj_locals.proofs.clashes.clash_behind.Goals as goal
+use Rattle.dpj_locals.proofs.clashes.clash_after.Goals as goal
 
 pub returns-then-clashes : goal.returns-then-clashes
 returns-then-clashes c = record {

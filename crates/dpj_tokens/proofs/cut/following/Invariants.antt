@@ -1,7 +1,7 @@
 use Rattle.std.proofs.Common.{◌≡◌, ◌≤◌, ◌+◌, drop}
 use Rattle.std.specs.List.{fold}
 use Rattle.dpj_tokens.specs.Place.{next_place}
-use Rattle.dpj_tokens.proofs.cut.behind.Given as goal
+use Rattle.dpj_tokens.proofs.cut.following.Given as goal
 
 abbrev pub invariant-loop-byte : goal.invariant-loop-byte
 invariant-loop-byte l = record {

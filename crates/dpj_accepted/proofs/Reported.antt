@@ -35,7 +35,7 @@ use Rattle.dpj_accepted.proofs.Closed.{last_within}
 use Rattle.dpj_accepted.proofs.Declarations.{TypesIn, MethodSaid, row_said}
 use Rattle.dpj_accepted.proofs.InParams.{TypeIn, type_stands, type_few}
 use Rattle.dpj_accepted.proofs.Lineage.{P, number, class_there, above_of}
-use Rattle.dpj_accepted.proofs.Slotted.{at_within, field_told}
+use Rattle.dpj_accepted.proofs.Slotted.{at_within, field_reported}
 
 -- types of formals and results that are over region parameters
 all_stand : (n : ℕ) (ts : List Ty) → TypesIn n (map plain_type ts) → AllStand ts
@@ -85,14 +85,14 @@ module _ (program : Program) (table : Table) (bodies : List PlainBody) (written 
           stand = all_stand s.count row.params s.params;
         }
 
-    fields_told : (class name : ℕ) (args owned : List Rpl) (row : FieldRow) → field_of table class name ≡ Some row → args_at table class args row.owner ≡ Some owned → FieldSeen (P program table bodies accepted) class args owned row
-    fields_told class name args owned row e h =
+    fields_reported : (class name : ℕ) (args owned : List Rpl) (row : FieldRow) → field_of table class name ≡ Some row → args_at table class args row.owner ≡ Some owned → FieldSeen (P program table bodies accepted) class args owned row
+    fields_reported class name args owned row e h =
         let w = and_then_there (λ place. slice_get table.fields place) (nearest (λ above. own_field table above name) (upwards (headers_of table) class)) row e in
-        field_told program table bodies accepted written.small class args owned w.0 row w.2 h
+        field_reported program table bodies accepted written.small class args owned w.0 row w.2 h
 
-    methods_told : (class name : ℕ) (args owned : List Rpl) (row : MethodRow) → method_of table class name ≡ Some row → args_at table class args row.owner ≡ Some owned →
+    methods_reported : (class name : ℕ) (args owned : List Rpl) (row : MethodRow) → method_of table class name ≡ Some row → args_at table class args row.owner ≡ Some owned →
         MethodSeen (P program table bodies accepted) table (never_forks table) class args owned row
-    methods_told class name args owned row e h = record {
+    methods_reported class name args owned row e h = record {
       seen = member_seen w.0 row w.2;
       in_row = in_row;
       above = above_of program table bodies accepted (class_count (headers_of table) + 1) class args owned row.owner h;
@@ -119,8 +119,8 @@ module _ (program : Program) (table : Table) (bodies : List PlainBody) (written 
             (at_within program table bodies accepted (class_count (headers_of table) + 1) class args owned row.owner h owner)
             (methods_stand program table accepted.rows class name row e)
 
-    classes_told : (name at : ℕ) → class_of (headers_of table) name ≡ Some at → ClassSeen (P program table bodies accepted) table (never_forks table) at
-    classes_told name at e = record {
+    classes_reported : (name at : ℕ) → class_of (headers_of table) name ≡ Some at → ClassSeen (P program table bodies accepted) table (never_forks table) at
+    classes_reported name at e = record {
       class = typed_class table at;
       is = class_there program table bodies accepted at within;
       params = ap (λ k. option_map_or (λ (header : Header). map (λ param. param.atomic) header.params) (header_of (headers_of table) k) []) same ∙ params (header_of (headers_of table) at);
@@ -144,8 +144,8 @@ module _ (program : Program) (table : Table) (bodies : List PlainBody) (written 
         params None = refl
         params (Some header) = refl
 
-    regions_told : (class name number : ℕ) → region_of (headers_of table) class name ≡ Some number → number < length (P program table bodies accepted).region_names
-    regions_told class name number e =
+    regions_reported : (class name number : ℕ) → region_of (headers_of table) class name ≡ Some number → number < length (P program table bodies accepted).region_names
+    regions_reported class name number e =
         let w = nearest_in (λ at. own_region (headers_of table) at name) (upwards (headers_of table) class) number e in
         elim (last_within (λ (row : RegionRow). (row.owner == w.0) && (row.name == name)) 0 (regions_of (headers_of table)) None number w.2) [
           | inl none ↦ absurd (cc (none))
@@ -157,9 +157,9 @@ module _ (program : Program) (table : Table) (bodies : List PlainBody) (written 
 
     pub table_tells : Tells (P program table bodies accepted) table (never_forks table)
     table_tells = record {
-      fields = fields_told;
-      methods = methods_told;
-      classes = classes_told;
-      regions = regions_told;
+      fields = fields_reported;
+      methods = methods_reported;
+      classes = classes_reported;
+      regions = regions_reported;
       atomic = refl;
     }

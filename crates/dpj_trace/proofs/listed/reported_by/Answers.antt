@@ -3,7 +3,7 @@ use Rattle.std.specs.Fmt.{decimal}
 use Rattle.std.specs.Str.Parse.{digits_value}
 use Rattle.dpj_trace.specs.Pieces.{IsNumber}
 use Rattle.dpj_trace.proofs.Telling.{run-cut, run-pieces}
-use Rattle.dpj_trace.proofs.listed.told_by.Goals as goal
+use Rattle.dpj_trace.proofs.listed.reported_by.Goals as goal
 
 pub returns-in_err-task : goal.returns-in_err-task
 returns-in_err-task c = rw c.from_residual.ensures (λ task many tells. c.in_err-task.ensures (decimal task) many (run-cut c.args.line.now task many tells))

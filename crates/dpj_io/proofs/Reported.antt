@@ -26,13 +26,13 @@ pub Wrote-more : (first now next : Option (List ℕ)) (bytes piece : List ℕ) (
     → Wrote first done bytes now → IfSome now (λ held. next ≡ Some (held ++ take count piece)) → Wrote first (done + count) bytes next
 Wrote-more None now next bytes piece done count e wrote put = tt
 Wrote-more (Some old) now next bytes piece done count e wrote put =
-    let step = subst (λ (told : Option (List ℕ)). IfSome told (λ held. next ≡ Some (held ++ take count piece))) wrote put in
+    let step = subst (λ (reported : Option (List ℕ)). IfSome reported (λ held. next ≡ Some (held ++ take count piece))) wrote put in
     step ∙ ap Some (append_assoc old (take done bytes) (take count piece) ∙ ap (λ l. old ++ l) (ap (λ l. take done bytes ++ take count l) e ∙ sym (take-add done count bytes)))
 
 pub UsedRoom-more : (first now next : Option ℕ) (done count : ℕ) → UsedRoom first done now → UsedRoom now count next → UsedRoom first (done + count) next
 UsedRoom-more None now next done count used more = tt
 UsedRoom-more (Some room) now next done count used more =
-    let step = subst (λ (told : Option ℕ). UsedRoom told count next) used.1 more in
+    let step = subst (λ (reported : Option ℕ). UsedRoom reported count next) used.1 more in
     let both : (room - done) - count ≡ room - (done + count) = omega arith in
     (omega (arith, used.0, step.0), step.1 ∙ ap Some both)
 
@@ -41,15 +41,15 @@ pub untroubled_more : (first now next : Option ℕ) (done count was is then_is :
     → IfSome first (λ _. is ≡ was) → IfSome now (λ room. 0 < room → then_is ≡ is) → IfSome first (λ _. then_is ≡ was)
 untroubled_more None now next done count was is then_is used more some same put = tt
 untroubled_more (Some room) now next done count was is then_is used more some same put =
-    let step = subst (λ (told : Option ℕ). UsedRoom told count next) used.1 more in
-    let kept = subst (λ (told : Option ℕ). IfSome told (λ room. 0 < room → then_is ≡ is)) used.1 put in
+    let step = subst (λ (reported : Option ℕ). UsedRoom reported count next) used.1 more in
+    let kept = subst (λ (reported : Option ℕ). IfSome reported (λ room. 0 < room → then_is ≡ is)) used.1 put in
     kept (omega (arith, step.0, some)) ∙ same
 
 -- a call that failed left a room that was used up
 pub used_up : (first now next : Option ℕ) (done : ℕ) → UsedRoom first done now → IfSome now (λ room. room ≡ 0) → next ≡ now → IfSome first (λ _. next ≡ Some 0)
 used_up None now next done used full same = tt
 used_up (Some room) now next done used full same =
-    let none = subst (λ (told : Option ℕ). IfSome told (λ room. room ≡ 0)) used.1 full in
+    let none = subst (λ (reported : Option ℕ). IfSome reported (λ room. room ≡ 0)) used.1 full in
     same ∙ used.1 ∙ ap Some none
 
 pub Took-more : (first now next : Option (List ℕ)) (all more before after : List ℕ) (count : ℕ) → Took first all now
@@ -58,8 +58,8 @@ pub Took-more : (first now next : Option (List ℕ)) (all more before after : Li
 Took-more None now next all more before after count took filled taken e = tt
 Took-more (Some bytes) now next all more before after count took filled taken e =
     let left = drop (length all) bytes in
-    let fills = subst (λ (told : Option (List ℕ)). IfSome told (λ l. Fills l before after count)) took.2 filled in
-    let drops = subst (λ (told : Option (List ℕ)). IfSome told (λ l. next ≡ Some (drop count l))) took.2 taken in
+    let fills = subst (λ (reported : Option (List ℕ)). IfSome reported (λ l. Fills l before after count)) took.2 filled in
+    let drops = subst (λ (reported : Option (List ℕ)). IfSome reported (λ l. next ≡ Some (drop count l))) took.2 taken in
     let long : length (take count left) ≡ count = omega (arith, length-take count left, fills.within) in
     let piece : take count after ≡ take count left = ap (take count) fills.front ∙ take_at (take count left) (drop count before) count long in
     let whole : more ≡ take (length all) bytes ++ take count left = e ∙ (λ i. took.1 i ++ piece i) in
@@ -76,8 +76,8 @@ pub Took-all : (first now next : Option (List ℕ)) (all before after : List ℕ
 Took-all None now next all before after count zero took filled taken = tt
 Took-all (Some bytes) now next all before after count zero took filled taken =
     let left = drop (length all) bytes in
-    let fills = subst (λ (told : Option (List ℕ)). IfSome told (λ l. Fills l before after count)) took.2 filled in
-    let drops = subst (λ (told : Option (List ℕ)). IfSome told (λ l. next ≡ Some (drop count l))) took.2 taken in
+    let fills = subst (λ (reported : Option (List ℕ)). IfSome reported (λ l. Fills l before after count)) took.2 filled in
+    let drops = subst (λ (reported : Option (List ℕ)). IfSome reported (λ l. next ≡ Some (drop count l))) took.2 taken in
     let none : left ≡ [] = fills.end zero in (
       took.1 ∙ (sym (append-nil (take (length all) bytes)) ∙ (ap (λ l. take (length all) bytes ++ l) (sym none) ∙ take-append-drop (length all) bytes)),
       drops ∙ ap Some (ap (λ n. drop n left) zero ∙ none),

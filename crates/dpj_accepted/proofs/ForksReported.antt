@@ -25,7 +25,7 @@ use Rattle.dpj_classes.specs.Around.{class_scope}
 use Rattle.dpj_classes.specs.Bodies.{class_marks, override_edges}
 use Rattle.dpj_classes.specs.Calls.{body_calls, formal_shapes}
 use Rattle.dpj_classes.specs.Edges.{call_edges, without_forks}
-use Rattle.dpj_classes.specs.Reach.{IsBehind}
+use Rattle.dpj_classes.specs.Reach.{IsAfter}
 use Rattle.dpj_classes.specs.Rows.{said_scope}
 use Rattle.dpj_classes.specs.Shapes.{tree_shape}
 use Rattle.dpj_classes.specs.Signatures.{known_type}
@@ -35,7 +35,7 @@ use Rattle.dpj_exprs.specs.Env.{table_of, at_class, at_members, with_row, with_l
 use Rattle.dpj_check.specs.Methods.{formals_declared, formal_types, body_begun}
 use Rattle.dpj_check.specs.Simple.{has_room}
 use Rattle.dpj_resolved.proofs.Lists.{some_same}
-use Rattle.dpj_accepted.specs.Whole.{StandsIn, StandsAmong, ForksAreTold}
+use Rattle.dpj_accepted.specs.Whole.{StandsIn, StandsAmong, ForksAreReported}
 use Rattle.dpj_accepted.proofs.ForkEdges.{mark_there, leads_first, edge_there}
 use Rattle.dpj_accepted.proofs.Reached.{Why}
 use Rattle.dpj_accepted.proofs.ReachedStatements.{block_reaches}
@@ -96,8 +96,8 @@ begun_shaped table start class number method same has few = by (numbered (table_
         (ap (λ (r : MethodRow). map plain_type r.params) (some_same is) ∙ has.formals) (omega (arith, few)) (omega arith)
         (record { table_is = same; class_is = refl; names = refl; rows = tt; paired = refl })
 
-pub forks_told : ForksAreTold
-forks_told program table bodies written accepted start fresh method number class stands params made u d reached =
+pub forks_reported : ForksAreReported
+forks_reported program table bodies written accepted start fresh method number class stands params made u d reached =
     (accepted.rows.is_table.reached.each number).1
     (by ((block_reaches table class (rows_shallow program.classes table accepted.rows.is_table.read written.small) (formal_shapes (headers_of table) method.formals) (begun_shaped table start class number method fresh.table_is has few) d).adds reached))
   where
@@ -116,9 +116,9 @@ forks_told program table bodies written accepted start fresh method number class
     within : number ≤ 4294967295
     within = let l = slice_get_within (methods_of table) number has.row has.there in let most = accepted.rows.few in omega (arith, l, most)
 
-    by : Why table false (some_holds_nd (plain_stmts (map plain_stmt method.body))) (body_calls calls class method) → IsBehind marks (call_edges calls 0 0 program.classes ++ override_edges table (methods_of table)) number
+    by : Why table false (some_holds_nd (plain_stmts (map plain_stmt method.body))) (body_calls calls class method) → IsAfter marks (call_edges calls 0 0 program.classes ++ override_edges table (methods_of table)) number
     by (inl h) = absurd (false≢true h)
-    by (inr (inl h)) = IsBehind.itself number ((mark_there stands).1 ∙ h)
+    by (inr (inl h)) = IsAfter.itself number ((mark_there stands).1 ∙ h)
     by (inr (inr h)) =
         let e = edge_there table calls within accepted.rows.counted.0 stands h in
-        IsBehind.before number e.0 (mark_there stands).0 (leads_first (call_edges calls 0 0 program.classes) (override_edges table (methods_of table)) number e.0 e.2) ((accepted.rows.is_table.reached.each e.0).0 e.1)
+        IsAfter.before number e.0 (mark_there stands).0 (leads_first (call_edges calls 0 0 program.classes) (override_edges table (methods_of table)) number e.0 e.2) ((accepted.rows.is_table.reached.each e.0).0 e.1)

@@ -1,6 +1,6 @@
 use Rattle.std.proofs.Common.{sym, ◌∙◌, ◌≤◌, length, rules}
 use Rattle.dpj_regions.proofs.Segments.{begins_within-fits}
-use Rattle.dpj_regions.proofs.covers.behind.Goals as goal
+use Rattle.dpj_regions.proofs.covers.following.Goals as goal
 
 pub slice_bounds-result-count : goal.slice_bounds-result-count
 slice_bounds-result-count c = begins_within-fits c.args.segment.now c.args.list.now (sym c.begins.ensures ∙ c.if-begins.true)
