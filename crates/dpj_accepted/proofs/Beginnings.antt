@@ -49,7 +49,7 @@ use Rattle.dpj_accepted.specs.Whole.{made_of, never_forks}
 use Rattle.dpj_accepted.proofs.Entering.{Entered, Begun, formals_entered}
 use Rattle.dpj_accepted.proofs.InScope.{good_stands, good_type}
 use Rattle.dpj_accepted.proofs.Membership.{IsMember}
-use Rattle.dpj_accepted.proofs.ParamNames.{values_folded, value_same, param_told, paths_same}
+use Rattle.dpj_accepted.proofs.ParamNames.{values_folded, value_same, param_reported, paths_same}
 use Rattle.dpj_declared.proofs.Paths.{Meaning}
 use Rattle.dpj_accepted.proofs.SignatureTypes.{formals_good, result_good}
 use Rattle.dpj_declared.proofs.Types.{ClassesMean}
@@ -127,7 +127,7 @@ module _ (program : Program) (table : Table) (bodies : List PlainBody) (accepted
       atomic = tells.atomic;
       params = λ name param h.
           subst (λ z. (param.number < length z) × (slice_index_or z param.number false ≡ param.atomic)) (ap (λ z. z ++ atomic_of k.row.regions) (sym k.class_params_are))
-          (param_told scope (atomic_of k.row.regions) values few name param h);
+          (param_reported scope (atomic_of k.row.regions) values few name param h);
       variables = λ name slot h. let none = value_same None (formal_names k.method.formals) k.method.formals formals_none name (Some slot) h in cc;
       locals = λ name number h. cc;
       given = ap (λ z. z ++ k.row.given) k.class_given_is ∙ ap (λ (r : PlainMethod). given_of table k.number ++ r.given) k.row_is;
@@ -202,7 +202,7 @@ module _ (program : Program) (table : Table) (bodies : List PlainBody) (accepted
         indices = λ name. refl;
         params = λ name param h.
             subst (λ z. (param.number < length z) × (slice_index_or z param.number false ≡ param.atomic)) (ap (λ z. z ++ atomic_of k.row.regions) (sym class_atomic))
-            (param_told (scope_of entry) (atomic_of k.row.regions) (values_folded (λ (row : ParamRow). row.name) (λ (row : ParamRow). row.atomic) no_names k.row.regions) few_here name param h);
+            (param_reported (scope_of entry) (atomic_of k.row.regions) (values_folded (λ (row : ParamRow). row.name) (λ (row : ParamRow). row.atomic) no_names k.row.regions) few_here name param h);
         regions = λ name number h. cc;
       };
       step = record {

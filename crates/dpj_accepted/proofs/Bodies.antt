@@ -49,7 +49,7 @@ use Rattle.dpj_accepted.proofs.Readiness.{ready_kept, ready_atomic}
 use Rattle.dpj_accepted.proofs.Singles.{assigning, performing, returning, printing}
 use Rattle.dpj_accepted.proofs.Statements.{Plainly, Goes, ScopeGoes, BlockGoes, OrderGoes, OtherGoes, expr_at, declaring_goes, plain_if, single_if, scope_if, block_if, order_if, later_reads, later_assigns, while_plain, choice_plain, atomic_plain, both_other}
 use Rattle.dpj_accepted.proofs.Targets.{placing}
-use Rattle.dpj_accepted.proofs.Walks.{If, judged_if, behind_if, OtherDone, checking_walked, standing_walked, scope_walked, order_walked, other_walked}
+use Rattle.dpj_accepted.proofs.Walks.{If, judged_if, after_if, OtherDone, checking_walked, standing_walked, scope_walked, order_walked, other_walked}
 use Rattle.std.specs.List.{list_any}
 use Rattle.std.specs.Prelude.{◌∷◌, ◌++◌, AllPairs}
 use Rattle.dpj_base.specs.declared.effect.Effect.{Effect}
@@ -68,7 +68,7 @@ use Rattle.dpj_check.specs.Checking.{with_nd, forking_of, gathers, ClashIs, Bran
 use Rattle.dpj_check.specs.Meeting.{BranchesApart}
 use Rattle.dpj_accepted.specs.Gathered.{Gathers}
 use Rattle.dpj_accepted.specs.Naming.{IsIndex, IsRegion}
-use Rattle.dpj_accepted.proofs.Branches.{BranchesAre, branches_static, AllApart, all_apart, Earlier, foreign, own_variables, own_apart, next_earlier, behind_append}
+use Rattle.dpj_accepted.proofs.Branches.{BranchesAre, branches_static, AllApart, all_apart, Earlier, foreign, own_variables, own_apart, next_earlier, after_append}
 use Rattle.dpj_accepted.proofs.Clashing.{AllSame, same_effects, none_apart}
 use Rattle.dpj_accepted.proofs.Cobegins.{ready_branch}
 use Rattle.dpj_accepted.proofs.Gathered.{then_gathered, gathered_nd}
@@ -80,8 +80,8 @@ use Rattle.dpj_accepted.proofs.Walks.{BranchesDone, branching_walked}
 
 module _ (P : PlainProgram) (signed : Signed P)
   where
-    plainly_judged : (L : Scope) (w : Walk) (told : Option Refusal) (made : TypedStmt) (u : Walk) → (told ≡ None → Plainly P signed L w made u) → If (Plainly P signed L w) (judged told made u)
-    plainly_judged L w told made u h = judged_if (Plainly P signed L w) told made u h
+    plainly_judged : (L : Scope) (w : Walk) (reported : Option Refusal) (made : TypedStmt) (u : Walk) → (reported ≡ None → Plainly P signed L w made u) → If (Plainly P signed L w) (judged reported made u)
+    plainly_judged L w reported made u h = judged_if (Plainly P signed L w) reported made u h
 
     other_less : (L : Scope) (other : Option PlainStmt) (w : Walk) (v : Verdict (Option TypedStmt)) → If (OtherGoes P signed L other w) v → If (OtherGoes P signed L other w) v
     other_less L other w v h = h
@@ -178,15 +178,15 @@ module _ (P : PlainProgram) (signed : Signed P)
             BranchesPass.one_branch (own_variables P L env params around reads assigns ready s ss b bs t touched are writes apart others earlier)
                 (own_apart P L env params around reads assigns ready s ss b bs t touched are writes apart others earlier) r.1 q.1,
             (same_effects u.found r.0 r.2, q.2),
-            subst (λ k. Gathers w.found k z.found) (sym (behind_append (forking_of nd) r.0 (joined q.0)))
+            subst (λ k. Gathers w.found k z.found) (sym (after_append (forking_of nd) r.0 (joined q.0)))
                 (then_gathered w.found (taken_in (from_here w.env (marks_after nd)) w.found u.found) z.found (after_branches (forking_of nd) r.0) (after_branches (forking_of nd) (joined q.0))
                 (subst (λ k. Gathers w.found k (taken_in (from_here w.env (marks_after nd)) w.found u.found)) same (taken (from_here w.env (marks_after nd)) w.found u.found r.0 r.2)) q.3),
           );
     }
 
-    none_behind : (nd : Bool) → [] ≡ after_branches (forking_of nd) []
-    none_behind true = refl
-    none_behind false = refl
+    none_after : (nd : Bool) → [] ≡ after_branches (forking_of nd) []
+    none_after true = refl
+    none_after false = refl
 
     deterministic : (b : Bool) → b ≡ false → forking_of b ≡ Deterministic
     deterministic true h = cc
@@ -220,7 +220,7 @@ module _ (P : PlainProgram) (signed : Signed P)
       checking_goes {params} {around} {node} {w = w} {v = v} L reads assigns ready fits all writes (Checking.of_block {all = body} {u = u} d j) =
           plain_if P signed L params around reads assigns (tree.block body) node w v (λ x. refl) (λ a b k. k) ready (checking_walked {params = params} {around = around} {node = node} {w = w} {v = v} ready.step (Checking.of_block d j))
           (subst (If (Plainly P signed L w)) j
-          (behind_if (BlockGoes P signed L w) (Plainly P signed L w) (fault_of node) (λ ss. statement node.place (typed.block (stmts_of ss))) u (block_goes L reads assigns ready fits all writes d)
+          (after_if (BlockGoes P signed L w) (Plainly P signed L w) (fault_of node) (λ ss. statement node.place (typed.block (stmts_of ss))) u (block_goes L reads assigns ready fits all writes d)
           (λ made x free h. record { calm = h.calm; alone = λ room calm. (let r = h.goes room calm in record { effects = r.0; passes_so = Passes.nested r.1; gathers = r.2 }) })))
       checking_goes {params} {around} L reads assigns ready fits all writes (Checking.of_declaration d) = declaring_goes P signed L params around reads assigns ready fits all d
       checking_goes {params} {around} {node} {w = w} {v = v} L reads assigns ready fits all writes (Checking.of_local_assignment {target = target} {value = value} d) =
@@ -273,7 +273,7 @@ module _ (P : PlainProgram) (signed : Signed P)
       checking_goes {params} {around} {node} {w = w} {v = v} L reads assigns ready fits all writes (Checking.of_while {test = test} {body = body} {t = t} {g = g} {u = u} d i j) =
           plain_if P signed L params around reads assigns (tree.while_loop test body) node w v (λ x. refl) (λ a b k. k) ready (checking_walked {params = params} {around = around} {node = node} {w = w} {v = v} ready.step (Checking.of_while d i j))
           (subst (If (Plainly P signed L w)) j
-          (behind_if (ScopeGoes P signed L (found_so w g)) (Plainly P signed L w) (fault_of (with_fault_if node kind.Type (not (may_be is_boolean (type_in t))))) (λ s. statement node.place (typed.while_loop (node_of test t) s)) u
+          (after_if (ScopeGoes P signed L (found_so w g)) (Plainly P signed L w) (fault_of (with_fault_if node kind.Type (not (may_be is_boolean (type_in t))))) (λ s. statement node.place (typed.while_loop (node_of test t) s)) u
           (scope_goes L reads assigns ready fits.1 (λ x h. all x (or_right (expr_reads x test) (stmt_reads x body) h)) writes i)
           (λ made x free h.
           while_plain P signed L params around reads assigns node.place test w t g made x ready fits.0 (λ y k. all y (or_left (expr_reads y test) (stmt_reads y body) k)) d
@@ -312,7 +312,7 @@ module _ (P : PlainProgram) (signed : Signed P)
           let k = scope_walked ready.step i in
           let later : Ready P L y.env params around reads assigns = ready_kept P L w.env y.env params around reads assigns k.kept ready in
           subst (If (Plainly P signed L w)) j
-          (behind_if (λ part u. OtherGoes P signed L other y part u × OtherDone other y part u) (Plainly P signed L w) (fault_of (with_fault_if node kind.Type (not (may_be is_boolean (type_in t)))))
+          (after_if (λ part u. OtherGoes P signed L other y part u × OtherDone other y part u) (Plainly P signed L w) (fault_of (with_fault_if node kind.Type (not (may_be is_boolean (type_in t)))))
           (λ part. statement node.place (choice_form (node_of test t) made part)) u
           (both_other P signed L other y u (other_goes L reads assigns later other_fits other_all other_writes_so n) (other_walked later.step n))
           (λ part x free o.
@@ -324,7 +324,7 @@ module _ (P : PlainProgram) (signed : Signed P)
       other_goes L reads assigns ready fits all writes InOther.no_other = refl
       other_goes {w = w} L reads assigns ready fits all writes (InOther.an_other {s = s} {u = u} d j) =
           subst (If (OtherGoes P signed L (Some s) w)) j
-          (behind_if (ScopeGoes P signed L w) (OtherGoes P signed L (Some s) w) None Some u (scope_goes L reads assigns ready fits all writes d) (λ made x free h. h))
+          (after_if (ScopeGoes P signed L w) (OtherGoes P signed L (Some s) w) None Some u (scope_goes L reads assigns ready fits all writes d) (λ made x free h. h))
 
       scope_goes : {params : List Bool} {around : Around} {s : PlainStmt} {w : Walk} {v : Verdict TypedStmt} (L : Scope) (reads assigns : ℕ → Bool) → Ready P L w.env params around reads assigns →
           StmtFitting s → ((x : ℕ) → IsTrue (stmt_reads x s) → IsTrue (reads x)) → ((x : ℕ) → IsTrue (stmt_assigns x s) → IsTrue (assigns x)) → InScope params around s w v → If (ScopeGoes P signed L w) v
@@ -354,7 +354,7 @@ module _ (P : PlainProgram) (signed : Signed P)
           (reads assigns : ℕ → Bool) → Ready P L x.env params around reads assigns → StmtFitting body → ((n : ℕ) → IsTrue (not (var.name == n) && stmt_reads n body) → IsTrue (reads n)) →
           (fault_of node ≡ None → Range L found lowest size x.found) → Iterating params around node nd var lowest size body x v → If (Plainly P signed L (record { env = x.env; found = found })) v
       iterating_goes found L reads assigns ready fits all range (Iterating.iteration_refused b) = tt
-      iterating_goes found L reads assigns ready fits all range (Iterating.iteration_assigning assigns_so b a told) = tt
+      iterating_goes found L reads assigns ready fits all range (Iterating.iteration_assigning assigns_so b a reported) = tt
       iterating_goes {params} {around} {node} {nd} {var} {lowest} {size} {body} {x} found L reads assigns ready fits all range (Iterating.iterated {u = z} {made = made} assigns_so b a free j) =
           let w : Walk = record { env = x.env; found = found } in
           let f = free_if (variable_noted x.env var node) kind.Assign assigns_so free in
@@ -380,7 +380,7 @@ module _ (P : PlainProgram) (signed : Signed P)
           If (Plainly P signed L w) v
       parting_goes L reads assigns ready array_fits count_fits fits all (Parting.range_refused o) = tt
       parting_goes L reads assigns ready array_fits count_fits fits all (Parting.part_refused o b) = tt
-      parting_goes L reads assigns ready array_fits count_fits fits all (Parting.part_assigning assigns_so o b a told) = tt
+      parting_goes L reads assigns ready array_fits count_fits fits all (Parting.part_assigning assigns_so o b a reported) = tt
       parting_goes {params} {around} {node} {view} {var} {array} {count} {body} {w} L reads assigns ready array_fits count_fits fits all
           (Parting.parted {u = z} {made = made} assigns_so (Opening.both_given t {source = source} {fault = fault} {g = g} {h = h} {u = q} c d) b a free j) =
           let first : Node = with_fault_if (with_found node fault) kind.Type (not (may_be is_int (type_in q))) in
@@ -418,7 +418,7 @@ module _ (P : PlainProgram) (signed : Signed P)
           Ready P L env params outer reads assigns → Kept env w.env → StmtsFitting ss → ((n : ℕ) → IsTrue (branches_read n ss) → IsTrue (reads n)) → ((n : ℕ) → IsTrue (branches_assign n ss) → IsTrue (assigns n)) →
           Branching params around nd ss w v → BranchesVerdictGo L env nd ss w v
       branching_goes {nd = nd} {w = w} outer L reads assigns env at ready kept fits all writes Branching.no_branches =
-          record { calm = λ c. c; go = λ room calm are apart others earlier. ([], BranchesPass.no_branch, tt, subst (λ k. Gathers w.found k w.found) (none_behind nd) (nothing_gathered w.found)) }
+          record { calm = λ c. c; go = λ room calm are apart others earlier. ([], BranchesPass.no_branch, tt, subst (λ k. Gathers w.found k w.found) (none_after nd) (nothing_gathered w.found)) }
       branching_goes outer L reads assigns env at ready kept fits all writes (Branching.branch_refused d) = tt
       branching_goes {params} {around} {nd} {w = w} outer L reads assigns env at ready kept fits all writes (Branching.then_branches {s = s} {ss = ss} {u = u} {touched = t} {made = made} {v = v} d touches rest j) =
           let step = kept_step env w.env kept ready.step in
@@ -434,7 +434,7 @@ module _ (P : PlainProgram) (signed : Signed P)
           StmtsFitting branches → ((n : ℕ) → IsTrue (branches_read n branches) → IsTrue (reads n)) → ((n : ℕ) → IsTrue (branches_assign n branches) → IsTrue (assigns n)) →
           Forking params around node nd branches w v → If (Plainly P signed L w) v
       forking_goes L reads assigns ready fits all writes (Forking.some_refused d) = tt
-      forking_goes L reads assigns ready fits all writes (Forking.clashing effects touched clash d c told) = tt
+      forking_goes L reads assigns ready fits all writes (Forking.clashing effects touched clash d c reported) = tt
       forking_goes {params} {around} {node} {nd} {branches} {w} L reads assigns ready fits all writes (Forking.forked {u = u} effects touched {made = made} clash apart d c free a j) =
           let g = branching_goes around L reads assigns w.env refl ready (kept_same w.env) fits all writes d in
           let f = free_if node kind.Assign clash free in

@@ -195,6 +195,6 @@ marked_append : (b : Bool) (D F : List Done) → map (marked b) (D ++ F) ≡ map
 marked_append b [] F = refl
 marked_append b (o ∷ D) F = ap (λ z. marked b o ∷ z) (marked_append b D F)
 
-pub behind_append : (order : Order) (D F : List Done) → after_branches order (D ++ F) ≡ after_branches order D ++ after_branches order F
-behind_append Deterministic D F = marked_append false D F
-behind_append Nondeterministic D F = refl
+pub after_append : (order : Order) (D F : List Done) → after_branches order (D ++ F) ≡ after_branches order D ++ after_branches order F
+after_append Deterministic D F = marked_append false D F
+after_append Nondeterministic D F = refl

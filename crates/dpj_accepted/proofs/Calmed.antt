@@ -20,7 +20,7 @@ use Rattle.dpj_classes.specs.Build.{TellsForking}
 use Rattle.dpj_classes.specs.Edges.{call_edges, without_forks}
 use Rattle.dpj_classes.specs.Inherited.{members_in}
 use Rattle.dpj_classes.specs.Overridden.{overridden_in}
-use Rattle.dpj_classes.specs.Reach.{leads, IsBehind}
+use Rattle.dpj_classes.specs.Reach.{leads, IsAfter}
 use Rattle.dpj_classes.specs.Table.{headers_of, methods_of, overridden_by, is_forking}
 use Rattle.dpj_typed.specs.Plain.{PlainClass}
 use Rattle.dpj_typed.specs.Scope.{IsBelow, class_at, row_at}
@@ -94,7 +94,7 @@ module _ (program : Program) (table : Table) (bodies : List PlainBody) (accepted
 
     -- what reaches an nd construct reaches it through the one that it overrides too
     fork_up : (other id : ℕ) → overridden_by table other ≡ Some id → is_forking table other ≡ true → is_forking table id ≡ true
-    fork_up other id over forks = (reached.each id).1 (IsBehind.before id other within edge ((reached.each other).0 forks))
+    fork_up other id over forks = (reached.each id).1 (IsAfter.before id other within edge ((reached.each other).0 forks))
       where
         reached : TellsForking program.classes table
         reached = accepted.rows.is_table.reached

@@ -162,12 +162,12 @@ handed_to_part g E k outer h = gathers_by (hand_on k (Some outer) g) (after_part
     kept : (o : Done) → Contains E o → (b : Bool) → is_through k o ≡ b → Contains (after_parts k (of_part outer) E) (cond b (uses outer (effect_of o)) o)
     kept o c b is = subst (λ z. Contains (after_parts k (of_part outer) E) (cond z (uses outer (effect_of o)) o)) is (mapped_in (own_after k (of_part outer)) E o c)
 
-    told : (u : PartUse) → Contains g.uses u → (b : Bool) → is_use_of k u ≡ b → (j : ℕ) (e : Effect) → (cond b (of_view outer u) u).view ≡ j → use_effect (cond b (of_view outer u) u) ≡ e →
+    reported : (u : PartUse) → Contains g.uses u → (b : Bool) → is_use_of k u ≡ b → (j : ℕ) (e : Effect) → (cond b (of_view outer u) u).view ≡ j → use_effect (cond b (of_view outer u) u) ≡ e →
         Contains (after_parts k (of_part outer) E) (uses j e)
-    told u c true is j e view effect =
+    reported u c true is j e view effect =
         subst (λ z. Contains (after_parts k (of_part outer) E) (uses z e)) view
         (subst (λ z. Contains (after_parts k (of_part outer) E) (uses outer z)) effect (kept (uses u.view (use_effect u)) (found_done g E h (uses u.view (use_effect u)) (u, c, refl, refl)) true is))
-    told u c false is j e view effect =
+    reported u c false is j e view effect =
         subst (λ z. Contains (after_parts k (of_part outer) E) (uses z e)) view
         (subst (λ z. Contains (after_parts k (of_part outer) E) (uses u.view z)) effect (kept (uses u.view (use_effect u)) (found_done g E h (uses u.view (use_effect u)) (u, c, refl, refl)) false is))
 
@@ -175,7 +175,7 @@ handed_to_part g E k outer h = gathers_by (hand_on k (Some outer) g) (after_part
     to (does e) c = kept (does e) (found_done g E h (does e) c) false refl
     to (uses j e) i =
         let w = mapped_from (moved k outer) g.uses i.0 i.1 in
-        told w.0 w.1 (is_use_of k w.0) refl j e (ap (λ (z : PartUse). z.view) w.2 ∙ i.2) (ap use_effect w.2 ∙ i.3)
+        reported w.0 w.1 (is_use_of k w.0) refl j e (ap (λ (z : PartUse). z.view) w.2 ∙ i.2) (ap use_effect w.2 ∙ i.3)
 
     moved_by : (u : PartUse) (b : Bool) → is_use_of k u ≡ b → Contains g.uses u → Contains (map (moved k outer) g.uses) (cond b (of_view outer u) u)
     moved_by u b is c = subst (λ z. Contains (map (moved k outer) g.uses) (cond z (of_view outer u) u)) is (mapped_in (moved k outer) g.uses u c)

@@ -35,7 +35,7 @@ use Rattle.dpj_resolve.specs.Index.{PlainIndex, index_name}
 use Rattle.dpj_resolve.specs.Paths.{region_meant}
 use Rattle.dpj_resolve.specs.Reading.{elem_meant, below_root, begun, head_meant, longer, goes_on, path_meant, args_read}
 use Rattle.dpj_resolve.specs.Scoped.{values_in, value_in, place_in}
-use Rattle.dpj_resolve.specs.Scopes.{PlainScope, class_param, behind_class, method_param, param_meant}
+use Rattle.dpj_resolve.specs.Scopes.{PlainScope, class_param, after_class, method_param, param_meant}
 use Rattle.dpj_resolve.specs.Written.{base_read, suffix_meant, at_suffix, paths_from, is_indexed, arrays_from, base_type, type_index, type_meant}
 use Rattle.dpj_accepted.specs.Naming.{Nothing, ElemNames}
 use Rattle.dpj_accepted.proofs.InParams.{PathIn, PathsIn, TypeIn}
@@ -82,7 +82,7 @@ params_number scope name param e = by (param_of scope.headers scope.class name) 
         let same = ap (λ (p : ParamFound). p.number) (some_same e) in
         (omega (arith, w.0, same), omega (arith, w.1, same))
     by None is e =
-        let w = and_then_there (λ place. behind_class own (values_in scope.params) place) (place_in scope.params name) param e in
+        let w = and_then_there (λ place. after_class own (values_in scope.params) place) (place_in scope.params name) param e in
         let v = map_there (λ (atomic : Bool). record { number = as_number (length own + w.0); atomic = atomic }) (slice_get (values_in scope.params) w.0) param w.2 in
         let l = slice_get_within (values_in scope.params) w.0 v.0 v.1 in
         let same = ap (λ (p : ParamFound). p.number) v.2 in

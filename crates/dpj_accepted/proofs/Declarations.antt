@@ -38,7 +38,7 @@ use Rattle.dpj_classes.specs.Rows.{PlainMethod, plain_method, method_row, said_s
 use Rattle.dpj_classes.specs.Signatures.{known_type, known_type_faults, effects_meant, formal_types, formal_faults, result_type, result_faults, summary_meant, summary_faults, constraints_faults}
 use Rattle.dpj_classes.specs.Table.{headers_of, methods_of}
 use Rattle.dpj_rows.proofs.Facts.{got_either}
-use Rattle.dpj_resolved.proofs.Free.{none_told, append_none, joined_free}
+use Rattle.dpj_resolved.proofs.Free.{none_reported, append_none, joined_free}
 use Rattle.dpj_resolved.proofs.Known.{type_known}
 use Rattle.dpj_resolved.proofs.Lists.{some_same, and_then_there, got_mapped, got_last}
 use Rattle.dpj_accepted.specs.Naming.{Nothing, PathNames, EffectsName}
@@ -191,7 +191,7 @@ module _ (program : Program) (table : Table) (read : IsReadOf program.classes ta
   where
     pub signatures_free : signature_faults (headers_of table) table.given 0 program.classes ≡ []
     signatures_free =
-        let all = none_told (none_by order.Place) (text_faults (headers_of table) program.classes) read.free in
+        let all = none_reported (none_by order.Place) (text_faults (headers_of table) program.classes) read.free in
         let w = append_none (all_constraint_faults (headers_of table) 0 program.classes) _ all in
         subst (λ given. signature_faults (headers_of table) given 0 program.classes ≡ []) (sym read.given) w.1
 

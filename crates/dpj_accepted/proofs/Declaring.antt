@@ -62,8 +62,8 @@ local_pushed env row step n =
         no e = cc
 
 -- which of them may stand in an index
-pub indices_told : (env : Env) → InStep env → (n : ℕ) → index_variable_of env n ≡ option_and_then index_slot (local_of env n)
-indices_told env step n = by (last_from 0 None env.variables.names n)
+pub indices_reported : (env : Env) → InStep env → (n : ℕ) → index_variable_of env n ≡ option_and_then index_slot (local_of env n)
+indices_reported env step n = by (last_from 0 None env.variables.names n)
   where
     flat : (o : Option LocalRow) → option_and_then (λ variable. variable) (option_map index_slot o) ≡ option_and_then index_slot o
     flat None = refl
@@ -131,7 +131,7 @@ module _ (P : PlainProgram) (L : Scope) (env : Env) (may_read may_assign : ℕ �
       self = kept 0 step.some_slot ∙ sees.self;
       locals = λ n one h. local_at (name == n) n one (sym (local_pushed env row step n) ∙ h);
       declared = λ n one h final. declared_at (name == n) n one (sym (local_pushed env row step n) ∙ h) final;
-      indices = indices_told (with_local env name t is_final) (step_declared env name t is_final step);
+      indices = indices_reported (with_local env name t is_final) (step_declared env name t is_final step);
       params = sees.params;
       regions = sees.regions;
     }

@@ -13,7 +13,7 @@ use Rattle.dpj_check.specs.Methods.{formals_declared}
 use Rattle.dpj_check.specs.Simple.{has_room, local_declared}
 use Rattle.dpj_resolved.proofs.Lists.{some_same}
 use Rattle.dpj_accepted.specs.Seen.{can_stand, AllStand, RowIs, Tells, Sees, InStep, Returns}
-use Rattle.dpj_accepted.proofs.Declaring.{local_pushed, indices_told, step_declared}
+use Rattle.dpj_accepted.proofs.Declaring.{local_pushed, indices_reported, step_declared}
 
 -- what is asked of a place of which the scope may hold more than is around it
 pub record Entered (P : PlainProgram) (L : Scope) (env : Env) (around : Around) (reads assigns : ℕ → Bool) : Type 0 where
@@ -44,7 +44,7 @@ module _ (P : PlainProgram) (L : Scope) (around : Around) (reads assigns : ℕ �
         self = entered.sees.self;
         locals = λ n one h. local_at (name == n) n one (sym (local_pushed env row entered.step n) ∙ h);
         declared = λ n one h final. declared_at (name == n) n one (sym (local_pushed env row entered.step n) ∙ h) final;
-        indices = indices_told (with_local env name t false) (step_declared env name t false entered.step);
+        indices = indices_reported (with_local env name t false) (step_declared env name t false entered.step);
         params = entered.sees.params;
         regions = entered.sees.regions;
       };

@@ -21,7 +21,7 @@ use Rattle.dpj_arrays.specs.Access.{index_elem as array_elem}
 use Rattle.dpj_headers.specs.declared.faults.Faults.{Faults}
 use Rattle.dpj_headers.specs.declared.faults.Order.TheVariants as order
 use Rattle.dpj_headers.specs.declared.header.ParamRow.{ParamRow}
-use Rattle.dpj_headers.specs.Faults.{told, noted, all_noted, none_by}
+use Rattle.dpj_headers.specs.Faults.{reported, noted, all_noted, none_by}
 use Rattle.dpj_headers.specs.Passes.{fault, fault_if}
 use Rattle.dpj_locals.specs.Touches.{expr_reads, exprs_read, form_reads, path_reads, made_reads}
 use Rattle.dpj_tree.specs.declared.expr.BinaryOp.{BinaryOp}
@@ -52,7 +52,7 @@ use Rattle.dpj_exprs.specs.declared.env.Env.{Env}
 use Rattle.dpj_exprs.specs.declared.env.LocalRow.{LocalRow}
 use Rattle.dpj_exprs.specs.declared.found.Found.{Found}
 use Rattle.dpj_exprs.specs.Answer.{Answer, gives, refused, read, with_access, with_part_use, with_summary, with_call}
-use Rattle.dpj_exprs.specs.Arrays.{made_names, front_of, front_told, created_array}
+use Rattle.dpj_exprs.specs.Arrays.{made_names, front_of, front_reported, created_array}
 use Rattle.dpj_exprs.specs.Elements.{index_of, array_element, element_read, read_element, element_in_part, part_read, read_part}
 use Rattle.dpj_exprs.specs.Env.{table_of, supers_of, given_in, scope_of, local_of, part_of, as_part, index_slot, index_variable_of, is_length_name}
 use Rattle.dpj_exprs.specs.Fields.{field_with, owned_field, named_field, field_through, field_read, read_field}
@@ -63,8 +63,8 @@ use Rattle.dpj_exprs.specs.Operations.{unary_op, unary_typed, both, comparable, 
 use Rattle.dpj_exprs.specs.Partial.{is_partial_call, some_mention_partial, rigid_in_partial}
 use Rattle.dpj_exprs.specs.Typed.{type_in, node_at, nodes_at, is_int, is_boolean, is_reference, is_array, AllFit}
 use Rattle.dpj_exprs.specs.Typing.{answer, created, leaf_typed, AllAnswer, all_give, one_refused, Typing, TypingArray, TypingAll}
-use Rattle.dpj_exprs.specs.Uses.{args_of, args_told, args_noted, callee_params, created_params, owned_method, named_method, method_through, formals_of, with_constructor, UseTold, use_faults, CallOf, CallOn, Call, CreationOf, Creation}
-use Rattle.dpj_resolved.proofs.Free.{noted_told, none_told, parts_free, append_none, fault_none, not_false}
+use Rattle.dpj_exprs.specs.Uses.{args_of, args_reported, args_noted, callee_params, created_params, owned_method, named_method, method_through, formals_of, with_constructor, UseReported, use_faults, CallOf, CallOn, Call, CreationOf, Creation}
+use Rattle.dpj_resolved.proofs.Free.{noted_reported, none_reported, parts_free, append_none, fault_none, not_false}
 use Rattle.dpj_resolved.proofs.Lists.{some_same, ok_same}
 use Rattle.dpj_accepted.specs.Gathered.{Gathers}
 use Rattle.dpj_accepted.specs.Laws.{Stands}
@@ -105,11 +105,11 @@ reference_is ty.boolean h = cc
 reference_is ty.void h = cc
 
 -- what was noted before nothing is reported of is none
-told_before : (faults : Faults) (found : List Refusal) → told (all_noted faults found) ≡ None → told faults ≡ None
-told_before faults [] h = h
-told_before faults (one ∷ found) h =
-    let e = told_before (noted faults one) found h in
-    let s = noted_told faults one in
+reported_before : (faults : Faults) (found : List Refusal) → reported (all_noted faults found) ≡ None → reported faults ≡ None
+reported_before faults [] h = h
+reported_before faults (one ∷ found) h =
+    let e = reported_before (noted faults one) found h in
+    let s = noted_reported faults one in
     let clash = sym s ∙ e in cc
 
 or_false : (a b : Bool) → (a || b) ≡ false → (a ≡ false) × (b ≡ false)
@@ -513,26 +513,26 @@ module _ (P : PlainProgram) (L : Scope) (env : Env) (may_read may_assign : ℕ �
 
     -- a use without a fault
     used_right : (before : Faults) (args : List Rpl) (ts : List (Option TypedExpr)) (declared : List Ty) (partial hold : Bool) (place : Place) →
-        UseTold env before args (map type_in ts) declared partial hold place None →
-        (partial ≡ false) × AllFit (supers_of env) args (map type_in ts) declared × (hold ≡ true) × (told before ≡ None)
-    used_right before args ts declared partial hold place untold =
-        let none = none_told before (use_faults partial untold.fit hold place) untold.tells in
-        let f = append_none (fault_if partial kind.PartialWrite place ++ fault_if (not untold.fit) kind.Type place) (fault_if (not hold) kind.Constraint place) none in
-        let g = append_none (fault_if partial kind.PartialWrite place) (fault_if (not untold.fit) kind.Type place) f.0 in (
+        UseReported env before args (map type_in ts) declared partial hold place None →
+        (partial ≡ false) × AllFit (supers_of env) args (map type_in ts) declared × (hold ≡ true) × (reported before ≡ None)
+    used_right before args ts declared partial hold place unreported =
+        let none = none_reported before (use_faults partial unreported.fit hold place) unreported.tells in
+        let f = append_none (fault_if partial kind.PartialWrite place ++ fault_if (not unreported.fit) kind.Type place) (fault_if (not hold) kind.Constraint place) none in
+        let g = append_none (fault_if partial kind.PartialWrite place) (fault_if (not unreported.fit) kind.Type place) f.0 in (
           fault_none partial kind.PartialWrite place g.0,
-          untold.fits.0 (not_false untold.fit (fault_none (not untold.fit) kind.Type place g.1)),
+          unreported.fits.0 (not_false unreported.fit (fault_none (not unreported.fit) kind.Type place g.1)),
           not_false hold (fault_none (not hold) kind.Constraint place f.1),
-          told_before before (use_faults partial untold.fit hold place) untold.tells,
+          reported_before before (use_faults partial unreported.fit hold place) unreported.tells,
         )
 
     -- region arguments of a use without a fault
-    used_args : (trees : List RplTree) (params : List ParamRow) (place : Place) (regions others : List Rpl) (given : _) → args_told env params trees ≡ None →
-        told (args_noted (args_of env trees) params place) ≡ None → args_given (args_of env trees).written (args_of env trees).paths params ≡ Some regions →
+    used_args : (trees : List RplTree) (params : List ParamRow) (place : Place) (regions others : List Rpl) (given : _) → args_reported env params trees ≡ None →
+        reported (args_noted (args_of env trees) params place) ≡ None → args_given (args_of env trees).written (args_of env trees).paths params ≡ Some regions →
         all_hold (given_in env) (others ++ regions) given ≡ true →
         GoodArgs P L 0 (map (λ param. param.atomic) params) given others regions × All (λ a. IsTrue (fully_specified a)) regions
-    used_args trees params place regions others given untold noted is hold =
-        let w = args_good P L (scope_of env) means no_index 0 (omega arith) params true place trees regions others given (parts_free (none_by order.Number) (arg_faults (scope_of env) no_index params true trees) untold)
-        (none_told (none_by order.Number) (args_faults (args_of env trees).local (args_of env trees).written params place) noted) is hold in
+    used_args trees params place regions others given unreported noted is hold =
+        let w = args_good P L (scope_of env) means no_index 0 (omega arith) params true place trees regions others given (parts_free (none_by order.Number) (arg_faults (scope_of env) no_index params true trees) unreported)
+        (none_reported (none_by order.Number) (args_faults (args_of env trees).local (args_of env trees).written params place) noted) is hold in
         (w.0, w.1 refl)
 
     -- what a callee does
@@ -574,15 +574,15 @@ module _ (P : PlainProgram) (L : Scope) (env : Env) (may_read may_assign : ℕ �
     callee_is t name class args row is m = ap (λ z. callee_params (table_of env) (Some z) name) is ∙ ap (λ o. option_map_or (λ (one : MethodRow). one.regions) o []) m
 
     call_made : (x : tree.PlainExpr) (f g h : Found) (e : TypedExpr) (name class : ℕ) (row : MethodRow) (owned : List Rpl) (trees : List RplTree) (ts : List (Option TypedExpr)) (place : Place) (a : Answer) →
-        index_of env x ≡ None → Stands P L f e g → Given ts g h → MethodOf e name class row owned → args_told env row.regions trees ≡ None →
+        index_of env x ≡ None → Stands P L f e g → Given ts g h → MethodOf e name class row owned → args_reported env row.regions trees ≡ None →
         CallOf env e class row owned (args_of env trees) ts place h a → Passed x f a
-    call_made x f g h e name class row owned trees ts place a none s k m untold (CallOf.unknown_args unknown) = tt
-    call_made x f g h e name class row owned trees ts place a none s k m untold (CallOf.faulty_call given faulty) = tt
-    call_made x f g h e name class row owned trees ts place a none s k m untold (CallOf.fitting_call {regions = regions} given right) =
+    call_made x f g h e name class row owned trees ts place a none s k m unreported (CallOf.unknown_args unknown) = tt
+    call_made x f g h e name class row owned trees ts place a none s k m unreported (CallOf.faulty_call given faulty) = tt
+    call_made x f g h e name class row owned trees ts place a none s k m unreported (CallOf.fitting_call {regions = regions} given right) =
         let all = owned ++ regions in
         let n = m.known in
         let w = used_right (args_noted (args_of env trees) row.regions place) all ts row.params (is_partial_call owned row) (all_hold (given_in env) all row.given) place right in
-        let args = used_args trees row.regions place regions owned row.given untold w.3 given w.2 in
+        let args = used_args trees row.regions place regions owned row.given unreported w.3 given w.2 in
         let some_partial = or_false (some_mention_partial owned row.params) (rigid_in_partial (plain_type row.result) 0 owned) w.0 in
         let acts = actuals_fit all place row.params k n.seen.stand w.1 in
         record {
@@ -611,32 +611,32 @@ module _ (P : PlainProgram) (L : Scope) (env : Env) (may_read may_assign : ℕ �
         }
 
     call_passed : (place : Place) (of : tree.PlainExpr) (trees : List RplTree) (name : ℕ) (actuals : tree.PlainExprs) (f g h : Found) (t : Option TypedExpr) (ts : List (Option TypedExpr)) (a : Answer) →
-        Passed of f (gives t g) → args_told env (callee_params (table_of env) (type_in t) name) trees ≡ None → Given ts g h → Call env t name (args_of env trees) ts place h a →
+        Passed of f (gives t g) → args_reported env (callee_params (table_of env) (type_in t) name) trees ≡ None → Given ts g h → Call env t name (args_of env trees) ts place h a →
         Passed (tree.expression place (tree.call of trees name actuals)) f a
-    call_passed place of trees name actuals f g h t ts a m untold k (Call.on_type (CallOn.no_method is)) = tt
-    call_passed place of trees name actuals f g h t ts a m untold k (Call.on_type {e = e} (CallOn.of_method {class = class} {row = row} {owned = owned} is d)) =
+    call_passed place of trees name actuals f g h t ts a m unreported k (Call.on_type (CallOn.no_method is)) = tt
+    call_passed place of trees name actuals f g h t ts a m unreported k (Call.on_type {e = e} (CallOn.of_method {class = class} {row = row} {owned = owned} is d)) =
         let n = method_seen e name place class row owned is in
         call_made (tree.expression place (tree.call of trees name actuals)) f g h e name class row owned trees ts place a refl m.stands k n
-        (sym (ap (λ z. args_told env z trees) (callee_is (type_of e) name class n.args row n.is n.named)) ∙ untold) d
-    call_passed place of trees name actuals f g h t ts a m untold k (Call.on_anything all) = absurd m
-    call_passed place of trees name actuals f g h t ts a m untold k (Call.no_value_passed all) = tt
+        (sym (ap (λ z. args_reported env z trees) (callee_is (type_of e) name class n.args row n.is n.named)) ∙ unreported) d
+    call_passed place of trees name actuals f g h t ts a m unreported k (Call.on_anything all) = absurd m
+    call_passed place of trees name actuals f g h t ts a m unreported k (Call.no_value_passed all) = tt
 
     -- the creation of an object
     creation_made : (place : Place) (class : Named) (trees : List RplTree) (actuals : tree.PlainExprs) (f g : Found) (at : ℕ) (ts : List (Option TypedExpr)) (a : Answer) →
-        Given ts f g → ClassSeen P (table_of env) L.never_nd at → args_told env (params_in (headers_of (table_of env)) at) trees ≡ None →
+        Given ts f g → ClassSeen P (table_of env) L.never_nd at → args_reported env (params_in (headers_of (table_of env)) at) trees ≡ None →
         CreationOf env at (args_of env trees) ts place g a → Passed (tree.expression place (tree.create class trees actuals)) f a
-    creation_made place class trees actuals f g at ts a k n untold (CreationOf.unknown_args unknown) = tt
-    creation_made place class trees actuals f g at ts a k n untold (CreationOf.faulty_creation given faulty) = tt
-    creation_made place class trees actuals f g at ts a k n untold (CreationOf.created {regions = regions} given right) =
+    creation_made place class trees actuals f g at ts a k n unreported (CreationOf.unknown_args unknown) = tt
+    creation_made place class trees actuals f g at ts a k n unreported (CreationOf.faulty_creation given faulty) = tt
+    creation_made place class trees actuals f g at ts a k n unreported (CreationOf.created {regions = regions} given right) =
         by (constructor_of (table_of env) at) refl w.1
       where
         w : (false ≡ false) × AllFit (supers_of env) regions (map type_in ts) (formals_of (table_of env) at) × (all_hold (given_in env) regions (given_of (table_of env) at) ≡ true) ×
-            (told (args_noted (args_of env trees) (params_in (headers_of (table_of env)) at) place) ≡ None)
+            (reported (args_noted (args_of env trees) (params_in (headers_of (table_of env)) at) place) ≡ None)
         w = used_right (args_noted (args_of env trees) (params_in (headers_of (table_of env)) at) place) regions ts (formals_of (table_of env) at) false (all_hold (given_in env) regions (given_of (table_of env) at)) place right
 
         args : GoodArgs P L 0 n.class.params n.class.given [] regions × All (λ a. IsTrue (fully_specified a)) regions
         args =
-            let v = used_args trees (params_in (headers_of (table_of env)) at) place regions [] (given_of (table_of env) at) untold w.3 given w.2 in
+            let v = used_args trees (params_in (headers_of (table_of env)) at) place regions [] (given_of (table_of env) at) unreported w.3 given w.2 in
             (subst (λ z. GoodArgs P L 0 z n.class.given [] regions) (sym n.params) (subst (λ z. GoodArgs P L 0 (map (λ param. param.atomic) (params_in (headers_of (table_of env)) at)) z [] regions) (sym n.given) v.0), v.1)
 
         made : TypedExpr
@@ -673,16 +673,16 @@ module _ (P : PlainProgram) (L : Scope) (env : Env) (may_read may_assign : ℕ �
         by (Some row) is fit = with_one row is fit
 
     creation_passed : (place : Place) (class : Named) (trees : List RplTree) (actuals : tree.PlainExprs) (f g : Found) (ts : List (Option TypedExpr)) (a : Answer) →
-        Given ts f g → args_told env (created_params (table_of env) class) trees ≡ None → Creation env class (args_of env trees) ts place g a →
+        Given ts f g → args_reported env (created_params (table_of env) class) trees ≡ None → Creation env class (args_of env trees) ts place g a →
         Passed (tree.expression place (tree.create class trees actuals)) f a
-    creation_passed place class trees actuals f g ts a k untold (Creation.no_class is) = tt
-    creation_passed place class trees actuals f g ts a k untold (Creation.of_class {at = at} is d) =
+    creation_passed place class trees actuals f g ts a k unreported (Creation.no_class is) = tt
+    creation_passed place class trees actuals f g ts a k unreported (Creation.of_class {at = at} is d) =
         creation_made place class trees actuals f g at ts a k (tells.classes class.name at is)
-        (sym (ap (λ o. args_told env (option_map_or (params_in (headers_of (table_of env))) o []) trees) is) ∙ untold) d
+        (sym (ap (λ o. args_reported env (option_map_or (params_in (headers_of (table_of env))) o []) trees) is) ∙ unreported) d
 
     -- the creation of an array
     array_passed : (x : tree.PlainExpr) (len : tree.PlainExpr) (suffixes : List Suffix) (index : Option Named) → length suffixes ≤ 4294967295 → (base : BaseTree) (rpl : Option RplTree) (place : Place) (f g : Found) (t : Option TypedExpr) → index_of env x ≡ None →
-        front_told env (made_names suffixes index) base ≡ None → Passed len f (gives t g) → Passed x f (answer (created place (node_at place t) (created_array env (made_names suffixes index) (front_of env (made_names suffixes index) base) (type_in t) rpl place)) g)
+        front_reported env (made_names suffixes index) base ≡ None → Passed len f (gives t g) → Passed x f (answer (created place (node_at place t) (created_array env (made_names suffixes index) (front_of env (made_names suffixes index) base) (type_in t) rpl place)) g)
     array_passed x len suffixes index few base rpl place f g None none front m = absurd m
     array_passed x len suffixes index few base rpl place f g (Some n) none front m = by (created_array env (made_names suffixes index) (front_of env (made_names suffixes index) base) (Some (type_of n)) rpl place) refl
       where

@@ -89,7 +89,7 @@ use_gathered f k a how (does d) = (λ i. inl i, λ s. ⊎_elim (λ i. i) (λ c. 
     differ same = cc
 use_gathered f k a how (uses j d) = (
   λ i. ⊎_elim (λ before. inl (i.0, before, i.2, i.3)) (λ same. inr (made i.0 same i.2 i.3)) (Contains-push_cases f.uses (part_access k a how) i.0 i.1),
-  λ s. ⊎_elim (λ i. (i.0, Contains-append_left f.uses (part_access k a how ∷ []) i.0 i.1, i.2, i.3)) (λ c. told (one_of (uses k (access_to a how)) (uses j d) c)) s,
+  λ s. ⊎_elim (λ i. (i.0, Contains-append_left f.uses (part_access k a how ∷ []) i.0 i.1, i.2, i.3)) (λ c. reported (one_of (uses k (access_to a how)) (uses j d) c)) s,
 )
   where
     made : (u : PartUse) → part_access k a how ≡ u → u.view ≡ j → use_effect u ≡ d → Contains (uses k (access_to a how) ∷ []) (uses j d)
@@ -99,8 +99,8 @@ use_gathered f k a how (uses j d) = (
         subst (λ z. Contains (uses k (access_to a how) ∷ []) (uses z d)) at
         (subst (λ z. Contains (uses k (access_to a how) ∷ []) (uses k z)) does_so (head_in (uses k (access_to a how)) []))
 
-    told : uses k (access_to a how) ≡ uses j d → InFound (with_part_use f k a how) (uses j d)
-    told same =
+    reported : uses k (access_to a how) ≡ uses j d → InFound (with_part_use f k a how) (uses j d)
+    reported same =
         let at : k ≡ j = cc in
         let effect : access_to a how ≡ d = cc in
         (part_access k a how, Contains-push f.uses (part_access k a how), at, effect)

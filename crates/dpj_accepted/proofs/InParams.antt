@@ -7,7 +7,7 @@ use Rattle.dpj_base.specs.declared.elems.Elem.{Elem}
 use Rattle.dpj_base.specs.declared.region.Head.{Head}
 use Rattle.dpj_base.specs.declared.region.Head.TheVariants.{Root, Param}
 use Rattle.dpj_base.specs.declared.region.Rpl.{Rpl}
-use Rattle.dpj_base.specs.Regions.{is_specified, all_specified, fully_specified, behind, argument, put_at, substituted, same_head}
+use Rattle.dpj_base.specs.Regions.{is_specified, all_specified, fully_specified, following, argument, put_at, substituted, same_head}
 use Rattle.dpj_base.specs.Types.{PlainType, int, boolean, void, null, class, array, type_with, has_param, mentions_param, rigid_in_param}
 use Rattle.dpj_typed.specs.Types.{Known, Readable}
 use Rattle.dpj_accepted.specs.Seen.{can_stand}
@@ -83,16 +83,16 @@ whole p = record { head = Param p; elems = [] }
 arg_put : (args above : List Rpl) (p : ℕ) → p < length above → argument (map (substituted args) above) p ≡ substituted args (argument above p)
 arg_put args above p l = get_or-map (substituted args) above p (whole p) (whole p) l
 
-put_behind : (args : List Rpl) (h : Head) (xs ys : List Elem) → put_at h (xs ++ ys) args ≡ behind (put_at h xs args) ys
-put_behind args Root xs ys = refl
-put_behind args (Param p) xs ys = ap (λ es. record { head = (argument args p).head; elems = es }) (sym (append_assoc (argument args p).elems xs ys))
+put_after : (args : List Rpl) (h : Head) (xs ys : List Elem) → put_at h (xs ++ ys) args ≡ following (put_at h xs args) ys
+put_after args Root xs ys = refl
+put_after args (Param p) xs ys = ap (λ es. record { head = (argument args p).head; elems = es }) (sym (append_assoc (argument args p).elems xs ys))
 
 put_twice : (args above : List Rpl) (h : Head) (es : List Elem) → HeadIn (length above) h → substituted args (put_at h es above) ≡ put_at h es (map (substituted args) above)
 unfolding substituted
 put_twice args above Root es i = refl
 put_twice args above (Param p) es i =
     let b = argument above p in
-    put_behind args b.head b.elems es ∙ ap (λ (z : Rpl). behind z es) (sym (arg_put args above p i.0))
+    put_after args b.head b.elems es ∙ ap (λ (z : Rpl). following z es) (sym (arg_put args above p i.0))
 
 pub path_twice : (args above : List Rpl) (a : Rpl) → PathIn (length above) a → substituted args (substituted above a) ≡ substituted (map (substituted args) above) a
 unfolding substituted

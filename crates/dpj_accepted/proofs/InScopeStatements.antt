@@ -129,9 +129,9 @@ pub all_marked : (L : Scope) (b : Bool) (G : List Done) → AllDoneIn L G → Al
 all_marked L b [] h = tt
 all_marked L b (o ∷ G) h = (one_marked L b o h.0, all_marked L b G h.1)
 
-pub behind_branches : (L : Scope) (forking : Forking) (G : List Done) → AllDoneIn L G → AllDoneIn L (after_branches forking G)
-behind_branches L Deterministic G h = all_marked L false G h
-behind_branches L Nondeterministic G h = h
+pub following_branches : (L : Scope) (forking : Forking) (G : List Done) → AllDoneIn L G → AllDoneIn L (after_branches forking G)
+following_branches L Deterministic G h = all_marked L false G h
+following_branches L Nondeterministic G h = h
 
 -- one local more
 
@@ -489,7 +489,7 @@ module _ (P : PlainProgram) (signed : Signed P)
       passes_names {L} locals (Passes.print_boolean h ty) = (has_names P signed L locals h).1
       passes_names locals Passes.print_text = tt
       passes_names {L} locals (Passes.atomic {E = E} d same) = all_marked L true E (all_names {L = in_atomic_block L} locals d)
-      passes_names {L} locals (Passes.cobegin {forking = forking} {Es = Es} c d n) = behind_branches L forking (joined Es) (branches_names locals (All-nil (IsVariable L)) d)
+      passes_names {L} locals (Passes.cobegin {forking = forking} {Es = Es} c d n) = following_branches L forking (joined Es) (branches_names locals (All-nil (IsVariable L)) d)
       passes_names {L} locals (Passes.foreach {forking = forking} {x = x} {E = E} {F = F} {G = G} c hs ts hc tc free d clash) =
           let none = free_none L x free.0 in
           let M : Scope = with_local x (constant int) (in_loop_branch L) in
@@ -499,7 +499,7 @@ module _ (P : PlainProgram) (signed : Signed P)
           (done_outside L M x locals none
           (λ v h. elim (only_index (in_loop_branch L) x (constant int) v h) [ inl same ↦ inl same | inr there ↦ inr (alone_index (L.local v) there) ]) (λ r h. h)
           (λ k t a h. alone_part (L.local k) t a (part_parts x (constant int) (in_loop_branch L) (no_constant_part int) k t a h))
-          (after_branches forking G) (behind_branches M forking G (all_names inner d))))
+          (after_branches forking G) (following_branches M forking G (all_names inner d))))
       passes_names {L} locals (Passes.foreach_parts {k = k} {source = source} {t = t} {a = a} {E = E} {F = F} {G = G} cut hc tc free d clash other) =
           let c = cut_names L locals cut in
           let f = all_free L k free in

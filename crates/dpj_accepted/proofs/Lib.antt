@@ -36,7 +36,7 @@ pub mod ShapedLocals
 pub mod ReachedStatements
 pub mod RowShapes
 pub mod ForkEdges
-pub mod ForksTold
+pub mod ForksReported
 pub mod InParams
 pub mod Closed
 pub mod Declarations
@@ -47,4 +47,4 @@ pub mod Sizes
 pub mod Unnamed
 pub mod Slotted
 pub mod Calmed
-pub mod Told
+pub mod Reported

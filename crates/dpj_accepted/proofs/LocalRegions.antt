@@ -28,7 +28,7 @@ use Rattle.dpj_check.specs.Noting.{with_fault, fault_of}
 use Rattle.dpj_check.specs.Simple.{has_room, region_declared, is_region_name, region_noted, regions_noted, with_regions, regions_made}
 use Rattle.dpj_check.specs.Walks.{Walk}
 use Rattle.dpj_resolved.proofs.Bodies.{regions_free}
-use Rattle.dpj_resolved.proofs.Free.{noted_told}
+use Rattle.dpj_resolved.proofs.Free.{noted_reported}
 use Rattle.dpj_resolved.proofs.Lists.{some_same, got_first, got_later, there}
 use Rattle.dpj_accepted.specs.Naming.{ElemsName, IsIndex, IsRegion, Signed}
 use Rattle.dpj_accepted.specs.Ready.{Ready, Room}
@@ -74,7 +74,7 @@ region_room : (env : Env) (named : Named) (node : Node) → fault_of (region_not
 region_room env named node h = by (has_room env) h
   where
     faulty : (x : Node) → fault_of (with_fault x kind.TooLong named.place) ≡ None → ⊥
-    faulty x h = let clash = sym (noted_told x.faults (record { kind = kind.TooLong; place = named.place })) ∙ h in cc
+    faulty x h = let clash = sym (noted_reported x.faults (record { kind = kind.TooLong; place = named.place })) ∙ h in cc
 
     by : (b : Bool) → fault_of (cond b (cond (is_region_name env named.name) (with_fault node kind.Duplicate named.place) node) (with_fault (cond (is_region_name env named.name) (with_fault node kind.Duplicate named.place) node) kind.TooLong named.place)) ≡ None →
         b ≡ true
@@ -208,7 +208,7 @@ module _ (P : PlainProgram) (signed : Signed P) (L : Scope) (params : List Bool)
           none = refl;
           inside' = tt;
           gathers = nothing_gathered w.found;
-          behind' = λ ss F c rest. AllPass.declare_regions (λ k q l. (let e = d.each k q l in (not_yet _ e.0, (let s = room.regions in let b = e.1 in omega (arith, b, s))))) rest;
+          following' = λ ss F c rest. AllPass.declare_regions (λ k q l. (let e = d.each k q l in (not_yet _ e.0, (let s = room.regions in let b = e.1 in omega (arith, b, s))))) rest;
           leaves = λ D raw. leaves_regions u.slots slots_same D raw;
           raws = λ D raw. all_raw_before L M w.env.slots w.env.declared u.slots u.declared (λ x h. ⊎_elim (λ i. inl i) (λ l. (let s = slots_same in inr (omega (arith, l, s)))) h)
               (λ r h. ⊎_elim (λ i. ⊎_elim (λ new. inr new.0) (λ old. inl old) (new_region r i)) (λ l. (let f = d.further in inr (omega (arith, l, f)))) h) (λ k t a h. h) D raw;

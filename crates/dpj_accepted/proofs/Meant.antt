@@ -29,12 +29,12 @@ use Rattle.dpj_typed.specs.Scope.{Scope, Local, constant}
 use Rattle.dpj_typed.specs.Types.{GoodPath, LocalPath, GoodType, IsFlat}
 use Rattle.dpj_exprs.specs.declared.env.Env.{Env}
 use Rattle.dpj_exprs.specs.declared.env.LocalRow.{LocalRow}
-use Rattle.dpj_exprs.specs.Arrays.{made_names, front_of, front_told, full_path, around_own, path_told, own_path, own_place, array_told, type_told, array_with, created_array}
+use Rattle.dpj_exprs.specs.Arrays.{made_names, front_of, front_reported, full_path, around_own, path_reported, own_path, own_place, array_reported, type_reported, array_with, created_array}
 use Rattle.dpj_exprs.specs.Env.{table_of, scope_of, local_of, index_slot, index_variable_of}
-use Rattle.dpj_exprs.specs.Refusing.{told_first}
+use Rattle.dpj_exprs.specs.Refusing.{reported_first}
 use Rattle.dpj_exprs.specs.Typed.{may_be, is_int}
-use Rattle.dpj_check.specs.Simple.{declared_type, declared_told}
-use Rattle.dpj_resolved.proofs.Free.{none_told, parts_free, append_none, fault_none, not_false}
+use Rattle.dpj_check.specs.Simple.{declared_type, declared_reported}
+use Rattle.dpj_resolved.proofs.Free.{none_reported, parts_free, append_none, fault_none, not_false}
 use Rattle.dpj_resolved.proofs.Known.{type_known}
 use Rattle.dpj_resolved.proofs.Lists.{some_same, ok_same, and_then_there, map_there}
 use Rattle.dpj_accepted.specs.Seen.{RowIs, Tells, Sees}
@@ -73,7 +73,7 @@ constant_slot r a row o slot is h = by row.is_final (is_int (plain_type row.ty))
 abbrev pub ArraysAreGood : PlainProgram → Scope → Env → Type 0
 ArraysAreGood P L env =
     (suffixes : List Suffix) (made : Option Named) (base : BaseTree) (rpl : Option RplTree) (len : Option PlainType) (place : Place) (t : PlainType) → length suffixes ≤ 4294967295 →
-    front_told env (made_names suffixes made) base ≡ None → created_array env (made_names suffixes made) (front_of env (made_names suffixes made) base) len rpl place ≡ Ok t →
+    front_reported env (made_names suffixes made) base ≡ None → created_array env (made_names suffixes made) (front_of env (made_names suffixes made) base) len rpl place ≡ Ok t →
     (elem : PlainType) × (a : Rpl) × (named : Bool) × (t ≡ ty.array elem a named) × GoodType P L 0 (ty.array elem a named) × IsTrue (fully_specified a) × (may_be is_int len ≡ true)
 
 own_small : (made : Option Named) → own made ≤ 1
@@ -84,15 +84,15 @@ drop_all : {A : Type 0} (xs : List A) → drop (length xs) xs ≡ []
 drop_all [] = refl
 drop_all (x ∷ xs) = drop_all xs
 
-type_told_ok : (o : Option Refusal) (m : Option PlainType) (place : Place) (t : PlainType) → type_told o m place ≡ Ok t → (o ≡ None) × (m ≡ Some t)
-type_told_ok (Some refusal) m place t h = cc
-type_told_ok None None place t h = cc
-type_told_ok None (Some u) place t h = (refl, ap Some (ok_same h))
+type_reported_ok : (o : Option Refusal) (m : Option PlainType) (place : Place) (t : PlainType) → type_reported o m place ≡ Ok t → (o ≡ None) × (m ≡ Some t)
+type_reported_ok (Some refusal) m place t h = cc
+type_reported_ok None None place t h = cc
+type_reported_ok None (Some u) place t h = (refl, ap Some (ok_same h))
 
-path_told_ok : (o : Option Refusal) (m : Option Rpl) (place : Place) (a : Rpl) → path_told o m place ≡ Ok a → (o ≡ None) × (m ≡ Some a)
-path_told_ok (Some refusal) m place a h = cc
-path_told_ok None None place a h = cc
-path_told_ok None (Some b) place a h = (refl, ap Some (ok_same h))
+path_reported_ok : (o : Option Refusal) (m : Option Rpl) (place : Place) (a : Rpl) → path_reported o m place ≡ Ok a → (o ≡ None) × (m ≡ Some a)
+path_reported_ok (Some refusal) m place a h = cc
+path_reported_ok None None place a h = cc
+path_reported_ok None (Some b) place a h = (refl, ap Some (ok_same h))
 
 module _ (P : PlainProgram) (L : Scope) (env : Env) (may_read may_assign : ℕ → Bool) (tells : Tells P (table_of env) L.never_nd) (sees : Sees P L env may_read may_assign)
   where
@@ -116,9 +116,9 @@ module _ (P : PlainProgram) (L : Scope) (env : Env) (may_read may_assign : ℕ �
     classes_meant = record { classes = λ name at h. (let k = tells.classes name at h in (k.class, k.is, k.params, k.given)) }
 
     -- the type that a declaration names
-    pub declared_good : (tree : TypeTree) → length tree.suffixes ≤ 4294967295 → declared_told env tree ≡ None → GoodType P L 0 (declared_type env tree)
-    declared_good tree few untold =
-        let free = parts_free (none_by order.Number) (type_faults (scope_of env) tree) untold in
+    pub declared_good : (tree : TypeTree) → length tree.suffixes ≤ 4294967295 → declared_reported env tree ≡ None → GoodType P L 0 (declared_type env tree)
+    declared_good tree few unreported =
+        let free = parts_free (none_by order.Number) (type_faults (scope_of env) tree) unreported in
         let w = type_known (scope_of env) tree free in
         subst (GoodType P L 0) (sym (ap (λ o. option_map_or (λ t. t) o ty.void) w.1)) (type_good P L (scope_of env) meant classes_meant tree w.0 few free w.1)
 
@@ -132,10 +132,10 @@ module _ (P : PlainProgram) (L : Scope) (env : Env) (may_read may_assign : ℕ �
     own_good suffixes made None a few is = subst (OwnGood made) (ok_same is) (record { path = inl (record { begins = tt; elems = All-nil _ }); speaks = tt; full = refl })
     own_good suffixes made (Some tree) a few is =
         let around : PlainIndex = around_own (made_names suffixes made) in
-        let w = path_told_ok (told_first (path_faults (scope_of env) around full_path tree)) (path_meant (scope_of env) around tree) tree.place a is in
+        let w = path_reported_ok (reported_first (path_faults (scope_of env) around full_path tree)) (path_meant (scope_of env) around tree) tree.place a is in
         let unfit = misfits full_path tree.elems (path_atomic (scope_of env) tree) (list_any (is_misplaced (scope_of env) around) tree.elems) in
         let f = append_none (head_faults (scope_of env) tree.head ++ flat_map (elem_faults (scope_of env) around) tree.elems) (fault_if unfit kind.RegionArgs tree.place)
-        (none_told (none_by order.Number) (path_faults (scope_of env) around full_path tree) w.0) in
+        (none_reported (none_by order.Number) (path_faults (scope_of env) around full_path tree) w.0) in
         let m = three_false true (list_all is_specified tree.elems) false (is_plain (path_atomic (scope_of env) tree)) (list_any (is_misplaced (scope_of env) around) tree.elems) (fault_none unfit kind.RegionArgs tree.place f.1) in
         let none = ap length (drop_all suffixes) in
         let small = own_small made in
@@ -150,15 +150,15 @@ module _ (P : PlainProgram) (L : Scope) (env : Env) (may_read may_assign : ℕ �
     Outer depth t a = GoodPath P L (suc depth) a ⊎ (LocalPath P L 1 a × IsFlat t × (depth ≡ 0))
 
     pub created_good : ArraysAreGood P L env
-    created_good suffixes made base rpl len place t few untold is = by (own_path env (made_names suffixes made) rpl) refl is
+    created_good suffixes made base rpl len place t few unreported is = by (own_path env (made_names suffixes made) rpl) refl is
       where
-        local_told : (o : Option Place) → local_fault o false ≡ [] → o ≡ None
-        local_told None h = refl
-        local_told (Some p) h = cc
+        local_reported : (o : Option Place) → local_fault o false ≡ [] → o ≡ None
+        local_reported None h = refl
+        local_reported (Some p) h = cc
 
         outer : (a : Rpl) (elem : PlainType) (place : Place) → GoodPath P L 1 a ⊎ LocalPath P L 1 a → (is_flat (base_read (scope_of env) (made_names suffixes made) base) ≡ true → length suffixes ≡ 0 → IsFlat elem) →
             own_fault (base_read (scope_of env) (made_names suffixes made) base) (made_names suffixes made) a place ≡ [] → Outer 0 elem a
-        outer a elem place path flat told = at (begins_local a.elems) refl told
+        outer a elem place path flat reported = at (begins_local a.elems) refl reported
           where
             at : (b : Bool) → begins_local a.elems ≡ b → cond b (local_fault (Some place) (is_flat (base_read (scope_of env) (made_names suffixes made) base) && (length suffixes == 0))) [] ≡ [] → Outer 0 elem a
             at false is h = inl (not_in_local P L 1 a path is)
@@ -174,14 +174,14 @@ module _ (P : PlainProgram) (L : Scope) (env : Env) (may_read may_assign : ℕ �
         by (Ok a) own_is h =
             let around : PlainIndex = made_names suffixes made in
             let front = type_read (scope_of env) around base in
-            let w = type_told_ok (array_told env around front (may_be is_int len) a (own_place rpl place) place) (array_meant (scope_of env) around front a) place t h in
+            let w = type_reported_ok (array_reported env around front (may_be is_int len) a (own_place rpl place) place) (array_meant (scope_of env) around front a) place t h in
             let f = append_none (fault_if (not (may_be is_int len)) kind.Type place) (array_faults (scope_of env) around front a (own_place rpl place) place)
-            (none_told (none_by order.Number) (fault_if (not (may_be is_int len)) kind.Type place ++ array_faults (scope_of env) around front a (own_place rpl place) place) w.0) in
+            (none_reported (none_by order.Number) (fault_if (not (may_be is_int len)) kind.Type place ++ array_faults (scope_of env) around front a (own_place rpl place) place) w.0) in
             let g = append_none (local_fault (local_from (scope_of env) around 0 None suffixes) false ++ own_fault (base_read (scope_of env) around base) around a (own_place rpl place)) (base_faults (scope_of env) (base_read (scope_of env) around base) place) f.1 in
             let k = append_none (local_fault (local_from (scope_of env) around 0 None suffixes) false) (own_fault (base_read (scope_of env) around base) around a (own_place rpl place)) g.0 in
             let e = map_there (λ elem. ty.array elem a (is_some made)) (judged_type (scope_of env) around front) t w.1 in
-            let j = judged_good P L (scope_of env) meant classes_meant suffixes made 1 (own_small made) few base place e.0 (parts_free (none_by order.Number) (type_parts (scope_of env) around base) untold) g.1
-            (inl (local_told (local_from (scope_of env) around 0 None suffixes) k.0)) e.1 in
+            let j = judged_good P L (scope_of env) meant classes_meant suffixes made 1 (own_small made) few base place e.0 (parts_free (none_by order.Number) (type_parts (scope_of env) around base) unreported) g.1
+            (inl (local_reported (local_from (scope_of env) around 0 None suffixes) k.0)) e.1 in
             let o = own_good suffixes made rpl a few own_is in (
               e.0,
               a,

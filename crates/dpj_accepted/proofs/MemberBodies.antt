@@ -29,7 +29,7 @@ use Rattle.dpj_check.specs.Checking.{InBlock}
 use Rattle.dpj_check.specs.Completes as tree_completes
 use Rattle.dpj_check.specs.Deciding.{has_value}
 use Rattle.dpj_check.specs.Keeping.{method_around}
-use Rattle.dpj_check.specs.Methods.{MethodChecking, own_params, class_params, summary_of, body_begun, typed_body, method_told, reported, method_judged}
+use Rattle.dpj_check.specs.Methods.{MethodChecking, own_params, class_params, summary_of, body_begun, typed_body, method_reported, reported, method_judged}
 use Rattle.dpj_check.specs.Simple.{has_room}
 use Rattle.dpj_check.specs.Walks.{Walk, Verdict, passes, refused}
 use Rattle.dpj_resolved.specs.Accepted.{IsAccepted}
@@ -40,7 +40,7 @@ use Rattle.dpj_accepted.specs.Laws.{BlockPasses}
 use Rattle.dpj_accepted.specs.Naming.{AllDoneIn, Signed}
 use Rattle.dpj_accepted.specs.Ready.{Ready}
 use Rattle.dpj_accepted.specs.Seen.{Tells, SupersAgree}
-use Rattle.dpj_accepted.specs.Whole.{made_of, never_forks, BodiesPass, ForksAreTold, GoodBody, SignaturesNameNothing, SupersAreTold, TablesTell}
+use Rattle.dpj_accepted.specs.Whole.{made_of, never_forks, BodiesPass, ForksAreReported, GoodBody, SignaturesNameNothing, SupersAreReported, TablesTell}
 use Rattle.dpj_accepted.proofs.Beginnings.{ready_begun, result_none}
 use Rattle.dpj_accepted.proofs.Bodies.{block_agrees}
 use Rattle.dpj_accepted.proofs.Gathered.{head_in, later_in, nothing_in, in_cases}
@@ -76,7 +76,7 @@ record Passed (env : Env) (params : List Bool) (number : ℕ) (method : Method) 
   covered : set_covers (summary_of (numbered (table_of env) number)) walk.found.effects ≡ true
   room : has_room (body_begun env number method).env ≡ true
 
-reported_none : (told : Option Refusal) (made body : PlainBody) → reported told made ≡ Ok body → (told ≡ None) × (made ≡ body)
+reported_none : (stated : Option Refusal) (made body : PlainBody) → reported stated made ≡ Ok body → (stated ≡ None) × (made ≡ body)
 reported_none None made body e = (refl, ok_same e)
 reported_none (Some refusal) made body e = cc
 
@@ -93,7 +93,7 @@ passed_of {env} {params} {number} {method} {body} (MethodChecking.of_method {u =
     by : (v : Verdict (List TypedStmt)) → InBlock params (method_around (has_value method.result)) (plain_stmts (map plain_stmt method.body)) (body_begun env number method) v → method_judged env number method v ≡ Ok body →
         Passed env params number method body
     by (passes ss w) d is =
-        let r = reported_none (method_told env number method w.found.effects) (typed_body ss w.env) body is in
+        let r = reported_none (method_reported env number method w.found.effects) (typed_body ss w.env) body is in
         let free = no_faults (λ reason. fault reason method.place) (has_value method.result && tree_completes.all_complete (plain_stmts (map plain_stmt method.body)))
         (set_covers (summary_of (numbered (table_of env) number)) w.found.effects) (has_room (body_begun env number method).env) r.0 in
         record { made = ss; walk = w; block = d; is = r.1; ends = free.0; covered = free.1; room = free.2 }
@@ -101,9 +101,9 @@ passed_of {env} {params} {number} {method} {body} (MethodChecking.of_method {u =
 
 -- a body that reaches an nd construct isn't that of a method that never does
 calm_of : (reaches forks : Bool) → (reaches ≡ true → IsTrue forks) → IsTrue (not forks) → reaches ≡ false
-calm_of false forks told calm = refl
-calm_of true true told calm = absurd (false≢true calm)
-calm_of true false told calm = absurd (false≢true (told refl))
+calm_of false forks stated calm = refl
+calm_of true true stated calm = absurd (false≢true calm)
+calm_of true false stated calm = absurd (false≢true (stated refl))
 
 -- a formal is no part of an array
 no_part : (class : PlainClass) (m : PlainMember) (k : ℕ) (t : PlainType) (a : Rpl) → first_locals class m k ≡ Some (part t a) → ⊥
@@ -111,7 +111,7 @@ no_part class m zero t a h = cc
 no_part class m (suc i) t a h = let w = map_there variable (slice_get m.formals i) (part t a) h in let same = w.2 in cc
 
 module _ (program : Program) (table : Table) (bodies : List PlainBody) (written : IsWritten program) (accepted : IsAccepted program table bodies) (tells : Tells (made_of program table bodies) table (never_forks table))
-    (supers : SupersAgree (made_of program table bodies) (supers_of table)) (signed : Signed (made_of program table bodies)) (forks : ForksAreTold)
+    (supers : SupersAgree (made_of program table bodies) (supers_of table)) (signed : Signed (made_of program table bodies)) (forks : ForksAreReported)
   where
     body_passes : (n : ℕ) (one : PlainMember) (class : PlainClass) (k : IsMember program table accepted.checked.start n one class) →
         GoodBody (made_of program table bodies) (never_forks table) n (member_of k.row k.body) class
@@ -177,7 +177,7 @@ module _ (program : Program) (table : Table) (bodies : List PlainBody) (written 
         by true is h = inr (ap (λ (z : PlainBody). all_complete z.stmts) (sym p.is) ∙ walked.complete_so ∙ h)
         by false is h = inl (result_none program table bodies accepted tells supers n one class k is)
 
-pub bodies_pass : TablesTell → SupersAreTold → SignaturesNameNothing → ForksAreTold → BodiesPass
+pub bodies_pass : TablesTell → SupersAreReported → SignaturesNameNothing → ForksAreReported → BodiesPass
 bodies_pass tells supers signed forks program table bodies written accepted n m class there class_there =
     let k = member_of_text program table bodies written accepted n m class there class_there in
     subst (λ z. GoodBody (made_of program table bodies) (never_forks table) n z class) k.is

@@ -30,7 +30,7 @@ use Rattle.dpj_exprs.specs.Env.{table_of, at_class}
 use Rattle.dpj_check.specs.Methods.{MethodChecking, own_params, class_params}
 use Rattle.dpj_resolved.specs.Accepted.{IsAccepted}
 use Rattle.dpj_resolved.proofs.Assembled.{is_member}
-use Rattle.dpj_resolved.proofs.Free.{none_told, append_none}
+use Rattle.dpj_resolved.proofs.Free.{none_reported, append_none}
 use Rattle.dpj_resolved.proofs.Lists.{some_same, got_mapped, made_is}
 use Rattle.dpj_written.specs.Written.{IsWritten, MethodIsWritten}
 use Rattle.dpj_accepted.specs.Whole.{made_of, StandsAmong}
@@ -72,7 +72,7 @@ module _ (program : Program) (table : Table) (bodies : List PlainBody) (written 
     signatures_free : signature_faults (headers_of table) table.given 0 program.classes ≡ []
     signatures_free =
         let read = accepted.rows.is_table.read in
-        let all = none_told (none_by order.Place) (text_faults (headers_of table) program.classes) read.free in
+        let all = none_reported (none_by order.Place) (text_faults (headers_of table) program.classes) read.free in
         let w = append_none (all_constraint_faults (headers_of table) 0 program.classes) _ all in
         subst (λ given. signature_faults (headers_of table) given 0 program.classes ≡ []) (sym read.given) w.1
 

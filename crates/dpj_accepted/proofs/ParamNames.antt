@@ -12,7 +12,7 @@ use Rattle.dpj_resolve.specs.declared.scope.ParamFound.{ParamFound}
 use Rattle.dpj_resolve.specs.Classes.{params_in}
 use Rattle.dpj_resolve.specs.Names.{Names}
 use Rattle.dpj_resolve.specs.Scoped.{with_name, value_in, values_in, place_in}
-use Rattle.dpj_resolve.specs.Scopes.{PlainScope, is_atomic_at, class_param, behind_class, method_param, param_meant}
+use Rattle.dpj_resolve.specs.Scopes.{PlainScope, is_atomic_at, class_param, after_class, method_param, param_meant}
 use Rattle.dpj_typed.specs.Table.{params_from}
 use Rattle.dpj_exprs.specs.Env.{param_paths}
 use Rattle.dpj_resolved.proofs.Lists.{some_same, and_then_there}
@@ -63,11 +63,11 @@ atomic_later (p ∷ ps) own i zero a at e = absurd (omega (arith, at))
 atomic_later (p ∷ ps) own i (suc k) a at e = atomic_later ps own i k a (omega (arith, at)) e
 
 -- a name of a region parameter means one that is there, and is told to be atomic or not
-pub param_told : (scope : PlainScope) (own : List Bool) → values_in scope.params ≡ own → length (params_in scope.headers scope.class) + length own ≤ 4294967295 → (name : ℕ) (param : ParamFound) →
+pub param_reported : (scope : PlainScope) (own : List Bool) → values_in scope.params ≡ own → length (params_in scope.headers scope.class) + length own ≤ 4294967295 → (name : ℕ) (param : ParamFound) →
     param_meant scope name ≡ Some param →
     (param.number < length (map (λ param. param.atomic) (params_in scope.headers scope.class) ++ own))
     × (slice_index_or (map (λ param. param.atomic) (params_in scope.headers scope.class) ++ own) param.number false ≡ param.atomic)
-param_told scope own are few name param is = by (param_of scope.headers scope.class name) refl is
+param_reported scope own are few name param is = by (param_of scope.headers scope.class name) refl is
   where
     ps : List ParamRow
     ps = params_in scope.headers scope.class
@@ -75,8 +75,8 @@ param_told scope own are few name param is = by (param_of scope.headers scope.cl
     long : length (map (λ param. param.atomic) ps ++ own) ≡ length ps + length own
     long = length-append (map (λ param. param.atomic) ps) own ∙ ap (λ k. k + length own) (length-map ps (λ (p : ParamRow). p.atomic))
 
-    Told : ParamFound → Type 0
-    Told p = (p.number < length (map (λ param. param.atomic) ps ++ own)) × (slice_index_or (map (λ param. param.atomic) ps ++ own) p.number false ≡ p.atomic)
+    Reported : ParamFound → Type 0
+    Reported p = (p.number < length (map (λ param. param.atomic) ps ++ own)) × (slice_index_or (map (λ param. param.atomic) ps ++ own) p.number false ≡ p.atomic)
 
     within : (o : Option Header) (number : ℕ) → option_and_then (λ header. last_place (λ param. param.name == name) 0 header.params None) o ≡ Some number →
         number < length (option_map_or (λ (header : Header). header.params) o [])
@@ -87,31 +87,31 @@ param_told scope own are few name param is = by (param_of scope.headers scope.cl
           | inr l ↦ omega (arith, l)
         ]
 
-    behind : (place : ℕ) (o : Option Bool) → slice_get own place ≡ o → option_map (λ atomic. record { number = as_number (length ps + place); atomic = atomic }) o ≡ Some param → Told param
-    behind place None there e = cc
-    behind place (Some a) there e =
+    following : (place : ℕ) (o : Option Bool) → slice_get own place ≡ o → option_map (λ atomic. record { number = as_number (length ps + place); atomic = atomic }) o ≡ Some param → Reported param
+    following place None there e = cc
+    following place (Some a) there e =
         let l = slice_get_within own place a there in
         let at : as_number (length ps + place) ≡ length ps + place = omega (arith, l, few) in
-        subst Told (some_same e) (omega (arith, at, l, long), atomic_later ps own place (as_number (length ps + place)) a at there)
+        subst Reported (some_same e) (omega (arith, at, l, long), atomic_later ps own place (as_number (length ps + place)) a at there)
 
-    by : (o : Option ℕ) → param_of scope.headers scope.class name ≡ o → option_map_or (λ number. Some (class_param ps number)) o (method_param scope name) ≡ Some param → Told param
+    by : (o : Option ℕ) → param_of scope.headers scope.class name ≡ o → option_map_or (λ number. Some (class_param ps number)) o (method_param scope name) ≡ Some param → Reported param
     by (Some number) found e =
         let l = within (slice_get scope.headers.rows scope.class) number found in
-        subst Told (some_same e) (omega (arith, l, long), atomic_first ps own number l)
+        subst Reported (some_same e) (omega (arith, l, long), atomic_first ps own number l)
     by None found e =
-        let w = and_then_there (λ place. behind_class ps (values_in scope.params) place) (place_in scope.params name) param e in
-        behind w.0 (slice_get own w.0) refl (ap (λ vs. behind_class ps vs w.0) (sym are) ∙ w.2)
+        let w = and_then_there (λ place. after_class ps (values_in scope.params) place) (place_in scope.params name) param e in
+        following w.0 (slice_get own w.0) refl (ap (λ vs. after_class ps vs w.0) (sym are) ∙ w.2)
 
 -- the parameters of a class as paths, counted from either end
-params_behind : (p n : ℕ) → params_from p (suc n) ≡ params_from p n ++ record { head = Param (p + n); elems = [] } ∷ []
-params_behind p zero = let same : p ≡ p + 0 = omega arith in ap (λ k. record { head = Param k; elems = [] } ∷ []) same
-params_behind p (suc n) =
+params_after : (p n : ℕ) → params_from p (suc n) ≡ params_from p n ++ record { head = Param (p + n); elems = [] } ∷ []
+params_after p zero = let same : p ≡ p + 0 = omega arith in ap (λ k. record { head = Param k; elems = [] } ∷ []) same
+params_after p (suc n) =
     let same : suc p + n ≡ p + suc n = omega arith in
-    ap (λ rest. record { head = Param p; elems = [] } ∷ rest) (params_behind (suc p) n ∙ ap (λ k. params_from (suc p) n ++ record { head = Param k; elems = [] } ∷ []) same)
+    ap (λ rest. record { head = Param p; elems = [] } ∷ rest) (params_after (suc p) n ∙ ap (λ k. params_from (suc p) n ++ record { head = Param k; elems = [] } ∷ []) same)
 
 pub paths_same : (n : ℕ) → n ≤ 4294967295 → param_paths n ≡ params_from 0 n
 paths_same zero few = refl
 paths_same (suc n) few =
     let number : as_number n ≡ 0 + n = omega (arith, few) in
     ap (λ rest. rest ++ record { head = Param (as_number n); elems = [] } ∷ []) (paths_same n (omega (arith, few)))
-    ∙ ap (λ k. params_from 0 n ++ record { head = Param k; elems = [] } ∷ []) number ∙ sym (params_behind 0 n)
+    ∙ ap (λ k. params_from 0 n ++ record { head = Param k; elems = [] } ∷ []) number ∙ sym (params_after 0 n)

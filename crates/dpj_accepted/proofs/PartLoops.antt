@@ -212,9 +212,9 @@ module _ (P : PlainProgram) (signed : Signed P) (L : Scope) (params : List Bool)
             (type_more (IsIndex L) (IsRegion L) (IsIndex (in_loop_branch L)) (IsRegion L) (λ v h. ap (option_map read_alone) h) (λ r h. h) (ty.array elem path false) names)
             (λ x other h. all x (and_both (not (view.name == x)) (not (var.name == x) && stmt_reads x body) (not_so (view.name == x) other) h)) (λ x other h. h) in
             let r1 : Ready P Second (with_part w.env view.name t) params (inside around) (λ x. not (var.name == x) && stmt_reads x body) (λ x. false) = ready_reserved P First (with_part w.env view.name t) params (inside around) (λ x. not (var.name == x) && stmt_reads x body) (λ x. false) (k + 1) r0 (λ n row h. (let l = at_most n row h in omega (arith, l))) (omega arith) (omega arith) (later_none 1 (omega arith)) in
-            let r2 : Ready P Third (with_part w.env view.name t) params (inside around) (λ x. not (var.name == x) && stmt_reads x body) (λ x. false) = ready_reserved P Second (with_part w.env view.name t) params (inside around) (λ x. not (var.name == x) && stmt_reads x body) (λ x. false) (k + 2) r1 (λ n row h. (let l = at_most n row h in omega (arith, l))) (omega arith) (omega arith) (none_behind First (k + 1) (k + 2) (later_none 2 (omega arith))) in
+            let r2 : Ready P Third (with_part w.env view.name t) params (inside around) (λ x. not (var.name == x) && stmt_reads x body) (λ x. false) = ready_reserved P Second (with_part w.env view.name t) params (inside around) (λ x. not (var.name == x) && stmt_reads x body) (λ x. false) (k + 2) r1 (λ n row h. (let l = at_most n row h in omega (arith, l))) (omega arith) (omega arith) (none_after First (k + 1) (k + 2) (later_none 2 (omega arith))) in
             let r3 : Ready P Fourth (with_part w.env view.name t) params (inside around) (λ x. not (var.name == x) && stmt_reads x body) (λ x. false) = ready_reserved P Third (with_part w.env view.name t) params (inside around) (λ x. not (var.name == x) && stmt_reads x body) (λ x. false) (k + 3) r2 (λ n row h. (let l = at_most n row h in omega (arith, l))) (omega arith) (omega arith)
-            (none_behind Second (k + 2) (k + 3) (none_behind First (k + 1) (k + 3) (later_none 3 (omega arith)))) in
+            (none_after Second (k + 2) (k + 3) (none_after First (k + 1) (k + 3) (later_none 3 (omega arith)))) in
             ready_row P Fourth (with_part w.env view.name t) params (inside around) (λ x. not (var.name == x) && stmt_reads x body) (λ x. false) (λ x. stmt_reads x body) (λ x. stmt_assigns x body) r3
             (local_row (with_part w.env view.name t) var.name variant.Int true) (constant ty.int) (k + 4 + 1) refl (omega arith) (variable_is (with_part w.env view.name t) var.name) (λ final. absurd (false≢true (sym final))) tt
             (λ x other h. and_both (not (var.name == x)) (stmt_reads x body) (not_so (var.name == x) other) h) (λ x other h. absurd (none x h))
@@ -232,8 +232,8 @@ module _ (P : PlainProgram) (signed : Signed P) (L : Scope) (params : List Bool)
                 by : (k + i == k) ≡ false → ⊥
                 by ne = free_none L (k + i) (free_at i) (alone_index (L.local (k + i)) (sym (ap (λ b. cond b (Some (part elem path)) ((in_loop_branch L).local (k + i))) ne) ∙ h))
 
-            none_behind : (M : Scope) (x y : ℕ) → (IsIndex M y → ⊥) → IsIndex (in_scope x reserved M) y → ⊥
-            none_behind M x y none h = by (y == x) h
+            none_after : (M : Scope) (x y : ℕ) → (IsIndex M y → ⊥) → IsIndex (in_scope x reserved M) y → ⊥
+            none_after M x y none h = by (y == x) h
               where
                 by : (b : Bool) → cond b (Some reserved) (M.local y) ≡ Some (constant ty.int) → ⊥
                 by true h = cc

@@ -39,7 +39,7 @@ use Rattle.dpj_exprs.specs.declared.env.Env.{Env}
 use Rattle.dpj_exprs.specs.declared.env.LocalRow.{LocalRow}
 use Rattle.dpj_exprs.specs.declared.found.Found.{Found}
 use Rattle.dpj_exprs.specs.Answer.{Answer, gives, refused, read}
-use Rattle.dpj_exprs.specs.Arrays.{array_told, array_with, type_told, own_path, own_place, created_array, front_of}
+use Rattle.dpj_exprs.specs.Arrays.{array_reported, array_with, type_reported, own_path, own_place, created_array, front_of}
 use Rattle.dpj_exprs.specs.Elements.{array_element, element_read, read_element, index_of, element_in_part, part_read, read_part}
 use Rattle.dpj_exprs.specs.Env.{table_of, scope_of, local_of, as_part, part_of, is_length_name}
 use Rattle.dpj_exprs.specs.Fields.{owned_field, named_field, field_through, field_read, read_field}
@@ -352,19 +352,19 @@ module _ (env : Env) (locals : Names Shape) (rows : AreShallow (table_of env))
         element_is : element_shape s ≡ written_shape (headers_of T) base (length around.suffixes)
         element_is = let next : length around.suffixes + 1 ≡ suc (length around.suffixes) = omega arith in ap (λ n. element_in n s.class) next
 
-        meant : (own : Rpl) (o : Option PlainType) → judged_type (scope_of env) around (front_of env around base) ≡ o → (b : Bool) → type_told None (option_map (λ elem. ty.array elem own b) o) place ≡ Ok t → IsShape s t
+        meant : (own : Rpl) (o : Option PlainType) → judged_type (scope_of env) around (front_of env around base) ≡ o → (b : Bool) → type_reported None (option_map (λ elem. ty.array elem own b) o) place ≡ Ok t → IsShape s t
         meant own None known_so b e = cc
         meant own (Some elem) known_so b e =
             let same : ty.array elem own b ≡ t = ok_same e in
             subst (IsShape s) same (subst (λ z. IsShape z elem) (sym element_is) (judged_shaped (scope_of env) around base elem known_so).0)
 
-        untold : (own : Rpl) (b : Bool) (o : Option Refusal) → type_told o (option_map (λ elem. ty.array elem own b) (judged_type (scope_of env) around (front_of env around base))) place ≡ Ok t → IsShape s t
-        untold own b (Some refusal) e = cc
-        untold own b None e = meant own (judged_type (scope_of env) around (front_of env around base)) refl b e
+        unreported : (own : Rpl) (b : Bool) (o : Option Refusal) → type_reported o (option_map (λ elem. ty.array elem own b) (judged_type (scope_of env) around (front_of env around base))) place ≡ Ok t → IsShape s t
+        unreported own b (Some refusal) e = cc
+        unreported own b None e = meant own (judged_type (scope_of env) around (front_of env around base)) refl b e
 
         with_path : (r : Result Rpl Refusal) → array_with env around (front_of env around base) (may_be is_int len) r (own_place rpl place) place ≡ Ok t → IsShape s t
         with_path (Err refusal) e = cc
-        with_path (Ok own) e = untold own _ (array_told env around (front_of env around base) (may_be is_int len) own (own_place rpl place) place) e
+        with_path (Ok own) e = unreported own _ (array_reported env around (front_of env around base) (may_be is_int len) own (own_place rpl place) place) e
 
     created_shown : (s : Shape) (place : Place) (len : TypedExpr) (r : Result PlainType Refusal) → ((t : PlainType) → r ≡ Ok t → IsShape s t) → (made : TypedExpr) → created place len r ≡ Ok made → IsShape s (type_of made)
     created_shown s place len (Ok t) h made e = typed_is s place t (form.create_array len) made (h t refl) e

@@ -21,7 +21,7 @@ use Rattle.dpj_resolve.specs.Scoped.{with_name}
 use Rattle.dpj_classes.specs.declared.shape.Shape.{Shape}
 use Rattle.dpj_classes.specs.declared.table.Table.{Table}
 use Rattle.dpj_classes.specs.Calls.{shape_of, calls_of, stmt_calls, block_calls, branch_calls}
-use Rattle.dpj_classes.specs.Calls.{behind as behind_stmt}
+use Rattle.dpj_classes.specs.Calls.{following as after_stmt}
 use Rattle.dpj_classes.specs.Edges.{without_forks}
 use Rattle.dpj_classes.specs.Shapes.{no_class, tree_shape}
 use Rattle.dpj_classes.specs.Table.{headers_of}
@@ -45,9 +45,9 @@ use Rattle.dpj_resolved.proofs.Bodies.{free_if, declared_free}
 use Rattle.dpj_accepted.proofs.Growing.{room_free}
 use Rattle.dpj_accepted.proofs.Reached.{Adds, adds_none, adds_then, adds_apart, adds_nd, write_same, handed_same}
 use Rattle.dpj_accepted.proofs.ReachedExpressions.{AreShallow, Shown, part_shown, typing_answered, targeting_answered}
-use Rattle.dpj_accepted.proofs.ShapedLocals.{Shaped, longer_then, longer_one, longer_behind, longer_all, all_behind, local_shaped, local_added, part_added, regions_added, scope_closed}
+use Rattle.dpj_accepted.proofs.ShapedLocals.{Shaped, longer_then, longer_one, longer_after, longer_all, all_after, local_shaped, local_added, part_added, regions_added, scope_closed}
 use Rattle.dpj_accepted.proofs.TypeShapes.{IsShape, declared_shaped}
-use Rattle.dpj_accepted.proofs.Walks.{If, judged_if, behind_if}
+use Rattle.dpj_accepted.proofs.Walks.{If, judged_if, after_if}
 
 module _ (table : Table) (class : ℕ) (rows : AreShallow table)
   where
@@ -107,9 +107,9 @@ module _ (table : Table) (class : ℕ) (rows : AreShallow table)
 
     declaring : {locals : Names Shape} {node : Node} {is_final : Bool} {written : TypeTree} {name : ℕ} {value : PlainExpr} {w : Walk} {v : Verdict TypedStmt} → Shaped table class locals w.env →
         Declaring node is_final written name value w v → If (λ made u. Goes false (calls locals value) (with_name locals name (tree_shape (headers_of table) written)) w u) v
-    declaring at (Declaring.type_refused told) = tt
-    declaring at (Declaring.value_refused untold d) = tt
-    declaring {locals} {node} {is_final} {written} {name} {value} {w} at (Declaring.declared {t = t} {g = g} {fit = fit} made untold same d fits j) =
+    declaring at (Declaring.type_refused reported) = tt
+    declaring at (Declaring.value_refused unreported d) = tt
+    declaring {locals} {node} {is_final} {written} {name} {value} {w} at (Declaring.declared {t = t} {g = g} {fit = fit} made unreported same d fits j) =
         subst (If (λ made u. Goes false (calls locals value) (with_name locals name (tree_shape (headers_of table) written)) w u)) j
         (judged_if (λ made u. Goes false (calls locals value) (with_name locals name (tree_shape (headers_of table) written)) w u) _ _ _ (λ free.
         let f = free_if (declaration_noted w.env name node.place node) kind.Type (not fit) free in
@@ -123,7 +123,7 @@ module _ (table : Table) (class : ℕ) (rows : AreShallow table)
     assigning : {locals : Names Shape} {node : Node} {target : Named} {value : PlainExpr} {w : Walk} {v : Verdict TypedStmt} → Shaped table class locals w.env → AssigningLocal node target value w v →
         If (λ made u. Goes false (calls locals value) locals w u) v
     assigning at (AssigningLocal.value_refused d) = tt
-    assigning at (AssigningLocal.no_local d is told) = tt
+    assigning at (AssigningLocal.no_local d is reported) = tt
     assigning {locals} {node} {target} {value} {w} at (AssigningLocal.assigned d is fits j) =
         subst (If (λ made u. Goes false (calls locals value) locals w u)) j
         (judged_if (λ made u. Goes false (calls locals value) locals w u) _ _ _ (λ free. record { env = at; adds = (expr_at at d).1 }))
@@ -194,13 +194,13 @@ module _ (table : Table) (class : ℕ) (rows : AreShallow table)
     -- branches and blocks
 
     abbrev StmtGoes : Names Shape → PlainStmt → Walk → TypedStmt → Walk → Type 0
-    StmtGoes locals s w made u = Goes (holds_nd s) (inner locals s) (behind_stmt (headers_of table) locals s) w u
+    StmtGoes locals s w made u = Goes (holds_nd s) (inner locals s) (after_stmt (headers_of table) locals s) w u
 
     abbrev ScopeGoes : Names Shape → PlainStmt → Walk → TypedStmt → Walk → Type 0
     ScopeGoes locals s w made u = Goes (holds_nd s) (inner locals s) locals w u
 
     abbrev OrderGoes : Names Shape → PlainStmts → Walk → List TypedStmt → Walk → Type 0
-    OrderGoes locals ss w made u = Goes (some_holds_nd ss) (block_calls T class locals ss) (all_behind (headers_of table) locals ss) w u
+    OrderGoes locals ss w made u = Goes (some_holds_nd ss) (block_calls T class locals ss) (all_after (headers_of table) locals ss) w u
 
     abbrev BlockGoes : Names Shape → PlainStmts → Walk → List TypedStmt → Walk → Type 0
     BlockGoes locals ss w made u = Goes (some_holds_nd ss) (block_calls T class locals ss) locals w u
@@ -222,7 +222,7 @@ module _ (table : Table) (class : ℕ) (rows : AreShallow table)
     choice_calls locals test first (Some s) = calls locals test ++ inner locals first ++ inner locals s
 
     scope_goes : (locals : Names Shape) (s : PlainStmt) (w : Walk) (v : Verdict TypedStmt) → Shaped table class locals w.env → If (StmtGoes locals s w) v → If (ScopeGoes locals s w) (left_scope w v)
-    scope_goes locals s w (passes made u) at h = record { env = scope_closed (longer_behind (headers_of table) locals s) at h.env; adds = h.adds }
+    scope_goes locals s w (passes made u) at h = record { env = scope_closed (longer_after (headers_of table) locals s) at h.env; adds = h.adds }
     scope_goes locals s w (refused refusal) at h = tt
 
     block_goes : (locals : Names Shape) (ss : PlainStmts) (w : Walk) (v : Verdict (List TypedStmt)) → Shaped table class locals w.env → If (OrderGoes locals ss (apart_from w)) v → If (BlockGoes locals ss w) (block_left w v)
@@ -232,11 +232,11 @@ module _ (table : Table) (class : ℕ) (rows : AreShallow table)
     }
     block_goes locals ss w (refused refusal) at h = tt
 
-    order_goes : (locals : Names Shape) (s : PlainStmt) (ss : PlainStmts) (w u z : Walk) (made : TypedStmt) (others : List TypedStmt) → StmtGoes locals s w made u → OrderGoes (behind_stmt (headers_of table) locals s) ss u others z →
+    order_goes : (locals : Names Shape) (s : PlainStmt) (ss : PlainStmts) (w u z : Walk) (made : TypedStmt) (others : List TypedStmt) → StmtGoes locals s w made u → OrderGoes (after_stmt (headers_of table) locals s) ss u others z →
         OrderGoes locals (tree.more_stmts s ss) w (made ∷ others) z
     order_goes locals s ss w u z made others first rest = record {
       env = rest.env;
-      adds = then_more w.found u.found z.found (holds_nd s) (some_holds_nd ss) (inner locals s) (block_calls T class (behind_stmt (headers_of table) locals s) ss) first.adds rest.adds;
+      adds = then_more w.found u.found z.found (holds_nd s) (some_holds_nd ss) (inner locals s) (block_calls T class (after_stmt (headers_of table) locals s) ss) first.adds rest.adds;
     }
 
     branch_goes : (locals : Names Shape) (env : Env) (nd : Bool) (s : PlainStmt) (ss : PlainStmts) (w u : Walk) (es : List Effect) (t : Touched) (made : TypedStmt) (v : BranchesVerdict) → ScopeGoes locals s (apart_from w) made u →
@@ -277,7 +277,7 @@ module _ (table : Table) (class : ℕ) (rows : AreShallow table)
           If (StmtGoes locals (tree.statement place f) w) v
       checking_goes {node = node} {w = w} place locals at (Checking.of_block {all = all} {u = u} d j) =
           subst (If (InnerGoes locals all w)) j
-          (behind_if (BlockGoes locals all w) (InnerGoes locals all w) (fault_of node) (λ ss. typed.statement node.place (typed.block (stmts_of ss))) u (block_reaches locals at d) (λ made x free h. h))
+          (after_if (BlockGoes locals all w) (InnerGoes locals all w) (fault_of node) (λ ss. typed.statement node.place (typed.block (stmts_of ss))) u (block_reaches locals at d) (λ made x free h. h))
       checking_goes place locals at (Checking.of_declaration d) = declaring at d
       checking_goes place locals at (Checking.of_local_assignment d) = assigning at d
       checking_goes place locals at (Checking.of_field_assignment d) = placing at d
@@ -294,7 +294,7 @@ module _ (table : Table) (class : ℕ) (rows : AreShallow table)
       checking_goes place locals at (Checking.while_refused d) = tt
       checking_goes {node = node} {w = w} place locals at (Checking.of_while {test = test} {body = body} {t = t} {g = g} {u = u} d i j) =
           subst (If (WhileGoes locals test body w)) j
-          (behind_if (ScopeGoes locals body (record w { found = g })) (WhileGoes locals test body w) (fault_of (with_fault_if node kind.Type (not (may_be is_boolean (type_in t)))))
+          (after_if (ScopeGoes locals body (record w { found = g })) (WhileGoes locals test body w) (fault_of (with_fault_if node kind.Type (not (may_be is_boolean (type_in t)))))
           (λ s. typed.statement node.place (typed.while_loop (node_of test t) s)) u (scope_reaches locals at i)
           (λ made x free h. record { env = h.env; adds = then_more w.found g x.found false (holds_nd body) (calls locals test) (inner locals body) (expr_at at d).1 h.adds }))
       checking_goes place locals at (Checking.of_cobegin d) = forking_goes locals at d
@@ -328,7 +328,7 @@ module _ (table : Table) (class : ℕ) (rows : AreShallow table)
       choosing_goes {node = node} {test = test} {first = first} {other = other} {w = w} locals at (Choosing.chosen {x = x} {t = t} {g = g} {made = made} {u = u} d i n j) =
           let h = scope_reaches locals at i in
           subst (If (λ made u. Goes (choice_nd first other) (choice_calls locals test first other) locals w u)) j
-          (behind_if (OtherGoes locals other x) (λ made u. Goes (choice_nd first other) (choice_calls locals test first other) locals w u)
+          (after_if (OtherGoes locals other x) (λ made u. Goes (choice_nd first other) (choice_calls locals test first other) locals w u)
           (fault_of (with_fault_if node kind.Type (not (may_be is_boolean (type_in t))))) (λ part. typed.statement node.place (typed.choice_form (node_of test t) made part)) u
           (other_reaches locals h.env n) (λ part z free o. chosen_goes locals test first other w x z g made part (expr_at at d).1 h o))
 
@@ -336,7 +336,7 @@ module _ (table : Table) (class : ℕ) (rows : AreShallow table)
           If (OtherGoes locals other w) v
       other_reaches locals at InOther.no_other = refl
       other_reaches {w = w} locals at (InOther.an_other {s = s} {u = u} d j) =
-          subst (If (OtherGoes locals (Some s) w)) j (behind_if (ScopeGoes locals s w) (OtherGoes locals (Some s) w) None Some u (scope_reaches locals at d) (λ made x free h. h))
+          subst (If (OtherGoes locals (Some s) w)) j (after_if (ScopeGoes locals s w) (OtherGoes locals (Some s) w) None Some u (scope_reaches locals at d) (λ made x free h. h))
 
       standing_goes : {params : List Bool} {around : Around} {follows : Bool} {s : PlainStmt} {w : Walk} {v : Verdict TypedStmt} (locals : Names Shape) → Shaped table class locals w.env → Standing params around follows s w v →
           If (StmtGoes locals s w) v
@@ -356,8 +356,8 @@ module _ (table : Table) (class : ℕ) (rows : AreShallow table)
       order_reaches {w = w} locals at (InOrder.then_others {s = s} {ss = ss} {u = u} {made = made} {x = x} d rest j) =
           let first = standing_goes locals at d in
           subst (If (OrderGoes locals (tree.more_stmts s ss) w)) j
-          (behind_if (OrderGoes (behind_stmt (headers_of table) locals s) ss u) (OrderGoes locals (tree.more_stmts s ss) w) None (λ others. made ∷ others) x
-          (order_reaches (behind_stmt (headers_of table) locals s) first.env rest) (λ others z free h. order_goes locals s ss w u z made others first h))
+          (after_if (OrderGoes (after_stmt (headers_of table) locals s) ss u) (OrderGoes locals (tree.more_stmts s ss) w) None (λ others. made ∷ others) x
+          (order_reaches (after_stmt (headers_of table) locals s) first.env rest) (λ others z free h. order_goes locals s ss w u z made others first h))
 
       branching_goes : {params : List Bool} {around : Around} {nd : Bool} {ss : PlainStmts} {w : Walk} {v : BranchesVerdict} (locals : Names Shape) → Shaped table class locals w.env → Branching params around nd ss w v →
           BranchesGo locals ss w v
@@ -371,7 +371,7 @@ module _ (table : Table) (class : ℕ) (rows : AreShallow table)
       forking_goes : {params : List Bool} {around : Around} {node : Node} {nd : Bool} {branches : PlainStmts} {w : Walk} {v : Verdict TypedStmt} (locals : Names Shape) → Shaped table class locals w.env → Forking params around node nd branches w v →
           If (λ made u. Goes (nd || some_holds_nd branches) (branch_calls T class locals branches) locals w u) v
       forking_goes locals at (Forking.some_refused d) = tt
-      forking_goes locals at (Forking.clashing effects touched clash d c told) = tt
+      forking_goes locals at (Forking.clashing effects touched clash d c reported) = tt
       forking_goes {nd = nd} {branches = branches} {w = w} locals at (Forking.forked {u = u} effects touched clash apart d c free a j) =
           let h = branching_goes locals at d in
           subst (If (λ made u. Goes (nd || some_holds_nd branches) (branch_calls T class locals branches) locals w u)) j
@@ -381,7 +381,7 @@ module _ (table : Table) (class : ℕ) (rows : AreShallow table)
       iterating_goes : {params : List Bool} {around : Around} {node : Node} {nd : Bool} {var : Named} {start count : TypedExpr} {body : PlainStmt} {w : Walk} {v : Verdict TypedStmt} (locals : Names Shape) → Shaped table class locals w.env →
           Iterating params around node nd var start count body w v → If (λ made u. Goes (nd || holds_nd body) (inner (with_name locals var.name no_class) body) locals w u) v
       iterating_goes locals at (Iterating.iteration_refused d) = tt
-      iterating_goes locals at (Iterating.iteration_assigning assigns d a told) = tt
+      iterating_goes locals at (Iterating.iteration_assigning assigns d a reported) = tt
       iterating_goes {node = node} {nd = nd} {var = var} {body = body} {w = w} locals at (Iterating.iterated {u = u} assigns d a free j) =
           let f = free_if (variable_noted w.env var node) kind.Assign assigns free in
           let more = with_name locals var.name no_class in
@@ -398,7 +398,7 @@ module _ (table : Table) (class : ℕ) (rows : AreShallow table)
           If (λ made u. Goes (holds_nd body) (calls locals array ++ calls locals count ++ inner (parts_locals locals view var array) body) locals w u) v
       parting_goes locals at (Parting.range_refused o) = tt
       parting_goes locals at (Parting.part_refused o d) = tt
-      parting_goes locals at (Parting.part_assigning assigns o d a told) = tt
+      parting_goes locals at (Parting.part_assigning assigns o d a reported) = tt
       parting_goes {view = view} {var = var} {array = array} {count = count} {body = body} {w = w} locals at (Parting.parted {x = x} {u = u} {source = source} {noted = noted} assigns o d a free j) =
           let k = opening at o (free_if noted kind.Assign assigns free).0 in
           let more = parts_locals locals view var array in

@@ -15,7 +15,7 @@ use Rattle.dpj_resolved.proofs.Lists.{some_same}
 use Rattle.dpj_accepted.specs.Naming.{IsIndex, IsRegion, SlotNames}
 use Rattle.dpj_accepted.specs.Ready.{Ready}
 use Rattle.dpj_accepted.specs.Seen.{can_stand, RowIs, Tells, Sees, Returns}
-use Rattle.dpj_accepted.proofs.Declaring.{local_pushed, indices_told, step_row}
+use Rattle.dpj_accepted.proofs.Declaring.{local_pushed, indices_reported, step_row}
 use Rattle.dpj_accepted.proofs.Growing.{Kept, kept_step}
 use Rattle.dpj_accepted.proofs.InScopeStatements.{locals_with, locals_loop, free_none}
 
@@ -172,7 +172,7 @@ module _ (P : PlainProgram) (L : Scope) (env : Env) (params : List Bool) (around
       self = kept 0 ready.step.some_slot ∙ ready.sees.self;
       locals = λ n one h. local_at (row.name == n) n one refl (sym (local_next n) ∙ h);
       declared = λ n one h final. declared_at (row.name == n) n one (sym (local_next n) ∙ h) final;
-      indices = indices_told next (step_row env row slots at more ready.step);
+      indices = indices_reported next (step_row env row slots at more ready.step);
       params = ready.sees.params;
       regions = ready.sees.regions;
     }

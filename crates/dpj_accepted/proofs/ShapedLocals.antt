@@ -13,7 +13,7 @@ use Rattle.dpj_resolve.specs.Names.{Names, last_place}
 use Rattle.dpj_resolve.specs.Scoped.{names_in, values_in, place_in, value_in, with_name}
 use Rattle.dpj_classes.specs.declared.shape.Shape.{Shape}
 use Rattle.dpj_classes.specs.declared.table.Table.{Table}
-use Rattle.dpj_classes.specs.Calls.{IsPaired, declared_by, behind}
+use Rattle.dpj_classes.specs.Calls.{IsPaired, declared_by, following}
 use Rattle.dpj_classes.specs.Shapes.{no_class, tree_shape}
 use Rattle.dpj_classes.proofs.Locals.{paired_more}
 use Rattle.dpj_exprs.specs.declared.env.Env.{Env}
@@ -87,22 +87,22 @@ longer_then a b c first second = record {
 pub longer_one : (locals : Names Shape) (name : ℕ) (s : Shape) → Longer locals (with_name locals name s)
 longer_one locals name s = record { names = name ∷ []; names_are = refl; values = s ∷ []; values_are = refl }
 
-pub longer_behind : (headers : Headers) (locals : Names Shape) (s : PlainStmt) → Longer locals (behind headers locals s)
-longer_behind headers locals s = by (declared_by s)
+pub longer_after : (headers : Headers) (locals : Names Shape) (s : PlainStmt) → Longer locals (following headers locals s)
+longer_after headers locals s = by (declared_by s)
   where
     by : (o : Option (ℕ × TypeTree)) → Longer locals (option_map_or (λ local. with_name locals local.0 (tree_shape headers local.1)) o locals)
     by None = longer_same locals
     by (Some one) = longer_one locals one.0 (tree_shape headers one.1)
 
 -- the locals after statements one after the other
-abbrev pub all_behind : Headers → Names Shape → PlainStmts → Names Shape
-all_behind headers locals no_stmts = locals
-all_behind headers locals (more_stmts s ss) = all_behind headers (behind headers locals s) ss
+abbrev pub all_after : Headers → Names Shape → PlainStmts → Names Shape
+all_after headers locals no_stmts = locals
+all_after headers locals (more_stmts s ss) = all_after headers (following headers locals s) ss
 
-pub longer_all : (headers : Headers) (locals : Names Shape) (ss : PlainStmts) → Longer locals (all_behind headers locals ss)
+pub longer_all : (headers : Headers) (locals : Names Shape) (ss : PlainStmts) → Longer locals (all_after headers locals ss)
 longer_all headers locals no_stmts = longer_same locals
 longer_all headers locals (more_stmts s ss) =
-    longer_then locals (behind headers locals s) (all_behind headers (behind headers locals s) ss) (longer_behind headers locals s) (longer_all headers (behind headers locals s) ss)
+    longer_then locals (following headers locals s) (all_after headers (following headers locals s) ss) (longer_after headers locals s) (longer_all headers (following headers locals s) ss)
 
 module _ {table : Table} {class : ℕ}
   where

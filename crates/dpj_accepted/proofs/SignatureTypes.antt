@@ -29,23 +29,23 @@ suffixes_small (suffix ∷ suffixes) = omega (arith, suffixes_small suffixes, su
 module _ (P : PlainProgram) (L : Scope) (scope : PlainScope) (means : Meaning P L scope) (classes : ClassesMean P scope)
   where
     pub known_good : (tree : TypeTree) → known_type_faults scope tree ≡ [] → type_size tree ≤ 4294967295 → GoodType P L 0 (known_type scope tree)
-    known_good tree untold few =
-        let free = joined_free (type_faults scope tree) untold in
+    known_good tree unreported few =
+        let free = joined_free (type_faults scope tree) unreported in
         let w = type_known scope tree free in
         let less = suffixes_small tree.suffixes in
         subst (λ o. GoodType P L 0 (unwrap_or o ty.void)) (sym w.1) (type_good P L scope means classes tree w.0 (omega (arith, few, less)) free w.1)
 
     pub formals_good : (formals : List Formal) → formal_faults scope formals ≡ [] → sum_by (λ formal. suc (type_size formal.ty)) formals ≤ 4294967295 → (i : ℕ) (t : PlainType) →
         slice_get (formal_types scope formals) i ≡ Some t → GoodType P L 0 t
-    formals_good [] untold few i t e = cc
-    formals_good (formal ∷ formals) untold few zero t e =
-        let f = append_none (known_type_faults scope formal.ty) (formal_faults scope formals) untold in
+    formals_good [] unreported few i t e = cc
+    formals_good (formal ∷ formals) unreported few zero t e =
+        let f = append_none (known_type_faults scope formal.ty) (formal_faults scope formals) unreported in
         subst (GoodType P L 0) (some_same e) (known_good formal.ty f.0 (omega (arith, few, sum_by-cons (λ (formal : Formal). suc (type_size formal.ty)) formal formals)))
-    formals_good (formal ∷ formals) untold few (suc i) t e =
-        let f = append_none (known_type_faults scope formal.ty) (formal_faults scope formals) untold in
+    formals_good (formal ∷ formals) unreported few (suc i) t e =
+        let f = append_none (known_type_faults scope formal.ty) (formal_faults scope formals) unreported in
         formals_good formals f.1 (omega (arith, few, sum_by-cons (λ (formal : Formal). suc (type_size formal.ty)) formal formals)) i t e
 
     pub result_good : (r : MethodResult) → result_faults scope r ≡ [] → result_size r ≤ 4294967295 → has_value r ≡ true → GoodType P L 0 (result_type scope r)
-    result_good outcome.Constructor untold few valued = cc
-    result_good outcome.Void untold few valued = cc
-    result_good (outcome.Value tree) untold few valued = known_good tree untold few
+    result_good outcome.Constructor unreported few valued = cc
+    result_good outcome.Void unreported few valued = cc
+    result_good (outcome.Value tree) unreported few valued = known_good tree unreported few

@@ -33,7 +33,7 @@ use Rattle.dpj_check.specs.Deciding.{is_misplaced, local_fault, Returned}
 use Rattle.dpj_check.specs.Noting.{with_found, with_fault_if, fault_of}
 use Rattle.dpj_check.specs.Simple.{node_of, AssigningLocal, Performing, Returning, Printing, may_print, printed_form}
 use Rattle.dpj_check.specs.Walks.{Walk, passes, judged, found_so}
-use Rattle.dpj_resolved.proofs.Free.{noted_told, not_false}
+use Rattle.dpj_resolved.proofs.Free.{noted_reported, not_false}
 use Rattle.dpj_accepted.specs.Laws.{Stands, Passing}
 use Rattle.dpj_accepted.specs.Seen.{RowIs, Tells, Sees, Returns}
 use Rattle.dpj_written.specs.Written.{Fitting}
@@ -44,12 +44,12 @@ use Rattle.dpj_accepted.proofs.Subtypes.{fits_subtype}
 
 pub free_if : (node : Node) (reason : Kind) (b : Bool) → fault_of (with_fault_if node reason b) ≡ None → (fault_of node ≡ None) × (b ≡ false)
 free_if node reason true h =
-    let clash = sym (noted_told node.faults (record { kind = reason; place = node.place })) ∙ h in cc
+    let clash = sym (noted_reported node.faults (record { kind = reason; place = node.place })) ∙ h in cc
 free_if node reason false h = (h, refl)
 
 pub free_found : (node : Node) (o : Option Kind) → fault_of (with_found node o) ≡ None → (fault_of node ≡ None) × (o ≡ None)
 free_found node (Some reason) h =
-    let clash = sym (noted_told node.faults (record { kind = reason; place = node.place })) ∙ h in cc
+    let clash = sym (noted_reported node.faults (record { kind = reason; place = node.place })) ∙ h in cc
 free_found node None h = (h, refl)
 
 pub judged_passes : {T : Type 0} (o : Option Refusal) (made x : T) (w u : Walk) → judged o made w ≡ passes x u → (o ≡ None) × (made ≡ x) × (w ≡ u)

@@ -137,9 +137,9 @@ module _ (program : Program) (table : Table) (bodies : List PlainBody) (accepted
                 ∙ ap (λ k. k + said.index) (first_is program table accepted.rows small row.owner)
 
         -- what the table says of a field is so
-        pub field_told : (class : ℕ) (args owned : List Rpl) (i : ℕ) (row : FieldRow) → slice_get (fields_of table) i ≡ Some row → args_at table class args row.owner ≡ Some owned →
+        pub field_reported : (class : ℕ) (args owned : List Rpl) (i : ℕ) (row : FieldRow) → slice_get (fields_of table) i ≡ Some row → args_at table class args row.owner ≡ Some owned →
             FieldSeen (P program table bodies accepted) class args owned row
-        field_told class args owned i row e h = record {
+        field_reported class args owned i row e h = record {
           field = field_of s.field;
           is =
               ap (option_and_then (λ (k : PlainClass). slice_get k.fields row.slot)) (class_there program table bodies accepted class within)

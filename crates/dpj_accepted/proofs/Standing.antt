@@ -21,7 +21,7 @@ use Rattle.dpj_classes.specs.Rows.{method_row, method_faults, member_faults, own
 use Rattle.dpj_assembly.specs.Assembled.{PlainBody}
 use Rattle.dpj_exprs.specs.declared.env.Env.{Env}
 use Rattle.dpj_exprs.specs.Env.{table_of, at_class}
-use Rattle.dpj_check.specs.Methods.{MethodChecking, is_method, MemberChecking, number_after, bodies_of, PlainBodies, behind_bodies, after_ok, MembersChecking, own_params, class_params, ClassesChecking}
+use Rattle.dpj_check.specs.Methods.{MethodChecking, is_method, MemberChecking, number_after, bodies_of, PlainBodies, after_bodies, after_ok, MembersChecking, own_params, class_params, ClassesChecking}
 use Rattle.dpj_rows.proofs.Facts.{got_either}
 use Rattle.dpj_resolved.proofs.Free.{append_none}
 use Rattle.dpj_resolved.proofs.Lists.{some_same, got_first, got_later}
@@ -95,7 +95,7 @@ module _ (env : Env) (params : List Bool) (scope : PlainScope)
 
     -- a member that has no body
     none_more : (m : Member) (ms : List Member) (count : ℕ) (r : Result PlainBodies Refusal) → length (own_methods scope (as_number count) m) ≡ length (own_marks m) → length (own_marks m) ≡ 0 →
-        IfMade env params scope ms (count + length (own_marks m)) r → IfMade env params scope (m ∷ ms) count (after_ok (behind_bodies []) r)
+        IfMade env params scope ms (count + length (own_marks m)) r → IfMade env params scope (m ∷ ms) count (after_ok (after_bodies []) r)
     none_more m ms count (Err refusal) many none h = tt
     none_more m ms count (Ok made) many none h = record {
       next =
@@ -107,7 +107,7 @@ module _ (env : Env) (params : List Bool) (scope : PlainScope)
 
     -- a method
     method_more : (method : Method) (ms : List Member) (count : ℕ) (body : PlainBody) (r : Result PlainBodies Refusal) → MethodChecking env (params ++ own_params (table_of env) (as_number count)) (as_number count) method (Ok body) →
-        MethodIsWritten method → method_faults scope method ≡ [] → IfMade env params scope ms (count + 1) r → IfMade env params scope (member.Method method ∷ ms) count (after_ok (behind_bodies (body ∷ [])) r)
+        MethodIsWritten method → method_faults scope method ≡ [] → IfMade env params scope ms (count + 1) r → IfMade env params scope (member.Method method ∷ ms) count (after_ok (after_bodies (body ∷ [])) r)
     method_more method ms count body (Err refusal) d written free h = tt
     method_more method ms count body (Ok made) d written free h = record {
       next = h.next ∙ ap as_number (let same : count + 1 + length (flat_map own_marks ms) ≡ count + suc (length (flat_map own_marks ms)) = omega arith in same);
@@ -136,18 +136,18 @@ module _ (env : Env) (params : List Bool) (scope : PlainScope)
 
     member_more : (m : Member) (ms : List Member) (count number : ℕ) (made : Option PlainBody) (r : Result PlainBodies Refusal) → number ≡ as_number count → IsMade env params number m (Ok made) → MemberIsWritten m →
         member_faults scope m ≡ [] → (number_after made number ≡ as_number (count + length (own_marks m)) → IfMade env params scope ms (count + length (own_marks m)) r) →
-        IfMade env params scope (m ∷ ms) count (after_ok (behind_bodies (bodies_of made)) r)
+        IfMade env params scope (m ∷ ms) count (after_ok (after_bodies (bodies_of made)) r)
     member_more (member.Regions is_atomic names) ms count number made r is h written free rest =
         let on : as_number count ≡ as_number (count + 0) = omega arith in
-        subst (λ o. IfMade env params scope (member.Regions is_atomic names ∷ ms) count (after_ok (behind_bodies (bodies_of o)) r)) (sym h)
+        subst (λ o. IfMade env params scope (member.Regions is_atomic names ∷ ms) count (after_ok (after_bodies (bodies_of o)) r)) (sym h)
         (none_more (member.Regions is_atomic names) ms count r refl refl (rest (ap (λ o. number_after o number) h ∙ is ∙ on)))
     member_more (member.Field field) ms count number made r is h written free rest =
         let on : as_number count ≡ as_number (count + 0) = omega arith in
-        subst (λ o. IfMade env params scope (member.Field field ∷ ms) count (after_ok (behind_bodies (bodies_of o)) r)) (sym h)
+        subst (λ o. IfMade env params scope (member.Field field ∷ ms) count (after_ok (after_bodies (bodies_of o)) r)) (sym h)
         (none_more (member.Field field) ms count r refl refl (rest (ap (λ o. number_after o number) h ∙ is ∙ on)))
     member_more (member.Method method) ms count number made r is h written free rest =
         let on : as_number (suc (as_number count)) ≡ as_number (count + 1) = omega arith in
-        subst (λ o. IfMade env params scope (member.Method method ∷ ms) count (after_ok (behind_bodies (bodies_of o)) r)) (sym h.1)
+        subst (λ o. IfMade env params scope (member.Method method ∷ ms) count (after_ok (after_bodies (bodies_of o)) r)) (sym h.1)
         (method_more method ms count h.0 r (subst (λ k. MethodChecking env (params ++ own_params (table_of env) k) k method (Ok h.0)) is h.2) written free
         (rest (ap (λ o. number_after o number) h.1 ∙ ap (λ k. as_number (suc k)) is ∙ on)))
 

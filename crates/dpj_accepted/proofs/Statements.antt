@@ -32,7 +32,7 @@ use Rattle.dpj_check.specs.Completes as tree_completes
 use Rattle.dpj_check.specs.Gathering.{entered, taken_in}
 use Rattle.dpj_check.specs.Leaving.{from_here}
 use Rattle.dpj_check.specs.Simple.{declared_type, declaration_noted, node_of, Declaring}
-use Rattle.dpj_check.specs.Walks.{Walk, Verdict, passes, refused, found_so, apart_from, left_scope, behind}
+use Rattle.dpj_check.specs.Walks.{Walk, Verdict, passes, refused, found_so, apart_from, left_scope, following}
 use Rattle.dpj_resolved.proofs.Bodies.{free_if}
 use Rattle.dpj_resolved.proofs.Free.{not_false}
 use Rattle.dpj_accepted.specs.Gathered.{Gathers}
@@ -95,7 +95,7 @@ module _ (P : PlainProgram) (signed : Signed P)
       pub none : out [] ≡ []
       pub inside' : AllDoneIn L effects
       pub gathers : Gathers w.found effects u.found
-      pub behind' : (ss : TypedStmts) (F : List Done) → IsTrue (completes made) ⊎ (ss ≡ typed.no_stmts) → AllPass P M ss F → AllPass P L (typed.more_stmts made ss) (effects ++ out F)
+      pub following' : (ss : TypedStmts) (F : List Done) → IsTrue (completes made) ⊎ (ss ≡ typed.no_stmts) → AllPass P M ss F → AllPass P L (typed.more_stmts made ss) (effects ++ out F)
       pub leaves : (D : List Done) → AllRaw M u.env.slots u.env.declared D → left (here w.env) D ≡ out (left (here u.env) D)
       pub raws : (D : List Done) → AllRaw M u.env.slots u.env.declared D → AllRaw L w.env.slots w.env.declared D
 
@@ -145,7 +145,7 @@ module _ (P : PlainProgram) (signed : Signed P)
       none = refl;
       inside' = passes_names P signed ready.locals alone.passes_so;
       gathers = alone.gathers;
-      behind' = λ ss F c all. AllPass.then' alone.passes_so c all;
+      following' = λ ss F c all. AllPass.then' alone.passes_so c all;
       leaves = λ D raw. left_further w.env.slots w.env.declared u.env.slots u.env.declared (Later (IsIndex L) u.env.slots) (Later (IsRegion L) u.env.declared) L
           (λ x h. ⊎_elim (λ i. (let k = ready.below x (constant ty.int) i in let s = kept.slots in inl (k, omega (arith, k, s)))) (λ l. (let s = kept.slots in inr (omega (arith, l, s), l))) h)
           (λ r h. ⊎_elim (λ i. (let k = ready.regions r i in let s = kept.declared in inl (k, omega (arith, k, s)))) (λ l. (let s = kept.declared in inr (omega (arith, l, s), l))) h) D raw;
@@ -188,9 +188,9 @@ module _ (P : PlainProgram) (signed : Signed P)
     pub declaring_goes : (L : Scope) (params : List Bool) (around : Around) (reads assigns : ℕ → Bool) {node : Node} {is_final : Bool} {tree_type : _} {name : ℕ} {value : PlainExpr} {w : Walk} {v : Verdict TypedStmt} →
         Ready P L w.env params around reads assigns → StmtFormFitting (tree.declare is_final tree_type name value) → ((x : ℕ) → IsTrue (stmt_form_reads x (tree.declare is_final tree_type name value)) → IsTrue (reads x)) →
         Declaring node is_final tree_type name value w v → If (Goes L params around reads assigns (tree.declare is_final tree_type name value) w) v
-    declaring_goes L params around reads assigns ready fits all (Declaring.type_refused told) = tt
-    declaring_goes L params around reads assigns ready fits all (Declaring.value_refused untold d) = tt
-    declaring_goes L params around reads assigns {node} {is_final} {tree_type} {name} {value} {w} ready fits all (Declaring.declared {t = t} {g = g} {fit = fit} made untold same d fit_is j) =
+    declaring_goes L params around reads assigns ready fits all (Declaring.type_refused reported) = tt
+    declaring_goes L params around reads assigns ready fits all (Declaring.value_refused unreported d) = tt
+    declaring_goes L params around reads assigns {node} {is_final} {tree_type} {name} {value} {w} ready fits all (Declaring.declared {t = t} {g = g} {fit = fit} made unreported same d fit_is j) =
         subst (If (Goes L params around reads assigns (tree.declare is_final tree_type name value) w)) j
         (judged_if (Goes L params around reads assigns (tree.declare is_final tree_type name value) w) _ _ _ (λ free.
         let f = free_if (declaration_noted w.env name node.place node) kind.Type (not fit) free in
@@ -206,7 +206,7 @@ module _ (P : PlainProgram) (signed : Signed P)
         T = declared_type w.env tree_type
 
         good : GoodType P L 0 T
-        good = declared_good P L w.env reads assigns ready.tells ready.sees tree_type fits.0 untold
+        good = declared_good P L w.env reads assigns ready.tells ready.sees tree_type fits.0 unreported
 
         free : L.local n ≡ None
         free = none_at L n ready.below n (omega arith)
@@ -231,7 +231,7 @@ module _ (P : PlainProgram) (signed : Signed P)
             none = refl;
             inside' = (has_names P signed L ready.locals (x.2.has calm)).1;
             gathers = x.2.gathers;
-            behind' = λ ss F c rest.
+            following' = λ ss F c rest.
                 AllPass.declare (free, (let k = room.slots in omega (arith, k))) good
                 (subst (λ z. Has P L z x.2.effects) (sym (ap (node_of value) x.1)) (x.2.has calm))
                 (subst (λ z. Subtype P (type_of z) T) (sym (ap (node_of value) x.1))
@@ -260,7 +260,7 @@ module _ (P : PlainProgram) (signed : Signed P)
     scope_if L params around reads assigns f w (passes made u) h = record { calm = h.calm; goes = λ room calm. by (h.on (record { slots = room.slots; regions = room.regions }) calm) }
       where
         by : On L h.scope w made u → (E : List Done) × AllPass P L (typed.more_stmts made typed.no_stmts) E × Gathers w.found E u.found
-        by on = (on.effects, subst (AllPass P L (typed.more_stmts made typed.no_stmts)) (ap (λ z. on.effects ++ z) on.none ∙ append_none on.effects) (on.behind' typed.no_stmts [] (inr refl) AllPass.no_more), on.gathers)
+        by on = (on.effects, subst (AllPass P L (typed.more_stmts made typed.no_stmts)) (ap (λ z. on.effects ++ z) on.none ∙ append_none on.effects) (on.following' typed.no_stmts [] (inr refl) AllPass.no_more), on.gathers)
     scope_if L params around reads assigns f w (refused refusal) h = tt
 
     nd_before : (a b : Bool) → (a || b) ≡ false → (a ≡ false) × (b ≡ false)
@@ -287,7 +287,7 @@ module _ (P : PlainProgram) (signed : Signed P)
             on.effects ++ r.0,
             subst (AllPass P L (typed.more_stmts made (stmts_of others)))
                 (sym (left_append (here w.env) on.effects r.0 ∙ ap (λ k. k ++ left (here w.env) r.0) (stays L w.env params around reads assigns ready on.effects on.inside') ∙ ap (λ k. on.effects ++ k) (on.leaves r.0 r.3)))
-                (on.behind' (stmts_of others) (left (here u.env) r.0) (⊎_elim (λ both. inl (stood.complete_so ∙ (and_true before (tree_completes.form_completes f) both).1)) (λ none. inr none) ordered.starts) r.1),
+                (on.following' (stmts_of others) (left (here u.env) r.0) (⊎_elim (λ both. inl (stood.complete_so ∙ (and_true before (tree_completes.form_completes f) both).1)) (λ none. inr none) ordered.starts) r.1),
             then_gathered w.found u.found z.found on.effects r.0 on.gathers r.2,
             raw_append L w.env.slots w.env.declared on.effects r.0 (all_raw_of L w.env.slots w.env.declared on.effects on.inside') (on.raws r.0 r.3),
           );
@@ -295,7 +295,7 @@ module _ (P : PlainProgram) (signed : Signed P)
 
     pub order_if : (L : Scope) (params : List Bool) (around : Around) (reads assigns : ℕ → Bool) (before : Bool) (place : Place) (f : tree.StmtForm) (ss : PlainStmts) (w u : Walk) (made : TypedStmt) →
         Ready P L w.env params around reads assigns → Stood (tree.statement place f) w made u → (g : Goes L params around reads assigns f w made u) → (v : Verdict (List TypedStmt)) →
-        If (Ordered (before && tree_completes.form_completes f) ss u) v → If (OrderGoes g.scope u) v → If (OrderGoes L w) (behind None (λ others. made ∷ others) v)
+        If (Ordered (before && tree_completes.form_completes f) ss u) v → If (OrderGoes g.scope u) v → If (OrderGoes L w) (following None (λ others. made ∷ others) v)
     order_if L params around reads assigns before place f ss w u made ready stood g (passes others z) h k = order_then L params around reads assigns before place f ss w u made ready stood g others z h k
     order_if L params around reads assigns before place f ss w u made ready stood g (refused refusal) h k = tt
 

@@ -12,7 +12,7 @@ use Rattle.dpj_classes.specs.declared.reach.Edge.{Edge}
 use Rattle.dpj_classes.specs.declared.table.Table.{Table}
 use Rattle.dpj_classes.specs.Bodies.{own_marks, class_marks, override_edges}
 use Rattle.dpj_classes.specs.Edges.{call_edges, without_forks}
-use Rattle.dpj_classes.specs.Reach.{is_marked, IsBehind}
+use Rattle.dpj_classes.specs.Reach.{is_marked, IsAfter}
 use Rattle.dpj_classes.specs.Table.{methods_of, is_forking}
 use Rattle.dpj_resolved.specs.Accepted.{IsAccepted}
 use Rattle.dpj_accepted.specs.Whole.{never_forks}
@@ -43,13 +43,13 @@ classes_unmarked (class ∷ classes) none =
     let p = or_parts (list_any member_holds_nd class.members) (list_any (λ (k : Class). list_any member_holds_nd k.members) classes) none in
     both_unmarked (class_marks class) (flat_map class_marks classes) (members_unmarked class.members p.0) (classes_unmarked classes p.1)
 
-none_behind : {marks : List Bool} {edges : List Edge} {at : ℕ} → Unmarked marks → IsBehind marks edges at → ⊥
-none_behind none (IsBehind.itself at is) = false≢true (sym (none at) ∙ is)
-none_behind none (IsBehind.before at next within leads more) = none_behind none more
+none_after : {marks : List Bool} {edges : List Edge} {at : ℕ} → Unmarked marks → IsAfter marks edges at → ⊥
+none_after none (IsAfter.itself at is) = false≢true (sym (none at) ∙ is)
+none_after none (IsAfter.before at next within leads more) = none_after none more
 
 pub none_forks : (program : Program) (table : Table) (bodies : List PlainBody) → IsAccepted program table bodies → program_uses_nd program ≡ false → (n : ℕ) → IsTrue (never_forks table n)
 none_forks program table bodies accepted none n = by (is_forking table n) (accepted.rows.is_table.reached.each n).0
   where
-    by : (b : Bool) → (IsTrue b → IsBehind (flat_map class_marks program.classes) (call_edges (without_forks table) 0 0 program.classes ++ override_edges table (methods_of table)) n) → IsTrue (not b)
-    by true behind = absurd (none_behind (classes_unmarked program.classes none) (behind refl))
-    by false behind = refl
+    by : (b : Bool) → (IsTrue b → IsAfter (flat_map class_marks program.classes) (call_edges (without_forks table) 0 0 program.classes ++ override_edges table (methods_of table)) n) → IsTrue (not b)
+    by true following = absurd (none_after (classes_unmarked program.classes none) (following refl))
+    by false following = refl

@@ -28,7 +28,7 @@ use Rattle.dpj_check.specs.Gathering.{with_uses, taken_in}
 use Rattle.dpj_check.specs.Leaving.{from_here}
 use Rattle.dpj_check.specs.Noting.{with_found, with_fault_if, node_at, fault_of}
 use Rattle.dpj_check.specs.Simple.{place_of, node_of, declaration_noted, stored, target_fault, printed_form, may_print, Declaring, AssigningLocal, AssigningPlace, Performing, Returning, Printing}
-use Rattle.dpj_check.specs.Walks.{Walk, Verdict, passes, refused, left_scope, judged, behind}
+use Rattle.dpj_check.specs.Walks.{Walk, Verdict, passes, refused, left_scope, judged, following}
 use Rattle.dpj_exprs.specs.Targeting.{PlainSpot, to_field, to_element, to_part}
 use Rattle.dpj_resolved.proofs.Bodies.{free_if, free_found, declared_free, parts_free, regions_free, follows_none}
 use Rattle.dpj_accepted.specs.Seen.{InStep}
@@ -39,14 +39,14 @@ abbrev pub If : {T : Type 0} → (T → Walk → Type 0) → Verdict T → Type 
 If Q (passes made w) = Q made w
 If Q (refused refusal) = Unit {0}
 
-pub judged_if : {T : Type 0} (Q : T → Walk → Type 0) (told : Option Refusal) (made : T) (w : Walk) → (told ≡ None → Q made w) → If Q (judged told made w)
+pub judged_if : {T : Type 0} (Q : T → Walk → Type 0) (reported : Option Refusal) (made : T) (w : Walk) → (reported ≡ None → Q made w) → If Q (judged reported made w)
 judged_if Q None made w h = h refl
 judged_if Q (Some refusal) made w h = tt
 
-pub behind_if : {T U : Type 0} (Q : T → Walk → Type 0) (R : U → Walk → Type 0) (told : Option Refusal) (make : T → U) (v : Verdict T) → If Q v →
-    ((made : T) (w : Walk) → told ≡ None → Q made w → R (make made) w) → If R (behind told make v)
-behind_if Q R told make (passes made w) h to = judged_if R told (make made) w (λ free. to made w free h)
-behind_if Q R told make (refused refusal) h to = tt
+pub after_if : {T U : Type 0} (Q : T → Walk → Type 0) (R : U → Walk → Type 0) (reported : Option Refusal) (make : T → U) (v : Verdict T) → If Q v →
+    ((made : T) (w : Walk) → reported ≡ None → Q made w → R (make made) w) → If R (following reported make v)
+after_if Q R reported make (passes made w) h to = judged_if R reported (make made) w (λ free. to made w free h)
+after_if Q R reported make (refused refusal) h to = tt
 
 pub both_if : {T : Type 0} (Q R : T → Walk → Type 0) (v : Verdict T) → If Q v → If R v → If (λ made w. Q made w × R made w) v
 both_if Q R (passes made w) h k = (h, k)
@@ -152,9 +152,9 @@ kept_stands (tree.atomic all) place node w made u step h = record { complete_so 
 
 walked_declaring : {node : Node} {is_final : Bool} {ty : _} {name : ℕ} {value : PlainExpr} {w : Walk} {v : Verdict TypedStmt} → InStep w.env → Declaring node is_final ty name value w v →
     If (Walked node (tree.declare is_final ty name value) w) v
-walked_declaring step (Declaring.type_refused told) = tt
-walked_declaring step (Declaring.value_refused untold d) = tt
-walked_declaring {node} {is_final} {ty} {name} {value} {w} step (Declaring.declared {t = t} {g = g} {fit = fit} made untold same d fits j) =
+walked_declaring step (Declaring.type_refused reported) = tt
+walked_declaring step (Declaring.value_refused unreported d) = tt
+walked_declaring {node} {is_final} {ty} {name} {value} {w} step (Declaring.declared {t = t} {g = g} {fit = fit} made unreported same d fits j) =
     subst (If (Walked node (tree.declare is_final ty name value) w)) j
     (judged_if (Walked node (tree.declare is_final ty name value) w) _ _ _ (λ free. record {
       free = declared_free w.env name node.place node (free_if (declaration_noted w.env name node.place node) kind.Type (not fit) free).0;
@@ -170,7 +170,7 @@ local_fits false is_final h = cc
 
 walked_assigning : {node : Node} {target : Named} {value : PlainExpr} {w : Walk} {v : Verdict TypedStmt} → AssigningLocal node target value w v → If (Walked node (tree.assign_local target value) w) v
 walked_assigning (AssigningLocal.value_refused d) = tt
-walked_assigning (AssigningLocal.no_local d is told) = tt
+walked_assigning (AssigningLocal.no_local d is reported) = tt
 walked_assigning {node} {target} {value} {w} (AssigningLocal.assigned {row = row} {fit = fit} d is fits j) =
     subst (If (Walked node (tree.assign_local target value) w)) j
     (judged_if (Walked node (tree.assign_local target value) w) _ _ _ (λ free.
@@ -347,7 +347,7 @@ mutual
   pub checking_walked : {params : List Bool} {around : Around} {node : Node} {f : tree.StmtForm} {w : Walk} {v : Verdict TypedStmt} → InStep w.env → Checking params around node f w v → If (Walked node f w) v
   checking_walked {node = node} {w = w} step (Checking.of_block {all = all} {u = u} d j) =
       subst (If (Walked node (tree.block all) w)) j
-      (behind_if (Blocked all w) (Walked node (tree.block all) w) (fault_of node) (λ ss. statement node.place (typed.block (stmts_of ss))) u (block_walked step d)
+      (after_if (Blocked all w) (Walked node (tree.block all) w) (fault_of node) (λ ss. statement node.place (typed.block (stmts_of ss))) u (block_walked step d)
       (λ made x free h. record { free = free; complete_so = h.complete_so; env = h.kept; assigned = h.assigned }))
   checking_walked step (Checking.of_declaration d) = walked_declaring step d
   checking_walked step (Checking.of_local_assignment d) = walked_assigning d
@@ -410,7 +410,7 @@ mutual
   checking_walked step (Checking.while_refused d) = tt
   checking_walked {node = node} {w = w} step (Checking.of_while {test = test} {body = body} {t = t} {g = g} {u = u} d i j) =
       subst (If (Walked node (tree.while_loop test body) w)) j
-      (behind_if (Scoped body w) (Walked node (tree.while_loop test body) w) (fault_of (with_fault_if node kind.Type (not (may_be is_boolean (type_in t)))))
+      (after_if (Scoped body w) (Walked node (tree.while_loop test body) w) (fault_of (with_fault_if node kind.Type (not (may_be is_boolean (type_in t)))))
       (λ s. statement node.place (typed.while_loop (node_of test t) s)) u (scope_found w body u g (scope_walked step i))
       (λ made x free h. record { free = (free_if node kind.Type (not (may_be is_boolean (type_in t))) free).0; complete_so = refl; env = h.kept; assigned = h.assigned }))
   checking_walked step (Checking.of_cobegin d) = forking_walked step d
@@ -434,7 +434,7 @@ mutual
   choosing_walked {node = node} {test = test} {first = first} {other = other} {w = w} step (Choosing.chosen {x = x} {t = t} {made = made} {u = u} d i n j) =
       let h = scope_walked step i in
       subst (If (Chosen node first other w)) j
-      (behind_if (OtherDone other x) (Chosen node first other w) (fault_of (with_fault_if node kind.Type (not (may_be is_boolean (type_in t)))))
+      (after_if (OtherDone other x) (Chosen node first other w) (fault_of (with_fault_if node kind.Type (not (may_be is_boolean (type_in t)))))
       (λ part. statement node.place (choice_form (node_of test t) made part)) u (other_walked (kept_step w.env x.env h.kept step) n)
       (λ part y free o. chosen_of node.place node (node_of test t) first other w x y made part (free_if node kind.Type (not (may_be is_boolean (type_in t))) free).0
       (record { complete_so = h.complete_so; kept = h.kept; assigned = h.assigned }) o))
@@ -442,7 +442,7 @@ mutual
   pub other_walked : {params : List Bool} {around : Around} {other : Option PlainStmt} {w : Walk} {v : Verdict (Option TypedStmt)} → InStep w.env → InOther params around other w v → If (OtherDone other w) v
   other_walked {w = w} step InOther.no_other = kept_same w.env
   other_walked {w = w} step (InOther.an_other {s = s} {u = u} d j) =
-      subst (If (OtherDone (Some s) w)) j (behind_if (Scoped s w) (OtherDone (Some s) w) None Some u (scope_walked step d) (λ made x free h. h))
+      subst (If (OtherDone (Some s) w)) j (after_if (Scoped s w) (OtherDone (Some s) w) None Some u (scope_walked step d) (λ made x free h. h))
 
   pub standing_walked : {params : List Bool} {around : Around} {follows : Bool} {s : PlainStmt} {w : Walk} {v : Verdict TypedStmt} → InStep w.env → Standing params around follows s w v →
       If (λ made u. (follows ≡ false) × Stood s w made u) v
@@ -460,7 +460,7 @@ mutual
   order_walked {before = before} {w = w} step (InOrder.then_others {s = s} {ss = ss} {u = u} {made = made} {x = x} d rest j) =
       let first = standing_walked step d in
       subst (If (Ordered before (tree.more_stmts s ss) w)) j
-      (behind_if (Ordered (before && tree_completes.completes s) ss u) (Ordered before (tree.more_stmts s ss) w) None (λ others. made ∷ others) x (order_walked first.1.step rest)
+      (after_if (Ordered (before && tree_completes.completes s) ss u) (Ordered before (tree.more_stmts s ss) w) None (λ others. made ∷ others) x (order_walked first.1.step rest)
       (λ others z free h. order_done before s ss w u z made others (before_true before first.0) first.1 h))
 
   pub branching_walked : {params : List Bool} {around : Around} {nd : Bool} {ss : PlainStmts} {w : Walk} {v : BranchesVerdict} → InStep w.env → Branching params around nd ss w v → BranchesDone ss w v
@@ -474,7 +474,7 @@ mutual
   forking_walked : {params : List Bool} {around : Around} {node : Node} {nd : Bool} {branches : PlainStmts} {w : Walk} {v : Verdict TypedStmt} → InStep w.env → Forking params around node nd branches w v →
       If (Walked node (tree.cobegin nd branches) w) v
   forking_walked step (Forking.some_refused d) = tt
-  forking_walked step (Forking.clashing effects touched clash d c told) = tt
+  forking_walked step (Forking.clashing effects touched clash d c reported) = tt
   forking_walked {node = node} {nd = nd} {branches = branches} {w = w} step (Forking.forked effects touched clash apart d c free a j) =
       let h = branching_walked step d in
       subst (If (Walked node (tree.cobegin nd branches) w)) j
@@ -483,7 +483,7 @@ mutual
   iterating_walked : {params : List Bool} {around : Around} {node : Node} {nd : Bool} {var : Named} {lowest size : TypedExpr} {body : PlainStmt} {w : Walk} {v : Verdict TypedStmt} (start count : PlainExpr) (before : Walk) →
       w.env ≡ before.env → InStep before.env → Iterating params around node nd var lowest size body w v → If (Walked node (tree.foreach nd var start count body) before) v
   iterating_walked start count before same step (Iterating.iteration_refused d) = tt
-  iterating_walked start count before same step (Iterating.iteration_assigning assigns d a told) = tt
+  iterating_walked start count before same step (Iterating.iteration_assigning assigns d a reported) = tt
   iterating_walked {node = node} {nd = nd} {var = var} {body = body} {w = w} start count before same step (Iterating.iterated {u = u} assigns d a free j) =
       let begun : InStep w.env = subst InStep (sym same) step in
       let h = scope_walked (step_local w.env var.name _ true begun) d in
@@ -503,7 +503,7 @@ mutual
       Parting params around node view var array count body w v → If (Walked node (tree.foreach_parts view var array count body) w) v
   parting_walked step (Parting.range_refused o) = tt
   parting_walked step (Parting.part_refused o d) = tt
-  parting_walked step (Parting.part_assigning assigns o d a told) = tt
+  parting_walked step (Parting.part_assigning assigns o d a reported) = tt
   parting_walked {node = node} {view = view} {var = var} {array = array} {count = count} {body = body} {w = w} step (Parting.parted {x = x} {u = u} {noted = noted} assigns o d a free j) =
       let p = opening_done o in
       let begun : InStep x.env = subst InStep (sym p.env_is) (step_parts w.env view var p.ty step) in

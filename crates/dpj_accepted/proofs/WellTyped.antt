@@ -9,10 +9,10 @@ use Rattle.dpj_declared.specs.Laws.{AcceptedIsDeclared, Declared, GoodParent, Go
 use Rattle.dpj_inherited.specs.Laws.{AcceptedHasMain, AcceptedInherits, Inherits, KeepsSuper}
 use Rattle.dpj_accepted.specs.Laws.{AcceptedIsWellTyped}
 use Rattle.dpj_accepted.specs.Whole.{BodiesPass, GoodBody, made_of, never_forks}
-use Rattle.dpj_accepted.proofs.ForksTold.{forks_told}
+use Rattle.dpj_accepted.proofs.ForksReported.{forks_reported}
 use Rattle.dpj_accepted.proofs.Lineage.{supers_agree}
 use Rattle.dpj_accepted.proofs.MemberBodies.{bodies_pass}
-use Rattle.dpj_accepted.proofs.Told.{table_tells}
+use Rattle.dpj_accepted.proofs.Reported.{table_tells}
 use Rattle.dpj_accepted.proofs.Unmarked.{none_forks}
 use Rattle.dpj_accepted.proofs.Unnamed.{all_signed}
 
@@ -61,7 +61,7 @@ all_bodies_pass = bodies_pass
     (λ program table bodies written accepted. supers_agree program table bodies accepted)
     (λ program table bodies written accepted. all_signed program table bodies accepted)
     (λ program table bodies written accepted start fresh method number class stands params made u d reached.
-    forks_told program table bodies written accepted start fresh method number class stands params made u d reached)
+    forks_reported program table bodies written accepted start fresh method number class stands params made u d reached)
 
 pub well_typed : AcceptedIsDeclared → AcceptedInherits → AcceptedHasMain → AcceptedIsWellTyped
 well_typed declares inherits has_main program table bodies written accepted =

@@ -27,7 +27,7 @@ use Rattle.dpj_exprs.specs.Typing.{Typing}
 use Rattle.dpj_check.specs.declared.node.Around.{Around}
 use Rattle.dpj_check.specs.declared.node.Node.{Node}
 use Rattle.dpj_check.specs.Checking.{InBlock}
-use Rattle.dpj_check.specs.Simple.{declared_type, declared_told, AssigningLocal, Performing, Returning, Printing}
+use Rattle.dpj_check.specs.Simple.{declared_type, declared_reported, AssigningLocal, Performing, Returning, Printing}
 use Rattle.dpj_check.specs.Walks.{Walk, passes}
 use Rattle.dpj_resolved.specs.Accepted.{IsAccepted}
 use Rattle.dpj_accepted.specs.Gathered.{Gathers}
@@ -86,7 +86,7 @@ SinglesAgree =
 abbrev pub TypesAgree : Type 0
 TypesAgree =
     (P : PlainProgram) (L : Scope) (env : Env) (reads assigns : ℕ → Bool) → Tells P (table_of env) L.never_nd → Sees P L env reads assigns → (tree : TypeTree) → length tree.suffixes ≤ 4294967295 →
-    declared_told env tree ≡ None → GoodType P L 0 (declared_type env tree)
+    declared_reported env tree ≡ None → GoodType P L 0 (declared_type env tree)
 
 -- statements that pass in the judgement do nothing but to what is in scope
 abbrev pub EffectsAreInScope : Type 0

@@ -44,8 +44,8 @@ TablesTell =
     (program : Program) (table : Table) (bodies : List PlainBody) → IsWritten program → IsAccepted program table bodies →
     Tells (made_of program table bodies) table (never_forks table)
 
-abbrev pub SupersAreTold : Type 0
-SupersAreTold =
+abbrev pub SupersAreReported : Type 0
+SupersAreReported =
     (program : Program) (table : Table) (bodies : List PlainBody) → IsWritten program → IsAccepted program table bodies →
     SupersAgree (made_of program table bodies) (supers_of table)
 
@@ -65,8 +65,8 @@ pub data StandsAmong (method : Method) (number class : ℕ) : List Class → ℕ
       StandsAmong method number class (k ∷ classes) at count
 
 -- a method in whose body an nd construct is reached is one of which the table tells so
-abbrev pub ForksAreTold : Type 0
-ForksAreTold =
+abbrev pub ForksAreReported : Type 0
+ForksAreReported =
     (program : Program) (table : Table) (bodies : List PlainBody) → IsWritten program → IsAccepted program table bodies →
     (start : Env) → IsFresh table (name_number program.names (codes "length")) start →
     (method : Method) (number class : ℕ) → StandsAmong method number class program.classes 0 0 →

@@ -1,7 +1,7 @@
 //! The laws of accepted programs, each the clause of a function that does nothing.
 
 ghost use Rattle.dpj_accepted.specs.Laws.{AcceptedIsWellTyped, SubtypesAgree, TypesAgree, ExpressionsAgree, SinglesAgree, EffectsAreInScope, BlocksAgree};
-ghost use Rattle.dpj_accepted.specs.Whole.{BodiesPass, ForksAreTold, NoneForks, SignaturesNameNothing, SupersAreTold, TablesTell};
+ghost use Rattle.dpj_accepted.specs.Whole.{BodiesPass, ForksAreReported, NoneForks, SignaturesNameNothing, SupersAreReported, TablesTell};
 
 use dpj_declared::laws::law_declared;
 use dpj_inherited::laws::{law_inherits, law_main};
@@ -44,14 +44,14 @@ pub fn law_blocks()
 /// the typed program, and its signatures name neither index variables nor local regions.
 pub fn law_table()
     ensures tells { TablesTell }
-    ensures supers { SupersAreTold }
+    ensures supers { SupersAreReported }
     ensures signed { SignaturesNameNothing }
 {}
 
 /// A method in whose body the checker finds that an nd construct is reached is one of which the class table tells so; and where a
 /// program has no nd construct, it tells so of none.
 pub fn law_forks()
-    ensures forks { ForksAreTold }
+    ensures forks { ForksAreReported }
     ensures none { NoneForks }
 {}
 

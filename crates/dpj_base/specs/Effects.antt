@@ -70,11 +70,6 @@ abbrev pub gathered : List Effect → List Effect → List Effect
 gathered es [] = es
 gathered es (f ∷ fs) = gathered (added es f) fs
 
--- no effect stands twice
-abbrev pub all_distinct : List Effect → Bool
-all_distinct [] = true
-all_distinct (e ∷ es) = not (has_effect es e) && all_distinct es
-
 abbrev pub with_mark : Bool → Effect → Effect
 with_mark mark e = record e { atomic = mark }
 

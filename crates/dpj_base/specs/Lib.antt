@@ -1,6 +1,7 @@
 pub mod Apart
 pub mod Branches
 pub mod Effects
+pub mod Keys
 pub mod Matching
 pub mod Pairs
 pub mod Parts

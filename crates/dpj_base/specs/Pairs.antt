@@ -10,7 +10,7 @@ abbrev pub NoneBetween : {X : Type 0} → (X → X → Type 0) → List X → �
 NoneBetween {X} R xs i j = (b : ℕ) (d : X) → i < b → b < j → ¬ R (slice_index_or xs i d) (slice_index_or xs b d)
 
 -- the member at j is the first after the one at i to which that one stands in the relation
-pub record IsFirstBehind {X : Type 0} (R : X → X → Type 0) (xs : List X) (i j : ℕ) : Type 0 where
+pub record IsFirstAfter {X : Type 0} (R : X → X → Type 0) (xs : List X) (i j : ℕ) : Type 0 where
   pub in_order : i < j
   pub within : j < length xs
   pub holds : (d : X) → R (slice_index_or xs i d) (slice_index_or xs j d)
@@ -23,12 +23,12 @@ NoneBefore {X} R xs i = (a b : ℕ) (d : X) → a < i → a < b → b < length x
 -- the members at i and j stand in the relation; no pair that does has an earlier first member, or the same first
 -- member and an earlier second
 pub record IsFirstPair {X : Type 0} (R : X → X → Type 0) (xs : List X) (i j : ℕ) : Type 0 where
-  pub behind : IsFirstBehind R xs i j
+  pub following : IsFirstAfter R xs i j
   pub none_before : NoneBefore R xs i
 
 -- the first member after the one at i, if there is one
-abbrev pub FirstBehind : {X : Type 0} → (X → X → Type 0) → List X → ℕ → Option ℕ → Type 0
-FirstBehind R xs i answer = MatchOption answer (NoneBetween R xs i (length xs)) (IsFirstBehind R xs i)
+abbrev pub FirstAfter : {X : Type 0} → (X → X → Type 0) → List X → ℕ → Option ℕ → Type 0
+FirstAfter R xs i answer = MatchOption answer (NoneBetween R xs i (length xs)) (IsFirstAfter R xs i)
 
 -- the first such pair, if there is one
 abbrev pub FirstPair : {X : Type 0} → (X → X → Type 0) → List X → Option (ℕ × ℕ) → Type 0

@@ -92,8 +92,8 @@ unfoldable pub within : Rpl → Rpl → Bool
 within a b = heads_within a.head b.head b.elems && covers_elems b.elems a.elems
 
 -- a path and further elements after it
-abbrev pub behind : Rpl → List Elem → Rpl
-behind a elems = record { head = a.head; elems = a.elems ++ elems }
+abbrev pub following : Rpl → List Elem → Rpl
+following a elems = record { head = a.head; elems = a.elems ++ elems }
 
 -- the argument for a parameter; where there is none, the parameter itself
 abbrev pub argument : List Rpl → ℕ → Rpl
@@ -101,7 +101,7 @@ argument args p = slice_index_or args p (record { head = Param p; elems = [] })
 
 abbrev pub put_at : Head → List Elem → List Rpl → Rpl
 put_at Root elems args = record { head = Root; elems = elems }
-put_at (Param p) elems args = behind (argument args p) elems
+put_at (Param p) elems args = following (argument args p) elems
 
 -- a path with its argument put in for the parameter at its head
 unfoldable pub substituted : List Rpl → Rpl → Rpl

@@ -6,14 +6,14 @@ use crate::region::Rpl;
 use std::alloc::Global;
 
 /// What is done to a place in memory.
-#[derive(Clone, Copy, Debug, PartialEq, Eq)]
+#[derive(Clone, Copy, Debug, PartialEq, Eq, Hash)]
 pub enum Access {
     Read,
     Write,
 }
 
 /// An access to the regions that a path stands for.
-#[derive(Debug, Drop)]
+#[derive(Debug, Drop, PartialEq, Eq, Hash)]
 pub struct Effect {
     pub access: Access,
     /// Marked: the access stands inside an atomic block.

@@ -1,13 +1,14 @@
-ghost use Rattle.std.specs.Prelude.{◌≡◌, ◌↔◌, ◌∷◌, ◌++◌, [], length, IsTrue, IfOk, OnOk, OnErr};
+ghost use Rattle.std.specs.Prelude.{◌≡◌, ◌↔◌, ◌<◌, ◌∷◌, ◌++◌, [], length, slice_set, IsTrue, IfOk, OnOk, OnErr};
 
 use crate::memory::NoMemory;
 use crate::plain::Plain;
 use smallvec::SmallVec;
 use std::alloc::Global;
+use std::hash::{Hash, Hasher};
 use std::marker::Model;
 
 /// An index in a region path.
-#[derive(Clone, Copy, Debug, PartialEq, Eq)]
+#[derive(Clone, Copy, Debug, PartialEq, Eq, Hash)]
 pub enum Index {
     /// A whole number.
     Literal(i32),
@@ -21,7 +22,7 @@ pub enum Index {
 }
 
 /// One element of a region path.
-#[derive(Clone, Copy, Debug, PartialEq, Eq)]
+#[derive(Clone, Copy, Debug, PartialEq, Eq, Hash)]
 pub enum Elem {
     /// A declared region name, by its number.
     Name(u32),
@@ -117,6 +118,45 @@ impl Elems {
     {
         self.items.extend_from_slice(more)?;
         Ok(())
+    }
+
+    /// Puts an element in the place of another.
+    pub fn set(&mut self, at: usize, elem: Elem)
+        requires { at < length self.old }
+        ensures { self.new ≡ slice_set self.old at elem }
+    {
+        self.items[at] = elem;
+    }
+}
+
+// Compared and hashed as the list, which is all that a contract sees.
+impl PartialEq for Elems {
+    ghost use Rattle.dpj_base.specs.Keys.{elems_eq, elems_eq_partial_equiv};
+
+    ghost eq = { elems_eq };
+
+    ghost laws = { elems_eq_partial_equiv };
+
+    fn eq(&self, other: &Elems) -> bool {
+        self.as_slice() == other.as_slice()
+    }
+}
+
+impl Eq for Elems {
+    ghost use Rattle.dpj_base.specs.Keys.{elems_eq_equiv};
+
+    ghost laws = { elems_eq_equiv };
+}
+
+impl Hash for Elems {
+    ghost use Rattle.dpj_base.specs.Keys.{elems_input, elems_alike};
+
+    ghost hash_input = { elems_input };
+
+    ghost respects_eq = { elems_alike };
+
+    fn hash<H: Hasher>(&self, state: &mut H) {
+        self.as_slice().hash(state);
     }
 }
 

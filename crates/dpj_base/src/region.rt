@@ -6,7 +6,7 @@ use crate::plain::Plain;
 use std::alloc::Global;
 
 /// Where a region path begins.
-#[derive(Clone, Copy, Debug, PartialEq, Eq)]
+#[derive(Clone, Copy, Debug, PartialEq, Eq, Hash)]
 pub enum Head {
     Root,
     /// A region parameter, by its number.
@@ -14,7 +14,7 @@ pub enum Head {
 }
 
 /// A region path list: what a program writes of regions.
-#[derive(Debug, Drop)]
+#[derive(Debug, Drop, PartialEq, Eq, Hash)]
 pub struct Rpl {
     pub head: Head,
     pub elems: Elems,

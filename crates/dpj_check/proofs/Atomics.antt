@@ -39,15 +39,15 @@ atomic_refused params b around within node all out begun x r s is within_is none
     stopped (λ q. InBlock params within all (walk_of b begun) (refused q)) (Checking params around node (form.atomic all) (walk_of b out)) r x s is
     (λ q d. block_refused (inside_block params b around within all out begun (refused q) within_is none d)) h
 
-pub atomic_told : {T : Type 0} (params : List Bool) (b c : Body) (around within : Around) (node noted : Node) (all : PlainStmts) (out begun inner : Found)
+pub atomic_reported : {T : Type 0} (params : List Bool) (b c : Body) (around within : Around) (node noted : Node) (all : PlainStmts) (out begun inner : Found)
     (ss : List TypedStmt) (x : T → Verdict TypedStmt) (r : Result T Stop) (s : Stop) → IsErrAnd r (λ z. z ≡ s) → within ≡ inside around → begun ≡ nothing_found →
     InBlock params within all (walk_of b begun) (passes ss (walk_of c inner)) → noted ≡ with_fault_if node kind.AtomicBody inner.reaches_nd →
     Err s ≡ settled (fault_of noted) → Says r x refused (Checking params around node (form.atomic all) (walk_of b out))
-atomic_told params b c around within node noted all out begun inner ss x r s is within_is none d noted_is settle =
+atomic_reported params b c around within node noted all out begun inner ss x r s is within_is none d noted_is settle =
     settle_stopped (Checking params around node (form.atomic all) (walk_of b out)) (fault_of noted) r s x is settle
-    (λ q told.
+    (λ q reported.
     of_atomic (inside_block params b around within all out begun (passes ss (walk_of c inner)) within_is none d)
-    (judged_some _ _ _ q (ap fault_of (sym noted_is) ∙ told)))
+    (judged_some _ _ _ q (ap fault_of (sym noted_is) ∙ reported)))
 
 pub atomic_passes : (params : List Bool) (b c : Body) (around within : Around) (node noted : Node) (all : PlainStmts) (out begun inner out3 : Found)
     (effects : List Effect) (leaving : Leaving) (ss : List TypedStmt) (made : TypedStmt) → within ≡ inside around → begun ≡ nothing_found →

@@ -100,7 +100,7 @@ any_source t e place is made_is =
 
 pub known_fault : (t : Typed) (e : Made) (fault : Option Kind) → t ≡ given.Known e → fault ≡ whole_fault (plain_type e.ty) →
     fault ≡ cut_fault (plain_typed t)
-known_fault t e fault is told = told ∙ ap (λ (z : Typed). cut_fault (plain_typed z)) (sym is)
+known_fault t e fault is reported = reported ∙ ap (λ (z : Typed). cut_fault (plain_typed z)) (sym is)
 
 -- at the exit of a `?`, where two things are said of the fault
 both_stop : (A B C : Refusal → Type 0) (s : Stop) → ((q : Refusal) → A q → B q → C q) → IfRefused s A → IfRefused s B → IfRefused s C

@@ -155,13 +155,13 @@ fork_stopped b o around within node nd all i effects touched made f out begun br
     (piece_begun b o around within (plain_stmt branch) out begun (refused q) home within_is none k)))
     h
 
-pub fork_told : {T : Type 0} (params : List Bool) (around : Around) (node second : Node) (nd clash : Bool) (branches : PlainStmts)
+pub fork_reported : {T : Type 0} (params : List Bool) (around : Around) (node second : Node) (nd clash : Bool) (branches : PlainStmts)
     (effects : List (List Effect)) (touched : List Touched) (made : List TypedBranch) (w u : Walk) (x : T → Verdict TypedStmt) (r : Result T Stop) (p : Stop) → IsErrAnd r (λ z. z ≡ p) →
     Branching params (inside around) nd branches w (all_pass effects touched made u) → ClashIs touched clash → second ≡ with_fault_if node kind.Assign clash →
     Err p ≡ settled (fault_of second) → Says r x refused (Forking params around node nd branches w)
-fork_told params around node second nd clash branches effects touched made w u x r p is all clashing_is second_is settle =
+fork_reported params around node second nd clash branches effects touched made w u x r p is all clashing_is second_is settle =
     settle_stopped (Forking params around node nd branches w) (fault_of second) r p x is settle
-    (λ q told. clashing effects touched clash all clashing_is (ap fault_of (sym second_is) ∙ told))
+    (λ q reported. clashing effects touched clash all clashing_is (ap fault_of (sym second_is) ∙ reported))
 
 -- what the second test of a `cobegin` found
 pub record BranchesMet (b o : Body) (node second settle third : Node) (nd clash pass reached : Bool) (effects read : List (List Effect)) (out : Found)
@@ -191,11 +191,11 @@ pub fork_ends : {T : Type 0} (b o : Body) (around : Around) (node second settle 
     BranchesMet b o node second settle third nd clash pass reached effects read out reason → fault_of second ≡ None → Err p ≡ settled (fault_of third) →
     Says r x refused (Forking b.atomic_params around node nd branches (walk_of b f))
 fork_ends b o around node second settle third nd clash pass reached branches effects read touched made f out reason x r p is all clashing_is m clean
-    told_is =
-    settle_stopped (Forking b.atomic_params around node nd branches (walk_of b f)) (fault_of third) r p x is told_is
-    (λ q told.
+    reported_is =
+    settle_stopped (Forking b.atomic_params around node nd branches (walk_of b f)) (fault_of third) r p x is reported_is
+    (λ q reported.
     forked effects touched clash pass all clashing_is (ap fault_of (sym m.second_is) ∙ clean) (apart_at_home b o nd pass effects read m.home m.read_is m.apart)
-    (judged_some _ _ _ q (fork_noted b o node second settle third nd clash pass reached effects read out reason m ∙ told)))
+    (judged_some _ _ _ q (fork_noted b o node second settle third nd clash pass reached effects read out reason m ∙ reported)))
 
 pub fork_passes : (b o : Body) (around : Around) (node second settle third : Node) (nd clash pass reached : Bool) (branches : PlainStmts)
     (effects read : List (List Effect)) (touched : List Touched) (made : List TypedBranch) (f out : Found) (reason : Kind) (whole : TypedStmt) →

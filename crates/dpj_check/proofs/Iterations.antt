@@ -61,13 +61,13 @@ pub second_noted : (env : Env) (var : Named) (node first second : Node) (assigns
     second ≡ with_fault_if first kind.Assign assigns → second ≡ with_fault_if (variable_noted env var node) kind.Assign assigns
 second_noted env var node first second assigns first_is second_is = second_is ∙ ap (λ (z : Node). with_fault_if z kind.Assign assigns) first_is
 
-pub iteration_told : {T : Type 0} (b s : Body) (around : Around) (node second : Node) (nd : Bool) (var : Named) (lowest size : TypedExpr) (body : PlainStmt)
+pub iteration_reported : {T : Type 0} (b s : Body) (around : Around) (node second : Node) (nd : Bool) (var : Named) (lowest size : TypedExpr) (body : PlainStmt)
     (f inner : Found) (part : TypedStmt) (assigns : Bool) (x : T → Verdict TypedStmt) (r : Result T Stop) (p : Stop) → IsErrAnd r (λ z. z ≡ p) →
     Iterated b s around node second var body f inner part assigns → Err p ≡ settled (fault_of second) →
     Says r x refused (Iterating b.atomic_params around node nd var lowest size body (walk_of b f))
-iteration_told b s around node second nd var lowest size body f inner part assigns x r p is k settle =
+iteration_reported b s around node second nd var lowest size body f inner part assigns x r p is k settle =
     settle_stopped (Iterating b.atomic_params around node nd var lowest size body (walk_of b f)) (fault_of second) r p x is settle
-    (λ q told. iteration_assigning assigns k.in_scope k.assigning (ap fault_of (sym k.second_is) ∙ told))
+    (λ q reported. iteration_assigning assigns k.in_scope k.assigning (ap fault_of (sym k.second_is) ∙ reported))
 
 -- what the second test found
 pub record IterationsMet (b s : Body) (second settle third : Node) (nd clash : Bool) (slot : ℕ) (env : Env) (scope : Mark) (inner iteration : Found)
@@ -105,17 +105,17 @@ third_noted b s around node second settle third nd assigns clash var body slot e
     (clash_in b nd (slots_in b.env) inner) k.second_is m.settle_is m.reason_is
     (clash_at b s second settle third nd clash slot env scope inner iteration reason m) m.third_is))
 
-pub iterations_told : {T : Type 0} (b s : Body) (around : Around) (node second settle third : Node) (nd assigns clash : Bool) (var : Named)
+pub iterations_reported : {T : Type 0} (b s : Body) (around : Around) (node second settle third : Node) (nd assigns clash : Bool) (var : Named)
     (lowest size : TypedExpr) (body : PlainStmt) (slot : ℕ) (env : Env) (scope : Mark) (f inner iteration : Found) (part : TypedStmt) (reason : Kind)
     (x : T → Verdict TypedStmt) (r : Result T Stop) (p : Stop) →
     IsErrAnd r (λ z. z ≡ p) → Iterated b s around node second var body f inner part assigns →
     IterationsMet b s second settle third nd clash slot env scope inner iteration reason →
     fault_of second ≡ None → Err p ≡ settled (fault_of third) → Says r x refused (Iterating b.atomic_params around node nd var lowest size body (walk_of b f))
-iterations_told b s around node second settle third nd assigns clash var lowest size body slot env scope f inner iteration part reason x r p is k m clean told_is =
-    settle_stopped (Iterating b.atomic_params around node nd var lowest size body (walk_of b f)) (fault_of third) r p x is told_is
-    (λ q told. iterated assigns k.in_scope k.assigning (ap fault_of (sym k.second_is) ∙ clean)
+iterations_reported b s around node second settle third nd assigns clash var lowest size body slot env scope f inner iteration part reason x r p is k m clean reported_is =
+    settle_stopped (Iterating b.atomic_params around node nd var lowest size body (walk_of b f)) (fault_of third) r p x is reported_is
+    (λ q reported. iterated assigns k.in_scope k.assigning (ap fault_of (sym k.second_is) ∙ clean)
     (judged_some _ _ _ q
-    (third_noted b s around node second settle third nd assigns clash var body slot env scope f inner iteration part reason k m ∙ told)))
+    (third_noted b s around node second settle third nd assigns clash var body slot env scope f inner iteration part reason k m ∙ reported)))
 
 pub iterations_pass : (b s : Body) (around : Around) (node second settle third : Node) (nd assigns clash : Bool) (var : Named) (lowest size : TypedExpr)
     (body : PlainStmt) (slot : ℕ) (env : Env) (scope : Mark) (f inner iteration out : Found) (part made : TypedStmt) (reason : Kind) (kept : Marks)

@@ -17,7 +17,7 @@ use Rattle.dpj_exprs.specs.declared.found.Found.{Found}
 use Rattle.dpj_exprs.specs.declared.assigned.Target.{Target}
 use Rattle.dpj_exprs.specs.Answer.{gives}
 use Rattle.dpj_exprs.specs.Env.{local_of, slots_in, supers_of, table_of}
-use Rattle.dpj_exprs.specs.Targeting.{PlainSpot, Targeting, aims, plain_spot, plain_target, with_write}
+use Rattle.dpj_exprs.specs.Targeting.{PlainSpot, PlainTarget, Targeting, aims, plain_spot, plain_target, with_write}
 use Rattle.dpj_exprs.specs.Typed.{may_be, is_value, type_in, FitsAs}
 use Rattle.dpj_exprs.specs.Typing.{Typing}
 use Rattle.dpj_check.specs.declared.body.Body.{Body}
@@ -25,13 +25,13 @@ use Rattle.dpj_check.specs.declared.node.Around.{Around}
 use Rattle.dpj_check.specs.declared.node.Node.{Node}
 use Rattle.dpj_check.specs.Deciding.{local_fault, is_misplaced, Returned}
 use Rattle.dpj_check.specs.Noting.{fault_of, with_found, with_fault_if}
-use Rattle.dpj_check.specs.Simple.{may_print, target_fault, declared_type, declared_told, declaration_noted, local_declared, node_of, place_of, printed_form, stored, FitIs, AssigningLocal, AssigningPlace, Declaring, Performing, Printing, Returning}
+use Rattle.dpj_check.specs.Simple.{may_print, target_fault, declared_type, declared_reported, declaration_noted, local_declared, node_of, place_of, printed_form, stored, FitIs, AssigningLocal, AssigningPlace, Declaring, Performing, Printing, Putting, Returning}
 use Rattle.dpj_check.specs.Walks.{Walk, Verdict, passes, refused, judged, scope_so, walk_of, with_env}
 use Rattle.dpj_check.proofs.Passing.{judged_at, judged_none, judged_some, passes_so}
 
 -- a node without a fault passes, and one with a fault is refused
-pub clean_passes : {M : Type 0} (told : Option Refusal) (m made : M) (w u : Walk) → told ≡ None → m ≡ made → w ≡ u → judged told made u ≡ passes m w
-clean_passes told m made w u none m_is w_is = judged_none told made u none ∙ passes_so m made w u m_is w_is
+pub clean_passes : {M : Type 0} (reported : Option Refusal) (m made : M) (w u : Walk) → reported ≡ None → m ≡ made → w ≡ u → judged reported made u ≡ passes m w
+clean_passes reported m made w u none m_is w_is = judged_none reported made u none ∙ passes_so m made w u m_is w_is
 
 -- a call or a creation
 pub performed_so : (node : Node) (e : PlainExpr) (b : Body) (f g : Found) (t : Option TypedExpr) (x : TypedExpr) (s : TypedStmt) →
@@ -41,9 +41,9 @@ performed_so node e b f g t x s d x_is s_is none =
     Performing.performed d
     (clean_passes (fault_of node) s _ _ _ none (s_is ∙ ap (λ (z : TypedExpr). typed.statement node.place (typed.perform z)) x_is) refl)
 
-pub performed_told : (node : Node) (e : PlainExpr) (b : Body) (f g : Found) (t : Option TypedExpr) (q : Refusal) → Typing b.env e f (gives t g) →
+pub performed_reported : (node : Node) (e : PlainExpr) (b : Body) (f g : Found) (t : Option TypedExpr) (q : Refusal) → Typing b.env e f (gives t g) →
     fault_of node ≡ Some q → Performing node e (walk_of b f) (refused q)
-performed_told node e b f g t q d told = Performing.performed d (judged_some (fault_of node) _ _ q told)
+performed_reported node e b f g t q d reported = Performing.performed d (judged_some (fault_of node) _ _ q reported)
 
 -- an int or a boolean that is printed
 pub record Printed (node noted : Node) (e : PlainExpr) (b : Body) (f g : Found) (t : Option TypedExpr) (may : Bool) : Type 0 where
@@ -59,9 +59,9 @@ printed_as node noted e b f g t may v k is =
     (judged_at (with_fault_if node kind.Type (not (may_print (type_in t)))) noted _ (walk_of b g)
     (k.noted_is ∙ ap (λ (z : Bool). with_fault_if node kind.Type (not z)) k.may_is) ∙ is)
 
-pub printed_told : (node noted : Node) (e : PlainExpr) (b : Body) (f g : Found) (t : Option TypedExpr) (may : Bool) (q : Refusal) →
+pub printed_reported : (node noted : Node) (e : PlainExpr) (b : Body) (f g : Found) (t : Option TypedExpr) (may : Bool) (q : Refusal) →
     Printed node noted e b f g t may → fault_of noted ≡ Some q → Printing node e (walk_of b f) (refused q)
-printed_told node noted e b f g t may q k told = printed_as node noted e b f g t may (refused q) k (judged_some (fault_of noted) _ _ q told)
+printed_reported node noted e b f g t may q k reported = printed_as node noted e b f g t may (refused q) k (judged_some (fault_of noted) _ _ q reported)
 
 pub printed_so : (node noted : Node) (e : PlainExpr) (b : Body) (f g : Found) (t : Option TypedExpr) (may : Bool) (x : TypedExpr) (s : TypedStmt) →
     Printed node noted e b f g t may → x ≡ node_of e t → s ≡ typed.statement node.place (printed_form x) → fault_of noted ≡ None →
@@ -88,10 +88,10 @@ left_as around node noted last e b f g t misplaced fit v k is =
     ∙ ap (λ (z : Node). with_fault_if z kind.Type (not fit)) (k.noted_is ∙ ap (λ (z : Bool). with_fault_if node kind.Return z) k.misplaced_is))
     ∙ is)
 
-pub left_told : (around : Around) (node noted last : Node) (e : PlainExpr) (b : Body) (f g : Found) (t : Option TypedExpr) (misplaced fit : Bool)
+pub left_reported : (around : Around) (node noted last : Node) (e : PlainExpr) (b : Body) (f g : Found) (t : Option TypedExpr) (misplaced fit : Bool)
     (q : Refusal) → Left around node noted last e b f g t misplaced fit → fault_of last ≡ Some q → Returning around node e (walk_of b f) (refused q)
-left_told around node noted last e b f g t misplaced fit q k told =
-    left_as around node noted last e b f g t misplaced fit (refused q) k (judged_some (fault_of last) _ _ q told)
+left_reported around node noted last e b f g t misplaced fit q k reported =
+    left_as around node noted last e b f g t misplaced fit (refused q) k (judged_some (fault_of last) _ _ q reported)
 
 pub left_so : (around : Around) (node noted last : Node) (e : PlainExpr) (b : Body) (f g : Found) (t : Option TypedExpr) (misplaced fit : Bool)
     (x : TypedExpr) (s : TypedStmt) → Left around node noted last e b f g t misplaced fit → x ≡ node_of e t →
@@ -116,11 +116,11 @@ stored_as node noted target e row b f g t fit reason v k is =
     AssigningLocal.assigned k.typing k.local_is k.fits
     (judged_at (with_found node (local_fault fit row.is_final)) noted _ (walk_of b g) (k.noted_is ∙ ap (with_found node) k.reason_is) ∙ is)
 
-pub stored_told : (node noted : Node) (target : Named) (e : PlainExpr) (row : LocalRow) (b : Body) (f g : Found) (t : Option TypedExpr) (fit : Bool)
+pub stored_reported : (node noted : Node) (target : Named) (e : PlainExpr) (row : LocalRow) (b : Body) (f g : Found) (t : Option TypedExpr) (fit : Bool)
     (reason : Option Kind) (q : Refusal) → Stored node noted target e row b f g t fit reason → fault_of noted ≡ Some q →
     AssigningLocal node target e (walk_of b f) (refused q)
-stored_told node noted target e row b f g t fit reason q k told =
-    stored_as node noted target e row b f g t fit reason (refused q) k (judged_some (fault_of noted) _ _ q told)
+stored_reported node noted target e row b f g t fit reason q k reported =
+    stored_as node noted target e row b f g t fit reason (refused q) k (judged_some (fault_of noted) _ _ q reported)
 
 pub stored_so : (node noted : Node) (target : Named) (e : PlainExpr) (row : LocalRow) (b : Body) (f g : Found) (t : Option TypedExpr) (fit : Bool)
     (reason : Option Kind) (x : TypedExpr) (s : TypedStmt) → Stored node noted target e row b f g t fit reason → x ≡ node_of e t →
@@ -129,79 +129,68 @@ stored_so node noted target e row b f g t fit reason x s k x_is s_is none =
     stored_as node noted target e row b f g t fit reason _ k
     (clean_passes (fault_of noted) s _ _ _ none (s_is ∙ ap (λ (z : TypedExpr). typed.statement target.place (typed.store row.slot z)) x_is) refl)
 
--- a target where every value fits
-pub record Anything (node noted : Node) (target value : PlainExpr) (b : Body) (f g h : Found) (t : Option TypedExpr) (is_val : Bool) : Type 0 where
-  pub aimed : Targeting b.env target f (aims None g)
-  pub typing : Typing b.env value g (gives t h)
-  pub value_is : is_val ≡ may_be is_value (type_in t)
-  pub noted_is : noted ≡ with_fault_if node kind.Type (not is_val)
-
-anything_as : (node noted : Node) (target value : PlainExpr) (b : Body) (f g h : Found) (t : Option TypedExpr) (is_val : Bool) (v : Verdict TypedStmt) →
-    Anything node noted target value b f g h t is_val →
-    judged (fault_of noted) (typed.statement (place_of target) (typed.perform (node_of value t))) (walk_of b h) ≡ v →
+-- an assignment to what comes from a part of what is no array
+pub anything_as : (node : Node) (target value : PlainExpr) (b : Body) (f g h : Found) (t : Option TypedExpr) (place : Place) (made : TypedExpr)
+    (v : Verdict TypedStmt) → Targeting b.env target f (aims None g) → Typing b.env value g (gives t h) → place_of target ≡ place → made ≡ node_of value t →
+    judged (fault_of (with_fault_if node kind.Type (not (may_be is_value (type_in t))))) (typed.statement place (typed.perform made)) (walk_of b h) ≡ v →
     AssigningPlace node target value (walk_of b f) v
-anything_as node noted target value b f g h t is_val v k is =
-    AssigningPlace.anything_assigned k.aimed k.typing
-    (judged_at (with_fault_if node kind.Type (not (may_be is_value (type_in t)))) noted _ (walk_of b h)
-    (k.noted_is ∙ ap (λ (z : Bool). with_fault_if node kind.Type (not z)) k.value_is) ∙ is)
+anything_as node target value b f g h t place made v aimed typing place_is made_is is =
+    let reported : Option Refusal = fault_of (with_fault_if node kind.Type (not (may_be is_value (type_in t)))) in
+    AssigningPlace.anything_assigned aimed typing
+    (ap (λ (z : Place). judged reported (typed.statement z (typed.perform (node_of value t))) (walk_of b h)) place_is
+    ∙ ap (λ (z : TypedExpr). judged reported (typed.statement place (typed.perform z)) (walk_of b h)) (sym made_is) ∙ is)
 
-pub anything_told : (node noted : Node) (target value : PlainExpr) (b : Body) (f g h : Found) (t : Option TypedExpr) (is_val : Bool) (q : Refusal) →
-    Anything node noted target value b f g h t is_val → fault_of noted ≡ Some q → AssigningPlace node target value (walk_of b f) (refused q)
-anything_told node noted target value b f g h t is_val q k told =
-    anything_as node noted target value b f g h t is_val (refused q) k (judged_some (fault_of noted) _ _ q told)
-
-pub anything_so : (node noted : Node) (target value : PlainExpr) (b : Body) (f g h : Found) (t : Option TypedExpr) (is_val : Bool) (place : Place)
-    (x : TypedExpr) (s : TypedStmt) → Anything node noted target value b f g h t is_val → place_of target ≡ place → x ≡ node_of value t →
-    s ≡ typed.statement place (typed.perform x) → fault_of noted ≡ None → AssigningPlace node target value (walk_of b f) (passes s (walk_of b h))
-anything_so node noted target value b f g h t is_val place x s k place_is x_is s_is none =
-    anything_as node noted target value b f g h t is_val _ k
-    (clean_passes (fault_of noted) s _ _ _ none
-    (s_is ∙ ap (λ (z : Place). typed.statement z (typed.perform x)) (sym place_is)
-    ∙ ap (λ (z : TypedExpr). typed.statement (place_of target) (typed.perform z)) x_is) refl)
-
--- what is known of an assignment to a field or an element after its parts
-pub record Placed (node noted : Node) (target value : PlainExpr) (aim : Target) (b : Body) (f g h : Found) (t : Option TypedExpr) (fit : Bool)
-    (reason : Option Kind) : Type 0 where
-  pub aimed : Targeting b.env target f (aims (Some (plain_target aim)) g)
-  pub typing : Typing b.env value g (gives t h)
+-- what is known of an assignment to a target
+pub record Put (node noted : Node) (aim : Target) (b : Body) (t : Option TypedExpr) (fit : Bool) (reason : Option Kind) : Type 0 where
   pub fits : IsTrue fit ↔ FitsAs (supers_of b.env) (type_in t) (plain_type aim.ty)
   pub reason_is : reason ≡ target_fault fit aim.may_write
   pub noted_is : noted ≡ with_found node reason
 
-placed_so : (node noted : Node) (target value : PlainExpr) (aim : Target) (b : Body) (f g h : Found) (t : Option TypedExpr) (fit : Bool)
-    (reason : Option Kind) (v : Verdict TypedStmt) →
-    Placed node noted target value aim b f g h t fit reason →
-    judged (fault_of noted) (typed.statement (place_of target) (stored (plain_spot aim.spot) (node_of value t))) (walk_of b (with_write h (plain_target aim))) ≡ v →
-    AssigningPlace node target value (walk_of b f) v
-placed_so node noted target value aim b f g h t fit reason v k is =
-    AssigningPlace.place_assigned k.aimed k.typing k.fits
+put_so : (node noted : Node) (place : Place) (aim : Target) (b : Body) (h : Found) (t : Option TypedExpr) (value : TypedExpr) (fit : Bool)
+    (reason : Option Kind) (v : Verdict TypedStmt) → Put node noted aim b t fit reason →
+    judged (fault_of noted) (typed.statement place (stored (plain_spot aim.spot) value)) (walk_of b (with_write h (plain_target aim))) ≡ v →
+    Putting node place (plain_target aim) t value (walk_of b h) v
+put_so node noted place aim b h t value fit reason v k is =
+    Putting.put k.fits
     (judged_at (with_found node (target_fault fit aim.may_write)) noted _ (walk_of b (with_write h (plain_target aim)))
     (k.noted_is ∙ ap (with_found node) k.reason_is)
     ∙ is)
 
-pub target_refused : (node noted : Node) (target value : PlainExpr) (aim : Target) (b : Body) (f g h : Found) (t : Option TypedExpr) (fit : Bool)
-    (reason : Option Kind) (q : Refusal) →
-    Placed node noted target value aim b f g h t fit reason → fault_of noted ≡ Some q → AssigningPlace node target value (walk_of b f) (refused q)
-target_refused node noted target value aim b f g h t fit reason q k is =
-    placed_so node noted target value aim b f g h t fit reason (refused q) k (judged_some (fault_of noted) _ _ q is)
+pub put_reported : (node noted : Node) (place : Place) (aim : Target) (b : Body) (h : Found) (t : Option TypedExpr) (value : TypedExpr) (fit : Bool)
+    (reason : Option Kind) (q : Refusal) → Put node noted aim b t fit reason → fault_of noted ≡ Some q →
+    Putting node place (plain_target aim) t value (walk_of b h) (refused q)
+put_reported node noted place aim b h t value fit reason q k reported =
+    put_so node noted place aim b h t value fit reason (refused q) k (judged_some (fault_of noted) _ _ q reported)
 
-pub target_written : (node noted : Node) (target value : PlainExpr) (aim : Target) (b : Body) (f g h k : Found) (t : Option TypedExpr) (fit : Bool)
-    (reason : Option Kind) (place : Place) (at : PlainSpot) (x : TypedExpr) (s : TypedStmt) →
-    Placed node noted target value aim b f g h t fit reason → fault_of noted ≡ None → k ≡ with_write h (plain_target aim) → place_of target ≡ place →
-    at ≡ plain_spot aim.spot → x ≡ node_of value t → s ≡ typed.statement place (stored at x) →
-    AssigningPlace node target value (walk_of b f) (passes s (walk_of b k))
-target_written node noted target value aim b f g h k t fit reason place at x s p none written place_is at_is x_is s_is =
-    placed_so node noted target value aim b f g h t fit reason _ p
+pub put_written : (node noted : Node) (place : Place) (aim : Target) (b : Body) (h k : Found) (t : Option TypedExpr) (value : TypedExpr) (fit : Bool)
+    (reason : Option Kind) (at : PlainSpot) (x : TypedExpr) (s : TypedStmt) → Put node noted aim b t fit reason → fault_of noted ≡ None →
+    k ≡ with_write h (plain_target aim) → at ≡ plain_spot aim.spot → x ≡ value → s ≡ typed.statement place (stored at x) →
+    Putting node place (plain_target aim) t value (walk_of b h) (passes s (walk_of b k))
+put_written node noted place aim b h k t value fit reason at x s p none written at_is x_is s_is =
+    put_so node noted place aim b h t value fit reason _ p
     (clean_passes (fault_of noted) s _ (walk_of b k) _ none
-    (s_is ∙ ap (λ (z : Place). typed.statement z (stored at x)) (sym place_is)
-    ∙ ap (λ (z : PlainSpot). typed.statement (place_of target) (stored z x)) at_is
-    ∙ ap (λ (z : TypedExpr). typed.statement (place_of target) (stored (plain_spot aim.spot) z)) x_is)
+    (s_is ∙ ap (λ (z : PlainSpot). typed.statement place (stored z x)) at_is
+    ∙ ap (λ (z : TypedExpr). typed.statement place (stored (plain_spot aim.spot) z)) x_is)
     (ap (λ (z : Found). walk_of b z) written))
+
+placed_at : (node : Node) (target value : PlainExpr) (aim : PlainTarget) (b : Body) (f g h : Found) (t : Option TypedExpr) {v : Verdict TypedStmt} →
+    Targeting b.env target f (aims (Some aim) g) → Typing b.env value g (gives t h) →
+    Putting node (place_of target) aim t (node_of value t) (walk_of b h) v → AssigningPlace node target value (walk_of b f) v
+placed_at node target value aim b f g h t aimed typing (Putting.put fits is) = AssigningPlace.place_assigned aimed typing fits is
+
+-- an assignment to a field or an element, of what is said of its target
+pub placed_as : (node : Node) (target value : PlainExpr) (aim : PlainTarget) (b : Body) (f g h : Found) (t : Option TypedExpr) (place : Place)
+    (made : TypedExpr) (v : Verdict TypedStmt) → Targeting b.env target f (aims (Some aim) g) → Typing b.env value g (gives t h) →
+    place_of target ≡ place → made ≡ node_of value t → Putting node place aim t made (walk_of b h) v → AssigningPlace node target value (walk_of b f) v
+placed_as node target value aim b f g h t place made v aimed typing place_is made_is d =
+    placed_at node target value aim b f g h t aimed typing
+    (subst (λ (z : Place). Putting node z aim t (node_of value t) (walk_of b h) v) (sym place_is)
+    (subst (λ (z : TypedExpr). Putting node place aim t z (walk_of b h) v) made_is d))
 
 -- what is known of a declaration after its parts
 pub record Declared (node : Node) (tree : TypeTree) (name : ℕ) (value : PlainExpr) (b : Body) (f g : Found) (made : Ty) (t : Option TypedExpr)
     (fit : Bool) (first noted : Node) : Type 0 where
-  pub untold : declared_told b.env tree ≡ None
+  pub unreported : declared_reported b.env tree ≡ None
   pub type_is : plain_type made ≡ declared_type b.env tree
   pub typing : Typing b.env value f (gives t g)
   pub first_is : first ≡ declaration_noted b.env name node.place node
@@ -217,7 +206,7 @@ declared_so : (node : Node) (is_final : Bool) (tree : TypeTree) (name : ℕ) (va
 declared_so node is_final tree name value b f g made t fit first noted v k is =
     let fits : FitIs b.env (type_in t) (declared_type b.env tree) fit =
     subst (λ (z : PlainType). IsTrue fit ↔ FitsAs (supers_of b.env) (type_in t) z) k.type_is k.fits in
-    Declaring.declared made k.untold k.type_is k.typing fits
+    Declaring.declared made k.unreported k.type_is k.typing fits
     (judged_at (with_fault_if (declaration_noted b.env name node.place node) kind.Type (not fit)) noted _
     (scope_so (walk_of b g) (local_declared b.env name made is_final))
     (k.noted_is ∙ ap (λ (z : Node). with_fault_if z kind.Type (not fit)) k.first_is)

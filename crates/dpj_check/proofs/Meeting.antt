@@ -15,7 +15,7 @@ none_where_apart R xs d None true h e = (λ _. h, λ _. refl)
 none_where_apart R xs d None false h e = absurd (false≢true e)
 none_where_apart R xs d (Some p) true h e = absurd (false≢true (sym e))
 none_where_apart R xs d (Some p) false h e =
-    (λ t. absurd (false≢true t), λ apart. absurd (apart p.0 p.1 d h.behind.in_order h.behind.within (h.behind.holds d)))
+    (λ t. absurd (false≢true t), λ apart. absurd (apart p.0 p.1 d h.following.in_order h.following.within (h.following.holds d)))
 
 pub apart_where_none : (given : List Constraint) (nd : Option Atomic) (branches : List (List Effect)) (pair : Option (ℕ × ℕ)) (none : Bool) →
     FirstPair (λ es fs. IsTrue (lists_clash given nd es fs)) branches pair → is_some pair ≡ not none → IsTrue none ↔ Apart given nd branches

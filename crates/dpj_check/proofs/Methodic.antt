@@ -39,9 +39,9 @@ use Rattle.dpj_check.specs.declared.body.Body.{Body}
 use Rattle.dpj_check.specs.declared.node.Around.{Around}
 use Rattle.dpj_check.specs.Checking.{InBlock}
 use Rattle.dpj_check.specs.Completes.{all_complete}
-use Rattle.dpj_check.specs.Deciding.{has_value, method_fault, told_at}
+use Rattle.dpj_check.specs.Deciding.{has_value, method_fault, reported_at}
 use Rattle.dpj_check.specs.Keeping.{method_around}
-use Rattle.dpj_check.specs.Methods.{class_params, own_params, formals_declared, formal_types, summary_of, body_begun, method_told, after_ok, reported, is_method, number_after, bodies_of, PlainBodies, behind_bodies, of_method, a_method, IsIn, BodiesChecking, MethodChecking, MemberChecking, MembersChecking, ClassesChecking, no_classes, member_refused, then_classes}
+use Rattle.dpj_check.specs.Methods.{class_params, own_params, formals_declared, formal_types, summary_of, body_begun, method_reported, after_ok, reported, is_method, number_after, bodies_of, PlainBodies, after_bodies, of_method, a_method, IsIn, BodiesChecking, MethodChecking, MemberChecking, MembersChecking, ClassesChecking, no_classes, member_refused, then_classes}
 use Rattle.dpj_check.specs.Simple.{has_room}
 use Rattle.dpj_check.specs.Walks.{Walk, Verdict, nothing_found, with_env, passes, walk_of}
 use Rattle.dpj_check.proofs.Passing.{said_of, settled_stop, walk_from}
@@ -153,9 +153,9 @@ body_from around number method row types b d done v begun none h =
     subst (λ (w : Walk). InBlock b.atomic_params (around_of method) (method_stmts method) w v) walk
     (subst (λ (z : List Bool). InBlock z (around_of method) (method_stmts method) (walk_of d done) v) params h)
 
-told_settled : (place : Place) (reason : Option Kind) → told_at place reason ≡ settled (option_map (λ k. fault k place) reason)
-told_settled place None = refl
-told_settled place (Some k) = refl
+reported_settled : (place : Place) (reason : Option Kind) → reported_at place reason ≡ settled (option_map (λ k. fault k place) reason)
+reported_settled place None = refl
+reported_settled place (Some k) = refl
 
 -- what is found of the body of a method
 pub record BodyMet (around : Env) (number : ℕ) (method : Method) (row : Option MethodRow) (types : List Ty) (summary : List Effect) (b d s : Body)
@@ -167,59 +167,59 @@ pub record BodyMet (around : Env) (number : ℕ) (method : Method) (row : Option
   pub room_is : room ≡ has_room d.env
   pub in_block : InBlock b.atomic_params (around_of method) (method_stmts method) (body_begun around number method) (passes ss (walk_of s done))
 
-told_so : (around : Env) (number : ℕ) (method : Method) (row : Option MethodRow) (types : List Ty) (summary : List Effect) (b d s : Body)
+reported_so : (around : Env) (number : ℕ) (method : Method) (row : Option MethodRow) (types : List Ty) (summary : List Effect) (b d s : Body)
     (done : Found) (completes covered room : Bool) (ss : List TypedStmt) →
     BodyMet around number method row types summary b d s done completes covered room ss →
-    told_at method.place (method_fault (has_value method.result) completes covered room) ≡ settled (method_told around number method done.effects)
-told_so around number method row types summary b d s done completes covered room ss m =
+    reported_at method.place (method_fault (has_value method.result) completes covered room) ≡ settled (method_reported around number method done.effects)
+reported_so around number method row types summary b d s done completes covered room ss m =
     let summary_at = m.summary_is ∙ ap summary_of (row_at around b.env number row m.begun.env_is m.begun.row_is) in
     let covered_at : covered ≡ set_covers (summary_of (numbered (table_of around) number)) done.effects =
     m.covered_is ∙ ap (λ (z : List Effect). set_covers z done.effects) summary_at in
     let room_at : room ≡ has_room (env_begun around number method) = m.room_is ∙ ap has_room (begun_so around number method row types b d m.begun) in
-    ap (λ (z : Bool). told_at method.place (method_fault (has_value method.result) z covered room)) m.completes_is
-    ∙ ap (λ (z : Bool). told_at method.place (method_fault (has_value method.result) (all_complete (method_stmts method)) z room)) covered_at
+    ap (λ (z : Bool). reported_at method.place (method_fault (has_value method.result) z covered room)) m.completes_is
+    ∙ ap (λ (z : Bool). reported_at method.place (method_fault (has_value method.result) (all_complete (method_stmts method)) z room)) covered_at
     ∙ ap
     (λ (z : Bool).
-    told_at method.place
+    reported_at method.place
     (method_fault (has_value method.result) (all_complete (method_stmts method)) (set_covers (summary_of (numbered (table_of around) number)) done.effects) z))
     room_at
-    ∙ told_settled method.place _
+    ∙ reported_settled method.place _
 
 abbrev body_with : ℕ → ℕ → List TypedStmt → PlainBody
 body_with slots regions ss = record { slots = slots; local_regions = regions; stmts = stmts_of ss }
 
-reported_some : {M : Type 0} (told : Option Refusal) (made : M) (q : Refusal) → told ≡ Some q → reported told made ≡ Err q
-reported_some told made q is = ap (λ (z : Option Refusal). reported z made) is
+reported_some : {M : Type 0} (stated : Option Refusal) (made : M) (q : Refusal) → stated ≡ Some q → reported stated made ≡ Err q
+reported_some stated made q is = ap (λ (z : Option Refusal). reported z made) is
 
-reported_none : {M : Type 0} (told : Option Refusal) (made : M) → told ≡ None → reported told made ≡ Ok made
-reported_none told made is = ap (λ (z : Option Refusal). reported z made) is
+reported_none : {M : Type 0} (stated : Option Refusal) (made : M) → stated ≡ None → reported stated made ≡ Ok made
+reported_none stated made is = ap (λ (z : Option Refusal). reported z made) is
 
-nothing_told : (told : Option Refusal) → settled told ≡ Ok tt → told ≡ None
-nothing_told None is = refl
-nothing_told (Some q) is = absurd (cc)
+nothing_reported : (stated : Option Refusal) → settled stated ≡ Ok tt → stated ≡ None
+nothing_reported None is = refl
+nothing_reported (Some q) is = absurd (cc)
 
 pub method_stops : {T : Type 0} (around : Env) (number : ℕ) (method : Method) (row : Option MethodRow) (types : List Ty) (summary : List Effect)
     (b d s : Body) (done : Found) (completes covered room : Bool) (ss : List TypedStmt) (r : Result T Stop) (made : T → Result PlainBody Refusal) (p : Stop) →
     IsErrAnd r (λ z. z ≡ p) → BodyMet around number method row types summary b d s done completes covered room ss →
-    Err p ≡ told_at method.place (method_fault (has_value method.result) completes covered room) →
+    Err p ≡ reported_at method.place (method_fault (has_value method.result) completes covered room) →
     Says r made Err (MethodChecking around b.atomic_params number method)
-method_stops around number method row types summary b d s done completes covered room ss r made p is m told =
-    stopped_at (λ q. method_told around number method done.effects ≡ Some q) (MethodChecking around b.atomic_params number method) r made p is
+method_stops around number method row types summary b d s done completes covered room ss r made p is m stated =
+    stopped_at (λ q. method_reported around number method done.effects ≡ Some q) (MethodChecking around b.atomic_params number method) r made p is
     (λ q t. of_method m.in_block (reported_some _ _ q t))
-    (settled_stop (method_told around number method done.effects) p
-    (sym (told ∙ told_so around number method row types summary b d s done completes covered room ss m)))
+    (settled_stop (method_reported around number method done.effects) p
+    (sym (stated ∙ reported_so around number method row types summary b d s done completes covered room ss m)))
 
 pub method_passes : (around : Env) (number : ℕ) (method : Method) (row : Option MethodRow) (types : List Ty) (summary : List Effect)
     (b d s : Body) (done : Found) (completes covered room : Bool) (ss : List TypedStmt) (slots regions : ℕ) →
     BodyMet around number method row types summary b d s done completes covered room ss →
-    told_at method.place (method_fault (has_value method.result) completes covered room) ≡ Ok tt →
+    reported_at method.place (method_fault (has_value method.result) completes covered room) ≡ Ok tt →
     slots ≡ slots_in s.env → regions ≡ declared_in s.env →
     MethodChecking around b.atomic_params number method (Ok (record { slots = slots; local_regions = regions; stmts = stmts_of ss }))
-method_passes around number method row types summary b d s done completes covered room ss slots regions m told slots_are regions_are =
+method_passes around number method row types summary b d s done completes covered room ss slots regions m stated slots_are regions_are =
     of_method m.in_block
     (reported_none _ _
-    (nothing_told (method_told around number method done.effects)
-    (sym (told_so around number method row types summary b d s done completes covered room ss m) ∙ told))
+    (nothing_reported (method_reported around number method done.effects)
+    (sym (reported_so around number method row types summary b d s done completes covered room ss m) ∙ stated))
     ∙ ap (λ (z : ℕ). Ok (body_with z (declared_in s.env) ss)) (sym slots_are) ∙ ap (λ (z : ℕ). Ok (body_with slots z ss)) (sym regions_are))
 
 -- the members that are left
@@ -228,30 +228,30 @@ left_is xs all i x same below is =
     ap (λ z. x ∷ drop (i + 1) z) (sym same) ∙ sym (drop_more xs i x below ∙ ap (λ z. z ∷ drop (i + 1) xs) (sym is)) ∙ ap (λ z. drop i z) same
 
 -- the bodies so far, in front of those of the others
-abbrev pub behind_all : List PlainBody → Result PlainBodies Refusal → Result PlainBodies Refusal
-behind_all before v = after_ok (behind_bodies before) v
+abbrev pub after_all : List PlainBody → Result PlainBodies Refusal → Result PlainBodies Refusal
+after_all before v = after_ok (after_bodies before) v
 
 abbrev bodies_with : ℕ → List PlainBody → PlainBodies
 bodies_with next bodies = record { next = next; bodies = bodies }
 
-behind_none : (v : Result PlainBodies Refusal) → behind_all [] v ≡ v
-behind_none (Ok all) = refl
-behind_none (Err q) = refl
+after_none : (v : Result PlainBodies Refusal) → after_all [] v ≡ v
+after_none (Ok all) = refl
+after_none (Err q) = refl
 
-behind_more : (before more : List PlainBody) (v : Result PlainBodies Refusal) → behind_all before (behind_all more v) ≡ behind_all (before ++ more) v
-behind_more before more (Ok all) = ap (λ (z : List PlainBody). Ok (bodies_with all.next z)) (sym (append_assoc before more all.bodies))
-behind_more before more (Err q) = refl
+after_more : (before more : List PlainBody) (v : Result PlainBodies Refusal) → after_all before (after_all more v) ≡ after_all (before ++ more) v
+after_more before more (Ok all) = ap (λ (z : List PlainBody). Ok (bodies_with all.next z)) (sym (append_assoc before more all.bodies))
+after_more before more (Err q) = refl
 
 -- the members so far passed, and what is said of the others is said of all
 pub record MembersSoFar (start : Env) (class first next i : ℕ) (items : List Member) (made : List PlainBody) : Type 0 where
-  pub goes_on : (v : Result PlainBodies Refusal) → Members start class (drop i items) next v → Members start class items first (behind_all made v)
+  pub goes_on : (v : Result PlainBodies Refusal) → Members start class (drop i items) next v → Members start class items first (after_all made v)
 
 pub members_none : (start : Env) (class first : ℕ) (items : List Member) (made : List PlainBody) → made ≡ [] →
     MembersSoFar start class first first 0 items made
 members_none start class first items made none = record {
   goes_on = λ v d.
       subst (λ (z : Result PlainBodies Refusal). Members start class items first z)
-      (sym (behind_none v) ∙ ap (λ (z : List PlainBody). behind_all z v) (sym none)) d;
+      (sym (after_none v) ∙ ap (λ (z : List PlainBody). after_all z v) (sym none)) d;
 }
 
 pub members_stop : (start : Env) (class first next i : ℕ) (items : List Member) (m : Member) (made : List PlainBody) (q : Refusal) →
@@ -267,11 +267,11 @@ pub members_more : (start : Env) (class first next after i : ℕ) (items : List 
     more ≡ made ++ bodies_of one → MembersSoFar start class first after (i + 1) items more
 members_more start class first next after i items m made more one below is so_far d after_is more_is = record {
   goes_on = λ v rest.
-      let others : Members start class (m ∷ drop (i + 1) items) next (behind_all (bodies_of one) v) =
+      let others : Members start class (m ∷ drop (i + 1) items) next (after_all (bodies_of one) v) =
       MembersChecking.then_members d (subst (λ (n : ℕ). Members start class (drop (i + 1) items) n v) after_is rest) refl in
       subst (λ (z : Result PlainBodies Refusal). Members start class items first z)
-      (behind_more made (bodies_of one) v ∙ ap (λ (z : List PlainBody). behind_all z v) (sym more_is))
-      (so_far.goes_on _ (subst (λ (z : List Member). Members start class z next (behind_all (bodies_of one) v)) (left_is items items i m refl below is) others));
+      (after_more made (bodies_of one) v ∙ ap (λ (z : List PlainBody). after_all z v) (sym more_is))
+      (so_far.goes_on _ (subst (λ (z : List Member). Members start class z next (after_all (bodies_of one) v)) (left_is items items i m refl below is) others));
 }
 
 pub members_all : (start : Env) (class first next i : ℕ) (items : List Member) (made : List PlainBody) → drop i items ≡ [] →
@@ -290,28 +290,28 @@ pub map_both : {X Y : Type 0} (f : X → Y) (xs ys all : List X) → all ≡ xs 
 map_both f xs ys all is = ap (map f) is ∙ map_append f xs ys
 
 -- the classes so far passed, and what is said of the others is said of all
-abbrev pub classes_behind : List PlainBody → Result (List PlainBody) Refusal → Result (List PlainBody) Refusal
-classes_behind before v = after_ok (λ bodies. before ++ bodies) v
+abbrev pub classes_after : List PlainBody → Result (List PlainBody) Refusal → Result (List PlainBody) Refusal
+classes_after before v = after_ok (λ bodies. before ++ bodies) v
 
-classes_none : (v : Result (List PlainBody) Refusal) → classes_behind [] v ≡ v
+classes_none : (v : Result (List PlainBody) Refusal) → classes_after [] v ≡ v
 classes_none (Ok all) = refl
 classes_none (Err q) = refl
 
 classes_more : (before more : List PlainBody) (v : Result (List PlainBody) Refusal) →
-    classes_behind before (classes_behind more v) ≡ classes_behind (before ++ more) v
+    classes_after before (classes_after more v) ≡ classes_after (before ++ more) v
 classes_more before more (Ok all) = ap Ok (sym (append_assoc before more all))
 classes_more before more (Err q) = refl
 
 pub record ClassesSoFar (start env : Env) (i number : ℕ) (all : List Class) (made : List PlainBody) : Type 0 where
   pub around : (other : ℕ) → at_class env other ≡ at_class start other
-  pub goes_on : (v : Result (List PlainBody) Refusal) → ClassesChecking start i (drop i all) number v → ClassesChecking start 0 all 0 (classes_behind made v)
+  pub goes_on : (v : Result (List PlainBody) Refusal) → ClassesChecking start i (drop i all) number v → ClassesChecking start 0 all 0 (classes_after made v)
 
 pub classes_begin : (start : Env) (all : List Class) (made : List PlainBody) → made ≡ [] → ClassesSoFar start start 0 0 all made
 classes_begin start all made none = record {
   around = λ other. refl;
   goes_on = λ v d.
       subst (λ (z : Result (List PlainBody) Refusal). ClassesChecking start 0 all 0 z)
-      (sym (classes_none v) ∙ ap (λ (z : List PlainBody). classes_behind z v) (sym none)) d;
+      (sym (classes_none v) ∙ ap (λ (z : List PlainBody). classes_after z v) (sym none)) d;
 }
 
 pub classes_stop : (start env : Env) (i number k : ℕ) (all : List Class) (c : Class) (made : List PlainBody) (q : Refusal) → i < length all →
@@ -330,11 +330,11 @@ pub classes_go_on : (start env next_env : Env) (i number next k : ℕ) (all : Li
 classes_go_on start env next_env i number next k all c made more one below is k_is so_far same d more_is = record {
   around = λ other. same other ∙ so_far.around other;
   goes_on = λ v rest.
-      let others : ClassesChecking start i (c ∷ drop (i + 1) all) number (classes_behind one v) =
+      let others : ClassesChecking start i (c ∷ drop (i + 1) all) number (classes_after one v) =
       then_classes (class_from start env i number k c.members (Ok (record { next = next; bodies = one })) so_far.around k_is d) rest refl in
       subst (λ (z : Result (List PlainBody) Refusal). ClassesChecking start 0 all 0 z)
-      (classes_more made one v ∙ ap (λ (z : List PlainBody). classes_behind z v) (sym more_is))
-      (so_far.goes_on _ (subst (λ (z : List Class). ClassesChecking start i z number (classes_behind one v)) (left_is all all i c refl below is) others));
+      (classes_more made one v ∙ ap (λ (z : List PlainBody). classes_after z v) (sym more_is))
+      (so_far.goes_on _ (subst (λ (z : List Class). ClassesChecking start i z number (classes_after one v)) (left_is all all i c refl below is) others));
 }
 
 pub classes_all : (start env : Env) (i number : ℕ) (all : List Class) (made : List PlainBody) → drop i all ≡ [] →

@@ -2,9 +2,9 @@
 use Rattle.std.proofs.Common.{◌≡◌, Some, refl}
 use Rattle.dpj_base.specs.declared.refusal.Refusal.{Refusal}
 use Rattle.dpj_headers.specs.declared.faults.Faults.{Faults}
-use Rattle.dpj_headers.specs.Faults.{noted, told, told_of}
+use Rattle.dpj_headers.specs.Faults.{noted, reported, reported_of}
 
 -- one of the faults is reported where one was noted
-pub noted_told : (faults : Faults) (fault : Refusal) → told (noted faults fault) ≡ Some (told_of faults.order (told faults) fault)
+pub noted_reported : (faults : Faults) (fault : Refusal) → reported (noted faults fault) ≡ Some (reported_of faults.order (reported faults) fault)
 unfolding noted
-noted_told faults fault = refl
+noted_reported faults fault = refl

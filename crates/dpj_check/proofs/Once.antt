@@ -32,7 +32,7 @@ use Rattle.dpj_check.specs.Leaving.{from_here}
 use Rattle.dpj_check.specs.Meeting.{declared_atomic, BranchesApart}
 use Rattle.dpj_check.specs.Noting.{with_found, with_fault_if, fault_of, settled_node}
 use Rattle.dpj_check.specs.Simple.{node_of}
-use Rattle.dpj_check.specs.Walks.{Walk, Verdict, passes, refused, judged, behind, found_so, scope_so, apart_from, left_scope}
+use Rattle.dpj_check.specs.Walks.{Walk, Verdict, passes, refused, judged, following, found_so, scope_so, apart_from, left_scope}
 use Rattle.dpj_check.proofs.OnceSimple.{by_four, one_truth, said, said_so, declaring_once, local_once, place_once, performing_once, returning_once, printing_once}
 use Rattle.dpj_check.proofs.OnceTouched.{clash_once, touched_once}
 use Rattle.dpj_check.proofs.OnceTypes.{one_type}
@@ -43,18 +43,18 @@ same_walk e = cc
 same_made : {M : Type 0} {m n : M} {u v : Walk} → passes m u ≡ passes n v → m ≡ n
 same_made e = cc
 
-same_told : {M : Type 0} {p q : Refusal} → ◌≡◌ {A = Verdict M} (refused p) (refused q) → p ≡ q
-same_told e = cc
+same_reported : {M : Type 0} {p q : Refusal} → ◌≡◌ {A = Verdict M} (refused p) (refused q) → p ≡ q
+same_reported e = cc
 
 -- a fault is reported of a node for the one answer, and so for the same one
-told_same : {p q : Refusal} (to : Bool → Option Refusal) {a b : Bool} → a ≡ b → to a ≡ Some p → to b ≡ Some q →
+reported_same : {p q : Refusal} (to : Bool → Option Refusal) {a b : Bool} → a ≡ b → to a ≡ Some p → to b ≡ Some q →
     ◌≡◌ {A = Verdict TypedStmt} (refused p) (refused q)
-told_same {p} {q} to {a} {b} same l l' =
+reported_same {p} {q} to {a} {b} same l l' =
     let e : Some p ≡ Some q = sym l ∙ ap to same ∙ l' in cc
 
 -- and not none
-told_not : {p : Refusal} {X : Type 0} (to : Bool → Option Refusal) {a b : Bool} → a ≡ b → to a ≡ Some p → to b ≡ None → X
-told_not {p} to {a} {b} same l l' =
+reported_not : {p : Refusal} {X : Type 0} (to : Bool → Option Refusal) {a b : Bool} → a ≡ b → to a ≡ Some p → to b ≡ None → X
+reported_not {p} to {a} {b} same l l' =
     let e : Some p ≡ None = sym l ∙ ap to same ∙ l' in absurd (cc)
 
 by_five : {A B C D E X : Type 0} (to : A → B → C → D → E → X) {a a' : A} {b b' : B} {c c' : C} {d d' : D} {e e' : E} → a ≡ a' → b ≡ b' → c ≡ c' → d ≡ d' →
@@ -162,7 +162,7 @@ mutual
   checking_once : OneTyping → {params : List Bool} {around : Around} {node : Node} {f : StmtForm} {w : Walk} {u v : Verdict TypedStmt} →
       Checking params around node f w u → Checking params around node f w v → u ≡ v
   checking_once one {node = node} (Checking.of_block d j) (Checking.of_block d' j') = sym j
-      ∙ ap (behind (fault_of node) (λ ss. typed.statement node.place (typed.block (stmts_of ss)))) (block_once one d d') ∙ j'
+      ∙ ap (following (fault_of node) (λ ss. typed.statement node.place (typed.block (stmts_of ss)))) (block_once one d d') ∙ j'
   checking_once one (Checking.of_declaration d) (Checking.of_declaration d') = declaring_once one d d'
   checking_once one (Checking.of_local_assignment d) (Checking.of_local_assignment d') = local_once one d d'
   checking_once one (Checking.of_field_assignment d) (Checking.of_field_assignment d') = place_once one d d'
@@ -182,7 +182,7 @@ mutual
       let e = said one d d' in
       by_two
       (λ (t : Option TypedExpr) x.
-      behind (fault_of (with_fault_if node kind.Type (not (may_be is_boolean (type_in t)))))
+      following (fault_of (with_fault_if node kind.Type (not (may_be is_boolean (type_in t)))))
       (λ s. typed.statement node.place (typed.while_loop (node_of test t) s)) x) (same_type e)
       (scope_once one i (scope_from (ap (found_so w) (same_found e)) i')) j j'
   checking_once one (Checking.of_cobegin d) (Checking.of_cobegin d') = forking_once one d d'
@@ -204,7 +204,7 @@ mutual
       (same_type e) (same_type k) refl refl)
       (ap (node_of start) (same_type e)) (ap (node_of count) (same_type k)) (ap (found_so w) (same_found k)) n')
   checking_once one (Checking.of_parts d) (Checking.of_parts d') = parting_once one d d'
-  checking_once one (Checking.block_refused d) (Checking.block_refused d') = ap refused (same_told (block_once one d d'))
+  checking_once one (Checking.block_refused d) (Checking.block_refused d') = ap refused (same_reported (block_once one d d'))
   checking_once one (Checking.block_refused d) (Checking.of_atomic d' j') = let e = block_once one d d' in cc
   checking_once one (Checking.of_atomic d j) (Checking.block_refused d') = let e = block_once one d d' in cc
   checking_once one {node = node} {w = w} (Checking.of_atomic d j) (Checking.of_atomic d' j') =
@@ -234,14 +234,14 @@ mutual
       let s = scope_once one i (scope_from (ap (found_so w) (same_found e)) i') in
       by_three
       (λ (t : Option TypedExpr) (made : TypedStmt) (z : Verdict (Option TypedStmt)).
-      behind (fault_of (with_fault_if node kind.Type (not (may_be is_boolean (type_in t)))))
+      following (fault_of (with_fault_if node kind.Type (not (may_be is_boolean (type_in t)))))
       (λ part. typed.statement node.place (typed.choice_form (node_of test t) made part)) z)
       (same_type e) (same_made s) (other_once one n (other_from (same_walk s) n')) j j'
 
   other_once : OneTyping → {params : List Bool} {around : Around} {o : Option PlainStmt} {w : Walk} {u v : Verdict (Option TypedStmt)} →
       InOther params around o w u → InOther params around o w v → u ≡ v
   other_once one InOther.no_other InOther.no_other = refl
-  other_once one (InOther.an_other d j) (InOther.an_other d' j') = sym j ∙ ap (behind None Some) (scope_once one d d') ∙ j'
+  other_once one (InOther.an_other d j) (InOther.an_other d' j') = sym j ∙ ap (following None Some) (scope_once one d d') ∙ j'
 
   standing_once : OneTyping → {params : List Bool} {around : Around} {follows : Bool} {s : PlainStmt} {w : Walk} {u v : Verdict TypedStmt} →
       Standing params around follows s w u → Standing params around follows s w v → u ≡ v
@@ -258,18 +258,18 @@ mutual
   order_once : OneTyping → {params : List Bool} {around : Around} {complete : Bool} {ss : PlainStmts} {w : Walk} {u v : Verdict (List TypedStmt)} →
       InOrder params around complete ss w u → InOrder params around complete ss w v → u ≡ v
   order_once one InOrder.none_left InOrder.none_left = refl
-  order_once one (InOrder.statement_refused d) (InOrder.statement_refused d') = ap refused (same_told (standing_once one d d'))
+  order_once one (InOrder.statement_refused d) (InOrder.statement_refused d') = ap refused (same_reported (standing_once one d d'))
   order_once one (InOrder.statement_refused d) (InOrder.then_others d' r' j') = let e = standing_once one d d' in cc
   order_once one (InOrder.then_others d r j) (InOrder.statement_refused d') = let e = standing_once one d d' in cc
   order_once one (InOrder.then_others d r j) (InOrder.then_others d' r' j') =
       let e = standing_once one d d' in
-      by_two (λ (made : TypedStmt) (z : Verdict (List TypedStmt)). behind None (λ others. made ∷ others) z) (same_made e)
+      by_two (λ (made : TypedStmt) (z : Verdict (List TypedStmt)). following None (λ others. made ∷ others) z) (same_made e)
       (order_once one r (order_from (same_walk e) r')) j j'
 
   branching_once : OneTyping → {params : List Bool} {around : Around} {nd : Bool} {ss : PlainStmts} {w : Walk} {u v : BranchesVerdict} →
       Branching params around nd ss w u → Branching params around nd ss w v → u ≡ v
   branching_once one Branching.no_branches Branching.no_branches = refl
-  branching_once one (Branching.branch_refused d) (Branching.branch_refused d') = ap one_refused (same_told (scope_once one d d'))
+  branching_once one (Branching.branch_refused d) (Branching.branch_refused d') = ap one_refused (same_reported (scope_once one d d'))
   branching_once one (Branching.branch_refused d) (Branching.then_branches d' t' r' j') = let e = scope_once one d d' in absurd (cc)
   branching_once one (Branching.then_branches d t r j) (Branching.branch_refused d') = let e = scope_once one d d' in absurd (cc)
   branching_once one {nd = nd} {w = w} (Branching.then_branches d t r j) (Branching.then_branches d' t' r' j') =
@@ -288,12 +288,12 @@ mutual
   forking_once one (Forking.some_refused d) (Forking.forked es' ts' c' a' d' k' l' b' j') = let e = branching_once one d d' in absurd (cc)
   forking_once one (Forking.clashing es ts c d k l) (Forking.some_refused d') = let e = branching_once one d d' in absurd (cc)
   forking_once one {node = node} (Forking.clashing es ts c d k l) (Forking.clashing es' ts' c' d' k' l') =
-      told_same (λ z. fault_of (with_fault_if node kind.Assign z)) (clash_once c c' (same_locals (branching_once one d d')) k k') l l'
+      reported_same (λ z. fault_of (with_fault_if node kind.Assign z)) (clash_once c c' (same_locals (branching_once one d d')) k k') l l'
   forking_once one {node = node} (Forking.clashing es ts c d k l) (Forking.forked es' ts' c' a' d' k' l' b' j') =
-      told_not (λ z. fault_of (with_fault_if node kind.Assign z)) (clash_once c c' (same_locals (branching_once one d d')) k k') l l'
+      reported_not (λ z. fault_of (with_fault_if node kind.Assign z)) (clash_once c c' (same_locals (branching_once one d d')) k k') l l'
   forking_once one (Forking.forked es ts c a d k l b j) (Forking.some_refused d') = let e = branching_once one d d' in absurd (cc)
   forking_once one {node = node} (Forking.forked es ts c a d k l b j) (Forking.clashing es' ts' c' d' k' l') =
-      told_not (λ z. fault_of (with_fault_if node kind.Assign z)) (sym (clash_once c c' (same_locals (branching_once one d d')) k k')) l' l
+      reported_not (λ z. fault_of (with_fault_if node kind.Assign z)) (sym (clash_once c c' (same_locals (branching_once one d d')) k k')) l' l
   forking_once one {params} {around} {node} {nd} {w = w} (Forking.forked es ts c a d k l b j) (Forking.forked es' ts' c' a' d' k' l' b' j') =
       let e = branching_once one d d' in
       by_four
@@ -310,12 +310,12 @@ mutual
   iterating_once one (Iterating.iteration_refused d) (Iterating.iterated a' d' k' l' j') = let e = scope_once one d d' in cc
   iterating_once one (Iterating.iteration_assigning a d k l) (Iterating.iteration_refused d') = let e = scope_once one d d' in cc
   iterating_once one {node = node} {var = var} {w = w} (Iterating.iteration_assigning a d k l) (Iterating.iteration_assigning a' d' k' l') =
-      told_same (λ z. fault_of (with_fault_if (variable_noted w.env var node) kind.Assign z)) (one_truth a a' k k') l l'
+      reported_same (λ z. fault_of (with_fault_if (variable_noted w.env var node) kind.Assign z)) (one_truth a a' k k') l l'
   iterating_once one {node = node} {var = var} {w = w} (Iterating.iteration_assigning a d k l) (Iterating.iterated a' d' k' l' j') =
-      told_not (λ z. fault_of (with_fault_if (variable_noted w.env var node) kind.Assign z)) (one_truth a a' k k') l l'
+      reported_not (λ z. fault_of (with_fault_if (variable_noted w.env var node) kind.Assign z)) (one_truth a a' k k') l l'
   iterating_once one (Iterating.iterated a d k l j) (Iterating.iteration_refused d') = let e = scope_once one d d' in cc
   iterating_once one {node = node} {var = var} {w = w} (Iterating.iterated a d k l j) (Iterating.iteration_assigning a' d' k' l') =
-      told_not (λ z. fault_of (with_fault_if (variable_noted w.env var node) kind.Assign z)) (sym (one_truth a a' k k')) l' l
+      reported_not (λ z. fault_of (with_fault_if (variable_noted w.env var node) kind.Assign z)) (sym (one_truth a a' k k')) l' l
   iterating_once one {params} {around} {node} {nd} {var} {start} {count} {body} {w} (Iterating.iterated a d k l j) (Iterating.iterated a' d' k' l' j') =
       by_three
       (λ assigns (made : TypedStmt) (z : Walk).
@@ -342,16 +342,16 @@ mutual
   parting_once one (Parting.part_assigning a o d k l) (Parting.part_refused o' d') = let e = scope_once one d
       (scope_from (ap apart_from (same_scope (opening_once one o o'))) d') in cc
   parting_once one (Parting.part_assigning {noted = noted} a o d k l) (Parting.part_assigning a' o' d' k' l') =
-      told_same (λ z. fault_of (with_fault_if noted kind.Assign z)) (one_truth a a' k k') l
+      reported_same (λ z. fault_of (with_fault_if noted kind.Assign z)) (one_truth a a' k k') l
       (ap (λ (n : Node). fault_of (with_fault_if n kind.Assign a')) (same_noted (opening_once one o o')) ∙ l')
   parting_once one (Parting.part_assigning {noted = noted} a o d k l) (Parting.parted a' o' d' k' l' j') =
-      told_not (λ z. fault_of (with_fault_if noted kind.Assign z)) (one_truth a a' k k') l
+      reported_not (λ z. fault_of (with_fault_if noted kind.Assign z)) (one_truth a a' k k') l
       (ap (λ (n : Node). fault_of (with_fault_if n kind.Assign a')) (same_noted (opening_once one o o')) ∙ l')
   parting_once one (Parting.parted a o d k l j) (Parting.range_refused o') = let e = opening_once one o o' in cc
   parting_once one (Parting.parted a o d k l j) (Parting.part_refused o' d') = let e = scope_once one d
       (scope_from (ap apart_from (same_scope (opening_once one o o'))) d') in cc
   parting_once one (Parting.parted {noted = noted} a o d k l j) (Parting.part_assigning a' o' d' k' l') =
-      told_not (λ z. fault_of (with_fault_if noted kind.Assign z)) (sym (one_truth a a' k k'))
+      reported_not (λ z. fault_of (with_fault_if noted kind.Assign z)) (sym (one_truth a a' k k'))
       (ap (λ (n : Node). fault_of (with_fault_if n kind.Assign a')) (same_noted (opening_once one o o')) ∙ l') l
   parting_once one {params} {around} {node} {view} {var} {array} {count} {body} {w} (Parting.parted a o d k l j) (Parting.parted a' o' d' k' l' j') =
       let e = opening_once one o o' in

@@ -16,7 +16,7 @@ use Rattle.dpj_exprs.specs.Env.{table_of, at_class, IsFresh}
 use Rattle.dpj_exprs.specs.Once.{OneTyping}
 use Rattle.dpj_exprs.specs.Typed.{AreTaken}
 use Rattle.dpj_exprs.proofs.Once.{by_two}
-use Rattle.dpj_check.specs.Methods.{class_params, method_judged, after_ok, number_after, bodies_of, behind_bodies, PlainBodies, MethodChecking, of_method, MemberChecking, no_method, a_method, MembersChecking, ClassesChecking}
+use Rattle.dpj_check.specs.Methods.{class_params, method_judged, after_ok, number_after, bodies_of, after_bodies, PlainBodies, MethodChecking, of_method, MemberChecking, no_method, a_method, MembersChecking, ClassesChecking}
 use Rattle.dpj_check.specs.Once.{OneChecking}
 use Rattle.dpj_check.proofs.Methodic.{class_from}
 use Rattle.dpj_check.proofs.Once.{block_once}
@@ -49,7 +49,7 @@ members_once one (MembersChecking.one_refused d) (MembersChecking.then_members d
 members_once one (MembersChecking.then_members d r j) (MembersChecking.one_refused d') = let e = member_once one d d' in cc
 members_once one {number = number} (MembersChecking.then_members d r j) (MembersChecking.then_members d' r' j') =
     let e = same_ok (member_once one d d') in
-    by_two (λ (made : Option PlainBody) (rest : Result PlainBodies Refusal). after_ok (behind_bodies (bodies_of made)) rest) e
+    by_two (λ (made : Option PlainBody) (rest : Result PlainBodies Refusal). after_ok (after_bodies (bodies_of made)) rest) e
     (members_once one r (members_from (ap (λ (z : Option PlainBody). number_after z number) e) r')) j j'
 
 -- both begin alike at each class

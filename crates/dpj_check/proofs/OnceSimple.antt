@@ -52,8 +52,8 @@ aimed one {env} {e} {f} {a} {b} d d' = one.targets env e f a b d d'
 same_aim : {t u : Option PlainTarget} {f g : Found} → aims t f ≡ aims u g → t ≡ u
 same_aim e = cc
 
-same_behind : {t u : Option PlainTarget} {f g : Found} → aims t f ≡ aims u g → f ≡ g
-same_behind e = cc
+same_after : {t u : Option PlainTarget} {f g : Found} → aims t f ≡ aims u g → f ≡ g
+same_after e = cc
 
 -- a value of one type fits or not
 fit_once : (env : Env) {t u : Option PlainType} {p q : PlainType} {a b : Bool} → t ≡ u → p ≡ q → FitIs env t p a → FitIs env u q b → a ≡ b
@@ -84,7 +84,7 @@ local_once one (AssigningLocal.value_refused d) (AssigningLocal.no_local d' l' j
 local_once one (AssigningLocal.value_refused d) (AssigningLocal.assigned d' l' f' j') = let e = said one d d' in cc
 local_once one (AssigningLocal.no_local d l j) (AssigningLocal.value_refused d') = let e = said one d d' in cc
 local_once one {node} {target} {value} {w} (AssigningLocal.no_local d l j) (AssigningLocal.no_local d' l' j') =
-    let told : Some _ ≡ Some _ = sym j ∙ j' in cc
+    let reported : Some _ ≡ Some _ = sym j ∙ j' in cc
 local_once one (AssigningLocal.no_local d l j) (AssigningLocal.assigned d' l' f' j') = cc
 local_once one (AssigningLocal.assigned d l f j) (AssigningLocal.value_refused d') = let e = said one d d' in cc
 local_once one (AssigningLocal.assigned d l f j) (AssigningLocal.no_local d' l' j') = cc
@@ -103,22 +103,22 @@ place_once one (AssigningPlace.target_refused d) (AssigningPlace.value_refused d
 place_once one (AssigningPlace.target_refused d) (AssigningPlace.anything_assigned d' i' j') = let e = aimed one d d' in cc
 place_once one (AssigningPlace.target_refused d) (AssigningPlace.place_assigned d' i' f' j') = let e = aimed one d d' in cc
 place_once one (AssigningPlace.value_refused d i) (AssigningPlace.target_refused d') = let e = aimed one d d' in cc
-place_once one (AssigningPlace.value_refused d i) (AssigningPlace.value_refused d' i') = let e = said_so one (same_behind (aimed one d d')) i i' in cc
-place_once one (AssigningPlace.value_refused d i) (AssigningPlace.anything_assigned d' i' j') = let e = said_so one (same_behind (aimed one d d')) i i' in cc
-place_once one (AssigningPlace.value_refused d i) (AssigningPlace.place_assigned d' i' f' j') = let e = said_so one (same_behind (aimed one d d')) i i' in cc
+place_once one (AssigningPlace.value_refused d i) (AssigningPlace.value_refused d' i') = let e = said_so one (same_after (aimed one d d')) i i' in cc
+place_once one (AssigningPlace.value_refused d i) (AssigningPlace.anything_assigned d' i' j') = let e = said_so one (same_after (aimed one d d')) i i' in cc
+place_once one (AssigningPlace.value_refused d i) (AssigningPlace.place_assigned d' i' f' j') = let e = said_so one (same_after (aimed one d d')) i i' in cc
 place_once one (AssigningPlace.anything_assigned d i j) (AssigningPlace.target_refused d') = let e = aimed one d d' in cc
-place_once one (AssigningPlace.anything_assigned d i j) (AssigningPlace.value_refused d' i') = let e = said_so one (same_behind (aimed one d d')) i i' in cc
+place_once one (AssigningPlace.anything_assigned d i j) (AssigningPlace.value_refused d' i') = let e = said_so one (same_after (aimed one d d')) i i' in cc
 place_once one {node} {target} {value} {w} (AssigningPlace.anything_assigned d i j) (AssigningPlace.anything_assigned d' i' j') =
-    let e = said_so one (same_behind (aimed one d d')) i i' in
+    let e = said_so one (same_after (aimed one d d')) i i' in
     by_two (λ (x : Option TypedExpr) h. judged (fault_of (with_fault_if node kind.Type (not (may_be is_value (type_in x)))))
     (typed.statement (place_of target) (typed.perform (node_of value x))) (found_so w h)) (same_type e) (same_found e) j j'
 place_once one (AssigningPlace.anything_assigned d i j) (AssigningPlace.place_assigned d' i' f' j') = let e = same_aim (aimed one d d') in cc
 place_once one (AssigningPlace.place_assigned d i f j) (AssigningPlace.target_refused d') = let e = aimed one d d' in cc
-place_once one (AssigningPlace.place_assigned d i f j) (AssigningPlace.value_refused d' i') = let e = said_so one (same_behind (aimed one d d')) i i' in cc
+place_once one (AssigningPlace.place_assigned d i f j) (AssigningPlace.value_refused d' i') = let e = said_so one (same_after (aimed one d d')) i i' in cc
 place_once one (AssigningPlace.place_assigned d i f j) (AssigningPlace.anything_assigned d' i' j') = let e = same_aim (aimed one d d') in cc
 place_once one {node} {target} {value} {w} (AssigningPlace.place_assigned {aim = a} d i f j) (AssigningPlace.place_assigned {aim = a'} d' i' f' j') =
     let s = aimed one d d' in
-    let e = said_so one (same_behind s) i i' in
+    let e = said_so one (same_after s) i i' in
     let aims_same : Some a ≡ Some a' = same_aim s in
     let same : a ≡ a' = cc in
     by_four (λ (x : PlainTarget) b (t : Option TypedExpr) h. judged (fault_of (with_found node (target_fault b x.may_write)))

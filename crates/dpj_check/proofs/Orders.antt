@@ -8,7 +8,7 @@ use Rattle.dpj_check.specs.declared.node.Around.{Around}
 use Rattle.dpj_check.specs.Checking.{Standing, InOrder, none_left, statement_refused, then_others}
 use Rattle.dpj_check.specs.Completes.{completes, all_complete}
 use Rattle.dpj_check.specs.Keeping.{Keeps, MayFollow, AllKeep, BranchesKeep, inside}
-use Rattle.dpj_check.specs.Walks.{Walk, Verdict, passes, refused, behind}
+use Rattle.dpj_check.specs.Walks.{Walk, Verdict, passes, refused, following}
 
 -- the next statement stands first in what is left
 pub next_is : (all : List Stmt) (i : ℕ) (s : Stmt) → i < length all → s ≡ get_or all i s → drop i all ≡ s ∷ drop (i + 1) all
@@ -30,22 +30,22 @@ pub map_pushed : {X Y : Type 0} (f : X → Y) (xs pushed : List X) (x : X) → p
 map_pushed f xs pushed x is = ap (map f) is ∙ map_more f xs x
 
 -- the statements so far, and what is made of the others
-abbrev pub behind_stmts : List TypedStmt → Verdict (List TypedStmt) → Verdict (List TypedStmt)
-behind_stmts made v = behind None (λ others. made ++ others) v
+abbrev pub after_stmts : List TypedStmt → Verdict (List TypedStmt) → Verdict (List TypedStmt)
+after_stmts made v = following None (λ others. made ++ others) v
 
-behind_one : (made : List TypedStmt) (one : TypedStmt) (v : Verdict (List TypedStmt)) →
-    behind_stmts made (behind None (λ others. one ∷ others) v) ≡ behind_stmts (made ++ one ∷ []) v
-behind_one made one (passes others w) = ap (λ (z : List TypedStmt). passes z w) (sym (append_assoc made (one ∷ []) others))
-behind_one made one (refused q) = refl
+after_one : (made : List TypedStmt) (one : TypedStmt) (v : Verdict (List TypedStmt)) →
+    after_stmts made (following None (λ others. one ∷ others) v) ≡ after_stmts (made ++ one ∷ []) v
+after_one made one (passes others w) = ap (λ (z : List TypedStmt). passes z w) (sym (append_assoc made (one ∷ []) others))
+after_one made one (refused q) = refl
 
-behind_all : (made : List TypedStmt) (w : Walk) → behind_stmts made (passes [] w) ≡ passes made w
-behind_all made w = ap (λ (z : List TypedStmt). passes z w) (append-nil made)
+after_all : (made : List TypedStmt) (w : Walk) → after_stmts made (passes [] w) ≡ passes made w
+after_all made w = ap (λ (z : List TypedStmt). passes z w) (append-nil made)
 
 -- the statements so far passed, and what is said of the others is said of all
 abbrev pub OrderSoFar : List Bool → Around → List Stmt → Walk → ℕ → Bool → List TypedStmt → Walk → Type 0
 OrderSoFar params around all w i complete made u =
     (v : Verdict (List TypedStmt)) → InOrder params around complete (plain_stmts (map plain_stmt (drop i all))) u v →
-    InOrder params around true (plain_stmts (map plain_stmt all)) w (behind_stmts made v)
+    InOrder params around true (plain_stmts (map plain_stmt all)) w (after_stmts made v)
 
 pub order_refused : (params own : List Bool) (around : Around) (all : List Stmt) (w : Walk) (i : ℕ) (complete : Bool) (made : List TypedStmt) (s : Stmt)
     (u : Walk) (q : Refusal) → OrderSoFar params around all w i complete made u → own ≡ params → i < length all → s ≡ get_or all i s →
@@ -58,13 +58,13 @@ pub order_more : (params own : List Bool) (around : Around) (complete done next 
     s ≡ get_or all i s → Standing own around (not complete) (plain_stmt s) u (passes one x) → done ≡ completes (plain_stmt s) →
     next ≡ (complete && done) → more ≡ made ++ one ∷ [] → OrderSoFar params around all w (i + 1) next more x
 order_more params own around complete done next all i made more one s w u x before same below is d done_is next_so more_is v rest =
-    let here : InOrder params around complete (plain_stmts (map plain_stmt (s ∷ drop (i + 1) all))) u (behind None (λ others. one ∷ others) v) =
+    let here : InOrder params around complete (plain_stmts (map plain_stmt (s ∷ drop (i + 1) all))) u (following None (λ others. one ∷ others) v) =
     then_others (subst (λ (z : List Bool). Standing z around (not complete) (plain_stmt s) u (passes one x)) same d)
     (subst (λ (z : Bool). InOrder params around z (plain_stmts (map plain_stmt (drop (i + 1) all))) x v)
     (next_so ∙ ap (λ (z : Bool). complete && z) done_is) rest) refl in
     subst (λ (z : Verdict (List TypedStmt)). InOrder params around true (plain_stmts (map plain_stmt all)) w z)
-    (behind_one made one v ∙ ap (λ (z : List TypedStmt). behind_stmts z v) (sym more_is))
-    (before _ (subst (λ ss. InOrder params around complete (plain_stmts (map plain_stmt ss)) u (behind None (λ others. one ∷ others) v))
+    (after_one made one v ∙ ap (λ (z : List TypedStmt). after_stmts z v) (sym more_is))
+    (before _ (subst (λ ss. InOrder params around complete (plain_stmts (map plain_stmt ss)) u (following None (λ others. one ∷ others) v))
     (sym (next_is all i s below is)) here))
 
 none_after : (params : List Bool) (around : Around) (complete : Bool) (all : List Stmt) (i : ℕ) (w : Walk) → drop i all ≡ [] →
@@ -75,7 +75,7 @@ none_after params around complete all i w none =
 pub order_all : (params : List Bool) (around : Around) (complete : Bool) (all : List Stmt) (i : ℕ) (made : List TypedStmt) (w u : Walk) →
     OrderSoFar params around all w i complete made u → drop i all ≡ [] → InOrder params around true (plain_stmts (map plain_stmt all)) w (passes made u)
 order_all params around complete all i made w u before none =
-    subst (λ (z : Verdict (List TypedStmt)). InOrder params around true (plain_stmts (map plain_stmt all)) w z) (behind_all made u)
+    subst (λ (z : Verdict (List TypedStmt)). InOrder params around true (plain_stmts (map plain_stmt all)) w z) (after_all made u)
     (before (passes [] u) (none_after params around complete all i u none))
 
 -- what else a step through the statements keeps

@@ -55,13 +55,13 @@ pub record Part (b o s : Body) (around : Around) (node first second : Node) (vie
   pub in_scope : InScope b.atomic_params (inside around) body (apart_from (walk_of o g)) (passes piece (walk_of s inner))
   pub assigning : AssignsIs body assigns
 
-pub part_told : {T : Type 0} (b o s : Body) (around : Around) (node first second : Node) (view var : Named) (array count : PlainExpr) (body : PlainStmt)
+pub part_reported : {T : Type 0} (b o s : Body) (around : Around) (node first second : Node) (view var : Named) (array count : PlainExpr) (body : PlainStmt)
     (f g inner : Found) (source : Source) (size : TypedExpr) (piece : TypedStmt) (assigns : Bool) (x : T → Verdict TypedStmt) (r : Result T Stop) (p : Stop) → IsErrAnd r (λ z. z ≡ p) →
     Part b o s around node first second view var array count body f g inner source size piece assigns → Err p ≡ settled (fault_of second) →
     Says r x refused (Parting b.atomic_params around node view var array count body (walk_of b f))
-part_told b o s around node first second view var array count body f g inner source size piece assigns x r p is part settle =
+part_reported b o s around node first second view var array count body f g inner source size piece assigns x r p is part settle =
     settle_stopped (Parting b.atomic_params around node view var array count body (walk_of b f)) (fault_of second) r p x is settle
-    (λ q told. part_assigning assigns part.opening part.in_scope part.assigning (ap fault_of (sym part.second_is) ∙ told))
+    (λ q reported. part_assigning assigns part.opening part.in_scope part.assigning (ap fault_of (sym part.second_is) ∙ reported))
 
 -- what the second test of a `foreach_parts` found
 pub record PartsMet (b s : Body) (second settle third : Node) (pass : Bool) (part variable : ℕ) (env : Env) (scope : Mark) (inner : Found) : Type 0 where
@@ -100,19 +100,19 @@ parts_fault b o s around node first second settle third view var array count bod
     (met_in b (part_slot b.env) (part_variable b.env) inner) k.second_is m.settle_is refl
     (not_not pass _ (pass_at b s second settle third pass part variable env scope inner m)) m.third_is))
 
-pub parts_told : {T : Type 0} (b o s : Body) (around : Around) (node first second settle third : Node) (view var : Named) (array count : PlainExpr)
+pub parts_reported : {T : Type 0} (b o s : Body) (around : Around) (node first second settle third : Node) (view var : Named) (array count : PlainExpr)
     (body : PlainStmt) (f g inner : Found) (source : Source) (size : TypedExpr) (piece : TypedStmt) (assigns pass : Bool) (part variable : ℕ) (env : Env) (scope : Mark)
     (x : T → Verdict TypedStmt) (r : Result T Stop) (p : Stop) → IsErrAnd r (λ z. z ≡ p) →
     Part b o s around node first second view var array count body f g inner source size piece assigns →
     PartsMet b s second settle third pass part variable env scope inner → fault_of second ≡ None → Err p ≡ settled (fault_of third) →
     Says r x refused (Parting b.atomic_params around node view var array count body (walk_of b f))
-parts_told b o s around node first second settle third view var array count body f g inner source size piece assigns pass part variable env scope x r p is k m clean
-    told_is =
-    settle_stopped (Parting b.atomic_params around node view var array count body (walk_of b f)) (fault_of third) r p x is told_is
-    (λ q told.
+parts_reported b o s around node first second settle third view var array count body f g inner source size piece assigns pass part variable env scope x r p is k m clean
+    reported_is =
+    settle_stopped (Parting b.atomic_params around node view var array count body (walk_of b f)) (fault_of third) r p x is reported_is
+    (λ q reported.
     parted assigns k.opening k.in_scope k.assigning (ap fault_of (sym k.second_is) ∙ clean)
     (judged_some _ _ _ q
-    (parts_fault b o s around node first second settle third view var array count body f g inner source size piece assigns pass part variable env scope k m ∙ told)))
+    (parts_fault b o s around node first second settle third view var array count body f g inner source size piece assigns pass part variable env scope k m ∙ reported)))
 
 pub parts_pass : (b o s : Body) (around : Around) (node first second settle third : Node) (view var : Named) (array count : PlainExpr) (body : PlainStmt)
     (f g inner handed out : Found) (source : Source) (size : TypedExpr) (piece made : TypedStmt) (outer : Option ℕ) (assigns pass : Bool)

@@ -33,7 +33,7 @@ stopped P Q (Ok x) made s is next h = absurd is
 stopped P Q (Err x) made s is next h = said_of P (λ q. Q (refused q)) x next (subst (λ (z : Stop). IfRefused z P) (sym is) h)
 
 -- what stops where the faults of a node are reported
-pub settled_stop : (told : Option Refusal) (s : Stop) → settled told ≡ Err s → IfRefused s (λ q. told ≡ Some q)
+pub settled_stop : (reported : Option Refusal) (s : Stop) → settled reported ≡ Err s → IfRefused s (λ q. reported ≡ Some q)
 settled_stop None s is = cc
 settled_stop (Some q) s is = of_stop q s is
   where
@@ -42,9 +42,9 @@ settled_stop (Some q) s is = of_stop q s is
     of_stop p stop.NoMemory e = cc
 
 -- at the exit of a `?` where the faults of a node are reported
-pub settle_stopped : {T M : Type 0} (Q : Verdict M → Type 0) (told : Option Refusal) (r : Result T Stop) (s : Stop) (made : T → Verdict M) →
-    IsErrAnd r (λ z. z ≡ s) → Err s ≡ settled told → ((q : Refusal) → told ≡ Some q → Q (refused q)) → Says r made refused Q
-settle_stopped Q told r s made is settle next = stopped (λ q. told ≡ Some q) Q r made s is next (settled_stop told s (sym settle))
+pub settle_stopped : {T M : Type 0} (Q : Verdict M → Type 0) (reported : Option Refusal) (r : Result T Stop) (s : Stop) (made : T → Verdict M) →
+    IsErrAnd r (λ z. z ≡ s) → Err s ≡ settled reported → ((q : Refusal) → reported ≡ Some q → Q (refused q)) → Says r made refused Q
+settle_stopped Q reported r s made is settle next = stopped (λ q. reported ≡ Some q) Q r made s is next (settled_stop reported s (sym settle))
 
 -- a piece whose outcome is passed on
 pub says_all : {T M : Type 0} (P Q : Verdict M → Type 0) (r : Result T Stop) (made : T → Verdict M) → ((v : Verdict M) → P v → Q v) →
@@ -56,11 +56,11 @@ says_all P Q (Err s) made next h = said_of (λ q. P (refused q)) (λ q. Q (refus
 pub judged_at : {M : Type 0} (m n : Node) (made : M) (w : Walk) → n ≡ m → judged (fault_of m) made w ≡ judged (fault_of n) made w
 judged_at m n made w is = ap (λ (z : Node). judged (fault_of z) made w) (sym is)
 
-pub judged_none : {M : Type 0} (told : Option Refusal) (made : M) (w : Walk) → told ≡ None → judged told made w ≡ passes made w
-judged_none told made w is = ap (λ (z : Option Refusal). judged z made w) is
+pub judged_none : {M : Type 0} (reported : Option Refusal) (made : M) (w : Walk) → reported ≡ None → judged reported made w ≡ passes made w
+judged_none reported made w is = ap (λ (z : Option Refusal). judged z made w) is
 
-pub judged_some : {M : Type 0} (told : Option Refusal) (made : M) (w : Walk) (q : Refusal) → told ≡ Some q → judged told made w ≡ refused q
-judged_some told made w q is = ap (λ (z : Option Refusal). judged z made w) is
+pub judged_some : {M : Type 0} (reported : Option Refusal) (made : M) (w : Walk) (q : Refusal) → reported ≡ Some q → judged reported made w ≡ refused q
+judged_some reported made w q is = ap (λ (z : Option Refusal). judged z made w) is
 
 -- a piece that passes, as it was made
 pub passes_so : {M : Type 0} (m made : M) (w u : Walk) → m ≡ made → w ≡ u → passes made u ≡ passes m w

@@ -1,9 +1,9 @@
 -- An nd construct is reached after a piece where it was reached before it or in it.
-use Rattle.std.proofs.Common.{◌≡◌, ℕ, ◌+◌, ◌<◌, map, length, get_or, drop, List, ◌∷◌, Bool, true, false, ◌||◌, IsTrue, Option, Some, None, refl, sym, ap, subst}
+use Rattle.std.proofs.Common.{◌≡◌, ℕ, ◌+◌, ◌<◌, map, option_map, length, get_or, drop, List, ◌∷◌, Bool, true, false, ◌||◌, IsTrue, Option, Some, None, refl, sym, ap, subst}
 use Rattle.std.proofs.lemmas.Bool.{false≢true}
 use Rattle.dpj_tree.specs.declared.stmt.Stmt.{Stmt}
-use Rattle.dpj_tree.specs.Nd.{holds_nd, some_holds_nd}
-use Rattle.dpj_tree.specs.Plain.{plain_stmt, plain_stmts}
+use Rattle.dpj_tree.specs.Nd.{holds_nd, form_holds_nd, some_holds_nd}
+use Rattle.dpj_tree.specs.Plain.{PlainExpr, PlainStmt, choice_form, plain_stmt, plain_stmts}
 use Rattle.dpj_exprs.specs.declared.found.Found.{Found}
 use Rattle.dpj_check.specs.declared.leaving.Leaving.{Leaving}
 use Rattle.dpj_check.specs.Checking.{with_nd}
@@ -68,6 +68,35 @@ or_both : (a h x y : Bool) → (IsTrue a → IsTrue x) → (IsTrue h → IsTrue 
 or_both true h x y first second t = or_left x y (first t)
 or_both false h true y first second t = refl
 or_both false h false y first second t = second t
+
+-- from one piece to the next
+onward : (f g h a : Bool) → (IsTrue f → IsTrue g) → (IsTrue (g || a) → IsTrue h) → IsTrue (f || a) → IsTrue h
+onward f g h a first next t = next (or_both f a g a first (λ k. k) t)
+
+or_apart : (a b c : Bool) → IsTrue (a || (b || c)) → IsTrue ((a || b) || c)
+or_apart true b c t = refl
+or_apart false b c t = t
+
+-- an `if` with an `else`, and one without it
+pub either_nd : (test : PlainExpr) (part : PlainStmt) (other : Option Stmt) (second shown : Stmt) (f g h k : Found) → other ≡ Some second → shown ≡ second →
+    (IsTrue f.reaches_nd → IsTrue g.reaches_nd) → (IsTrue (g.reaches_nd || holds_nd part) → IsTrue h.reaches_nd) →
+    (IsTrue (h.reaches_nd || holds_nd (plain_stmt shown)) → IsTrue k.reaches_nd) →
+    IsTrue (f.reaches_nd || form_holds_nd (choice_form test part (option_map plain_stmt other))) → IsTrue k.reaches_nd
+either_nd test part other second shown f g h k is shows first next last t =
+    let there : IsTrue (f.reaches_nd || (holds_nd part || holds_nd (plain_stmt shown))) =
+    subst (λ (z : Stmt). IsTrue (f.reaches_nd || (holds_nd part || holds_nd (plain_stmt z)))) (sym shows)
+    (subst (λ (z : Option Stmt). IsTrue (f.reaches_nd || form_holds_nd (choice_form test part (option_map plain_stmt z)))) is t) in
+    last
+    (or_both (f.reaches_nd || holds_nd part) (holds_nd (plain_stmt shown)) h.reaches_nd (holds_nd (plain_stmt shown))
+    (onward f.reaches_nd g.reaches_nd h.reaches_nd (holds_nd part) first next) (λ x. x)
+    (or_apart f.reaches_nd (holds_nd part) (holds_nd (plain_stmt shown)) there))
+
+pub neither_nd : (test : PlainExpr) (part : PlainStmt) (other : Option Stmt) (f g h : Found) → other ≡ None →
+    (IsTrue f.reaches_nd → IsTrue g.reaches_nd) → (IsTrue (g.reaches_nd || holds_nd part) → IsTrue h.reaches_nd) →
+    IsTrue (f.reaches_nd || form_holds_nd (choice_form test part (option_map plain_stmt other))) → IsTrue h.reaches_nd
+neither_nd test part other f g h is first next t =
+    onward f.reaches_nd g.reaches_nd h.reaches_nd (holds_nd part) first next
+    (subst (λ (z : Option Stmt). IsTrue (f.reaches_nd || form_holds_nd (choice_form test part (option_map plain_stmt z)))) is t)
 
 pub parts_nd : (leaving : Leaving) (out g inner begun handed out3 : Found) (part : ℕ) (outer : Option ℕ) (holds : Bool) → begun ≡ nothing_found →
     handed ≡ handed_on part outer inner → out3 ≡ taken_in leaving g handed → (IsTrue out.reaches_nd → IsTrue g.reaches_nd) →

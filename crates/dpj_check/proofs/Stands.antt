@@ -1,5 +1,6 @@
 -- Statements as the rules see them, of what the code sees: one lemma for each form.
-use Rattle.std.proofs.Common.{◌≡◌, ◌∙◌, ℕ, Bool, List, Option, Some, None, option_map, map, ap, sym, subst, rules}
+use Rattle.std.proofs.Common.{◌≡◌, ◌∙◌, ℕ, Bool, List, Option, Some, None, Result, option_map, map, ap, sym, subst, rules}
+use Rattle.dpj_base.specs.declared.refusal.Stop.{Stop}
 use Rattle.dpj_tree.specs.declared.region.Named.{Named}
 use Rattle.dpj_tree.specs.declared.region.TypeTree.{TypeTree}
 use Rattle.dpj_tree.specs.declared.expr.Expr.{Expr}
@@ -9,11 +10,13 @@ use Rattle.dpj_tree.specs.declared.stmt.StmtKind.TheVariants as kind
 use Rattle.dpj_tree.specs.Plain.{PlainStmt, statement, StmtForm, stmt_form, stmt_node, choice_form, return_form, plain_expr, plain_stmt, plain_stmts}
 use Rattle.dpj_tree.specs.Plain.{StmtForm as form}
 use Rattle.dpj_typed.specs.Plain.{TypedStmt}
+use Rattle.dpj_exprs.specs.Answer.{Says}
 use Rattle.dpj_check.specs.declared.node.Around.{Around}
 use Rattle.dpj_check.specs.declared.node.Node.{Node}
-use Rattle.dpj_check.specs.Checking.{form_of, Checking, Standing, standing}
+use Rattle.dpj_check.specs.Checking.{Checking, Standing, standing}
 use Rattle.dpj_check.specs.Noting.{node_at}
-use Rattle.dpj_check.specs.Walks.{Walk, Verdict}
+use Rattle.dpj_check.specs.Walks.{Walk, Verdict, refused}
+use Rattle.dpj_check.proofs.Passing.{says_all}
 
 abbrev pub plain_kind : StmtKind → StmtForm
 plain_kind = fold-StmtKind StmtForm PlainStmt stmt_form stmt_node
@@ -93,6 +96,12 @@ pub at_Cobegin : (s : Stmt) (nd : Bool) (branches : List Stmt) → s.kind ≡ ki
     plain_stmt s ≡ statement s.place (form.cobegin nd (plain_stmts (map plain_stmt branches)))
 at_Cobegin s nd branches is = of_kind s (kind.Cobegin nd branches) (form.cobegin nd (plain_stmts (map plain_stmt branches))) is (kind_Cobegin nd branches)
 
+kind_Atomic : (all : List Stmt) → plain_kind (kind.Atomic all) ≡ form.atomic (plain_stmts (map plain_stmt all))
+kind_Atomic all = search (rules, the_lemmas)
+
+pub at_Atomic : (s : Stmt) (all : List Stmt) → s.kind ≡ kind.Atomic all → plain_stmt s ≡ statement s.place (form.atomic (plain_stmts (map plain_stmt all)))
+at_Atomic s all is = of_kind s (kind.Atomic all) (form.atomic (plain_stmts (map plain_stmt all))) is (kind_Atomic all)
+
 kind_If : (test : Expr) (part : Stmt) (other : Option Stmt) →
     plain_kind (kind.If test part other) ≡ choice_form (plain_expr test) (plain_stmt part) (option_map plain_stmt other)
 kind_If test part None = search (rules, the_lemmas)
@@ -136,14 +145,17 @@ kind_Return value = search (rules, the_lemmas)
 pub at_Return : (s : Stmt) (value : Option Expr) → s.kind ≡ kind.Return value → plain_stmt s ≡ statement s.place (return_form value)
 at_Return s value is = of_kind s (kind.Return value) (return_form value) is (kind_Return value)
 
--- the form of the statement is this one
-pub as_form : (params : List Bool) (around : Around) (node : Node) (s : Stmt) (f : StmtForm) (w : Walk) (v : Verdict TypedStmt) → plain_stmt s ≡ statement s.place f →
-    Checking params around node f w v → Checking params around node (form_of (plain_stmt s)) w v
-as_form params around node s f w v is d = subst (λ (z : PlainStmt). Checking params around node (form_of z) w v) (sym is) d
-
 -- a statement of this form, with the node that the code made of it
 pub as_statement : (params : List Bool) (around : Around) (follows : Bool) (node : Node) (s : Stmt) (f : StmtForm) (w : Walk) (v : Verdict TypedStmt) →
     plain_stmt s ≡ statement s.place f →
     node ≡ node_at s.place follows → Checking params around node f w v → Standing params around follows (plain_stmt s) w v
 as_statement params around follows node s f w v is made d =
     subst (λ (z : PlainStmt). Standing params around follows z w v) (sym is) (standing (subst (λ (z : Node). Checking params around z f w v) made d))
+
+-- what is said of the form of a statement is said of the statement
+pub as_said : {T : Type 0} (P : Verdict TypedStmt → Type 0) (params : List Bool) (around : Around) (follows : Bool) (node : Node) (s : Stmt) (f : StmtForm) (w : Walk)
+    (r : Result T Stop) (made : T → Verdict TypedStmt) → plain_stmt s ≡ statement s.place f → node ≡ node_at s.place follows →
+    ((v : Verdict TypedStmt) → P v → Checking params around node f w v) → Says r made refused P →
+    Says r made refused (Standing params around follows (plain_stmt s) w)
+as_said P params around follows node s f w r made is node_is rule said =
+    says_all P (Standing params around follows (plain_stmt s) w) r made (λ v d. as_statement params around follows node s f w v is node_is (rule v d)) said

@@ -49,10 +49,7 @@ use Rattle.dpj_check.specs.Leaving.{from_here}
 use Rattle.dpj_check.specs.Meeting.{declared_atomic, BranchesApart}
 use Rattle.dpj_check.specs.Noting.{node_at, with_found, with_fault_if, fault_of, settled_node}
 use Rattle.dpj_check.specs.Simple.{node_of, declaration_noted, local_declared, part_declared, Declaring, AssigningLocal, AssigningPlace, Performing, Returning, Printing, regions_declared}
-use Rattle.dpj_check.specs.Walks.{Walk, Verdict, passes, refused, found_so, scope_so, nothing_found, apart_from, left_scope, judged, behind}
-
-abbrev pub form_of : PlainStmt → StmtForm
-form_of (statement place f) = f
+use Rattle.dpj_check.specs.Walks.{Walk, Verdict, passes, refused, found_so, scope_so, nothing_found, apart_from, left_scope, judged, following}
 
 -- with an nd construct, where it is one
 abbrev pub with_nd : Bool → Found → Found
@@ -186,7 +183,7 @@ mutual
   pub data Checking (params : List Bool) : Around → Node → StmtForm → Walk → Verdict TypedStmt → Type 0 where
     -- a block
     of_block : {around : Around} {node : Node} {all : PlainStmts} {w : Walk} {u : Verdict (List TypedStmt)} {v : Verdict TypedStmt} →
-        InBlock params around all w u → behind (fault_of node) (λ ss. typed.statement node.place (typed.block (stmts_of ss))) u ≡ v →
+        InBlock params around all w u → following (fault_of node) (λ ss. typed.statement node.place (typed.block (stmts_of ss))) u ≡ v →
         Checking params around node (form.block all) w v
     -- statements that hold no other
     of_declaration : {around : Around} {node : Node} {is_final : Bool} {tree : TypeTree} {name : ℕ} {value : PlainExpr} {w : Walk} {v : Verdict TypedStmt} →
@@ -220,7 +217,7 @@ mutual
         Typing w.env test w.found (answer.refused refusal) → Checking params around node (form.while_loop test body) w (refused refusal)
     of_while : {around : Around} {node : Node} {test : PlainExpr} {body : PlainStmt} {w : Walk} {t : Option TypedExpr} {g : Found} {u v : Verdict TypedStmt} →
         Typing w.env test w.found (gives t g) → InScope params around body (found_so w g) u →
-        behind (fault_of (with_fault_if node kind.Type (not (may_be is_boolean (type_in t)))))
+        following (fault_of (with_fault_if node kind.Type (not (may_be is_boolean (type_in t)))))
         (λ s. typed.statement node.place (typed.while_loop (node_of test t) s)) u ≡ v →
         Checking params around node (form.while_loop test body) w v
     -- the branches
@@ -264,7 +261,7 @@ mutual
     chosen : {around : Around} {node : Node} {test : PlainExpr} {first : PlainStmt} {other : Option PlainStmt} {w x : Walk} {t : Option TypedExpr}
         {g : Found} {made : TypedStmt} {u : Verdict (Option TypedStmt)} {v : Verdict TypedStmt} →
         Typing w.env test w.found (gives t g) → InScope params around first (found_so w g) (passes made x) → InOther params around other x u →
-        behind (fault_of (with_fault_if node kind.Type (not (may_be is_boolean (type_in t)))))
+        following (fault_of (with_fault_if node kind.Type (not (may_be is_boolean (type_in t)))))
         (λ part. typed.statement node.place (typed.choice_form (node_of test t) made part)) u ≡ v →
         Choosing params around node test first other w v
 
@@ -272,7 +269,7 @@ mutual
   pub data InOther (params : List Bool) : Around → Option PlainStmt → Walk → Verdict (Option TypedStmt) → Type 0 where
     no_other : {around : Around} {w : Walk} → InOther params around None w (passes None w)
     an_other : {around : Around} {s : PlainStmt} {w : Walk} {u : Verdict TypedStmt} {v : Verdict (Option TypedStmt)} →
-        InScope params around s w u → behind None Some u ≡ v → InOther params around (Some s) w v
+        InScope params around s w u → following None Some u ≡ v → InOther params around (Some s) w v
 
   -- a statement, which stands after one that doesn't complete or not
   pub data Standing (params : List Bool) : Around → Bool → PlainStmt → Walk → Verdict TypedStmt → Type 0 where
@@ -297,7 +294,7 @@ mutual
     then_others : {around : Around} {complete : Bool} {s : PlainStmt} {ss : PlainStmts} {w u : Walk} {made : TypedStmt}
         {x v : Verdict (List TypedStmt)} →
         Standing params around (not complete) s w (passes made u) → InOrder params around (complete && completes s) ss u x →
-        behind None (λ others. made ∷ others) x ≡ v → InOrder params around complete (more_stmts s ss) w v
+        following None (λ others. made ∷ others) x ≡ v → InOrder params around complete (more_stmts s ss) w v
 
   -- the branches of a `cobegin`, each of which is gathered by itself
   pub data Branching (params : List Bool) : Around → Bool → PlainStmts → Walk → BranchesVerdict → Type 0 where

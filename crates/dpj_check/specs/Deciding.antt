@@ -21,9 +21,9 @@ use Rattle.dpj_check.specs.declared.leaving.Marks.{Marks}
 use Rattle.dpj_check.specs.declared.leaving.Marks.TheVariants as marks
 
 -- the fault that is reported at a place, if there is one
-abbrev pub told_at : Place → Option Kind → Result (Unit {0}) Stop
-told_at place None = Ok tt
-told_at place (Some k) = Err (refusal_at k place)
+abbrev pub reported_at : Place → Option Kind → Result (Unit {0}) Stop
+reported_at place None = Ok tt
+reported_at place (Some k) = Err (refusal_at k place)
 
 abbrev pub has_value : MethodResult → Bool
 has_value (given.Value ty) = true

@@ -70,8 +70,8 @@ abbrev pub typed_body : List TypedStmt → Env → PlainBody
 typed_body ss env = record { slots = slots_in env; local_regions = declared_in env; stmts = stmts_of ss }
 
 -- the fault that is reported after the body of a method
-abbrev pub method_told : Env → ℕ → Method → List Effect → Option Refusal
-method_told class_env number method effects =
+abbrev pub method_reported : Env → ℕ → Method → List Effect → Option Refusal
+method_reported class_env number method effects =
     option_map (λ reason. fault reason method.place)
     (method_fault (has_value method.result) (all_complete (plain_stmts (map plain_stmt method.body)))
     (set_covers (summary_of (numbered (table_of class_env) number)) effects) (has_room (body_begun class_env number method).env))
@@ -86,7 +86,7 @@ reported None made = Ok made
 reported (Some refusal) made = Err refusal
 
 abbrev pub method_judged : Env → ℕ → Method → Verdict (List TypedStmt) → Result PlainBody Refusal
-method_judged class_env number method (passes ss w) = reported (method_told class_env number method w.found.effects) (typed_body ss w.env)
+method_judged class_env number method (passes ss w) = reported (method_reported class_env number method w.found.effects) (typed_body ss w.env)
 method_judged class_env number method (refused refusal) = Err refusal
 
 -- the body of a method or a constructor: its statements, then the method itself
@@ -130,8 +130,8 @@ pub record PlainBodies : Type 0 where
 abbrev pub plain_bodies : ClassBodies → PlainBodies
 plain_bodies done = record { next = done.next; bodies = map plain_body done.bodies }
 
-abbrev pub behind_bodies : List PlainBody → PlainBodies → PlainBodies
-behind_bodies before all = record { next = all.next; bodies = before ++ all.bodies }
+abbrev pub after_bodies : List PlainBody → PlainBodies → PlainBodies
+after_bodies before all = record { next = all.next; bodies = before ++ all.bodies }
 
 -- the members of a class, whose first method has this number
 pub data MembersChecking (class_env : Env) (params : List Bool) : List Member → ℕ → Result PlainBodies Refusal → Type 0 where
@@ -140,7 +140,7 @@ pub data MembersChecking (class_env : Env) (params : List Bool) : List Member �
       MemberChecking class_env params m number (Err refusal) → MembersChecking class_env params (m ∷ ms) number (Err refusal)
   then_members : {m : Member} {ms : List Member} {number : ℕ} {made : Option PlainBody} {u v : Result PlainBodies Refusal} →
       MemberChecking class_env params m number (Ok made) → MembersChecking class_env params ms (number_after made number) u →
-      after_ok (behind_bodies (bodies_of made)) u ≡ v → MembersChecking class_env params (m ∷ ms) number v
+      after_ok (after_bodies (bodies_of made)) u ≡ v → MembersChecking class_env params (m ∷ ms) number v
 
 -- the classes from a number on, whose first method has the other number
 pub data ClassesChecking (start : Env) : ℕ → List Class → ℕ → Result (List PlainBody) Refusal → Type 0 where

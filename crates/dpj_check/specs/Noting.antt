@@ -5,7 +5,7 @@ use Rattle.dpj_base.specs.declared.refusal.Kind.{Kind}
 use Rattle.dpj_base.specs.declared.refusal.Kind.TheVariants as kind
 use Rattle.dpj_base.specs.declared.refusal.Refusal.{Refusal}
 use Rattle.dpj_headers.specs.declared.faults.Order.TheVariants as order
-use Rattle.dpj_headers.specs.Faults.{none_by, noted, told, forgotten}
+use Rattle.dpj_headers.specs.Faults.{none_by, noted, reported, forgotten}
 use Rattle.dpj_check.specs.declared.node.Node.{Node}
 
 -- with a fault of this kind at this place
@@ -30,7 +30,7 @@ node_at place follows = cond follows (with_fault (without_faults place) kind.Ret
 
 -- the fault that is reported of a node
 abbrev pub fault_of : Node → Option Refusal
-fault_of node = told node.faults
+fault_of node = reported node.faults
 
 abbrev pub settled_node : Node → Node
 settled_node node = record node { faults = forgotten node.faults }

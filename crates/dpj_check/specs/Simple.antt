@@ -12,7 +12,7 @@ use Rattle.dpj_headers.specs.declared.faults.Order.TheVariants as order
 use Rattle.dpj_headers.specs.Faults.{none_by}
 use Rattle.dpj_headers.specs.Headers.{region_of}
 use Rattle.dpj_resolve.specs.declared.scope.Site.TheVariants as site
-use Rattle.dpj_resolve.specs.Telling.{parts_told}
+use Rattle.dpj_resolve.specs.Telling.{parts_reported}
 use Rattle.dpj_resolve.specs.Written.{type_meant, type_faults}
 use Rattle.dpj_tree.specs.declared.region.Named.{Named}
 use Rattle.dpj_tree.specs.declared.region.TypeTree.{TypeTree}
@@ -43,8 +43,8 @@ FitIs env value declared fit = IsTrue fit ↔ FitsAs (supers_of env) value decla
 abbrev pub declared_type : Env → TypeTree → PlainType
 declared_type env tree = option_map_or (λ t. t) (type_meant (scope_of env) tree) ty.void
 
-abbrev pub declared_told : Env → TypeTree → Option Refusal
-declared_told env tree = parts_told site.Body (none_by order.Number) (type_faults (scope_of env) tree)
+abbrev pub declared_reported : Env → TypeTree → Option Refusal
+declared_reported env tree = parts_reported site.Body (none_by order.Number) (type_faults (scope_of env) tree)
 
 -- there is a slot of 32 bits for a further local or part, and a number for a further local region
 abbrev pub has_room : Env → Bool
@@ -77,11 +77,11 @@ node_of e given = node_at (place_of e) given
 
 -- `ty name = value;`: the type, the value, then the declaration
 pub data Declaring (node : Node) (is_final : Bool) (tree : TypeTree) (name : ℕ) (value : PlainExpr) (w : Walk) : Verdict TypedStmt → Type 0 where
-  type_refused : {refusal : Refusal} → declared_told w.env tree ≡ Some refusal → Declaring node is_final tree name value w (refused refusal)
+  type_refused : {refusal : Refusal} → declared_reported w.env tree ≡ Some refusal → Declaring node is_final tree name value w (refused refusal)
   value_refused : {refusal : Refusal} →
-      declared_told w.env tree ≡ None → Typing w.env value w.found (answer.refused refusal) → Declaring node is_final tree name value w (refused refusal)
+      declared_reported w.env tree ≡ None → Typing w.env value w.found (answer.refused refusal) → Declaring node is_final tree name value w (refused refusal)
   declared : {t : Option TypedExpr} {g : Found} {fit : Bool} (made : Ty) {v : Verdict TypedStmt} →
-      declared_told w.env tree ≡ None → plain_type made ≡ declared_type w.env tree →
+      declared_reported w.env tree ≡ None → plain_type made ≡ declared_type w.env tree →
       Typing w.env value w.found (gives t g) → FitIs w.env (type_in t) (declared_type w.env tree) fit →
       judged (fault_of (with_fault_if (declaration_noted w.env name node.place node) kind.Type (not fit)))
       (typed.statement node.place (typed.declare (slots_in w.env) (declared_type w.env tree) is_final (node_of value t)))
@@ -109,6 +109,14 @@ stored (to_part part index) value = typed.store_part part index value
 -- what is wrong with an assignment of a value that fits or not to a target that may be written or not
 abbrev pub target_fault : Bool → Bool → Option Kind
 target_fault fit may_write = cond fit (cond may_write None (Some kind.PartialWrite)) (Some kind.Type)
+
+-- a value, which fits or not, goes to a target that was read
+pub data Putting (node : Node) (place : Place) (aim : PlainTarget) (t : Option TypedExpr) (value : TypedExpr) (w : Walk) : Verdict TypedStmt → Type 0 where
+  put : {fit : Bool} {v : Verdict TypedStmt} →
+      FitIs w.env (type_in t) aim.ty fit →
+      judged (fault_of (with_found node (target_fault fit aim.may_write))) (typed.statement place (stored aim.spot value))
+      (found_so w (with_write w.found aim)) ≡ v →
+      Putting node place aim t value w v
 
 -- `target = value;` for a field or an element: the target, the value, then the assignment
 pub data AssigningPlace (node : Node) (target value : PlainExpr) (w : Walk) : Verdict TypedStmt → Type 0 where

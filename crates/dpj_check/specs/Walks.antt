@@ -50,9 +50,9 @@ judged None made w = passes made w
 judged (Some refusal) made w = refused refusal
 
 -- the same after a part that may be refused, and what is made of what was made of the part
-abbrev pub behind : {T U : Type 0} → Option Refusal → (T → U) → Verdict T → Verdict U
-behind told make (passes made w) = judged told (make made) w
-behind told make (refused refusal) = refused refusal
+abbrev pub following : {T U : Type 0} → Option Refusal → (T → U) → Verdict T → Verdict U
+following reported make (passes made w) = judged reported (make made) w
+following reported make (refused refusal) = refused refusal
 
 -- with another scope
 abbrev pub with_env : Body → Env → Body

@@ -9,7 +9,7 @@ ghost use Rattle.dpj_exprs.specs.declared.env.Env.{Env};
 ghost use Rattle.dpj_exprs.specs.Env.{table_of, at_class, at_method};
 ghost use Rattle.dpj_check.specs.Checking.{InBlock};
 ghost use Rattle.dpj_check.specs.Completes.{all_complete};
-ghost use Rattle.dpj_check.specs.Deciding.{has_value, method_fault, told_at};
+ghost use Rattle.dpj_check.specs.Deciding.{has_value, method_fault, reported_at};
 ghost use Rattle.dpj_check.specs.Keeping.{AllKeep, ClassesKeep, MethodKeeps, MemberKeeps, MembersKeep, ProgramKeeps, method_around};
 ghost use Rattle.dpj_check.specs.Methods.{formals_declared, formal_types, summary_of, bodies_of, class_params, number_after, plain_bodies, BodiesChecking, ClassesChecking, IsIn, MembersChecking, MemberChecking, MethodChecking};
 ghost use Rattle.dpj_check.specs.Walks.{home_of, passes, refused, walk_of, with_env};
@@ -176,10 +176,10 @@ fn check_body(body: &mut Body, method: &Method, done: &mut Found) -> Result<Chec
     block(body, around, method.body.as_slice(), done)
 }
 
-fn has_value(told: &MethodResult) -> bool
-    ensures { result ≡ has_value told.now }
+fn has_value(reported: &MethodResult) -> bool
+    ensures { result ≡ has_value reported.now }
 {
-    matches!(told, MethodResult::Value(_))
+    matches!(reported, MethodResult::Value(_))
 }
 
 /// Reports the fault of a method after its body.
@@ -189,7 +189,7 @@ fn settle_method(
     covered: bool,
     has_slots: bool,
 ) -> Result<(), Stop>
-    ensures { result ≡ told_at method.now.place (method_fault (has_value method.now.result) completes covered has_slots) }
+    ensures { result ≡ reported_at method.now.place (method_fault (has_value method.now.result) completes covered has_slots) }
 {
     match method_fault(has_value(&method.result), completes, covered, has_slots) {
         Some(kind) => Err(refused(kind, method.place)),

@@ -1,4 +1,4 @@
-ghost use Rattle.std.specs.Prelude.{◌≡◌, ◌↔◌, ◌||◌, ◌++◌, ◌∷◌, [], None, false, map, IsTrue, IfOk, OnOk};
+ghost use Rattle.std.specs.Prelude.{◌≡◌, ◌↔◌, ◌||◌, ◌++◌, ◌∷◌, [], None, false, true, map, IsTrue, IfOk, OnOk};
 ghost use Rattle.dpj_tree.specs.Nd.{holds_nd, some_holds_nd};
 ghost use Rattle.dpj_tree.specs.Plain.{plain_stmt, plain_stmts};
 ghost use Rattle.dpj_tree.specs.Plain.{StmtForm as form};
@@ -17,12 +17,12 @@ use crate::leaving::{Leaving, Marks};
 use crate::made;
 use crate::meet::{branches_pass, iterations_interfere};
 use crate::node::{Around, Node};
-use crate::statements::{block, scoped};
+use crate::statements::{Checked, block, scoped};
 use dpj_base::{Items, Kind, NoMemory, Stop};
 use dpj_exprs::Found;
 use dpj_locals::{has_clash, touched};
 use dpj_tree::{Named, Stmt};
-use dpj_typed::{Branch, Expr, Slot, Stmt as TypedStmt};
+use dpj_typed::{Branch, Expr, Slot};
 use std::alloc::Global;
 
 /// The fault of a construct whose branches interfere.
@@ -52,12 +52,13 @@ pub fn cobegin(
     nd: bool,
     branches: &[Stmt],
     out: &mut Found,
-) -> Result<TypedStmt, Stop>
+) -> Result<Checked, Stop>
+    ensures completes { IfOk result (λ done. done.completes ≡ true) }
     ensures clean { OnOk result (fault_of node ≡ None) }
     ensures keeps { OnOk result (BranchesKeep (inside around) (plain_stmts (map plain_stmt branches.now))) }
     ensures nd { OnOk result (IsTrue (out.old.reaches_nd || (nd || some_holds_nd (plain_stmts (map plain_stmt branches.now)))) → IsTrue out.new.reaches_nd) }
     ensures home { OnOk result (home_of body.new ≡ home_of body.old) }
-    ensures checks { Says result (λ made. passes (typed_stmt made) (walk_of body.new out.new)) refused (Forking body.old.atomic_params around node nd (plain_stmts (map plain_stmt branches.now)) (walk_of body.old out.old)) }
+    ensures checks { Says result (λ made. passes (typed_stmt made.stmt) (walk_of body.new out.new)) refused (Forking body.old.atomic_params around node nd (plain_stmts (map plain_stmt branches.now)) (walk_of body.old out.old)) }
 {
     let place = node.place;
     let mut node = node;
@@ -70,13 +71,14 @@ pub fn cobegin(
         let names = touched(body.alloc, branch)?;
         let copies = slots_of(body, names.writes.as_slice())?;
         let done = scoped(body, around.inside(), branch, &mut inner)?;
+        let checked = done.stmt.into_inner();
         made.push(Branch {
             copies,
-            body: done.stmt,
+            body: checked,
         })?;
         locals.push(names)?;
         effects.push(all_effects(body.alloc, &inner)?)?;
-        take_in(body.alloc, out, inner, leaving)?;
+        take_in(out, inner, leaving)?;
     }
     out.reaches_nd = out.reaches_nd || nd;
     node.note_if(Kind::Assign, has_clash(body.alloc, locals.as_slice())?);
@@ -84,7 +86,10 @@ pub fn cobegin(
     let passes = branches_pass(body, nd, effects.as_slice())?;
     node.note_if(interference(nd), !passes);
     node.settle()?;
-    Ok(made::forked(place, nd, made))
+    Ok(Checked {
+        completes: true,
+        stmt: made::forked(place, nd, made),
+    })
 }
 
 /// The slots of the locals in scope with these names.
@@ -119,13 +124,14 @@ pub fn foreach(
     range: (Expr, Expr),
     iteration: &Stmt,
     out: &mut Found,
-) -> Result<TypedStmt, Stop>
+) -> Result<Checked, Stop>
+    ensures completes { IfOk result (λ done. done.completes ≡ true) }
     ensures clean { OnOk result (fault_of node ≡ None) }
     ensures keeps { OnOk result (Keeps (inside around) (plain_stmt iteration.now)) }
     ensures locals { OnOk result (¬ AssignsOuter (plain_stmt iteration.now)) }
     ensures nd { OnOk result (IsTrue (out.old.reaches_nd || (nd || holds_nd (plain_stmt iteration.now))) → IsTrue out.new.reaches_nd) }
     ensures home { OnOk result (home_of body.new ≡ home_of body.old) }
-    ensures checks { Says result (λ made. passes (typed_stmt made) (walk_of body.new out.new)) refused (Iterating body.old.atomic_params around node nd var (typed_expr range.0) (typed_expr range.1) (plain_stmt iteration.now) (walk_of body.old out.old)) }
+    ensures checks { Says result (λ made. passes (typed_stmt made.stmt) (walk_of body.new out.new)) refused (Iterating body.old.atomic_params around node nd var (typed_expr range.0) (typed_expr range.1) (plain_stmt iteration.now) (walk_of body.old out.old)) }
 {
     let place = node.place;
     let mut node = node;
@@ -143,8 +149,11 @@ pub fn foreach(
     let clash = iterations_interfere(body, nd, &inner, slot)?;
     node.note_if(interference(nd), clash);
     node.settle()?;
-    take_in(body.alloc, out, inner, leaving)?;
-    Ok(made::iterated(body.alloc, place, nd, slot, range, done.stmt)?)
+    take_in(out, inner, leaving)?;
+    Ok(Checked {
+        completes: true,
+        stmt: made::iterated(place, nd, slot, range, done.stmt),
+    })
 }
 
 /// Whether a statement assigns a local that is declared outside of it.
@@ -162,13 +171,14 @@ pub fn atomic(
     node: Node,
     stmts: &[Stmt],
     out: &mut Found,
-) -> Result<TypedStmt, Stop>
+) -> Result<Checked, Stop>
+    ensures completes { IfOk result (λ done. done.completes ≡ true) }
     ensures clean { OnOk result (fault_of node ≡ None) }
     ensures keeps { OnOk result (AllKeep (inside around) (plain_stmts (map plain_stmt stmts.now))) }
     ensures quiet { OnOk result (some_holds_nd (plain_stmts (map plain_stmt stmts.now)) ≡ false) }
     ensures nd { OnOk result (IsTrue (out.old.reaches_nd || some_holds_nd (plain_stmts (map plain_stmt stmts.now))) → IsTrue out.new.reaches_nd) }
     ensures home { OnOk result (home_of body.new ≡ home_of body.old) }
-    ensures checks { Says result (λ made. passes (typed_stmt made) (walk_of body.new out.new)) refused (Checking body.old.atomic_params around node (form.atomic (plain_stmts (map plain_stmt stmts.now))) (walk_of body.old out.old)) }
+    ensures checks { Says result (λ made. passes (typed_stmt made.stmt) (walk_of body.new out.new)) refused (Checking body.old.atomic_params around node (form.atomic (plain_stmts (map plain_stmt stmts.now))) (walk_of body.old out.old)) }
 {
     let place = node.place;
     let mut node = node;
@@ -178,6 +188,9 @@ pub fn atomic(
     node.note_if(Kind::AtomicBody, inner.reaches_nd);
     node.settle()?;
     let effects = entered(body.alloc, &inner)?;
-    take_in(body.alloc, out, inner, leaving)?;
-    Ok(made::entered(place, effects, done.stmts))
+    take_in(out, inner, leaving)?;
+    Ok(Checked {
+        completes: true,
+        stmt: made::entered(place, effects, done.stmts),
+    })
 }

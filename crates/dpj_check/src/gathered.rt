@@ -12,12 +12,7 @@ use dpj_parts::as_effects;
 use std::alloc::Global;
 
 /// Adds what was found of a piece of the text, as it is after the piece.
-pub fn take_in(
-    alloc: Global,
-    out: &mut Found,
-    inner: Found,
-    leaving: Leaving,
-) -> Result<(), NoMemory>
+pub fn take_in(out: &mut Found, inner: Found, leaving: Leaving) -> Result<(), NoMemory>
     ensures { OnOk result (out.new ≡ taken_in leaving out.old inner) }
 {
     let Found {
@@ -26,7 +21,7 @@ pub fn take_in(
         reaches_nd,
     } = inner;
     out.reaches_nd = out.reaches_nd || reaches_nd;
-    add_left(alloc, &mut out.effects, &effects, leaving)?;
+    add_left(&mut out.effects, effects, leaving)?;
     add_uses(&mut out.uses, uses)
 }
 
@@ -42,18 +37,7 @@ pub fn entered(alloc: Global, found: &Found) -> Result<Items<Effect>, NoMemory>
     ensures { IfOk result (λ effects. effects ≡ entered found.now) }
 {
     let marked = found.effects.marked(alloc)?;
-    effects_of(alloc, &with_uses(alloc, marked, found.uses.as_slice())?)
-}
-
-/// The effects of a set, in their order.
-fn effects_of(alloc: Global, set: &EffectSet) -> Result<Items<Effect>, NoMemory>
-    ensures { IfOk result (λ effects. effects ≡ set.now) }
-{
-    let mut effects = Items::new(alloc);
-    for e in set.as_slice() {
-        effects.push(e.copy(alloc)?)?;
-    }
-    Ok(effects)
+    with_uses(alloc, marked, found.uses.as_slice())?.into_items()
 }
 
 /// Makes effects of the uses of a part, or uses of the part that it is of.
@@ -130,16 +114,17 @@ fn move_use(part_use: PartUse, view: u32, outer: u32) -> PartUse
 }
 
 /// Adds what is left of effects after a scope.
-fn add_left(
-    alloc: Global,
-    set: &mut EffectSet,
-    effects: &EffectSet,
-    leaving: Leaving,
-) -> Result<(), NoMemory>
-    ensures { OnOk result (set.new ≡ gathered set.old (all_left leaving effects.now)) }
+fn add_left(set: &mut EffectSet, effects: EffectSet, leaving: Leaving) -> Result<(), NoMemory>
+    ensures { OnOk result (set.new ≡ gathered set.old (all_left leaving effects)) }
 {
-    for e in effects.as_slice() {
-        if let Some(e) = leaving.left_of(alloc, e)? {
+    if effects.is_empty() {
+        return Ok(());
+    }
+    if set.is_empty() && leaving.keeps_all(effects.as_slice()) {
+        return set.take_all(effects);
+    }
+    for e in effects.into_items()?.into_vec() {
+        if let Some(e) = leaving.left_of(e) {
             set.add(e)?;
         }
     }
@@ -167,6 +152,6 @@ fn with_uses(alloc: Global, set: EffectSet, uses: &[PartUse]) -> Result<EffectSe
     ensures { IfOk result (λ made. made ≡ with_uses set uses.now) }
 {
     let mut set = set;
-    set.add_all(alloc, &as_effects(alloc, uses)?)?;
+    set.take_all(as_effects(alloc, uses)?)?;
     Ok(set)
 }

@@ -1,9 +1,9 @@
-ghost use Rattle.std.specs.Prelude.{◌≡◌, IfOk};
+ghost use Rattle.std.specs.Prelude.{◌≡◌, ◌↔◌, map, IsTrue};
 ghost use Rattle.dpj_check.specs.Leaving.{left_elem, left_path, left_mark, begins_inside, left_effect, from_here};
+ghost use Rattle.dpj_check.specs.Gathering.{all_left};
 
-use dpj_base::{Effect, Elem, Elems, Index, NoMemory, Rpl};
+use dpj_base::{Effect, Elem, Index, Rpl};
 use dpj_exprs::Env;
-use std::alloc::Global;
 
 /// What becomes of the marks of effects.
 #[derive(Clone, Copy, Debug, PartialEq, Eq)]
@@ -36,19 +36,48 @@ impl Leaving {
         }
     }
 
+    /// Whether all of these effects are left as they are.
+    pub fn keeps_all(&self, effects: &[Effect]) -> bool
+        ensures { IsTrue result ↔ (all_left self.now effects.now ≡ effects.now) }
+    {
+        for e in effects {
+            if !self.keeps(e) {
+                return false;
+            }
+        }
+        true
+    }
+
+    fn keeps(&self, e: &Effect) -> bool
+        ensures { IsTrue result ↔ (left_effect self.now e.now ≡ Some e.now) }
+    {
+        let elems = e.rpl.elems.as_slice();
+        !self.begins_inside(elems) && self.mark(e.atomic) == e.atomic && self.keeps_path(elems)
+    }
+
+    fn keeps_path(&self, elems: &[Elem]) -> bool
+        ensures { IsTrue result ↔ (map (left_elem self.now.first_slot) elems.now ≡ elems.now) }
+    {
+        for elem in elems {
+            if self.left_elem(*elem) != *elem {
+                return false;
+            }
+        }
+        true
+    }
+
     /// What is left of an effect after the scope: `[?]` for each index variable, and nothing of an effect on a
     /// local region.
-    pub fn left_of(&self, alloc: Global, e: &Effect) -> Result<Option<Effect>, NoMemory>
-        ensures { IfOk result (λ left. left ≡ left_effect self.now e.now) }
+    pub fn left_of(&self, e: Effect) -> Option<Effect>
+        ensures { result ≡ left_effect self.now e }
     {
         if self.begins_inside(e.rpl.elems.as_slice()) {
-            return Ok(None);
+            return None;
         }
-        Ok(Some(Effect {
-            access: e.access,
-            atomic: self.mark(e.atomic),
-            rpl: self.left_path(alloc, &e.rpl)?,
-        }))
+        let mut e = e;
+        e.atomic = self.mark(e.atomic);
+        self.leave_path(&mut e.rpl);
+        Some(e)
     }
 
     fn begins_inside(&self, elems: &[Elem]) -> bool
@@ -70,17 +99,13 @@ impl Leaving {
         }
     }
 
-    fn left_path(&self, alloc: Global, rpl: &Rpl) -> Result<Rpl, NoMemory>
-        ensures { IfOk result (λ left. left ≡ left_path self.now.first_slot rpl.now) }
+    fn leave_path(&self, rpl: &mut Rpl)
+        ensures { rpl.new ≡ left_path self.now.first_slot rpl.old }
     {
-        let mut elems = Elems::new(alloc);
-        for elem in rpl.elems.as_slice() {
-            elems.push(self.left_elem(*elem))?;
+        for at in 0..rpl.elems.len() {
+            let elem = rpl.elems.as_slice()[at];
+            rpl.elems.set(at, self.left_elem(elem));
         }
-        Ok(Rpl {
-            head: rpl.head,
-            elems,
-        })
     }
 
     fn left_elem(&self, elem: Elem) -> Elem

@@ -1,5 +1,5 @@
 //! Statements of the typed program, each with its plain form in its clause.
-ghost use Rattle.std.specs.Prelude.{◌≡◌, map, option_map, IfOk};
+ghost use Rattle.std.specs.Prelude.{◌≡◌, map, option_map};
 ghost use Rattle.dpj_base.specs.Types.{plain_type};
 ghost use Rattle.dpj_typed.specs.Plain.{statement, stmts_of, branches_of, choice_form, plain_source};
 ghost use Rattle.dpj_typed.specs.Plain.{StmtForm as form};
@@ -10,10 +10,9 @@ ghost use Rattle.dpj_check.specs.Simple.{printed_form, stored};
 ghost use Rattle.dpj_exprs.specs.Targeting.{plain_spot};
 ghost use Rattle.dpj_exprs.specs.Typed.{is_boolean};
 
-use dpj_base::{Boxed, Bytes, Effect, Items, NoMemory, Place, Ty};
+use dpj_base::{Boxed, Bytes, Effect, Items, Place, Ty};
 use dpj_exprs::Spot;
 use dpj_typed::{Branch, Expr, Forking, LocalRegion, PartSource, Slot, Stmt, StmtForm};
-use std::alloc::Global;
 
 /// A declaration of a local in a slot.
 #[tactic(auto, using(crate::proofs::Making::made_Declare))]
@@ -97,38 +96,20 @@ pub fn entered(place: Place, effects: Items<Effect>, body: Items<Stmt>) -> Stmt
 
 /// `if (test) then`, with an `else` where there is one.
 #[tactic(auto, using(crate::proofs::Making::made_If))]
-pub fn choice(
-    alloc: Global,
-    place: Place,
-    test: Expr,
-    then: Stmt,
-    other: Option<Stmt>,
-) -> Result<Stmt, NoMemory>
-    ensures { IfOk result (λ made. typed_stmt made ≡ statement place (choice_form (typed_expr test) (typed_stmt then) (option_map typed_stmt other))) }
+pub fn choice(place: Place, test: Expr, then: Boxed<Stmt>, other: Option<Boxed<Stmt>>) -> Stmt
+    ensures { typed_stmt result ≡ statement place (choice_form (typed_expr test) (typed_stmt then) (option_map typed_stmt other)) }
 {
-    let then = Boxed::new(alloc, then)?;
-    let other = in_box(alloc, other)?;
     let form = StmtForm::If { test, then, other };
-    Ok(Stmt { place, form })
-}
-
-fn in_box(alloc: Global, stmt: Option<Stmt>) -> Result<Option<Boxed<Stmt>>, NoMemory>
-    ensures { IfOk result (λ made. made ≡ stmt) }
-{
-    match stmt {
-        Some(stmt) => Ok(Some(Boxed::new(alloc, stmt)?)),
-        None => Ok(None),
-    }
+    Stmt { place, form }
 }
 
 /// `while (test) body`
 #[tactic(auto, using(crate::proofs::Making::made_While))]
-pub fn repeated(alloc: Global, place: Place, test: Expr, body: Stmt) -> Result<Stmt, NoMemory>
-    ensures { IfOk result (λ made. typed_stmt made ≡ statement place (form.while_loop (typed_expr test) (typed_stmt body))) }
+pub fn repeated(place: Place, test: Expr, body: Boxed<Stmt>) -> Stmt
+    ensures { typed_stmt result ≡ statement place (form.while_loop (typed_expr test) (typed_stmt body)) }
 {
-    let body = Boxed::new(alloc, body)?;
     let form = StmtForm::While { test, body };
-    Ok(Stmt { place, form })
+    Stmt { place, form }
 }
 
 /// `print` of an int or a boolean.
@@ -136,11 +117,11 @@ pub fn repeated(alloc: Global, place: Place, test: Expr, body: Stmt) -> Result<S
 pub fn printed(place: Place, value: Expr) -> Stmt
     ensures { typed_stmt result ≡ statement place (printed_form (typed_expr value)) }
 {
-    if is_boolean(&value.ty) {
-        let form = StmtForm::PrintBool(value);
-        return Stmt { place, form };
-    }
-    let form = StmtForm::PrintInt(value);
+    let form = if is_boolean(&value.ty) {
+        StmtForm::PrintBool(value)
+    } else {
+        StmtForm::PrintInt(value)
+    };
     Stmt { place, form }
 }
 
@@ -204,15 +185,8 @@ fn forking(nd: bool) -> Forking
 
 /// A `foreach`, whose variable has the slot.
 #[tactic(auto, using(crate::proofs::Making::made_Foreach))]
-pub fn iterated(
-    alloc: Global,
-    place: Place,
-    nd: bool,
-    slot: u32,
-    range: (Expr, Expr),
-    body: Stmt,
-) -> Result<Stmt, NoMemory>
-    ensures { IfOk result (λ made. typed_stmt made ≡ statement place (form.foreach (forking_of nd) slot (typed_expr range.0) (typed_expr range.1) (typed_stmt body))) }
+pub fn iterated(place: Place, nd: bool, slot: u32, range: (Expr, Expr), body: Boxed<Stmt>) -> Stmt
+    ensures { typed_stmt result ≡ statement place (form.foreach (forking_of nd) slot (typed_expr range.0) (typed_expr range.1) (typed_stmt body)) }
 {
     let (start, count) = range;
     let form = StmtForm::Foreach {
@@ -220,30 +194,23 @@ pub fn iterated(
         slot: Slot { number: slot },
         start,
         count,
-        body: Boxed::new(alloc, body)?,
+        body,
     };
-    Ok(Stmt { place, form })
+    Stmt { place, form }
 }
 
 /// A `foreach_parts`, whose part has the slot.
 #[tactic(auto, using(crate::proofs::Making::made_ForeachParts))]
-pub fn parted(
-    alloc: Global,
-    place: Place,
-    part: u32,
-    source: PartSource,
-    count: Expr,
-    body: Stmt,
-) -> Result<Stmt, NoMemory>
-    ensures { IfOk result (λ made. typed_stmt made ≡ statement place (form.foreach_parts part (plain_source source) (typed_expr count) (typed_stmt body))) }
+pub fn parted(place: Place, part: u32, source: PartSource, count: Expr, body: Boxed<Stmt>) -> Stmt
+    ensures { typed_stmt result ≡ statement place (form.foreach_parts part (plain_source source) (typed_expr count) (typed_stmt body)) }
 {
     let form = StmtForm::ForeachParts {
         part: Slot { number: part },
         source,
         count,
-        body: Boxed::new(alloc, body)?,
+        body,
     };
-    Ok(Stmt { place, form })
+    Stmt { place, form }
 }
 
 /// `region ..;`

@@ -49,7 +49,7 @@ impl Node {
     ghost use Rattle.dpj_check.specs.Noting.{fault_of, node_at, settled_node, with_fault, with_fault_if, with_found};
 
     /// A statement after one that doesn't complete is a fault.
-    #[tactic(auto, using(crate::proofs::Noting::noted_told))]
+    #[tactic(auto, using(crate::proofs::Noting::noted_reported))]
     pub fn of(stmt: &Stmt, follows: bool) -> Node
         ensures node { result ≡ node_at stmt.now.place follows }
         ensures clean { fault_of result ≡ None → follows ≡ false }
@@ -63,7 +63,7 @@ impl Node {
     }
 
     /// Notes a fault at the statement's own place, where it is there.
-    #[tactic(auto, using(crate::proofs::Noting::noted_told))]
+    #[tactic(auto, using(crate::proofs::Noting::noted_reported))]
     pub fn note_if(&mut self, kind: Kind, is_there: bool)
         ensures node { self.new ≡ with_fault_if self.old kind is_there }
         ensures clean { fault_of self.new ≡ None → fault_of self.old ≡ None }
@@ -75,7 +75,7 @@ impl Node {
     }
 
     /// Notes a fault at the statement's own place, where one was found.
-    #[tactic(auto, using(crate::proofs::Noting::noted_told))]
+    #[tactic(auto, using(crate::proofs::Noting::noted_reported))]
     pub fn note_found(&mut self, kind: Option<Kind>)
         ensures node { self.new ≡ with_found self.old kind }
         ensures clean { fault_of self.new ≡ None → fault_of self.old ≡ None }
@@ -87,10 +87,10 @@ impl Node {
     }
 
     /// Notes a fault at another place.
-    #[tactic(auto, using(crate::proofs::Noting::noted_told))]
+    #[tactic(auto, using(crate::proofs::Noting::noted_reported))]
     pub fn note_at(&mut self, kind: Kind, place: Place)
         ensures node { self.new ≡ with_fault self.old kind place }
-        ensures told { fault_of self.new ≢ None }
+        ensures reported { fault_of self.new ≢ None }
     {
         self.faults.note(kind, place);
     }

@@ -25,12 +25,12 @@ use crate::leaving::{Leaving, Marks};
 use crate::made;
 use crate::meet::parts_pass;
 use crate::node::{Around, Node};
-use crate::statements::scoped;
+use crate::statements::{Checked, scoped};
 use dpj_base::{Kind, NoMemory, Place, Plain, Stop, Ty};
 use dpj_exprs::{Found, Typed};
 use dpj_regions::is_full;
 use dpj_tree::{Expr, Named, Stmt};
-use dpj_typed::{Expr as TypedExpr, PartSource, Slot, Stmt as TypedStmt};
+use dpj_typed::{Expr as TypedExpr, PartSource, Slot};
 use std::alloc::Global;
 
 /// What a `foreach_parts` cuts into parts.
@@ -47,17 +47,20 @@ pub fn foreach_parts(
     body: &mut Body,
     around: Around,
     node: Node,
-    names: (Named, Named),
-    range: (&Expr, &Expr),
+    view: &Named,
+    var: &Named,
+    array: &Expr,
+    count: &Expr,
     iteration: &Stmt,
     out: &mut Found,
-) -> Result<TypedStmt, Stop>
+) -> Result<Checked, Stop>
+    ensures completes { IfOk result (λ done. done.completes ≡ true) }
     ensures clean { OnOk result (fault_of node ≡ None) }
     ensures keeps { OnOk result (Keeps (inside around) (plain_stmt iteration.now)) }
     ensures locals { OnOk result (¬ AssignsOuter (plain_stmt iteration.now)) }
     ensures nd { OnOk result (IsTrue (out.old.reaches_nd || holds_nd (plain_stmt iteration.now)) → IsTrue out.new.reaches_nd) }
     ensures home { OnOk result (home_of body.new ≡ home_of body.old) }
-    ensures checks { Says result (λ made. passes (typed_stmt made) (walk_of body.new out.new)) refused (Parting body.old.atomic_params around node names.0 names.1 (plain_expr range.entry.0.now) (plain_expr range.entry.1.now) (plain_stmt iteration.now) (walk_of body.old out.old)) }
+    ensures checks { Says result (λ made. passes (typed_stmt made.stmt) (walk_of body.new out.new)) refused (Parting body.old.atomic_params around node view.now var.now (plain_expr array.now) (plain_expr count.now) (plain_stmt iteration.now) (walk_of body.old out.old)) }
 {
     let place = node.place;
     let mut node = node;
@@ -65,6 +68,8 @@ pub fn foreach_parts(
     let leaving = Leaving::from_here(&body.env, Marks::Dropped);
     let mut inner = Found::new(body.alloc);
     let scope = body.env.mark();
+    let names = (*view, *var);
+    let range = (array, count);
     let (source, count) = open(body, &mut node, names, range, out)?;
     let done = scoped(body, around.inside(), iteration, &mut inner)?;
     body.env.leave(scope);
@@ -75,8 +80,11 @@ pub fn foreach_parts(
     node.note_if(Kind::Interferes, !passes);
     node.settle()?;
     let inner = hand_on_uses(body.alloc, inner, part, outer_part(&source))?;
-    take_in(body.alloc, out, inner, leaving)?;
-    Ok(made::parted(body.alloc, place, part, source, count, done.stmt)?)
+    take_in(out, inner, leaving)?;
+    Ok(Checked {
+        completes: true,
+        stmt: made::parted(place, part, source, count, done.stmt),
+    })
 }
 
 /// Reads the array and the count, and puts the part and the variable in scope. Gives what is cut, and

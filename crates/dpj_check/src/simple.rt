@@ -1,26 +1,28 @@
-ghost use Rattle.std.specs.Prelude.{◌≡◌, ◌||◌, None, Some, false, true, IsTrue, IfErr, IfOk, OnOk};
+ghost use Rattle.std.specs.Prelude.{◌≡◌, ◌||◌, None, Some, false, true, not, IsTrue, IfErr, IfOk, OnOk};
 ghost use Rattle.dpj_base.specs.Refused.{IfRefused};
 ghost use Rattle.dpj_base.specs.Types.{plain_type};
 ghost use Rattle.dpj_exprs.specs.declared.found.Found.{Found};
 ghost use Rattle.dpj_tree.specs.Plain.{plain_expr};
 ghost use Rattle.dpj_check.specs.Deciding.{is_misplaced, local_fault};
 ghost use Rattle.dpj_check.specs.Noting.{fault_of, with_fault_if};
-ghost use Rattle.dpj_check.specs.Simple.{declared_type, declared_told, is_region_name, may_print, region_noted, regions_declared, target_fault, AssigningLocal, AssigningPlace, Declaring, Performing, Printing, Returning};
-ghost use Rattle.dpj_check.specs.Walks.{home_of, judged, passes, refused, walk_of};
+ghost use Rattle.dpj_check.specs.Simple.{declared_type, declared_reported, is_region_name, may_print, region_noted, regions_declared, target_fault, AssigningLocal, AssigningPlace, Declaring, Performing, Printing, Putting, Returning};
+ghost use Rattle.dpj_check.specs.Walks.{home_of, judged, passes, refused, walk_of, Walk};
 ghost use Rattle.dpj_exprs.specs.Answer.{Says};
 ghost use Rattle.dpj_typed.specs.Plain as typed;
-ghost use Rattle.dpj_exprs.specs.Typed.{value_type};
+ghost use Rattle.dpj_exprs.specs.Targeting.{plain_target};
+ghost use Rattle.dpj_exprs.specs.Typed.{is_value, may_be, node_at, plain_typed, value_type};
 ghost use Rattle.dpj_typed.specs.Plain.{plain_stmt as typed_stmt};
 
 use crate::body::Body;
 use crate::made;
 use crate::node::{Around, Node};
-use dpj_base::{Bytes, Items, Kind, Plain, Stop, Ty};
-use dpj_exprs::{Found, Typed, read_target};
+use crate::statements::Checked;
+use dpj_base::{Bytes, Items, Kind, Place, Plain, Stop, Ty};
+use dpj_exprs::{Found, Target, Typed, read_target};
 use dpj_headers::Faults;
 use dpj_resolve::ty;
 use dpj_tree::{Expr, Named, TypeTree};
-use dpj_typed::{LocalRegion, Stmt};
+use dpj_typed::LocalRegion;
 
 /// `ty name = value;`
 pub fn declare(
@@ -31,11 +33,12 @@ pub fn declare(
     name: u32,
     value: &Expr,
     out: &mut Found,
-) -> Result<Stmt, Stop>
+) -> Result<Checked, Stop>
+    ensures completes { IfOk result (λ done. done.completes ≡ true) }
     ensures clean { OnOk result (fault_of node ≡ None) }
     ensures nd { OnOk result (IsTrue out.old.reaches_nd → IsTrue out.new.reaches_nd) }
     ensures home { OnOk result (home_of body.new ≡ home_of body.old) }
-    ensures checks { Says result (λ made. passes (typed_stmt made) (walk_of body.new out.new)) refused (Declaring node is_final tree.now name (plain_expr value.now) (walk_of body.old out.old)) }
+    ensures checks { Says result (λ made. passes (typed_stmt made.stmt) (walk_of body.new out.new)) refused (Declaring node is_final tree.now name (plain_expr value.now) (walk_of body.old out.old)) }
 {
     let place = node.place;
     let mut node = node;
@@ -49,14 +52,17 @@ pub fn declare(
     let ty = declared.copy(body.alloc)?;
     body.declare(name, ty, is_final)?;
     let value = given.into_node(value.place);
-    Ok(made::declaration(place, slot, declared, is_final, value))
+    Ok(Checked {
+        completes: true,
+        stmt: made::declaration(place, slot, declared, is_final, value),
+    })
 }
 
 /// The type that a declaration names. In a body a type with a fault is refused at once.
 fn declared_type(body: &Body, tree: &TypeTree) -> Result<Ty, Stop>
     ensures ty { IfOk result (λ ty. plain_type ty ≡ declared_type body.now.env tree.now) }
-    ensures untold { OnOk result (declared_told body.now.env tree.now ≡ None) }
-    ensures told { IfErr result (λ stop. IfRefused stop (λ refusal. declared_told body.now.env tree.now ≡ Some refusal)) }
+    ensures unreported { OnOk result (declared_reported body.now.env tree.now ≡ None) }
+    ensures reported { IfErr result (λ stop. IfRefused stop (λ refusal. declared_reported body.now.env tree.now ≡ Some refusal)) }
 {
     let mut faults = Faults::by_number();
     match ty(body.alloc, &body.env.scope(), &mut faults, tree)? {
@@ -72,10 +78,11 @@ pub fn assign_local(
     target: Named,
     value: &Expr,
     out: &mut Found,
-) -> Result<Stmt, Stop>
+) -> Result<Checked, Stop>
+    ensures completes { IfOk result (λ done. done.completes ≡ true) }
     ensures clean { OnOk result (fault_of node ≡ None) }
     ensures nd { OnOk result (IsTrue out.old.reaches_nd → IsTrue out.new.reaches_nd) }
-    ensures checks { Says result (λ made. passes (typed_stmt made) (walk_of body.now out.new)) refused (AssigningLocal node target (plain_expr value.now) (walk_of body.now out.old)) }
+    ensures checks { Says result (λ made. passes (typed_stmt made.stmt) (walk_of body.now out.new)) refused (AssigningLocal node target (plain_expr value.now) (walk_of body.now out.old)) }
 {
     let mut node = node;
     let given = body.typed(value, out)?;
@@ -84,7 +91,10 @@ pub fn assign_local(
     };
     node.note_found(local_fault(body.fits(&given, &row.ty)?, row.is_final));
     node.settle()?;
-    Ok(made::store(target.place, row.slot, given.into_node(value.place)))
+    Ok(Checked {
+        completes: true,
+        stmt: made::store(target.place, row.slot, given.into_node(value.place)),
+    })
 }
 
 /// The fault of an assignment to a local: the value doesn't fit, or the local is final.
@@ -104,28 +114,59 @@ pub fn assign_place(
     written: &Expr,
     value: &Expr,
     out: &mut Found,
-) -> Result<Stmt, Stop>
+) -> Result<Checked, Stop>
+    ensures completes { IfOk result (λ done. done.completes ≡ true) }
     ensures clean { OnOk result (fault_of node ≡ None) }
     ensures nd { OnOk result (IsTrue out.old.reaches_nd → IsTrue out.new.reaches_nd) }
-    ensures checks { Says result (λ made. passes (typed_stmt made) (walk_of body.now out.new)) refused (AssigningPlace node (plain_expr written.now) (plain_expr value.now) (walk_of body.now out.old)) }
+    ensures checks { Says result (λ made. passes (typed_stmt made.stmt) (walk_of body.now out.new)) refused (AssigningPlace node (plain_expr written.now) (plain_expr value.now) (walk_of body.now out.old)) }
 {
-    let mut node = node;
     let target = read_target(body.alloc, &body.env, out, written)?;
     let given = body.typed(value, out)?;
     match target {
-        Some(target) => {
-            let fits = body.fits(&given, &target.ty)?;
-            node.note_found(target_fault(fits, target.may_write));
-            node.settle()?;
-            let spot = target.write(out)?;
-            Ok(made::stored(written.place, spot, given.into_node(value.place)))
-        }
-        None => {
-            node.note_if(Kind::Type, !given.is_value());
-            node.settle()?;
-            Ok(made::performed(written.place, given.into_node(value.place)))
-        }
+        Some(target) => assign_target(body, node, written.place, target, given, value.place, out),
+        None => assign_anything(node, written.place, given, value.place),
     }
+}
+
+/// An assignment of a value to a target that was read.
+fn assign_target(
+    body: &Body,
+    node: Node,
+    place: Place,
+    target: Target,
+    given: Typed,
+    value: Place,
+    out: &mut Found,
+) -> Result<Checked, Stop>
+    ensures completes { IfOk result (λ done. done.completes ≡ true) }
+    ensures clean { OnOk result (fault_of node ≡ None) }
+    ensures nd { OnOk result (IsTrue out.old.reaches_nd → IsTrue out.new.reaches_nd) }
+    ensures checks { Says result (λ made. passes (typed_stmt made.stmt) (walk_of body.now out.new)) refused (Putting node place (plain_target target) (plain_typed given) (node_at value (plain_typed given)) (walk_of body.now out.old)) }
+{
+    let mut node = node;
+    let fits = body.fits(&given, &target.ty)?;
+    node.note_found(target_fault(fits, target.may_write));
+    node.settle()?;
+    let spot = target.write(out)?;
+    Ok(Checked {
+        completes: true,
+        stmt: made::stored(place, spot, given.into_node(value)),
+    })
+}
+
+/// An assignment to what comes from a part of what is no array, where every value fits.
+fn assign_anything(node: Node, place: Place, given: Typed, value: Place) -> Result<Checked, Stop>
+    ensures completes { IfOk result (λ done. done.completes ≡ true) }
+    ensures clean { OnOk result (fault_of node ≡ None) }
+    ensures checks { (w : Walk) → Says result (λ made. passes (typed_stmt made.stmt) w) refused (λ v. judged (fault_of (with_fault_if node Kind.Type (not (may_be is_value (value_type given))))) (typed.statement place (typed.perform (node_at value (plain_typed given)))) w ≡ v) }
+{
+    let mut node = node;
+    node.note_if(Kind::Type, !given.is_value());
+    node.settle()?;
+    Ok(Checked {
+        completes: true,
+        stmt: made::performed(place, given.into_node(value)),
+    })
 }
 
 /// The fault of an assignment to a field or an element: the value doesn't fit, or the target may not be written.
@@ -143,29 +184,37 @@ fn target_fault(fit: bool, may_write: bool) -> Option<Kind>
 }
 
 /// A call or a creation as a statement.
-pub fn perform(body: &Body, node: Node, e: &Expr, out: &mut Found) -> Result<Stmt, Stop>
+pub fn perform(body: &Body, node: Node, e: &Expr, out: &mut Found) -> Result<Checked, Stop>
+    ensures completes { IfOk result (λ done. done.completes ≡ true) }
     ensures clean { OnOk result (fault_of node ≡ None) }
     ensures nd { OnOk result (IsTrue out.old.reaches_nd → IsTrue out.new.reaches_nd) }
-    ensures checks { Says result (λ made. passes (typed_stmt made) (walk_of body.now out.new)) refused (Performing node (plain_expr e.now) (walk_of body.now out.old)) }
+    ensures checks { Says result (λ made. passes (typed_stmt made.stmt) (walk_of body.now out.new)) refused (Performing node (plain_expr e.now) (walk_of body.now out.old)) }
 {
     let place = node.place;
     let mut node = node;
     let given = body.typed(e, out)?;
     node.settle()?;
-    Ok(made::performed(place, given.into_node(e.place)))
+    Ok(Checked {
+        completes: true,
+        stmt: made::performed(place, given.into_node(e.place)),
+    })
 }
 
 /// `return;`
-pub fn leave(body: &Body, around: Around, node: Node) -> Result<Stmt, Stop>
+pub fn leave(body: &Body, around: Around, node: Node) -> Result<Checked, Stop>
+    ensures completes { IfOk result (λ done. done.completes ≡ false) }
     ensures placed { OnOk result (is_misplaced around false ≡ false) }
     ensures clean { OnOk result (fault_of node ≡ None) }
-    ensures checks { (found : Found) → Says result (λ made. passes (typed_stmt made) (walk_of body.now found)) refused (λ v. judged (fault_of (with_fault_if node Kind.Return (is_misplaced around false))) (typed.statement node.place typed.return_nothing) (walk_of body.now found) ≡ v) }
+    ensures checks { (found : Found) → Says result (λ made. passes (typed_stmt made.stmt) (walk_of body.now found)) refused (λ v. judged (fault_of (with_fault_if node Kind.Return (is_misplaced around false))) (typed.statement node.place typed.return_nothing) (walk_of body.now found) ≡ v) }
 {
     let place = node.place;
     let mut node = node;
     node.note_if(Kind::Return, is_misplaced(around, false));
     node.settle()?;
-    Ok(made::leaving(place))
+    Ok(Checked {
+        completes: false,
+        stmt: made::leaving(place),
+    })
 }
 
 /// `return value;`
@@ -175,11 +224,12 @@ pub fn leave_with(
     node: Node,
     value: &Expr,
     out: &mut Found,
-) -> Result<Stmt, Stop>
+) -> Result<Checked, Stop>
+    ensures completes { IfOk result (λ done. done.completes ≡ false) }
     ensures placed { OnOk result (is_misplaced around true ≡ false) }
     ensures clean { OnOk result (fault_of node ≡ None) }
     ensures nd { OnOk result (IsTrue out.old.reaches_nd → IsTrue out.new.reaches_nd) }
-    ensures checks { Says result (λ made. passes (typed_stmt made) (walk_of body.now out.new)) refused (Returning around node (plain_expr value.now) (walk_of body.now out.old)) }
+    ensures checks { Says result (λ made. passes (typed_stmt made.stmt) (walk_of body.now out.new)) refused (Returning around node (plain_expr value.now) (walk_of body.now out.old)) }
 {
     let place = node.place;
     let mut node = node;
@@ -188,7 +238,10 @@ pub fn leave_with(
     let fits = body.is_returned(around, &given)?;
     node.note_if(Kind::Type, !fits);
     node.settle()?;
-    Ok(made::leaving_with(place, given.into_node(value.place)))
+    Ok(Checked {
+        completes: false,
+        stmt: made::leaving_with(place, given.into_node(value.place)),
+    })
 }
 
 /// A `return`, with or without a value, stands in a branch or an atomic block, or doesn't fit the method.
@@ -199,28 +252,36 @@ fn is_misplaced(around: Around, valued: bool) -> bool
 }
 
 /// `print(value);`
-pub fn print(body: &Body, node: Node, value: &Expr, out: &mut Found) -> Result<Stmt, Stop>
+pub fn print(body: &Body, node: Node, value: &Expr, out: &mut Found) -> Result<Checked, Stop>
+    ensures completes { IfOk result (λ done. done.completes ≡ true) }
     ensures clean { OnOk result (fault_of node ≡ None) }
     ensures nd { OnOk result (IsTrue out.old.reaches_nd → IsTrue out.new.reaches_nd) }
-    ensures checks { Says result (λ made. passes (typed_stmt made) (walk_of body.now out.new)) refused (Printing node (plain_expr value.now) (walk_of body.now out.old)) }
+    ensures checks { Says result (λ made. passes (typed_stmt made.stmt) (walk_of body.now out.new)) refused (Printing node (plain_expr value.now) (walk_of body.now out.old)) }
 {
     let place = node.place;
     let mut node = node;
     let given = body.typed(value, out)?;
     node.note_if(Kind::Type, !may_print(&given));
     node.settle()?;
-    Ok(made::printed(place, given.into_node(value.place)))
+    Ok(Checked {
+        completes: true,
+        stmt: made::printed(place, given.into_node(value.place)),
+    })
 }
 
 /// `print` of a text.
-pub fn print_text(body: &Body, node: Node, text: &Bytes) -> Result<Stmt, Stop>
+pub fn print_text(body: &Body, node: Node, text: &Bytes) -> Result<Checked, Stop>
+    ensures completes { IfOk result (λ done. done.completes ≡ true) }
     ensures clean { OnOk result (fault_of node ≡ None) }
-    ensures checks { (found : Found) → Says result (λ made. passes (typed_stmt made) (walk_of body.now found)) refused (λ v. judged (fault_of node) (typed.statement node.place (typed.print_text text.now)) (walk_of body.now found) ≡ v) }
+    ensures checks { (found : Found) → Says result (λ made. passes (typed_stmt made.stmt) (walk_of body.now found)) refused (λ v. judged (fault_of node) (typed.statement node.place (typed.print_text text.now)) (walk_of body.now found) ≡ v) }
 {
     let place = node.place;
     let mut node = node;
     node.settle()?;
-    Ok(made::text(place, text.copy(body.alloc)?))
+    Ok(Checked {
+        completes: true,
+        stmt: made::text(place, text.copy(body.alloc)?),
+    })
 }
 
 /// An int or a boolean is printed, and no reference.
@@ -231,10 +292,11 @@ fn may_print(value: &Typed) -> bool
 }
 
 /// `region name, ..;`
-pub fn declare_regions(body: &mut Body, node: Node, names: &[Named]) -> Result<Stmt, Stop>
+pub fn declare_regions(body: &mut Body, node: Node, names: &[Named]) -> Result<Checked, Stop>
+    ensures completes { IfOk result (λ done. done.completes ≡ true) }
     ensures clean { OnOk result (fault_of node ≡ None) }
     ensures home { OnOk result (home_of body.new ≡ home_of body.old) }
-    ensures checks { (found : Found) → Says result (λ made. passes (typed_stmt made) (walk_of body.new found)) refused (λ v. regions_declared node names.now (walk_of body.old found) ≡ v) }
+    ensures checks { (found : Found) → Says result (λ made. passes (typed_stmt made.stmt) (walk_of body.new found)) refused (λ v. regions_declared node names.now (walk_of body.old found) ≡ v) }
 {
     let place = node.place;
     let mut node = node;
@@ -247,7 +309,10 @@ pub fn declare_regions(body: &mut Body, node: Node, names: &[Named]) -> Result<S
         body.declare_region(named.name)?;
     }
     node.settle()?;
-    Ok(made::regions(place, regions))
+    Ok(Checked {
+        completes: true,
+        stmt: made::regions(place, regions),
+    })
 }
 
 /// A local region whose name a region in scope has is a fault, and so is one for which there is no room.

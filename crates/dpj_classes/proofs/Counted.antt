@@ -17,11 +17,11 @@ pub methods_step : (headers : Headers) (given : List (List Constraint)) (at : �
     → map plain_method new ++ methods_meant headers given (at + 1) (length new) rest ≡ whole
 methods_step headers given at old new class left rest whole is more before =
     let own = methods_from (class_scope headers given (as_number at)) (length old) class.members in
-    let behind = λ (n : ℕ). methods_meant headers given (at + 1) n rest in
+    let following = λ (n : ℕ). methods_meant headers given (at + 1) n rest in
     let count : length new ≡ length old + length own =
     omega (arith, length-map new plain_method, length-map old plain_method, length-append (map plain_method old) own, ap length more) in
-    ap (λ n. map plain_method new ++ behind n) count
-    ∙ ap (λ rows. rows ++ behind (length old + length own)) more
-    ∙ append_assoc (map plain_method old) own (behind (length old + length own))
+    ap (λ n. map plain_method new ++ following n) count
+    ∙ ap (λ rows. rows ++ following (length old + length own)) more
+    ∙ append_assoc (map plain_method old) own (following (length old + length own))
     ∙ ap (λ l. map plain_method old ++ methods_meant headers given at (length old) l) (sym is)
     ∙ before

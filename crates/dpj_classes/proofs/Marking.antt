@@ -6,7 +6,7 @@ use Rattle.std.proofs.lemmas.List.{get_or_default, get_or_past, length_push, nil
 use Rattle.std.proofs.lemmas.List.Folds.{list_any-append}
 use Rattle.std.proofs.lemmas.List.Sums.{sum_by-set, sum_by-cons, count_by-le-length}
 use Rattle.dpj_classes.specs.declared.reach.Edge.{Edge}
-use Rattle.dpj_classes.specs.Reach.{is_marked, leads, IsBehind, itself, before}
+use Rattle.dpj_classes.specs.Reach.{is_marked, leads, IsAfter, itself, before}
 use Rattle.dpj_classes.specs.Marking.{sources, with_source, places_from, all_marked, all_added}
 
 abbrev pub among : List ℕ → ℕ → Bool
@@ -83,11 +83,11 @@ set_kept marks at other m =
 -- turn is still to come
 pub record Marking (first : List Bool) (edges : List Edge) (marks : List Bool) (pending : List ℕ) (taken to : ℕ) (rest : List ℕ) : Type 0 where
   pub same_length : length marks ≡ length first
-  pub sound : (at : ℕ) → is_marked marks at ≡ true → IsBehind first edges at
+  pub sound : (at : ℕ) → is_marked marks at ≡ true → IsAfter first edges at
   pub kept : (at : ℕ) → is_marked first at ≡ true → is_marked marks at ≡ true
   pub noted : (at : ℕ) → among pending at ≡ true → is_marked marks at ≡ true
   pub closed : (at next : ℕ) → leads edges at next ≡ true → is_marked marks next ≡ true → at < length first → (is_marked marks at ≡ true) ⊎ ((among pending next ≡ true) ⊎ ((next ≡ to) × (among rest at ≡ true)))
-  pub behind : (at : ℕ) → among rest at ≡ true → at < length first → IsBehind first edges at
+  pub following : (at : ℕ) → among rest at ≡ true → at < length first → IsAfter first edges at
   pub counted : taken + length pending ≡ marks_of marks
 
 place_there : (from : ℕ) (marks : List Bool) (k : ℕ) → is_marked marks k ≡ true → among (places_from from marks) (from + k) ≡ true
@@ -130,7 +130,7 @@ begun first edges = record {
       subst (λ k. is_marked first k ≡ true) e p.2;
   closed = λ at next l m below. let e : 0 + next ≡ next = omega arith in
       inr (inl (subst (λ k. among (places_from 0 first) k ≡ true) e (place_there 0 first next m)));
-  behind = λ at h below. absurd (false≢true h);
+  following = λ at h below. absurd (false≢true h);
   counted = omega (arith, places_count 0 first);
 }
 
@@ -151,7 +151,7 @@ taken_on {first = first} {edges = edges} {marks = marks} {taken = taken} {last =
       | inr r ↦ absurd (false≢true r.1)
     ]
   ];
-  behind = λ at s below. before at to below (leads_sources edges at to ∙ s) (h.sound to (h.noted to (among_last pending to to refl)));
+  following = λ at s below. before at to below (leads_sources edges at to ∙ s) (h.sound to (h.noted to (among_last pending to to refl)));
   counted = omega (arith, h.counted, length_push pending to);
 }
 
@@ -174,7 +174,7 @@ one_marked {first = first} {edges = edges} {marks = marks} {pending = pending} {
       ]
     ]
   ];
-  behind = λ one r below. h.behind one (or_right (at == one) _ r) below;
+  following = λ one r below. h.following one (or_right (at == one) _ r) below;
   counted = h.counted;
 }
 one_marked {first = first} {edges = edges} {marks = marks} {pending = pending} {taken = taken} {to = to} {at = at} {rest = rest} h false e =
@@ -182,7 +182,7 @@ one_marked {first = first} {edges = edges} {marks = marks} {pending = pending} {
     record {
       same_length = length-set marks at true ∙ h.same_length;
       sound = λ one m. elim (cases_eq one at) [
-        | inl same ↦ h.behind one (or_left (at == one) _ (eq-eqb at one (sym same))) (omega (arith, h.same_length, within, same))
+        | inl same ↦ h.following one (or_left (at == one) _ (eq-eqb at one (sym same))) (omega (arith, h.same_length, within, same))
         | inr differ ↦ h.sound one (sym (get_or-set_other marks at one true false differ) ∙ m)
       ];
       kept = λ one m. set_kept marks at one (h.kept one m);
@@ -203,7 +203,7 @@ one_marked {first = first} {edges = edges} {marks = marks} {pending = pending} {
           ]
         ]
       ];
-      behind = λ one r below. h.behind one (or_right (at == one) _ r) below;
+      following = λ one r below. h.following one (or_right (at == one) _ r) below;
       counted =
           let was : ◌≡◌ {A = ℕ} (cond (get_or marks at true) 1 0) 0 = ap (λ b. cond b 1 0) e in
           omega (arith, h.counted, length_push pending at, was, sum_by-set (λ (mark : Bool). cond mark 1 0) marks at true true within);
@@ -224,7 +224,7 @@ settled h = record {
     | inl k ↦ inl k
     | inr o ↦ elim o [ inl p ↦ inr (inl p) | inr r ↦ absurd (false≢true r.1) ]
   ];
-  behind = h.behind;
+  following = h.following;
   counted = h.counted;
 }
 
@@ -237,10 +237,10 @@ turn_within {marks = marks} pending to h =
     omega (arith, h.same_length, marked_within marks to (h.noted to (among_last pending to to refl)))
 
 -- nothing is left: what is marked is what reaches something that was marked first
-pub done : {first : List Bool} {edges : List Edge} {marks : List Bool} {taken : ℕ} → Marking first edges marks [] taken 0 [] → (at : ℕ) → (is_marked marks at ≡ true) ↔ IsBehind first edges at
+pub done : {first : List Bool} {edges : List Edge} {marks : List Bool} {taken : ℕ} → Marking first edges marks [] taken 0 [] → (at : ℕ) → (is_marked marks at ≡ true) ↔ IsAfter first edges at
 done {first = first} {edges = edges} {marks = marks} h at = (h.sound at, reached)
   where
-    reached : {one : ℕ} → IsBehind first edges one → is_marked marks one ≡ true
+    reached : {one : ℕ} → IsAfter first edges one → is_marked marks one ≡ true
     reached (itself one m) = h.kept one m
     reached (before one next below l r) = elim (h.closed one next l (reached r) below) [
       | inl k ↦ k

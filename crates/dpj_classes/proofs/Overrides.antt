@@ -15,7 +15,7 @@ use Rattle.dpj_headers.specs.declared.header.Header.{Header}
 use Rattle.dpj_headers.specs.declared.header.Headers.{Headers}
 use Rattle.dpj_headers.specs.declared.forest.Step.{Step}
 use Rattle.dpj_headers.specs.declared.forest.Step.TheVariants as step
-use Rattle.dpj_headers.specs.First.{IsToldFirst, parents_in}
+use Rattle.dpj_headers.specs.First.{IsReportedFirst, parents_in}
 use Rattle.dpj_headers.specs.Gathered.{headers_in}
 use Rattle.dpj_headers.specs.Headers.{chain, nearest, parent_of, parents_of, class_count}
 use Rattle.dpj_headers.specs.Numbers.{as_number}
@@ -142,7 +142,7 @@ pub row_owned : (program : Program) (headers : Headers) (all : List (List Constr
 row_owned program headers all rows counted read at row below = (row_counted program headers all rows counted read at (get_or rows at row) (slice_get-get_or rows at row below)).1
 
 -- the rows of a table are counted
-rows_counted : (program : Program) (table : Table) → AreCounted (length program.names) program.classes → IsToldFirst program.classes None → headers_of table ≡ headers_in program → IsReadOf program.classes table →
+rows_counted : (program : Program) (table : Table) → AreCounted (length program.names) program.classes → IsReportedFirst program.classes None → headers_of table ≡ headers_in program → IsReadOf program.classes table →
     AreRows (length program.names) (methods_of table) (parents_of (headers_of table))
 rows_counted program table counted first are read = record {
   sound = subst IsForest (sym same) (sound_from program.classes counted.0 first);
@@ -177,7 +177,7 @@ entries_are (entry ∷ entries) (row ∷ rows) f same each =
     ap (λ one. one ∷ entries) (each 0) ∙ ap (λ more. f row ∷ more) (entries_are entries rows f (omega (arith, same)) (λ at. each (suc at)))
 
 -- it is found on the way through the classes
-pub finds_overridden : (program : Program) (table : Table) → AreCounted (length program.names) program.classes → IsToldFirst program.classes None → headers_of table ≡ headers_in program → IsReadOf program.classes table →
+pub finds_overridden : (program : Program) (table : Table) → AreCounted (length program.names) program.classes → IsReportedFirst program.classes None → headers_of table ≡ headers_in program → IsReadOf program.classes table →
     table.overrides ≡ overridden_on_way (parents_of (headers_of table)) (methods_of table) (length program.names) → table.overrides ≡ map (overridden_in table) (methods_of table)
 finds_overridden program table counted first are read found =
     let rows = methods_of table in

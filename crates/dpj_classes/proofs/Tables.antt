@@ -11,7 +11,7 @@ use Rattle.dpj_classes.specs.Bodies.{class_marks, override_edges}
 use Rattle.dpj_classes.specs.Build.{IsTable}
 use Rattle.dpj_classes.specs.Edges.{call_edges, without_forks}
 use Rattle.dpj_classes.specs.Overridden.{overridden_in}
-use Rattle.dpj_classes.specs.Reach.{IsBehind}
+use Rattle.dpj_classes.specs.Reach.{IsAfter}
 use Rattle.dpj_classes.specs.RowNumbers.{rows_on_way}
 use Rattle.dpj_classes.specs.Rows.{all_constraints, supers_meant, fields_meant, methods_meant}
 use Rattle.dpj_classes.specs.Table.{headers_of, methods_of}
@@ -74,7 +74,7 @@ marks_same (x ∷ a) (y ∷ b) many each =
 
 -- which methods reach an nd construct, over this table
 abbrev Reaches : Program → Table → ℕ → Type 0
-Reaches program table id = IsBehind (flat_map class_marks program.classes) (call_edges table 0 0 program.classes ++ override_edges table (methods_of table)) id
+Reaches program table id = IsAfter (flat_map class_marks program.classes) (call_edges table 0 0 program.classes ++ override_edges table (methods_of table)) id
 
 pub one_table : (program : Program) (left right : Table) → IsTable program left → IsTable program right → left ≡ right
 one_table program left right l r =

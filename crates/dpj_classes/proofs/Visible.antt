@@ -21,7 +21,7 @@ use Rattle.dpj_classes.specs.declared.overridden.Own.{Own}
 use Rattle.dpj_classes.specs.declared.rows.MethodRow.{MethodRow}
 use Rattle.dpj_classes.specs.Places.{last_from, by_id, is_method_of, method_number}
 use Rattle.dpj_classes.specs.Places.{entry_at}
-use Rattle.dpj_classes.specs.Visible.{own_row, with_own, all_own, all_overriding, all_in_front, all_behind, Seen, none_seen, after_step, after_way, overridden_on_way}
+use Rattle.dpj_classes.specs.Visible.{own_row, with_own, all_own, all_overriding, all_in_front, all_after, Seen, none_seen, after_step, after_way, overridden_on_way}
 
 append_nil : {A : Type 0} (xs : List A) → xs ++ [] ≡ xs
 append_nil [] = refl
@@ -282,11 +282,11 @@ front_shows names rows class classes visible h = record {
     owns = own_from class 0 rows
 
 -- it is left again
-behind_entry : (overridden visible : List (Option ℕ)) (owns : List Own) (before : ℕ → Option ℕ) (name : ℕ) → name < length visible → ((own : Own) → Among own owns → entry_at overridden own.row ≡ before own.name) →
-    (is_named name owns ≡ false → entry_at visible name ≡ before name) → entry_at (all_behind overridden visible owns) name ≡ before name
-behind_entry overridden visible [] before name l owned rest = rest refl
-behind_entry overridden visible (own ∷ more) before name l owned rest =
-    behind_entry overridden (slice_set visible own.name (entry_at overridden own.row)) more before name (omega (arith, length-set visible own.name (entry_at overridden own.row))) (λ other k. owned other (inr k))
+after_entry : (overridden visible : List (Option ℕ)) (owns : List Own) (before : ℕ → Option ℕ) (name : ℕ) → name < length visible → ((own : Own) → Among own owns → entry_at overridden own.row ≡ before own.name) →
+    (is_named name owns ≡ false → entry_at visible name ≡ before name) → entry_at (all_after overridden visible owns) name ≡ before name
+after_entry overridden visible [] before name l owned rest = rest refl
+after_entry overridden visible (own ∷ more) before name l owned rest =
+    after_entry overridden (slice_set visible own.name (entry_at overridden own.row)) more before name (omega (arith, length-set visible own.name (entry_at overridden own.row))) (λ other k. owned other (inr k))
     (λ none.
     elim (eqb_tells own.name name) [
       | inl p ↦
@@ -297,17 +297,17 @@ behind_entry overridden visible (own ∷ more) before name l owned rest =
           ∙ rest (ap (λ b. b || is_named name more) q.0 ∙ none)
     ])
 
-behind_length : (overridden visible : List (Option ℕ)) (owns : List Own) → length (all_behind overridden visible owns) ≡ length visible
-behind_length overridden visible [] = refl
-behind_length overridden visible (own ∷ more) =
-    behind_length overridden (slice_set visible own.name (entry_at overridden own.row)) more ∙ length-set visible own.name (entry_at overridden own.row)
+after_length : (overridden visible : List (Option ℕ)) (owns : List Own) → length (all_after overridden visible owns) ≡ length visible
+after_length overridden visible [] = refl
+after_length overridden visible (own ∷ more) =
+    after_length overridden (slice_set visible own.name (entry_at overridden own.row)) more ∙ length-set visible own.name (entry_at overridden own.row)
 
-behind_shows : (names : ℕ) (rows : List MethodRow) (class : ℕ) (classes : List ℕ) (overridden visible : List (Option ℕ)) → Shows names rows (class ∷ classes) visible → ((own : Own) → Among own (own_from class 0 rows) → entry_at overridden own.row ≡ meaning rows classes own.name) →
-    Shows names rows classes (all_behind overridden visible (own_from class 0 rows))
-behind_shows names rows class classes overridden visible h owned = record {
-  each = behind_length overridden visible owns ∙ h.each;
+after_shows : (names : ℕ) (rows : List MethodRow) (class : ℕ) (classes : List ℕ) (overridden visible : List (Option ℕ)) → Shows names rows (class ∷ classes) visible → ((own : Own) → Among own (own_from class 0 rows) → entry_at overridden own.row ≡ meaning rows classes own.name) →
+    Shows names rows classes (all_after overridden visible (own_from class 0 rows))
+after_shows names rows class classes overridden visible h owned = record {
+  each = after_length overridden visible owns ∙ h.each;
   shown = λ name l.
-      behind_entry overridden visible owns (meaning rows classes) name (omega (arith, h.each)) owned
+      after_entry overridden visible owns (meaning rows classes) name (omega (arith, h.each)) owned
       (λ none. h.shown name l ∙ ap (λ o. option_map_or (λ id. Some id) o (meaning rows classes name)) (sym (own_last class name 0 None rows) ∙ last_none name None owns none));
 }
   where
@@ -361,8 +361,8 @@ record Ready (names : ℕ) (rows : List MethodRow) (above : List ℕ) (seen : Se
   shows : Shows names rows above seen.visible
   each : length seen.overridden ≡ length rows
 
-ready_behind : (names : ℕ) (rows : List MethodRow) (parents : List (Option ℕ)) (above : List ℕ) (old new : Seen) (through : List ℕ) → Ready names rows above old → Walked names rows parents above old new through → Ready names rows above new
-ready_behind names rows parents above old new through ready walked = record {
+ready_after : (names : ℕ) (rows : List MethodRow) (parents : List (Option ℕ)) (above : List ℕ) (old new : Seen) (through : List ℕ) → Ready names rows above old → Walked names rows parents above old new through → Ready names rows above new
+ready_after names rows parents above old new through ready walked = record {
   shows = record { each = walked.shows.each; shown = walked.shows.shown };
   each = walked.kept.as_many ∙ ready.each;
 }
@@ -395,7 +395,7 @@ walks_then names rows parents above xs ys first more h k seen ready =
     let lists = listed rows parents in
     let mid = after_way lists seen xs in
     let one = h seen ready in
-    let two = k mid (ready_behind names rows parents above seen mid first ready one) in
+    let two = k mid (ready_after names rows parents above seen mid first ready one) in
     subst (λ new. Walked names rows parents above seen new (first ++ more)) (sym (after-append lists seen xs ys))
     (walked_then names rows parents above seen mid (after_way lists mid ys) first more one two)
 
@@ -411,8 +411,8 @@ walk_deeper : (names : ℕ) (rows : List MethodRow) (parents : List (Option ℕ)
     WalksThrough names rows parents (superclasses parents class) (step.Enter class ∷ (down ++ step.Leave class ∷ [])) (class ∷ below)
 walk_deeper names rows parents class down below are l inner seen ready =
     subst (λ new. Walked names rows parents above seen new (class ∷ below)) (sym (after-append lists into down (step.Leave class ∷ []))) (record {
-      shows = subst (λ owns. Shows names rows above (all_behind bottom.overridden bottom.visible owns)) (sym is)
-          (behind_shows names rows class above bottom.overridden bottom.visible (record { each = through.shows.each; shown = through.shows.shown })
+      shows = subst (λ owns. Shows names rows above (all_after bottom.overridden bottom.visible owns)) (sym is)
+          (after_shows names rows class above bottom.overridden bottom.visible (record { each = through.shows.each; shown = through.shows.shown })
           (λ own k. through.kept.same own.row (entered own k) ∙ (own_meaning names rows parents class own are k).2));
       kept = kept_then (overriding_at rows parents) seen.overridden into.overridden bottom.overridden entering through.kept;
       found = λ one own j m among.

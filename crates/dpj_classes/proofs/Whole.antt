@@ -2,11 +2,11 @@
 use Rattle.std.proofs.Common.{inl, inr}
 use Rattle.dpj_base.specs.declared.refusal.Refusal.{Refusal}
 use Rattle.dpj_tree.specs.declared.class.Program.{Program}
-use Rattle.dpj_headers.specs.Second.{IsToldOf}
-use Rattle.dpj_classes.specs.Build.{IsTold}
-use Rattle.dpj_classes.specs.Build.IsTold.{in_classes, in_members}
+use Rattle.dpj_headers.specs.Second.{IsReportedOf}
+use Rattle.dpj_classes.specs.Build.{IsReported}
+use Rattle.dpj_classes.specs.Build.IsReported.{in_classes, in_members}
 
 -- a fault of the headers is one of the classes by themselves or one of their members
-pub told_by_names : (program : Program) (fault : Refusal) → IsToldOf program.classes fault → IsTold program fault
-told_by_names program fault (inl first) = in_classes first
-told_by_names program fault (inr second) = in_members second.0 second.1
+pub reported_by_names : (program : Program) (fault : Refusal) → IsReportedOf program.classes fault → IsReported program fault
+reported_by_names program fault (inl first) = in_classes first
+reported_by_names program fault (inr second) = in_members second.0 second.1

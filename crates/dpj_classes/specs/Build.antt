@@ -6,24 +6,24 @@ use Rattle.dpj_tree.specs.declared.class.Class.{Class}
 use Rattle.dpj_tree.specs.declared.class.Program.{Program}
 use Rattle.dpj_headers.specs.declared.faults.Order.TheVariants as order
 use Rattle.dpj_headers.specs.declared.header.Headers.{Headers}
-use Rattle.dpj_headers.specs.Faults.{told, none_by, all_noted}
-use Rattle.dpj_headers.specs.First.{IsToldFirst}
+use Rattle.dpj_headers.specs.Faults.{reported, none_by, all_noted}
+use Rattle.dpj_headers.specs.First.{IsReportedFirst}
 use Rattle.dpj_headers.specs.Gathered.{headers_in}
-use Rattle.dpj_headers.specs.Second.{told_second}
+use Rattle.dpj_headers.specs.Second.{reported_second}
 use Rattle.dpj_classes.specs.declared.table.Table.{Table}
 use Rattle.dpj_classes.specs.Bodies.{class_marks, override_edges}
 use Rattle.dpj_classes.specs.Edges.{call_edges, without_forks}
 use Rattle.dpj_classes.specs.Main.{main_faults}
 use Rattle.dpj_classes.specs.Overridden.{overridden_in}
 use Rattle.dpj_classes.specs.Overriding.{override_faults}
-use Rattle.dpj_classes.specs.Reach.{IsBehind}
+use Rattle.dpj_classes.specs.Reach.{IsAfter}
 use Rattle.dpj_classes.specs.RowNumbers.{rows_on_way}
 use Rattle.dpj_classes.specs.Rows.{plain_super, plain_field, plain_method, all_constraints, all_constraint_faults, supers_meant, fields_meant, methods_meant, signature_faults}
 use Rattle.dpj_classes.specs.Table.{headers_of, all_given, supers_of, fields_of, methods_of, is_forking}
 
 -- the fault that is reported of these: that with the least place
 abbrev pub first_of : List Refusal → Option Refusal
-first_of found = told (all_noted (none_by order.Place) found)
+first_of found = reported (all_noted (none_by order.Place) found)
 
 -- what is wrong in all signatures, those of constraints of classes included
 abbrev pub text_faults : Headers → List Class → List Refusal
@@ -45,7 +45,7 @@ pub record IsReadOf (classes : List Class) (table : Table) : Type 0 where
 -- or a call, a creation or an overriding method leads from it to one of which that is so
 pub record TellsForking (classes : List Class) (table : Table) : Type 0 where
   pub as_many : length table.forks ≡ length (flat_map class_marks classes)
-  pub each : (id : ℕ) → IsTrue (is_forking table id) ↔ IsBehind (flat_map class_marks classes) (call_edges (without_forks table) 0 0 classes ++ override_edges table (methods_of table)) id
+  pub each : (id : ℕ) → IsTrue (is_forking table id) ↔ IsAfter (flat_map class_marks classes) (call_edges (without_forks table) 0 0 classes ++ override_edges table (methods_of table)) id
 
 -- the table is that of the program: there is one such table
 pub record IsTable (program : Program) (table : Table) : Type 0 where
@@ -57,13 +57,13 @@ pub record IsTable (program : Program) (table : Table) : Type 0 where
 
 -- nothing is wrong in the classes by themselves, nor in their members
 pub record AreWellNamed (classes : List Class) : Type 0 where
-  pub first : IsToldFirst classes None
-  pub second : told_second classes ≡ None
+  pub first : IsReportedFirst classes None
+  pub second : reported_second classes ≡ None
 
 -- the fault is the first one of the classes by themselves; or of their members, where there is none there; or of the
 -- signatures, where there is none in these either; or else of the table as a whole
-pub data IsTold (program : Program) (fault : Refusal) : Type 0 where
-  in_classes : IsToldFirst program.classes (Some fault) → IsTold program fault
-  in_members : IsToldFirst program.classes None → told_second program.classes ≡ Some fault → IsTold program fault
-  in_signatures : AreWellNamed program.classes → first_of (text_faults (headers_in program) program.classes) ≡ Some fault → IsTold program fault
-  in_table : (table : Table) → AreWellNamed program.classes → IsTable program table → first_of (table_faults table program.names) ≡ Some fault → IsTold program fault
+pub data IsReported (program : Program) (fault : Refusal) : Type 0 where
+  in_classes : IsReportedFirst program.classes (Some fault) → IsReported program fault
+  in_members : IsReportedFirst program.classes None → reported_second program.classes ≡ Some fault → IsReported program fault
+  in_signatures : AreWellNamed program.classes → first_of (text_faults (headers_in program) program.classes) ≡ Some fault → IsReported program fault
+  in_table : (table : Table) → AreWellNamed program.classes → IsTable program table → first_of (table_faults table program.names) ≡ Some fault → IsReported program fault

@@ -85,8 +85,8 @@ declared_by (statement place (declare is_final ty name value)) = Some (name, ty)
 declared_by s = None
 
 -- the locals after a statement
-abbrev pub behind : Headers → Names Shape → PlainStmt → Names Shape
-behind headers locals s = option_map_or (λ local. with_name locals local.0 (tree_shape headers local.1)) (declared_by s) locals
+abbrev pub following : Headers → Names Shape → PlainStmt → Names Shape
+following headers locals s = option_map_or (λ local. with_name locals local.0 (tree_shape headers local.1)) (declared_by s) locals
 
 -- the calls and creations of a statement
 abbrev mutual
@@ -120,7 +120,7 @@ abbrev mutual
   -- a block: what a statement declares is in scope behind it
   pub block_calls : Table → ℕ → Names Shape → PlainStmts → List ℕ
   block_calls table class locals no_stmts = []
-  block_calls table class locals (more_stmts s ss) = stmt_calls table class locals s ++ block_calls table class (behind (headers_of table) locals s) ss
+  block_calls table class locals (more_stmts s ss) = stmt_calls table class locals s ++ block_calls table class (following (headers_of table) locals s) ss
 
   -- branches: each is a block of its own
   pub branch_calls : Table → ℕ → Names Shape → PlainStmts → List ℕ

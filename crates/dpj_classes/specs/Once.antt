@@ -3,7 +3,7 @@ use Rattle.std.specs.Prelude.{◌≡◌, None}
 use Rattle.dpj_base.specs.declared.refusal.Refusal.{Refusal}
 use Rattle.dpj_tree.specs.declared.class.Program.{Program}
 use Rattle.dpj_classes.specs.declared.table.Table.{Table}
-use Rattle.dpj_classes.specs.Build.{AreWellNamed, IsTable, IsTold, first_of, table_faults}
+use Rattle.dpj_classes.specs.Build.{AreWellNamed, IsTable, IsReported, first_of, table_faults}
 
 -- a program has one class table at most
 abbrev pub OneTable : Type 0
@@ -11,5 +11,5 @@ OneTable = (program : Program) (left right : Table) → IsTable program left →
 
 -- one fault is reported of it at most, and none where names and signatures are free of faults and so is the table as a whole
 pub record OneFault : Type 0 where
-  pub one : (program : Program) (left right : Refusal) → IsTold program left → IsTold program right → left ≡ right
-  pub none : (program : Program) (table : Table) (fault : Refusal) → AreWellNamed program.classes → IsTable program table → first_of (table_faults table program.names) ≡ None → IsTold program fault → ⊥
+  pub one : (program : Program) (left right : Refusal) → IsReported program left → IsReported program right → left ≡ right
+  pub none : (program : Program) (table : Table) (fault : Refusal) → AreWellNamed program.classes → IsTable program table → first_of (table_faults table program.names) ≡ None → IsReported program fault → ⊥

@@ -11,6 +11,6 @@ abbrev pub leads : List Edge → ℕ → ℕ → Bool
 leads edges from to = list_any (λ edge. (edge.from == from) && (edge.to == to)) edges
 
 -- it is marked itself, or an edge leads from it to one that is so
-pub data IsBehind (marks : List Bool) (edges : List Edge) : ℕ → Type 0 where
-  itself : (at : ℕ) → is_marked marks at ≡ true → IsBehind marks edges at
-  before : (at next : ℕ) → at < length marks → leads edges at next ≡ true → IsBehind marks edges next → IsBehind marks edges at
+pub data IsAfter (marks : List Bool) (edges : List Edge) : ℕ → Type 0 where
+  itself : (at : ℕ) → is_marked marks at ≡ true → IsAfter marks edges at
+  before : (at next : ℕ) → at < length marks → leads edges at next ≡ true → IsAfter marks edges next → IsAfter marks edges at

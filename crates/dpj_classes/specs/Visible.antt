@@ -34,10 +34,10 @@ all_in_front visible [] = visible
 all_in_front visible (own ∷ more) = all_in_front (slice_set visible own.name (Some own.id)) more
 
 -- the name of each means again what the method overrides
-abbrev pub all_behind : List (Option ℕ) → List (Option ℕ) → List Own → List (Option ℕ)
-all_behind overridden visible [] = visible
-all_behind overridden visible (own ∷ more) =
-    all_behind overridden (slice_set visible own.name (entry_at overridden own.row)) more
+abbrev pub all_after : List (Option ℕ) → List (Option ℕ) → List Own → List (Option ℕ)
+all_after overridden visible [] = visible
+all_after overridden visible (own ∷ more) =
+    all_after overridden (slice_set visible own.name (entry_at overridden own.row)) more
 
 -- what is known at a step of the way
 pub record Seen : Type 0 where
@@ -53,7 +53,7 @@ after_step lists seen (step.Enter class) =
     let own = slice_index_or lists class [] in
     record { visible = all_in_front seen.visible own; overridden = all_overriding seen.visible seen.overridden own }
 after_step lists seen (step.Leave class) =
-    record seen { visible = all_behind seen.overridden seen.visible (slice_index_or lists class []) }
+    record seen { visible = all_after seen.overridden seen.visible (slice_index_or lists class []) }
 
 abbrev pub after_way : List (List Own) → Seen → List Step → Seen
 after_way lists seen [] = seen

@@ -3,7 +3,7 @@ ghost use Rattle.dpj_tree.specs.Nd.{holds_nd, some_holds_nd};
 ghost use Rattle.dpj_tree.specs.Plain.{plain_expr, plain_exprs, plain_stmt, plain_stmts};
 ghost use Rattle.dpj_resolve.specs.Scoped.{with_name};
 ghost use Rattle.dpj_classes.specs.Bodies.{foreach_holds_nd};
-ghost use Rattle.dpj_classes.specs.Calls.{shape_of, id_of, calls_of, all_calls, invocation_shape, invocation_calls, IsPaired, behind, stmt_calls, block_calls, branch_calls, foreach_calls, simple_calls, body_calls};
+ghost use Rattle.dpj_classes.specs.Calls.{shape_of, id_of, calls_of, all_calls, invocation_shape, invocation_calls, IsPaired, following, stmt_calls, block_calls, branch_calls, foreach_calls, simple_calls, body_calls};
 ghost use Rattle.dpj_classes.specs.Shapes.{tree_shape, written_shape, field_shape, called_row, call_shape, run_row, create_shape};
 ghost use Rattle.dpj_classes.specs.Table.{headers_of};
 
@@ -254,7 +254,7 @@ impl Walk<'_> {
 
     /// Takes in what a statement declares.
     fn declared(&self, locals: &mut Scoped<Shape>, stmt: &Stmt) -> Result<(), NoMemory>
-        ensures { OnOk result (locals.new ≡ behind (headers_of self.now.table.now) locals.old (plain_stmt stmt.now)) }
+        ensures { OnOk result (locals.new ≡ following (headers_of self.now.table.now) locals.old (plain_stmt stmt.now)) }
     {
         match &stmt.kind {
             StmtKind::Declare { ty, name, .. } => self.declare(locals, *name, ty),

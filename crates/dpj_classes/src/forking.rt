@@ -2,7 +2,7 @@ ghost use Rattle.std.specs.Prelude.{◌≡◌, ◌↔◌, ◌++◌, ℕ, true, l
 ghost use Rattle.std.specs.List.{flat_map};
 ghost use Rattle.dpj_classes.specs.Bodies.{own_marks, class_marks, override_edge, override_edges};
 ghost use Rattle.dpj_classes.specs.Edges.{edges_from, member_edges, class_edges, call_edges};
-ghost use Rattle.dpj_classes.specs.Reach.{is_marked, IsBehind};
+ghost use Rattle.dpj_classes.specs.Reach.{is_marked, IsAfter};
 ghost use Rattle.dpj_classes.specs.Table.{methods_of};
 
 use crate::calls::reached_by;
@@ -17,7 +17,7 @@ use std::alloc::Global;
 /// Of each method and constructor, whether an nd construct is reached through it.
 pub fn find_forks(alloc: Global, table: &Table, classes: &[Class]) -> Result<Items<bool>, NoMemory>
     ensures as_many { IfOk result (λ forks. length forks ≡ length (flat_map class_marks classes.now)) }
-    ensures each { IfOk result (λ forks. (at : ℕ) → (is_marked forks at ≡ true) ↔ IsBehind (flat_map class_marks classes.now) (call_edges table.now 0 0 classes.now ++ override_edges table.now (methods_of table.now)) at) }
+    ensures each { IfOk result (λ forks. (at : ℕ) → (is_marked forks at ≡ true) ↔ IsAfter (flat_map class_marks classes.now) (call_edges table.now 0 0 classes.now ++ override_edges table.now (methods_of table.now)) at) }
 {
     let mut edges = Items::new(alloc);
     let mut marks = Vec::new(alloc);

@@ -4,7 +4,7 @@ ghost use Rattle.dpj_base.specs.Types.{Ordered};
 ghost use Rattle.dpj_headers.specs.Gathered.{headers_in};
 ghost use Rattle.dpj_headers.specs.Headers.{parents_of};
 ghost use Rattle.dpj_headers.specs.Second.{AreCounted};
-ghost use Rattle.dpj_classes.specs.Build.{first_of, text_faults, table_faults, IsReadOf, AreWellNamed, IsTable, IsTold};
+ghost use Rattle.dpj_classes.specs.Build.{first_of, text_faults, table_faults, IsReadOf, AreWellNamed, IsTable, IsReported};
 ghost use Rattle.dpj_classes.specs.RowNumbers.{rows_on_way};
 ghost use Rattle.dpj_classes.specs.Rows.{plain_super, plain_field, plain_method, all_constraints, supers_meant, fields_meant, methods_meant};
 ghost use Rattle.dpj_classes.specs.Supers.{classes_in, all_extending};
@@ -32,7 +32,7 @@ pub fn build(alloc: Global, program: &Program) -> Result<Table, Stop>
     ensures named { OnOk result (AreWellNamed program.now.classes) }
     ensures table { IfOk result (IsTable program.now) }
     ensures judged { IfOk result (λ table. first_of (table_faults table program.now.names) ≡ None) }
-    ensures refused { IfErr result (λ stop. IfRefused stop (IsTold program.now)) }
+    ensures refused { IfErr result (λ stop. IfRefused stop (IsReported program.now)) }
     ensures ordered { IfOk result (λ table. Ordered (supers_of table)) }
 {
     let headers = headers(alloc, program)?;

@@ -1,7 +1,7 @@
 ghost use Rattle.std.specs.Prelude.{◌≡◌, [], length, replicate, slice_set, slice_index_or, IfOk, OnOk};
 ghost use Rattle.dpj_headers.specs.Headers.{parents_of};
 ghost use Rattle.dpj_classes.specs.Places.{entry_at};
-ghost use Rattle.dpj_classes.specs.Visible.{with_own, all_own, all_overriding, all_in_front, all_behind, none_seen, after_step, after_way, overridden_on_way};
+ghost use Rattle.dpj_classes.specs.Visible.{with_own, all_own, all_overriding, all_in_front, all_after, none_seen, after_step, after_way, overridden_on_way};
 
 use crate::rows::MethodRow;
 use dpj_base::{Items, NoMemory};
@@ -147,7 +147,7 @@ fn put_in_front(own: &[Own], visible: &mut [Option<u32>])
 }
 
 fn put_back(own: &[Own], overridden: &[Option<u32>], visible: &mut [Option<u32>])
-    ensures { visible.new ≡ all_behind overridden.now visible.old own.now }
+    ensures { visible.new ≡ all_after overridden.now visible.old own.now }
 {
     for method in own {
         put(visible, method.name as usize, entry(overridden, method.row));

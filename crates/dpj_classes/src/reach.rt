@@ -1,5 +1,5 @@
 ghost use Rattle.std.specs.Prelude.{◌≡◌, ℕ, ◌<◌, ◌↔◌, true, [], replicate, slice_index_or, OnOk, IfOk};
-ghost use Rattle.dpj_classes.specs.Reach.{is_marked, IsBehind};
+ghost use Rattle.dpj_classes.specs.Reach.{is_marked, IsAfter};
 ghost use Rattle.dpj_classes.specs.Marking.{sources, with_source, places_from, marked, added, all_marked, all_added};
 
 use dpj_base::{Items, NoMemory};
@@ -14,7 +14,7 @@ pub struct Edge {
 
 /// Marks whatever reaches something that is marked, by any chain of edges.
 pub fn mark_reaching(alloc: Global, marks: &mut [bool], edges: &[Edge]) -> Result<(), NoMemory>
-    ensures { OnOk result ((at : ℕ) → (is_marked marks.new at ≡ true) ↔ IsBehind marks.old edges.now at) }
+    ensures { OnOk result ((at : ℕ) → (is_marked marks.new at ≡ true) ↔ IsAfter marks.old edges.now at) }
 {
     let sources = sources(alloc, marks.len(), edges)?;
     let mut pending = marked_places(alloc, marks)?;

@@ -115,32 +115,32 @@ module _ {N M : Type 0} (names : Naming N M) (C : PlainCode) where
   leg_ends (suc f) n m s xs r e = stand_ends f n m (λ n m t ys q i. leg_ends f n m t ys q i) (step names C s) xs r e
 
   -- of a solo run that goes past an action, what is after it
-  abbrev Behind : Halt N M → Answer N M → List (Answer N M) → Reply N M (Start N M) → Type 0
-  Behind (Asks n m a k) x ys r = Run names C 0 m (k x) ys r
-  Behind (Finished n e) x ys r = Unit {0}
-  Behind Dead x ys r = Unit {0}
+  abbrev Following : Halt N M → Answer N M → List (Answer N M) → Reply N M (Start N M) → Type 0
+  Following (Asks n m a k) x ys r = Run names C 0 m (k x) ys r
+  Following (Finished n e) x ys r = Unit {0}
+  Following Dead x ys r = Unit {0}
 
   abbrev Goes_past : ℕ → ℕ → Type 0
   Goes_past f g = (n m : ℕ) (t : State N M) (x : Answer N M) (ys : List (Answer N M)) (r : Reply N M (Start N M)) (h : Halt N M) →
-      solo names C f n m t (x ∷ ys) ≡ Some r → leg names C g n m t ≡ Some h → Behind h x ys r
+      solo names C f n m t (x ∷ ys) ≡ Some r → leg names C g n m t ≡ Some h → Following h x ys r
 
   past_turn : (f g n m : ℕ) → Goes_past f g → (s : State N M) (x : Answer N M) (ys : List (Answer N M)) (r : Reply N M (Start N M)) (h : Halt N M) →
-      turned (λ n m t ys. solo names C f n m t ys) n m s (x ∷ ys) ≡ Some r → legged_turn (λ n m t. leg names C g n m t) n m s ≡ Some h → Behind h x ys r
+      turned (λ n m t ys. solo names C f n m t ys) n m s (x ∷ ys) ≡ Some r → legged_turn (λ n m t. leg names C g n m t) n m s ≡ Some h → Following h x ys r
   past_turn f g n m rec s x ys r h e i = go (suc n == most_turns) e i
     where
       go : (b : Bool) → (if b then answered (λ n m t ys. solo names C f n m t ys) (suc n) m (Do Rest) (λ x. s) (x ∷ ys) else solo names C f (suc n) m s
-          (x ∷ ys)) ≡ Some r → (if b then Some (Asks (suc n) m (Do Rest) (λ x. s)) else leg names C g (suc n) m s) ≡ Some h → Behind h x ys r
-      go true e i = let j : Asks (suc n) m (Do Rest) (λ x. s) ≡ h = cc in subst (λ q. Behind q x ys r) j (record { fuel = f; stands = e })
+          (x ∷ ys)) ≡ Some r → (if b then Some (Asks (suc n) m (Do Rest) (λ x. s)) else leg names C g (suc n) m s) ≡ Some h → Following h x ys r
+      go true e i = let j : Asks (suc n) m (Do Rest) (λ x. s) ≡ h = cc in subst (λ q. Following q x ys r) j (record { fuel = f; stands = e })
       go false e i = rec (suc n) m s x ys r h e i
 
   past_stand : (f g n m : ℕ) → Goes_past f g → (o : Stand N M) (x : Answer N M) (ys : List (Answer N M)) (r : Reply N M (Start N M)) (h : Halt N M) →
-      stood names (λ n m t ys. solo names C f n m t ys) n m o (x ∷ ys) ≡ Some r → legged names (λ n m t. leg names C g n m t) n m o ≡ Some h → Behind h x ys r
+      stood names (λ n m t ys. solo names C f n m t ys) n m o (x ∷ ys) ≡ Some r → legged names (λ n m t. leg names C g n m t) n m o ≡ Some h → Following h x ys r
   past_stand f g n m rec (Goes s) x ys r h e i = rec n m s x ys r h e i
   past_stand f g n m rec (Turns s) x ys r h e i = past_turn f g n m rec s x ys r h e i
   past_stand f g n m rec (Makes k) x ys r h e i = past_turn f g n (suc m) rec (k (names.made m)) x ys r h e i
-  past_stand f g n m rec (Waits a k) x ys r h e i = let j : Asks n m a k ≡ h = cc in subst (λ q. Behind q x ys r) j (record { fuel = f; stands = e })
-  past_stand f g n m rec (Ends d) x ys r h e i = let j : Finished n d ≡ h = cc in subst (λ q. Behind q x ys r) j tt
-  past_stand f g n m rec Stuck x ys r h e i = let j : Dead ≡ h = cc in subst (λ q. Behind q x ys r) j tt
+  past_stand f g n m rec (Waits a k) x ys r h e i = let j : Asks n m a k ≡ h = cc in subst (λ q. Following q x ys r) j (record { fuel = f; stands = e })
+  past_stand f g n m rec (Ends d) x ys r h e i = let j : Finished n d ≡ h = cc in subst (λ q. Following q x ys r) j tt
+  past_stand f g n m rec Stuck x ys r h e i = let j : Dead ≡ h = cc in subst (λ q. Following q x ys r) j tt
 
   past_leg : (f g : ℕ) → Goes_past f g
   past_leg zero g n m s x ys r h e i = absurd (cc)

@@ -28,7 +28,7 @@ use Rattle.dpj_typed.specs.Types.{GoodPath, GoodArgs}
 use Rattle.dpj_resolved.proofs.Free.{append_none, fault_none, NoFaults}
 use Rattle.dpj_resolved.proofs.Known.{path_known}
 use Rattle.dpj_resolved.proofs.Lists.{some_same, map_there}
-use Rattle.dpj_declared.proofs.Paths.{Meaning, depth_of, path_begun, not_local, path_full, path_told_atomic}
+use Rattle.dpj_declared.proofs.Paths.{Meaning, depth_of, path_begun, not_local, path_full, path_reported_atomic}
 
 length_mapped : {A B : Type 0} (f : A → B) (xs : List A) → length (map f xs) ≡ length xs
 length_mapped f [] = refl
@@ -96,7 +96,7 @@ module _ (P : PlainProgram) (L : Scope) (scope : PlainScope) (means : Meaning P 
         record {
           path = not_local P L scope means depth a (path_begun P L scope means around depth deep tree a is) begins;
           full = λ n. path_full P L scope means around tree a (w.0 n) is;
-          atomic = λ n. plain_false (atomic_path (atomic_in P L) a) (sym (ap is_plain (path_told_atomic P L scope means around tree a is)) ∙ w.1 n);
+          atomic = λ n. plain_false (atomic_path (atomic_in P L) a) (sym (ap is_plain (path_reported_atomic P L scope means around tree a is)) ∙ w.1 n);
         }
       where
         plain_false : (b : Bool) → is_plain (Some b) ≡ false → b ≡ true
@@ -158,11 +158,11 @@ module _ (P : PlainProgram) (L : Scope) (scope : PlainScope) (means : Meaning P 
         NoFaults (arg_faults scope around params full trees) → args_faults (args_read scope around trees).local (length trees) params place ≡ [] →
         args_given (length trees) (filter_map (path_meant scope around) trees) params ≡ Some args → all_hold scope.given (others ++ args) given ≡ true →
         GoodArgs P L depth (map (λ param. param.atomic) params) given others args × (full ≡ true → All (λ a. IsTrue (fully_specified a)) args)
-    args_good params full place trees args others given free told is hold =
+    args_good params full place trees args others given free reported is hold =
         by (length trees == 0) (length trees == length params) (length (filter_map (path_meant scope around) trees) == length trees) refl refl refl (fault_none (is_unfit (length trees) params) kind.RegionArgs place f.1) is
       where
         f : (local_fault (args_read scope around trees).local false ≡ []) × (fault_if (is_unfit (length trees) params) kind.RegionArgs place ≡ [])
-        f = append_none (local_fault (args_read scope around trees).local false) (fault_if (is_unfit (length trees) params) kind.RegionArgs place) told
+        f = append_none (local_fault (args_read scope around trees).local false) (fault_if (is_unfit (length trees) params) kind.RegionArgs place) reported
 
         no_place : (o : Option Place) → local_fault o false ≡ [] → o ≡ None
         no_place None h = refl

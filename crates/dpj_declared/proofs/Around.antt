@@ -15,7 +15,7 @@ use Rattle.dpj_resolve.specs.declared.scope.ParamFound.{ParamFound}
 use Rattle.dpj_resolve.specs.Classes.{params_in}
 use Rattle.dpj_resolve.specs.Names.{Names}
 use Rattle.dpj_resolve.specs.Scoped.{no_names, with_name, values_in, place_in, value_in}
-use Rattle.dpj_resolve.specs.Scopes.{PlainScope, is_atomic_at, class_param, behind_class, method_param, param_meant}
+use Rattle.dpj_resolve.specs.Scopes.{PlainScope, is_atomic_at, class_param, after_class, method_param, param_meant}
 use Rattle.dpj_classes.specs.Around.{param_names, formal_names}
 use Rattle.dpj_typed.specs.Plain.{PlainProgram}
 use Rattle.dpj_typed.specs.Scope.{Scope}
@@ -102,7 +102,7 @@ param_there scope few name param e = by (param_of scope.headers scope.class name
         subst (λ (p : ParamFound). slice_get (map (λ (param : ParamRow). param.atomic) of_class ++ values_in scope.params) p.number ≡ Some p.atomic) (some_same h)
         (got_first (map (λ (param : ParamRow). param.atomic) of_class) (values_in scope.params) n (is_atomic_at of_class n) (class_param_there scope.headers scope.class name n is))
     by None is h =
-        let w = and_then_there (λ place. behind_class of_class (values_in scope.params) place) (place_in scope.params name) param h in
+        let w = and_then_there (λ place. after_class of_class (values_in scope.params) place) (place_in scope.params name) param h in
         let a = map_there (λ atomic. record { number = as_number (length of_class + w.0); atomic = atomic }) (slice_get (values_in scope.params) w.0) param w.2 in
         let l = slice_get_within (values_in scope.params) w.0 a.0 a.1 in
         let long = length-map of_class (λ (param : ParamRow). param.atomic) in

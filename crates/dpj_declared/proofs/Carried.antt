@@ -13,7 +13,7 @@ use Rattle.dpj_base.specs.declared.region.Head.TheVariants.{Root, Param}
 use Rattle.dpj_base.specs.declared.region.Rpl.{Rpl}
 use Rattle.dpj_base.specs.Apart.{apart}
 use Rattle.dpj_base.specs.Branches.{is_atomic_name, all_index, ends_atomic, atomic_head, atomic_path}
-use Rattle.dpj_base.specs.Regions.{is_index, is_specified, all_specified, fully_specified, same_elem, argument, behind, put_at, substituted}
+use Rattle.dpj_base.specs.Regions.{is_index, is_specified, all_specified, fully_specified, same_elem, argument, following, put_at, substituted}
 use Rattle.dpj_base.specs.Types.{PlainType, type_with, has_index, mentions_index}
 use Rattle.dpj_base.specs.Types.{PlainType as ty}
 use Rattle.dpj_typed.specs.Plain.{PlainProgram, PlainClass}
@@ -25,11 +25,11 @@ use Rattle.dpj_declared.proofs.Putting.{is_firm, all_firm, put_head, put_front, 
 
 -- arguments put in twice
 
-behind_put : (args : List Rpl) (r : Rpl) (e : List Elem) → substituted args (behind r e) ≡ behind (substituted args r) e
+after_put : (args : List Rpl) (r : Rpl) (e : List Elem) → substituted args (following r e) ≡ following (substituted args r) e
 unfolding substituted
-behind_put args r e = by r.head
+after_put args r e = by r.head
   where
-    by : (h : Head) → put_at h (r.elems ++ e) args ≡ behind (put_at h r.elems args) e
+    by : (h : Head) → put_at h (r.elems ++ e) args ≡ following (put_at h r.elems args) e
     by Root = refl
     by (Param q) = ap (λ z. record { head = (argument args q).head; elems = z }) (sym (append_assoc (argument args q).elems r.elems e))
 
@@ -38,13 +38,13 @@ put_twice : (args paths : List Rpl) (h : Head) (e : List Elem) (n : ℕ) → n �
 put_twice args paths Root e n same within = put_is args (record { head = Root; elems = e })
 put_twice args paths (Param p) e n same within =
     let l = within p refl in
-    behind_put args (argument paths p) e ∙ ap (λ z. behind z e) (sym (get_or-map (substituted args) paths p (record { head = Param p; elems = [] }) (record { head = Param p; elems = [] }) (omega (arith, l, same))))
+    after_put args (argument paths p) e ∙ ap (λ z. following z e) (sym (get_or-map (substituted args) paths p (record { head = Param p; elems = [] }) (record { head = Param p; elems = [] }) (omega (arith, l, same))))
 
 -- lists of elements, one after the other
 
-ends_behind : (names : List Bool) (r e : List Elem) → ends_atomic names e ≡ true → ends_atomic names (r ++ e) ≡ true
-ends_behind names [] e h = h
-ends_behind names (x ∷ r) e h = or_right (is_atomic_name names x && all_index (r ++ e)) _ (ends_behind names r e h)
+ends_after : (names : List Bool) (r e : List Elem) → ends_atomic names e ≡ true → ends_atomic names (r ++ e) ≡ true
+ends_after names [] e h = h
+ends_after names (x ∷ r) e h = or_right (is_atomic_name names x && all_index (r ++ e)) _ (ends_after names r e h)
 
 index_both : (r e : List Elem) → all_index r ≡ true → all_index e ≡ true → all_index (r ++ e) ≡ true
 index_both [] e h k = k
@@ -143,7 +143,7 @@ module _ (P : PlainProgram) (L M : Scope) (args : List Rpl) (good : GoodArgs P M
     atomic_from Root e g h = h
     atomic_from (Param p) e g h =
         ⊎_elim
-        (λ ends. or_left _ _ (ends_behind P.region_names (argument args p).elems e ends))
+        (λ ends. or_left _ _ (ends_after P.region_names (argument args p).elems e ends))
         (λ heads.
         let i = and_parts (all_index e) _ heads in
         let a = good.arity in
@@ -199,13 +199,13 @@ module _ (P : PlainProgram) (L M : Scope) (args : List Rpl) (good : GoodArgs P M
     no_own n Star g = refl
     no_own n (Local r m) g = refl
 
-    own_behind : (n : ℕ) (r e : List Elem) → All (GoodElem P M 0) r → list_any (λ x. same_elem x (At (Own n))) (r ++ e) ≡ list_any (λ x. same_elem x (At (Own n))) e
-    own_behind n [] e g = refl
-    own_behind n (x ∷ r) e g =
-        ap (λ b. b || list_any (λ x. same_elem x (At (Own n))) (r ++ e)) (no_own n x (All-head (GoodElem P M 0) x r g)) ∙ own_behind n r e (All-tail (GoodElem P M 0) x r g)
+    own_after : (n : ℕ) (r e : List Elem) → All (GoodElem P M 0) r → list_any (λ x. same_elem x (At (Own n))) (r ++ e) ≡ list_any (λ x. same_elem x (At (Own n))) e
+    own_after n [] e g = refl
+    own_after n (x ∷ r) e g =
+        ap (λ b. b || list_any (λ x. same_elem x (At (Own n))) (r ++ e)) (no_own n x (All-head (GoodElem P M 0) x r g)) ∙ own_after n r e (All-tail (GoodElem P M 0) x r g)
 
     index_put : (n : ℕ) (a : Rpl) → GoodHead L a.head → has_index n (substituted args a) ≡ has_index n a
-    index_put n a g = ap (has_index n) (put_is args a) ∙ own_behind n (put_front args a.head) a.elems (front_put a.head g)
+    index_put n a g = ap (has_index n) (put_is args a) ∙ own_after n (put_front args a.head) a.elems (front_put a.head g)
 
     indices_put : (n depth : ℕ) (paths : List Rpl) → All (GoodPath P L depth) paths → list_any (has_index n) (map (substituted args) paths) ≡ list_any (has_index n) paths
     indices_put n depth [] g = refl

@@ -59,7 +59,7 @@ use Rattle.dpj_written.specs.Written.{IsWritten}
 use Rattle.dpj_rows.proofs.Facts.{Facts, parent_is}
 use Rattle.dpj_resolved.specs.Accepted.{IsAccepted}
 use Rattle.dpj_resolved.proofs.Assembled.{facts, number_is}
-use Rattle.dpj_resolved.proofs.Free.{append_none, none_told}
+use Rattle.dpj_resolved.proofs.Free.{append_none, none_reported}
 use Rattle.dpj_resolved.proofs.Lists.{some_same, and_then_there, map_there, there, got_mapped, made_there, made_is}
 use Rattle.dpj_declared.specs.Laws.{GoodParent}
 use Rattle.dpj_declared.proofs.Around.{Surrounds, surrounds_mean}
@@ -122,7 +122,7 @@ module _ (program : Program) (table : Table) (bodies : List PlainBody) (written 
     -- no signature has a fault
     found : (all_constraint_faults headers 0 program.classes ≡ []) × (signature_faults headers table.given 0 program.classes ≡ [])
     found =
-        let all = none_told (none_by order.Place) (text_faults headers program.classes) read.free in
+        let all = none_reported (none_by order.Place) (text_faults headers program.classes) read.free in
         let w = append_none (all_constraint_faults headers 0 program.classes) _ all in
         (w.0, subst (λ given. signature_faults headers given 0 program.classes ≡ []) (sym read.given) w.1)
 

@@ -77,11 +77,11 @@ or_split : (a b : Bool) → (a || b) ≡ true → (a ≡ true) ⊎ (b ≡ true)
 or_split true b h = inl refl
 or_split false b h = inr h
 
-pub own_told : (names : List (Option Named)) (d : ℕ) (es : List Elem) → AllSpeak names es → list_any (λ x. same_elem x (At (Own d))) es ≡ true → is_written names d ≡ true
-own_told names d [] all h = cc
-own_told names d (e ∷ es) all h = elim (or_split (same_elem e (At (Own d))) (list_any (λ x. same_elem x (At (Own d))) es) h) [
+pub own_reported : (names : List (Option Named)) (d : ℕ) (es : List Elem) → AllSpeak names es → list_any (λ x. same_elem x (At (Own d))) es ≡ true → is_written names d ≡ true
+own_reported names d [] all h = cc
+own_reported names d (e ∷ es) all h = elim (or_split (same_elem e (At (Own d))) (list_any (λ x. same_elem x (At (Own d))) es) h) [
   | inl here ↦ same_own names d e all.0 here
-  | inr later ↦ own_told names d es all.1 later
+  | inr later ↦ own_reported names d es all.1 later
 ]
 
 -- a type mentions own indices of array types with index names alone
@@ -91,7 +91,7 @@ TypeSpeaks names t = (k : ℕ) → mentions_index k t ≡ true → is_written na
 -- with one array type more around, of which the index name is the first
 pub array_speaks : (first : Option Named) (names : List (Option Named)) (t : PlainType) (a : Rpl) (named : Bool) → AllSpeak (first ∷ names) a.elems → TypeSpeaks (first ∷ names) t → TypeSpeaks names (array t a named)
 array_speaks first names t a named path elem k h = elim (or_split (has_index (suc k) a) (mentions_index (suc k) t) h) [
-  | inl here ↦ own_told (first ∷ names) (suc k) a.elems path here
+  | inl here ↦ own_reported (first ∷ names) (suc k) a.elems path here
   | inr inside ↦ elem (suc k) inside
 ]
 
@@ -159,7 +159,7 @@ module _ (scope : PlainScope) (around : PlainIndex) (few : (j : ℕ) → is_writ
             list_any (has_index k) (cons_option o (filter_map (path_meant scope around) trees)) ≡ true → is_written (names_around around) k ≡ true
         by None speaks next h = next h
         by (Some a) speaks next h = elim (or_split (has_index k a) (list_any (has_index k) (filter_map (path_meant scope around) trees)) h) [
-          | inl here ↦ own_told (names_around around) k a.elems (speaks a refl) here
+          | inl here ↦ own_reported (names_around around) k a.elems (speaks a refl) here
           | inr later ↦ next later
         ]
 

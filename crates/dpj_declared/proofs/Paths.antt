@@ -326,9 +326,9 @@ module _ (P : PlainProgram) (L : Scope) (scope : PlainScope) (means : Meaning P 
     unfolding atomic_path
     param_atomic n = refl
 
-    head_told : (h : RplHead) (b : Rpl) → head_meant scope h ≡ Some b → head_atomic scope h ≡ Some (atomic_path A b)
-    head_told head.Root b h = ap Some (sym root_atomic ∙ ap (atomic_path A) (some_same h))
-    head_told (head.Name name) b h = by name.second h
+    head_reported : (h : RplHead) (b : Rpl) → head_meant scope h ≡ Some b → head_atomic scope h ≡ Some (atomic_path A b)
+    head_reported head.Root b h = ap Some (sym root_atomic ∙ ap (atomic_path A) (some_same h))
+    head_reported (head.Name name) b h = by name.second h
       where
         under : (e : Elem) → is_index e ≡ false → is_atomic_name P.region_names e ≡ atomic_path A (below_root e)
         under e i = sym (atomic_other root_path e i)
@@ -346,7 +346,7 @@ module _ (P : PlainProgram) (L : Scope) (scope : PlainScope) (means : Meaning P 
         by None h = from (param_meant scope name.first.name) (value_in scope.regions name.first.name) (region_meant scope.headers scope.class name) (λ param is. (means.params name.first.name param is).1) h
         by (Some second) h = from None None (region_meant scope.headers scope.class name) (λ param is. cc) h
 
-    pub path_told_atomic : (around : PlainIndex) (tree : RplTree) (a : Rpl) → path_meant scope around tree ≡ Some a → path_atomic scope tree ≡ Some (atomic_path A a)
-    path_told_atomic around tree a h =
+    pub path_reported_atomic : (around : PlainIndex) (tree : RplTree) (a : Rpl) → path_meant scope around tree ≡ Some a → path_atomic scope tree ≡ Some (atomic_path A a)
+    path_reported_atomic around tree a h =
         let w = from_some around tree.elems (head_meant scope tree.head) a h in
-        atomic_on around tree.elems w.0 a (head_atomic scope tree.head) (head_told tree.head w.0 w.1) (sym (ap (λ o. goes_on scope around o tree.elems) w.1) ∙ h)
+        atomic_on around tree.elems w.0 a (head_atomic scope tree.head) (head_reported tree.head w.0 w.1) (sym (ap (λ o. goes_on scope around o tree.elems) w.1) ∙ h)

@@ -39,9 +39,9 @@ firm-local x h = refl
 
 -- what stands after firm elements
 
-firm_behind : (r b a : List Elem) → all_firm r ≡ true → Covers b a → Covers (r ++ b) (r ++ a)
-firm_behind [] b a h d = d
-firm_behind (x ∷ r) b a h d = let p = and_parts (is_firm x) _ h in one (elem_within-refl x) (firm-star x p.0) (firm_behind r b a p.1 d)
+firm_after : (r b a : List Elem) → all_firm r ≡ true → Covers b a → Covers (r ++ b) (r ++ a)
+firm_after [] b a h d = d
+firm_after (x ∷ r) b a h d = let p = and_parts (is_firm x) _ h in one (elem_within-refl x) (firm-star x p.0) (firm_after r b a p.1 d)
 
 skip_firm : (r b a : List Elem) → all_firm r ≡ true → Covers (Star ∷ b) a → Covers (Star ∷ b) (r ++ a)
 skip_firm [] b a h d = d
@@ -53,11 +53,11 @@ under_star r (x ∷ b) a h s d =
     let e = star_is x s in
     subst (λ z. Covers (z ∷ b) (r ++ a)) (sym e) (skip_firm r b a h (subst (λ z. Covers (z ∷ b) a) e d))
 
-front_behind : (r a b : List Elem) → all_firm r ≡ true → apart_front a b ≡ true → apart_front (r ++ a) (r ++ b) ≡ true
-front_behind [] a b h f = f
-front_behind (x ∷ r) a b h f =
+front_after : (r a b : List Elem) → all_firm r ≡ true → apart_front a b ≡ true → apart_front (r ++ a) (r ++ b) ≡ true
+front_after [] a b h f = f
+front_after (x ∷ r) a b h f =
     let p = and_parts (is_firm x) _ h in
-    front-step x x (r ++ a) (r ++ b) (firm-star x p.0) (firm-star x p.0) ∙ or_right (distinct x x) _ (front_behind r a b p.1 f)
+    front-step x x (r ++ a) (r ++ b) (firm-star x p.0) (firm-star x p.0) ∙ or_right (distinct x x) _ (front_after r a b p.1 f)
 
 front_before : (a b r q : List Elem) → apart_front a b ≡ true → apart_front (a ++ r) (b ++ q) ≡ true
 front_before [] b r q h = absurd (false≢true h)
@@ -82,8 +82,8 @@ solid_firm (x ∷ r) h =
     let e = solid-one x r (firm-star x p.0) in
     omega arith
 
-shorter_behind : (r a b : List Elem) → all_firm r ≡ true → shorter a b ≡ true → shorter (r ++ a) (r ++ b) ≡ true
-shorter_behind r a b h s =
+shorter_after : (r a b : List Elem) → all_firm r ≡ true → shorter a b ≡ true → shorter (r ++ a) (r ++ b) ≡ true
+shorter_after r a b h s =
     let p = shorter-parts a b s in
     let p0 = p.0 in
     let p1 = p.1 in
@@ -140,7 +140,7 @@ module _ (args : List Rpl) (firm : (p : ℕ) → all_firm (argument args p).elem
   lists_put Root Root b a e d = d
   lists_put Root (Param q) b a e d = absurd (false≢true e)
   lists_put (Param p) (Param q) b a e d =
-      subst (λ z. Covers ((argument args q).elems ++ b) ((argument args z).elems ++ a)) (sym (eqb-true p q e)) (firm_behind (argument args q).elems b a (firm q) d)
+      subst (λ z. Covers ((argument args q).elems ++ b) ((argument args z).elems ++ a)) (sym (eqb-true p q e)) (firm_after (argument args q).elems b a (firm q) d)
   lists_put (Param p) Root b a e d = under_star (argument args p).elems b a (firm p) e d
 
   within_put : (a b : Rpl) → within a b ≡ true → within (substituted args a) (substituted args b) ≡ true
@@ -155,7 +155,7 @@ module _ (args : List Rpl) (firm : (p : ℕ) → all_firm (argument args p).elem
       (same_head (put_head args h) (put_head args k) ≡ true) × (apart_front (put_front args h ++ a) (put_front args k ++ b) ≡ true)
   left_put h k a b e f =
       subst (λ z. (same_head (put_head args h) (put_head args z) ≡ true) × (apart_front (put_front args h ++ a) (put_front args z ++ b) ≡ true)) (same_head-is h k e)
-      (same_head-refl (put_head args h), front_behind (put_front args h) a b (front_firm h) f)
+      (same_head-refl (put_head args h), front_after (put_front args h) a b (front_firm h) f)
 
   shorter_put : (h k : Head) (a b : List Elem) → (same_head h k || is_root h) ≡ true → shorter a b ≡ true →
       ((same_head (put_head args h) (put_head args k) || is_root (put_head args h)) ≡ true) × (shorter (put_front args h ++ a) (put_front args k ++ b) ≡ true)
@@ -165,7 +165,7 @@ module _ (args : List Rpl) (firm : (p : ℕ) → all_firm (argument args p).elem
       let n : eqb p q ≡ true = ⊎_elim (λ t. t) (λ t. absurd (false≢true t)) (or_cases (eqb p q) false e) in
       let h = (argument args p).head in
       subst (λ z. ((same_head h (argument args z).head || is_root h) ≡ true) × (shorter ((argument args p).elems ++ a) ((argument args z).elems ++ b) ≡ true)) (eqb-true p q n)
-      (or_left _ _ (same_head-refl h), shorter_behind (argument args p).elems a b (firm p) s)
+      (or_left _ _ (same_head-refl h), shorter_after (argument args p).elems a b (firm p) s)
 
   right_put : (r q a b : List Elem) → apart_front (reverse a) (reverse b) ≡ true → apart_front (reverse (r ++ a)) (reverse (q ++ b)) ≡ true
   right_put r q a b f =

@@ -30,7 +30,7 @@ use Rattle.dpj_resolved.proofs.Free.{NoFaults, free_split, append_none, fault_no
 use Rattle.dpj_resolved.proofs.Known.{path_known}
 use Rattle.dpj_resolved.proofs.Lists.{some_same, map_there}
 use Rattle.dpj_declared.proofs.Args.{args_good}
-use Rattle.dpj_declared.proofs.Indices.{is_written, AllSpeak, TypeSpeaks, own_told, array_speaks, path_speaks, args_speak}
+use Rattle.dpj_declared.proofs.Indices.{is_written, AllSpeak, TypeSpeaks, own_reported, array_speaks, path_speaks, args_speak}
 use Rattle.dpj_declared.proofs.Paths.{Meaning, own, path_begun, begun_either}
 
 -- the index names around what stands inside the rest of the suffixes
@@ -60,7 +60,7 @@ pub array_good : (P : PlainProgram) (L : Scope) (depth : ℕ) (first : Option Na
     GoodType P L (suc depth) t → TypeSpeaks (first ∷ names) t → GoodPath P L (suc depth) a ⊎ (LocalPath P L 1 a × IsFlat t × (depth ≡ 0)) → AllSpeak (first ∷ names) a.elems →
     GoodType P L depth (array t a (is_some first)) × TypeSpeaks names (array t a (is_some first))
 array_good P L depth first names t a good speaks path own =
-    ((path, good, λ none. (silent (has_index 0 a) (λ h. own_told (first ∷ names) 0 a.elems own h) none, silent (mentions_index 0 t) (λ h. speaks 0 h) none)), array_speaks first names t a (is_some first) own speaks)
+    ((path, good, λ none. (silent (has_index 0 a) (λ h. own_reported (first ∷ names) 0 a.elems own h) none, silent (mentions_index 0 t) (λ h. speaks 0 h) none)), array_speaks first names t a (is_some first) own speaks)
   where
     silent : (b : Bool) → (b ≡ true → is_some first ≡ true) → is_some first ≡ false → b ≡ false
     silent b h none = false_from_ne_true b (λ t. false≢true (sym none ∙ h t))
@@ -190,9 +190,9 @@ module _ (P : PlainProgram) (L : Scope) (scope : PlainScope) (means : Meaning P 
     -- what a type begins with
     base_good : (tree : BaseTree) (place : Place) (t : PlainType) → NoFaults (base_parts scope around tree) → base_faults scope (base_read scope around tree) place ≡ [] →
         base_type scope (base_read scope around tree) ≡ Some t → Based tree t
-    base_good base.Int place t free told is = subst (Based base.Int) (some_same is) ((tt, λ k h. cc), λ _. inl refl)
-    base_good base.Bool place t free told is = subst (Based base.Bool) (some_same is) ((tt, λ k h. cc), λ _. inr refl)
-    base_good (base.Class name args) place t free told is = (by (class_of scope.headers name.name) (classes.classes name.name) free told is, λ flat. cc)
+    base_good base.Int place t free reported is = subst (Based base.Int) (some_same is) ((tt, λ k h. cc), λ _. inl refl)
+    base_good base.Bool place t free reported is = subst (Based base.Bool) (some_same is) ((tt, λ k h. cc), λ _. inr refl)
+    base_good (base.Class name args) place t free reported is = (by (class_of scope.headers name.name) (classes.classes name.name) free reported is, λ flat. cc)
       where
         depth_is : length suffixes + own made ≤ within + length suffixes
         depth_is = omega (arith, deep)
@@ -208,11 +208,11 @@ module _ (P : PlainProgram) (L : Scope) (scope : PlainScope) (means : Meaning P 
             ((at : ℕ) → o ≡ Some at → (k : PlainClass) × (class_at P at ≡ Some k) × (k.params ≡ map (λ param. param.atomic) (params_in scope.headers at)) × (k.given ≡ constraints_in scope.classes_given at)) →
             NoFaults (arg_faults scope around (option_map_or (params_in scope.headers) o []) false args) → class_faults scope.headers scope.classes_given scope.given name o (args_read scope around args) place ≡ [] →
             class_type scope.headers o (args_read scope around args) ≡ Some t → Good suffixes (within + length suffixes) t
-        by None means_class free told is = cc
-        by (Some at) means_class free told is =
+        by None means_class free reported is = cc
+        by (Some at) means_class free reported is =
             let k = means_class at refl in
             let w = map_there (class at) (class_args scope.headers at (args_read scope around args)) t is in
-            let f = append_none (args_faults (args_read scope around args).local (length args) (params_in scope.headers at) place) _ told in
+            let f = append_none (args_faults (args_read scope around args).local (length args) (params_in scope.headers at) place) _ reported in
             let hold = held at w.0 (class_args scope.headers at (args_read scope around args)) w.1 f.1 in
             let g = args_good P L scope means around (within + length suffixes) depth_is (params_in scope.headers at) false place args w.0 [] (constraints_in scope.classes_given at) free f.0 w.1 hold in
             subst (Good suffixes (within + length suffixes)) w.2 (
@@ -224,9 +224,9 @@ module _ (P : PlainProgram) (L : Scope) (scope : PlainScope) (means : Meaning P 
     pub judged_good : (tree : BaseTree) (place : Place) (t : PlainType) → NoFaults (type_parts scope around tree) → base_faults scope (base_read scope around tree) place ≡ [] →
         (local_from scope around 0 None suffixes ≡ None) ⊎ ((is_flat (base_read scope around tree) ≡ true) × (within + length suffixes ≤ 1)) → judged_type scope around (type_read scope around tree) ≡ Some t →
         Good [] within t × (is_flat (base_read scope around tree) ≡ true → length suffixes ≡ 0 → IsFlat t)
-    judged_good tree place t free told local is =
+    judged_good tree place t free reported local is =
         let f = free_split (base_parts scope around tree) (parts_from scope around 0 suffixes) free in
-        by f.1 (length (paths_from scope around 0 suffixes) == length suffixes) (base_type scope (base_read scope around tree)) (λ u. base_good tree place u f.0 told) is
+        by f.1 (length (paths_from scope around 0 suffixes) == length suffixes) (base_type scope (base_read scope around tree)) (λ u. base_good tree place u f.0 reported) is
       where
         plain : (rest : List Suffix) (u : PlainType) → length rest ≡ 0 → arrays_from around 0 u (paths_from scope around 0 rest) ≡ u
         plain [] u l = refl
@@ -252,11 +252,11 @@ type_good P L scope means classes tree t few free is =
     let j = append_none (local_fault (local_from scope (type_index tree) 0 None tree.suffixes) (is_flat (base_read scope (type_index tree) tree.base) && nat_le (length tree.suffixes) 1))
     (base_faults scope (base_read scope (type_index tree) tree.base) tree.place) f.1.0 in
     (judged_good P L scope means classes tree.suffixes None 0 (omega arith) few tree.base tree.place t f.0 j.1
-    (local_told (local_from scope (type_index tree) 0 None tree.suffixes) (is_flat (base_read scope (type_index tree) tree.base)) j.0) is).0.0
+    (local_reported (local_from scope (type_index tree) 0 None tree.suffixes) (is_flat (base_read scope (type_index tree) tree.base)) j.0) is).0.0
   where
-    local_told : (o : Option Place) (b : Bool) → local_fault o (b && nat_le (length tree.suffixes) 1) ≡ [] → (o ≡ None) ⊎ ((b ≡ true) × (0 + length tree.suffixes ≤ 1))
-    local_told None b h = inl refl
-    local_told (Some p) b h =
+    local_reported : (o : Option Place) (b : Bool) → local_fault o (b && nat_le (length tree.suffixes) 1) ≡ [] → (o ≡ None) ⊎ ((b ≡ true) × (0 + length tree.suffixes ≤ 1))
+    local_reported None b h = inl refl
+    local_reported (Some p) b h =
         let a = and_parts b (nat_le (length tree.suffixes) 1) (not_false (b && nat_le (length tree.suffixes) 1) (fault_none (not (b && nat_le (length tree.suffixes) 1)) kind.LocalRegion p h)) in
         let l = leb-true (length tree.suffixes) 1 a.1 in
         inr (a.0, omega (arith, l))

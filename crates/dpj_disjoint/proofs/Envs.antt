@@ -79,9 +79,9 @@ skip_plain : (r b a : List Elem) → all_plain r ≡ true → Covers (Star ∷ b
 skip_plain [] b a h d = d
 skip_plain (x ∷ r) b a h d = let p = and_parts (is_plain x) _ h in skip (plain-local x p.0) (skip_plain r b a p.1 d)
 
-plain_behind : (r b a : List Elem) → all_plain r ≡ true → Covers b a → Covers (r ++ b) (r ++ a)
-plain_behind [] b a h d = d
-plain_behind (x ∷ r) b a h d = let p = and_parts (is_plain x) _ h in one (elem_within-refl x) (plain-star x p.0) (plain_behind r b a p.1 d)
+plain_after : (r b a : List Elem) → all_plain r ≡ true → Covers b a → Covers (r ++ b) (r ++ a)
+plain_after [] b a h d = d
+plain_after (x ∷ r) b a h d = let p = and_parts (is_plain x) _ h in one (elem_within-refl x) (plain-star x p.0) (plain_after r b a p.1 d)
 
 starred : (b : List Elem) → begins_with_star b ≡ true → (c : List Elem) × (b ≡ Star ∷ c)
 starred [] h = absurd (false≢true h)
@@ -103,7 +103,7 @@ module _ (given : List Constraint) (env : Env) (v : IsEnv given env) where
   put_lists Root Root b a e d = Covers-put env d
   put_lists (Param p) (Param q) b a e d =
       subst (λ z. Covers (env.region z ++ map (put_elem env) b) (env.region p ++ map (put_elem env) a)) (eqb-true p q e)
-      (plain_behind (env.region p) _ _ (v.regions p) (Covers-put env d))
+      (plain_after (env.region p) _ _ (v.regions p) (Covers-put env d))
   put_lists (Param p) Root b a e d = under_star (env.region p) b a (v.regions p) e d
   put_lists Root (Param q) b a e d = absurd (false≢true e)
 
@@ -170,11 +170,11 @@ module _ (given : List Constraint) (env : Env) (v : IsEnv given env) where
       (or_cases (distinct x y) _ p.1)
 
   -- the walk goes on after a front that both have, and stops before what is after both
-  behind_front : (r a b : List Elem) → all_plain r ≡ true → apart_front a b ≡ true → apart_front (r ++ a) (r ++ b) ≡ true
-  behind_front [] a b h f = f
-  behind_front (x ∷ r) a b h f =
+  after_front : (r a b : List Elem) → all_plain r ≡ true → apart_front a b ≡ true → apart_front (r ++ a) (r ++ b) ≡ true
+  after_front [] a b h f = f
+  after_front (x ∷ r) a b h f =
       let p = and_parts (is_plain x) _ h in
-      front-step x x (r ++ a) (r ++ b) (plain-star x p.0) (plain-star x p.0) ∙ or_right (distinct x x) _ (behind_front r a b p.1 f)
+      front-step x x (r ++ a) (r ++ b) (plain-star x p.0) (plain-star x p.0) ∙ or_right (distinct x x) _ (after_front r a b p.1 f)
 
   front_before : (a b r q : List Elem) → apart_front a b ≡ true → apart_front (a ++ r) (b ++ q) ≡ true
   front_before [] b r q h = absurd (false≢true h)
@@ -195,8 +195,8 @@ module _ (given : List Constraint) (env : Env) (v : IsEnv given env) where
       rev-cons (put_elem env x) (map (put_elem env) a) ∙ ap (λ z. z ++ put_elem env x ∷ []) (reverse_put a)
       ∙ sym (ap (λ z. map (put_elem env) z) (rev-cons x a) ∙ map-append (put_elem env) (reverse a) (x ∷ []))
 
-  reverse_behind : (r a : List Elem) → reverse (r ++ map (put_elem env) a) ≡ map (put_elem env) (reverse a) ++ reverse r
-  reverse_behind r a = reverse-append r (map (put_elem env) a) ∙ ap (λ z. z ++ reverse r) (reverse_put a)
+  reverse_after : (r a : List Elem) → reverse (r ++ map (put_elem env) a) ≡ map (put_elem env) (reverse a) ++ reverse r
+  reverse_after r a = reverse-append r (map (put_elem env) a) ∙ ap (λ z. z ++ reverse r) (reverse_put a)
 
   solid_put : (a : List Elem) → solid (map (put_elem env) a) ≡ solid a
   solid_put [] = refl
@@ -216,8 +216,8 @@ module _ (given : List Constraint) (env : Env) (v : IsEnv given env) where
       let e = solid-one x r (plain-star x p.0) in
       omega arith
 
-  shorter_behind : (r a b : List Elem) → all_plain r ≡ true → shorter a b ≡ true → shorter (r ++ map (put_elem env) a) (r ++ map (put_elem env) b) ≡ true
-  shorter_behind r a b h s =
+  shorter_after : (r a b : List Elem) → all_plain r ≡ true → shorter a b ≡ true → shorter (r ++ map (put_elem env) a) (r ++ map (put_elem env) b) ≡ true
+  shorter_after r a b h s =
       let p = shorter-parts a b s in
       let p0 = p.0 in
       let p1 = p.1 in
@@ -247,19 +247,19 @@ module _ (given : List Constraint) (env : Env) (v : IsEnv given env) where
   put_shorter (Param p) Root a b e s = absurd (false≢true e)
   put_shorter (Param p) (Param q) a b e s =
       let n : eqb p q ≡ true = ⊎_elim (λ t. t) (λ t. absurd (false≢true t)) (or_cases (eqb p q) false e) in
-      subst (λ z. shorter (env.region p ++ map (put_elem env) a) (env.region z ++ map (put_elem env) b) ≡ true) (eqb-true p q n) (shorter_behind (env.region p) a b (v.regions p) s)
+      subst (λ z. shorter (env.region p ++ map (put_elem env) a) (env.region z ++ map (put_elem env) b) ≡ true) (eqb-true p q n) (shorter_after (env.region p) a b (v.regions p) s)
 
   put_from_left : (h k : Head) (a b : List Elem) → same_head h k ≡ true → apart_front a b ≡ true →
       apart_front (head_region env h ++ map (put_elem env) a) (head_region env k ++ map (put_elem env) b) ≡ true
   put_from_left h k a b e f =
       subst (λ z. apart_front (head_region env h ++ map (put_elem env) a) (head_region env z ++ map (put_elem env) b) ≡ true) (same_head-is h k e)
-      (behind_front (head_region env h) _ _ (region-plain h) (put_front a b f))
+      (after_front (head_region env h) _ _ (region-plain h) (put_front a b f))
 
   put_from_right : (r q a b : List Elem) → apart_front (reverse a) (reverse b) ≡ true →
       apart_front (reverse (r ++ map (put_elem env) a)) (reverse (q ++ map (put_elem env) b)) ≡ true
   put_from_right r q a b f =
-      ap (λ z. apart_front z (reverse (q ++ map (put_elem env) b))) (reverse_behind r a)
-      ∙ ap (λ z. apart_front (map (put_elem env) (reverse a) ++ reverse r) z) (reverse_behind q b)
+      ap (λ z. apart_front z (reverse (q ++ map (put_elem env) b))) (reverse_after r a)
+      ∙ ap (λ z. apart_front (map (put_elem env) (reverse a) ++ reverse r) z) (reverse_after q b)
       ∙ front_before (map (put_elem env) (reverse a)) (map (put_elem env) (reverse b)) (reverse r) (reverse q) (put_front (reverse a) (reverse b) f)
 
 -- being apart is symmetric
@@ -452,7 +452,7 @@ pub matches-within : (given : List Constraint) (env : Env) → IsEnv given env �
 unfolding within put_in Matches
 matches-within given env v a r m =
     Covers-to (subst (λ z. Covers (head_region env a.head ++ map (put_elem env) a.elems) z) (sym m.1)
-    (plain_behind (head_region env a.head) _ _ (region-plain given env v a.head) (FitsAll-covers env a.elems m.0 m.2)))
+    (plain_after (head_region env a.head) _ _ (region-plain given env v a.head) (FitsAll-covers env a.elems m.0 m.2)))
 
 pub no_common : (given : List Constraint) (env : Env) → IsEnv given env → (a b : Rpl) → apart given a b ≡ true → MatchNoCommon env a b
 no_common given env v a b h = λ r m n.

@@ -1,4 +1,2 @@
-pub mod Beside
 pub mod Covered
-pub mod Places
 pub mod Sets

@@ -4,14 +4,15 @@
 //! effects in the order in which they came. What they are good for is said in `laws`: what is covered by effects
 //! that don't interfere doesn't interfere.
 //!
-//! Only what makes or grows a set takes memory. If memory runs out, a set is as it was.
+//! A set that is not needed any more gives its effects up, to a list or to another set, and nothing is copied.
+//!
+//! What makes or grows a set takes memory, and if it runs out, a set is as it was. A few effects are kept as a list, and
+//! more of them in an `IndexSet`.
 #![tactic(auto)]
 
 mod effect;
-mod index;
 pub mod laws;
 mod set;
 
 pub use effect::{covers, interferes};
-pub use index::{elem_number, number_of};
 pub use set::EffectSet;

@@ -1,44 +1,85 @@
 ghost use Rattle.std.specs.Prelude.{◌≡◌, ◌↔◌, [], true, length, IsTrue, IfOk, OnOk, OnErr};
-ghost use Rattle.dpj_base.specs.Effects.{has_effect, some_covers, set_covers, added, gathered, all_marked, with_mark};
+ghost use Rattle.dpj_base.specs.Effects.{same_effect, has_effect, some_covers, set_covers, added, gathered, all_marked, with_mark};
+ghost use Rattle.dpj_effects.specs.Listed.{listed};
 
 use crate::effect::covers;
-use crate::index::{any_at, any_covers_at, note, number_of};
-use dpj_base::{Effect, Items, NoMemory, Plain};
+use dpj_base::{Access, Effect, Items, NoMemory, Plain};
+use indexmap::IndexSet;
 use std::alloc::Global;
-use std::collections::BTreeMap;
 use std::marker::Model;
+
+/// Up to so many effects are looked through, which takes less than to hash them.
+const FEW: usize = 8;
+
+/// What an effect of one path can be: an access, marked or not.
+const KINDS: [(Access, bool); 4] = [
+    (Access::Write, false),
+    (Access::Write, true),
+    (Access::Read, false),
+    (Access::Read, true),
+];
+
+/// The effects of a set: a list as long as they are few, as in most sets, since a hash table would take four blocks of
+/// memory for the first of them.
+#[derive(Debug)]
+enum Effects {
+    Few(Items<Effect>),
+    Many(IndexSet<Effect>),
+}
 
 /// Distinct effects, in the order in which they were added. A contract sees the list.
 #[derive(Debug)]
 pub struct EffectSet {
-    effects: Items<Effect>,
-    /// The places in the list, each under the number of its effect, so that none is looked for twice.
-    spots: BTreeMap<u32, Items<usize>>,
+    effects: Effects,
     alloc: Global,
 }
 
 // By hand, so that letting one go is one call to what is proved of a caller.
+impl Drop for Effects {
+    fn drop(self) {
+        match self {
+            Effects::Few(_) => {}
+            Effects::Many(_) => {}
+        }
+    }
+}
+
 impl Drop for EffectSet {
     fn drop(self) {
         let EffectSet {
             effects: _,
-            spots: _,
             alloc: _,
         } = self;
     }
 }
 
 impl Model for EffectSet {
-    ghost use Rattle.std.specs.Prelude.{List, IsTrue};
-    ghost use Rattle.dpj_base.specs.Effects.{all_distinct};
+    ghost use Rattle.std.specs.Prelude.{List};
     ghost use Rattle.dpj_base.specs.declared.effect.Effect.{Effect};
-    ghost use Rattle.dpj_effects.specs.Index.{Indexed};
+    ghost use Rattle.std.specs.List.{IsDistinct};
+    ghost use Rattle.dpj_effects.specs.Listed.{listed, effect_eq};
 
     ghost Value = { List Effect };
 
-    ghost view = { λ set. set.effects };
+    ghost view = { λ set. listed set.effects };
 
-    ghost invariant = { λ set. IsTrue (all_distinct set.effects) × Indexed set.effects set.spots };
+    ghost invariant = { λ set. IsDistinct effect_eq (listed set.effects) };
+}
+
+impl Effects {
+    fn into_items(self, alloc: Global) -> Result<Items<Effect>, NoMemory>
+        ensures { IfOk result (λ items. items ≡ listed self) }
+    {
+        let many = match self {
+            Effects::Few(effects) => return Ok(effects),
+            Effects::Many(effects) => effects,
+        };
+        let mut items = Items::new(alloc);
+        for e in many {
+            items.push(e)?;
+        }
+        Ok(items)
+    }
 }
 
 impl EffectSet {
@@ -47,8 +88,7 @@ impl EffectSet {
         ensures { result ≡ [] }
     {
         EffectSet {
-            effects: Items::new(alloc),
-            spots: BTreeMap::new(alloc),
+            effects: Effects::Few(Items::new(alloc)),
             alloc,
         }
     }
@@ -56,19 +96,22 @@ impl EffectSet {
     pub fn as_slice(&self) -> &[Effect]
         ensures { result.now ≡ self.now }
     {
-        self.effects.as_slice()
+        match &self.effects {
+            Effects::Few(effects) => effects.as_slice(),
+            Effects::Many(effects) => effects.as_slice(),
+        }
     }
 
     pub fn len(&self) -> usize
         ensures { result ≡ length self.now }
     {
-        self.effects.len()
+        self.as_slice().len()
     }
 
     pub fn is_empty(&self) -> bool
         ensures { IsTrue result ↔ (self.now ≡ []) }
     {
-        self.effects.is_empty()
+        self.as_slice().is_empty()
     }
 
     /// Puts the effect last, unless it is there already. If memory runs out, the set is as it was.
@@ -76,12 +119,32 @@ impl EffectSet {
         ensures ok { OnOk result (self.new ≡ added self.old e) }
         ensures err { OnErr result (self.new ≡ self.old) }
     {
-        if self.has(&e) {
-            return Ok(());
+        match &mut self.effects {
+            Effects::Few(effects) => {
+                if among(effects.as_slice(), &e) {
+                    return Ok(());
+                }
+                if effects.len() < FEW {
+                    effects.push(e)?;
+                    return Ok(());
+                }
+            }
+            Effects::Many(effects) => {
+                effects.insert(e)?;
+                return Ok(());
+            }
         }
-        let place = self.effects.len();
-        note(self.alloc, &mut self.spots, number_of(&e), place)?;
-        self.effects.push(e)?;
+        self.add_to_many(e)
+    }
+
+    /// The same, where the effects are hashed from now on.
+    fn add_to_many(&mut self, e: Effect) -> Result<(), NoMemory>
+        ensures ok { OnOk result (self.new ≡ added self.old e) }
+        ensures err { OnErr result (self.new ≡ self.old) }
+    {
+        let mut many = hashed(self.alloc, self.as_slice())?;
+        many.insert(e)?;
+        self.effects = Effects::Many(many);
         Ok(())
     }
 
@@ -89,35 +152,46 @@ impl EffectSet {
     pub fn has(&self, e: &Effect) -> bool
         ensures { result ≡ has_effect self.now e.now }
     {
-        match self.spots.get(&number_of(e)) {
-            None => false,
-            Some(places) => any_at(self.effects.as_slice(), places.as_slice(), e),
+        match &self.effects {
+            Effects::Few(effects) => among(effects.as_slice(), e),
+            Effects::Many(effects) => effects.contains(e),
         }
     }
 
-    /// Whether an effect that is noted under the same number covers this one: most are covered by one of the same
-    /// path.
+    /// Whether the set has this effect, or another of the same path that covers it: most are covered so. Another is
+    /// looked up by a copy of the path, and without memory for that the answer is no.
     fn covers_beside(&self, f: &Effect) -> bool
         ensures { IsTrue result → IsTrue (some_covers self.now f.now) }
     {
-        match self.spots.get(&number_of(f)) {
-            None => false,
-            Some(places) => any_covers_at(self.effects.as_slice(), places.as_slice(), f),
+        if self.has(f) {
+            return true;
         }
+        let Ok(mut other) = f.copy(self.alloc) else {
+            return false;
+        };
+        for (access, atomic) in KINDS {
+            other.access = access;
+            other.atomic = atomic;
+            if covers(&other, f) && self.has(&other) {
+                return true;
+            }
+        }
+        false
     }
 
-    /// Whether some effect of the set covers this one. It takes no memory.
+    /// Whether some effect of the set covers this one. It takes no memory but for a copy of a path of many elements, and
+    /// does without where there is none.
     pub fn covers_effect(&self, f: &Effect) -> bool
         ensures { result ≡ some_covers self.now f.now }
     {
-        self.covers_beside(f) || some_covers(self.effects.as_slice(), f)
+        (self.len() > FEW && self.covers_beside(f)) || some_covers(self.as_slice(), f)
     }
 
-    /// Whether each effect of the other set is covered by one of this. It takes no memory.
+    /// Whether each effect of the other set is covered by one of this. It takes memory as `covers_effect` does.
     pub fn set_covers(&self, other: &EffectSet) -> bool
         ensures { result ≡ set_covers self.now other.now }
     {
-        for f in other.effects.as_slice() {
+        for f in other.as_slice() {
             if !self.covers_effect(f) {
                 return false;
             }
@@ -125,15 +199,29 @@ impl EffectSet {
         true
     }
 
-    /// Adds copies of another set's effects, one after another. If memory runs out, some of them may be
-    /// there.
-    pub fn add_all(&mut self, alloc: Global, other: &EffectSet) -> Result<(), NoMemory>
-        ensures { OnOk result (self.new ≡ gathered self.old other.now) }
+    /// Adds another set's effects, one after another. If memory runs out, some of them may be there. An empty set takes the
+    /// other one whole.
+    pub fn take_all(&mut self, other: EffectSet) -> Result<(), NoMemory>
+        ensures { OnOk result (self.new ≡ gathered self.old other) }
     {
-        for e in other.effects.as_slice() {
-            self.add(e.copy(alloc)?)?;
+        if self.is_empty() {
+            // The proof knows from here that the effects are distinct.
+            let _ = &other.effects;
+            *self = other;
+            return Ok(());
+        }
+        for e in other.into_items()?.into_vec() {
+            self.add(e)?;
         }
         Ok(())
+    }
+
+    /// The effects themselves as a list. Few of them take no memory.
+    pub fn into_items(self) -> Result<Items<Effect>, NoMemory>
+        ensures { IfOk result (λ items. items ≡ self) }
+    {
+        let EffectSet { effects, alloc } = self;
+        effects.into_items(alloc)
     }
 
     /// The same effects, each marked, each once and at its first place.
@@ -141,7 +229,7 @@ impl EffectSet {
         ensures { IfOk result (λ set. set ≡ all_marked true self.now) }
     {
         let mut set = EffectSet::new(alloc);
-        for e in self.effects.as_slice() {
+        for e in self.as_slice() {
             set.add(marked(alloc, e)?)?;
         }
         Ok(set)
@@ -150,16 +238,44 @@ impl EffectSet {
 
 impl Plain for EffectSet {
     fn copy(&self, alloc: Global) -> Result<EffectSet, NoMemory> {
-        let mut set = EffectSet::new(alloc);
-        for e in self.effects.as_slice() {
-            set.add(e.copy(alloc)?)?;
-        }
-        Ok(set)
+        let effects = match &self.effects {
+            Effects::Few(effects) => Effects::Few(effects.copy(alloc)?),
+            Effects::Many(effects) => Effects::Many(hashed(alloc, effects.as_slice())?),
+        };
+        Ok(EffectSet { effects, alloc })
     }
 
     fn same(&self, other: &EffectSet) -> bool {
-        self.effects.same(&other.effects)
+        self.as_slice() == other.as_slice()
     }
+}
+
+fn same(e: &Effect, f: &Effect) -> bool
+    ensures { result ≡ same_effect e.now f.now }
+{
+    *e == *f
+}
+
+fn among(effects: &[Effect], e: &Effect) -> bool
+    ensures { result ≡ has_effect effects.now e.now }
+{
+    for f in effects {
+        if same(f, e) {
+            return true;
+        }
+    }
+    false
+}
+
+/// Copies of the effects, each once, hashed.
+fn hashed(alloc: Global, effects: &[Effect]) -> Result<IndexSet<Effect>, NoMemory>
+    ensures { IfOk result (λ set. set.keys ≡ gathered [] effects.now) }
+{
+    let mut set = IndexSet::new(alloc);
+    for e in effects {
+        set.insert(e.copy(alloc)?)?;
+    }
+    Ok(set)
 }
 
 fn some_covers(effects: &[Effect], f: &Effect) -> bool

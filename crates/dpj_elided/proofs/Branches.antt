@@ -6,7 +6,7 @@ use Rattle.dpj_base.specs.declared.place.Place.{Place}
 use Rattle.dpj_base.specs.declared.value.Trap.{Trap}
 use Rattle.dpj_typed.specs.Plain.{PlainProgram}
 use Rattle.dpj_meaning.specs.Actions.{Task as TaskOver, Ending as EndingOver, Work}
-use Rattle.dpj_meaning.specs.Asking.{begins_then, told_join, told, ended, replied, does}
+use Rattle.dpj_meaning.specs.Asking.{begins_then, reported_join, reported, ended, replied, does}
 use Rattle.dpj_meaning.specs.Core.{Goes_on, Returns, Done, Stopped, Lost, bind, run}
 use Rattle.dpj_meaning.specs.Core.{Out as out}
 use Rattle.dpj_meaning.specs.Counts.{Brought, Back, Trap_of_branch, assigned}
@@ -31,7 +31,7 @@ use Rattle.dpj_elided.proofs.Memory.{Holds}
 use Rattle.dpj_elided.proofs.Doing.{structure_step}
 use Rattle.dpj_meaning.proofs.Turns.{most_pos, bind_done}
 use Rattle.dpj_runs.proofs.Working.{Working, greatest_now, not_begun, goes_up, goes_into, in_order_after}
-use Rattle.dpj_elided.proofs.Simulation.{ToldOf, ResultOf, ResultIn, OutOf, OutIn, told_on, Ghost, D}
+use Rattle.dpj_elided.proofs.Simulation.{ReportedOf, ResultOf, ResultIn, OutOf, OutIn, reported_on, Ghost, D}
 use Rattle.dpj_elided.proofs.Simulation.{Ready, RanOut, After, Post, Sim, allowed_next, resid_next}
 
 -- the first trap, after a task that ended so, after some of them, and after their join
@@ -71,7 +71,7 @@ module _ (P : PlainProgram) (arg : ℤ) where
   -- one branch: what a task of the elision does is simulated in each run in which its like begins
   abbrev pub BranchSim : TaskOver ℕ Counted → (Store → OutIn ResultIn) → Type 0
   BranchSim t m = (ns : Names) (s : Task) (q : Path) (h : TaskLike ns t s) (b : ℕ)
-      → Sim P arg (ResultLike h.left) b ns (λ u. run (told (named_by q)) (does (named_by q) P s) u) m
+      → Sim P arg (ResultLike h.left) b ns (λ u. run (reported (named_by q)) (does (named_by q) P s) u) m
 
   -- it has run to its end
   pub record One (q : Path) (R : Run) (ns : Names) (w v : Store) (x : EndingOver ℕ) : Type 0 where
@@ -100,8 +100,8 @@ module _ (P : PlainProgram) (arg : ℤ) where
   PostOne q R ns w (Stopped n a) = ⊥
   PostOne q R ns w (Lost v) = RanOut P arg R w v
 
-  end_one : (q : Path) (R : Run) (ns : Names) (w v v' : Store) (s : Task) (h : Ghost) (m : ToldOf → OutOf ResultOf) (x : EndingOver ℕ) (y : Ending)
-      → After P arg (begun_at q R ns) h w v → Ready P arg h v s m → replied s.work (m (told_on h.since h.made [])) ≡ Next h.since (End y)
+  end_one : (q : Path) (R : Run) (ns : Names) (w v v' : Store) (s : Task) (h : Ghost) (m : ReportedOf → OutOf ResultOf) (x : EndingOver ℕ) (y : Ending)
+      → After P arg (begun_at q R ns) h w v → Ready P arg h v s m → replied s.work (m (reported_on h.since h.made [])) ≡ Next h.since (End y)
       → EndingLike h.names x y
       → v'.heap ≡ v.heap → v'.output ≡ v.output → v'.trap ≡ trap_in (End y) v.trap → v'.cells ≡ v.cells → v'.steps ≡ v.steps → v'.turns ≡ v.turns
       → v'.trap ≡ fallen x w.trap → One q R ns w v' x
@@ -161,7 +161,7 @@ module _ (P : PlainProgram) (arg : ℤ) where
   one_branch q R ns w t s m tl sim legal order greedy working begun none_yet holds =
       go (m w) ((sim ns s q tl (suc w.turns)).from (begun_at q R ns) w s (λ v u. Done v u) (later_none holds.distinct) (omega arith) start)
     where
-      start : Ready P arg (begun_at q R ns) w s (λ u. bind (run (told (named_by q)) (does (named_by q) P s) u) (λ v u. Done v u))
+      start : Ready P arg (begun_at q R ns) w s (λ u. bind (run (reported (named_by q)) (does (named_by q) P s) u) (λ v u. Done v u))
       start = record {
         legal = legal;
         order = order;
@@ -169,8 +169,8 @@ module _ (P : PlainProgram) (arg : ℤ) where
         working = working;
         begun = begun;
         low = most_pos;
-        resid = λ xs. ap (λ es. replied s.work (run (told (named_by q)) (does (named_by q) P s) (told_on 0 0 (reverse (answers es) ++ xs)))) none_yet
-            ∙ ap (replied s.work) (sym (bind_done (run (told (named_by q)) (does (named_by q) P s) (told_on 0 0 xs))));
+        resid = λ xs. ap (λ es. replied s.work (run (reported (named_by q)) (does (named_by q) P s) (reported_on 0 0 (reverse (answers es) ++ xs)))) none_yet
+            ∙ ap (replied s.work) (sym (bind_done (run (reported (named_by q)) (does (named_by q) P s) (reported_on 0 0 xs))));
         holds = holds;
       }
 
@@ -186,14 +186,14 @@ module _ (P : PlainProgram) (arg : ℤ) where
       go (Lost v) p = p
 
   -- after some branches of one fork: each has ended, and the task above has made its begins alone
-  pub record Branched (t : Task) (K : Brought Name → ToldOf
+  pub record Branched (t : Task) (K : Brought Name → ReportedOf
       → OutOf ResultOf) (p : Path) (i b made : ℕ) (R : Run) (ns : Names) (w v : Store) (n : ℕ) (xs : List (EndingOver ℕ)) :
       Type 0 where
     pub log : Run
     pub names : Names
     pub ends : List Ending
     pub like : EndingsLike names xs ends
-    pub ready : Ready P arg (forked_at p made log names) v t (λ u. bind (told_join u) K)
+    pub ready : Ready P arg (forked_at p made log names) v t (λ u. bind (reported_join u) K)
     pub grown : Upto R log
     pub kept : (q : Path) → (q ≡ p → ⊥) → length q ≤ length p → mine log q ≡ mine R q
     pub begins : Run
@@ -206,7 +206,7 @@ module _ (P : PlainProgram) (arg : ℤ) where
     pub spent : w.steps + w.turns ≤ v.steps + v.turns
     pub trap : v.trap ≡ all_fallen xs w.trap
 
-  abbrev pub PostBranches : Task → (Brought Name → ToldOf → OutOf ResultOf) → Path → ℕ → ℕ → ℕ → Run → Names → Store → ℕ → OutIn (List (EndingOver ℕ)) → Type 0
+  abbrev pub PostBranches : Task → (Brought Name → ReportedOf → OutOf ResultOf) → Path → ℕ → ℕ → ℕ → Run → Names → Store → ℕ → OutIn (List (EndingOver ℕ)) → Type 0
   PostBranches t K p i b made R ns w n (Done xs v) = Branched t K p i b made R ns w v n xs
   PostBranches t K p i b made R ns w n (out.Trapped trap q v) = ⊥
   PostBranches t K p i b made R ns w n (Stopped k a) = ⊥
@@ -223,11 +223,11 @@ module _ (P : PlainProgram) (arg : ℤ) where
   begin_prints b f = refl
 
   -- the branches of one fork, from the one numbered b on
-  module _ (t : Task) (K : Brought Name → ToldOf
+  module _ (t : Task) (K : Brought Name → ReportedOf
       → OutOf ResultOf) (p : Path) (i made : ℕ) (all : Branches) (F : Run) (f : Event) (fp : f.path ≡ p) (fa : f.act ≡ Fork all)
       (fn : count F p ≡ i) where
     -- the begin of one
-    module _ (b n : ℕ) (R : Run) (ns : Names) (w : Store) (r : Ready P arg (forked_at p made R ns) w t (λ u. bind (begins_then b (suc n) told_join u) K))
+    module _ (b n : ℕ) (R : Run) (ns : Names) (w : Store) (r : Ready P arg (forked_at p made R ns) w t (λ u. bind (begins_then b (suc n) reported_join u) K))
         (st : Upto (f ∷ F) R)
         (s : Task) (there : slice_get all.tasks b ≡ Some s) (num : count R p ≡ suc (i + b)) where
       abbrev begin : Event
@@ -262,7 +262,7 @@ module _ (P : PlainProgram) (arg : ℤ) where
 
       -- and what the task above does after its end
       next_ready : {v : Store} {x : EndingOver ℕ} (o : One child (begin ∷ R) ns (one_step w) v x)
-          → Ready P arg (forked_at p made (o.event ∷ o.before) o.names) v t (λ u. bind (begins_then (suc b) n told_join u) K)
+          → Ready P arg (forked_at p made (o.event ∷ o.before) o.names) v t (λ u. bind (begins_then (suc b) n reported_join u) K)
       next_ready o = record {
         legal = o.legal;
         order = o.order;
@@ -270,9 +270,9 @@ module _ (P : PlainProgram) (arg : ℤ) where
         working = goes_up Q (D P arg) o.legal o.working o.path o.ending o.act p (i, b) refl t (begun_upto (upto_trans (later now) o.grown) r.begun);
         begun = begun_upto (upto_trans (later now) (upto_trans o.grown (later now))) r.begun;
         low = most_pos;
-        resid = λ ys. ap (λ es. replied t.work (run (told (named_by p)) (does (named_by p) P t) (told_on 0 0 (reverse (answers es) ++ ys)))) (o.kept p
+        resid = λ ys. ap (λ es. replied t.work (run (reported (named_by p)) (does (named_by p) P t) (reported_on 0 0 (reverse (answers es) ++ ys)))) (o.kept p
             (longer b) (omega arith))
-            ∙ resid_next P arg p t R (λ u. bind (begins_then b (suc n) told_join u) K) (λ u. bind (begins_then (suc b) n told_join u) K) 0 made made 0
+            ∙ resid_next P arg p t R (λ u. bind (begins_then b (suc n) reported_join u) K) (λ u. bind (begins_then (suc b) n reported_join u) K) 0 made made 0
             (Begin b) Went r.resid (λ xs. refl) ys;
         holds = o.holds;
       }
@@ -347,7 +347,7 @@ module _ (P : PlainProgram) (arg : ℤ) where
 
     pub sim_branches : {ks : Names} {ts : List (TaskOver ℕ Counted)} {ss : List Task} → TasksLike ks ts ss → (ms : List (Store → OutIn ResultIn))
         → AllSim ts ms → (b : ℕ) (R : Run)
-        (ns : Names) (w : Store) → Later ks ns → Ready P arg (forked_at p made R ns) w t (λ u. bind (begins_then b (length ss) told_join u) K) → Upto (f ∷ F) R
+        (ns : Names) (w : Store) → Later ks ns → Ready P arg (forked_at p made R ns) w t (λ u. bind (begins_then b (length ss) reported_join u) K) → Upto (f ∷ F) R
         → ((k : ℕ) (s : Task) → slice_get ss k ≡ Some s → slice_get all.tasks (b + k) ≡ Some s) → count R p ≡ suc (i + b)
         → PostBranches t K p i b made R ns w (length ss) (one_by_one ts ms w)
     sim_branches no_tasks [] sims b R ns w l r st at num = record {

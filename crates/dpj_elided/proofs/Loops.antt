@@ -5,7 +5,7 @@ use Rattle.std.specs.Prelude.{ℤ}
 use Rattle.dpj_typed.specs.Plain.{PlainProgram}
 use Rattle.dpj_meaning.specs.Values.{Value}
 use Rattle.dpj_meaning.specs.Actions.{Frame as FrameOver}
-use Rattle.dpj_meaning.specs.Asking.{turned, told}
+use Rattle.dpj_meaning.specs.Asking.{turned, reported}
 use Rattle.dpj_meaning.specs.Core.{Goes_on, Returns, Prog, Done, bind, loop, tested, rounded, run}
 use Rattle.dpj_meaning.specs.Counts.{truth}
 use Rattle.dpj_meaning.specs.Elision.{LocalRegion as Counted, Store, one_turn, sequential}
@@ -17,7 +17,7 @@ use Rattle.dpj_elided.proofs.Worlds.{Names, Distinct, Later, later_none, later_t
 use Rattle.dpj_elided.proofs.Worlds.{ResultLike, goes_on_like, returns_like, result_later}
 use Rattle.dpj_elided.proofs.Counts.{truth_like}
 use Rattle.dpj_meaning.proofs.Turns.{loops_again}
-use Rattle.dpj_elided.proofs.Simulation.{ToldOf, ResultOf, ResultIn, OutOf, OutIn}
+use Rattle.dpj_elided.proofs.Simulation.{ReportedOf, ResultOf, ResultIn, OutOf, OutIn}
 use Rattle.dpj_elided.proofs.Simulation.{Sim, sim_done, sim_same, sim_bind, sim_turn}
 
 module _ (P : PlainProgram) (arg : ℤ) where
@@ -30,18 +30,18 @@ module _ (P : PlainProgram) (arg : ℤ) where
 
   module _ (path : Path) (d : ℕ) (t b : FrameOver ℕ Counted → Prog ℕ Counted) (s a : FrameOver Name LocalRegion → Prog Name LocalRegion) (ns : Names)
       (ht : (c : ℕ) (ms : Names) (f : FrameOver ℕ Counted) (g : FrameOver Name LocalRegion) → Later ns ms → FrameLike d ms f g
-      → Sim P arg (ResultLike d) c ms (λ u. run (told (named_by path)) (s g) u) (λ w. run sequential (t f) w))
+      → Sim P arg (ResultLike d) c ms (λ u. run (reported (named_by path)) (s g) u) (λ w. run sequential (t f) w))
       (hb : (c : ℕ) (ms : Names) (f : FrameOver ℕ Counted) (g : FrameOver Name LocalRegion) → Later ns ms → FrameLike d ms f g
-      → Sim P arg (ResultLike d) c ms (λ u. run (told (named_by path)) (a g) u) (λ w. run sequential (b f) w)) where
-    abbrev again_told : FrameOver Name LocalRegion → ToldOf → OutOf ResultOf
-    again_told g u = again (named_by path) s a g u
+      → Sim P arg (ResultLike d) c ms (λ u. run (reported (named_by path)) (a g) u) (λ w. run sequential (b f) w)) where
+    abbrev again_reported : FrameOver Name LocalRegion → ReportedOf → OutOf ResultOf
+    again_reported g u = again (named_by path) s a g u
 
     abbrev Loops : ℕ → Type 0
     Loops n = (ms : Names) (f : FrameOver ℕ Counted) (g : FrameOver Name LocalRegion) → Later ns ms → FrameLike d ms f g
-        → Sim P arg (ResultLike d) n ms (λ u. again_told g u) (λ w. looped t b n f w)
+        → Sim P arg (ResultLike d) n ms (λ u. again_reported g u) (λ w. looped t b n f w)
 
     at_round : (n : ℕ) → Loops n → (ms : Names) (x : ResultIn) (y : ResultOf) → Later ns ms → ResultLike d ms x y
-        → Sim P arg (ResultLike d) n ms (λ u. rounded (λ g v. again_told g v) y u) (λ w. rounded (λ g v. looped t b n g v) x w)
+        → Sim P arg (ResultLike d) n ms (λ u. rounded (λ g v. again_reported g v) y u) (λ w. rounded (λ g v. looped t b n g v) x w)
     at_round n h ms _ _ l (returns_like {v = v} {u = u} e z) = sim_done P arg (Returns v) (Returns u) (λ ls l'. result_later l' (returns_like e z))
     at_round n h ms _ _ l (goes_on_like {f = f} {g = g} z k) = h ms f g l k
 
@@ -51,7 +51,7 @@ module _ (P : PlainProgram) (arg : ℤ) where
         → Sim P arg (ResultLike d) (suc n) ms
         (λ w. elim y as (λ b. OutOf ResultOf) [
           | false ↦ Done (Goes_on u g) w
-          | true ↦ bind (turned w) (λ u w'. bind (run (told (named_by path)) (a g) w') (λ r w''. rounded (λ g v. again_told g v) r w''))
+          | true ↦ bind (turned w) (λ u w'. bind (run (reported (named_by path)) (a g) w') (λ r w''. rounded (λ g v. again_reported g v) r w''))
         ])
         (λ w. elim x as (λ b. OutIn ResultIn) [
           | false ↦ Done (Goes_on v f) w
@@ -63,7 +63,7 @@ module _ (P : PlainProgram) (arg : ℤ) where
     at_truth n h ms l false false e v u f g z k = sim_done P arg (Goes_on v f) (Goes_on u g) (λ ls l'. result_later l' z)
 
     at_test : (n : ℕ) → Loops n → (ms : Names) (x : ResultIn) (y : ResultOf) → Later ns ms → ResultLike d ms x y
-        → Sim P arg (ResultLike d) (suc n) ms (λ u. tested turned (λ g v. run (told (named_by path)) (a g) v) (λ g v. again_told g v) y u)
+        → Sim P arg (ResultLike d) (suc n) ms (λ u. tested turned (λ g v. run (reported (named_by path)) (a g) v) (λ g v. again_reported g v) y u)
         (λ w. tested (λ v. one_turn v.turns v) (λ g v. run sequential (b g) v) (λ g v. looped t b n g v) x w)
     at_test n h ms _ _ l (returns_like {v = v} {u = u} e z) = sim_done P arg (Returns v) (Returns u) (λ ls l'. result_later l' (returns_like e z))
     at_test n h ms _ _ l (goes_on_like {v = v} {u = u} {f = f} {g = g} z k) =
@@ -76,7 +76,7 @@ module _ (P : PlainProgram) (arg : ℤ) where
         (sim_bind P arg (ht (suc n) ms f g l k) (λ ls x y l' r. at_test n (sim_loop n) ls x y (later_then l l') r))
 
     pub sim_again : (c : ℕ) (f : FrameOver ℕ Counted) (g : FrameOver Name LocalRegion) → Distinct ns → FrameLike d ns f g
-        → Sim P arg (ResultLike d) c ns (λ u. again_told g u) (λ w. looped t b (suc w.turns) f w)
+        → Sim P arg (ResultLike d) c ns (λ u. again_reported g u) (λ w. looped t b (suc w.turns) f w)
     sim_again c f g e k = record {
       from = λ h w t' K l lt r. (sim_loop (suc w.turns) ns f g (later_none e) k).from h w t' K l (omega arith) r;
     }

@@ -7,7 +7,7 @@ use Rattle.dpj_base.specs.declared.value.Trap.{Trap}
 use Rattle.dpj_typed.specs.declared.stmt.Forking.{Forking}
 use Rattle.dpj_typed.specs.Plain.{PlainProgram}
 use Rattle.dpj_meaning.specs.Actions.{Task as TaskOver, Ending as EndingOver}
-use Rattle.dpj_meaning.specs.Asking.{begins_then, told_join, told_fork, told, replied, does}
+use Rattle.dpj_meaning.specs.Asking.{begins_then, reported_join, reported_fork, reported, replied, does}
 use Rattle.dpj_meaning.specs.Core.{Prog, Ret, Traps, Act, Makes, Again, Split, Done, Stopped, Lost, bind, each_from, run}
 use Rattle.dpj_meaning.specs.Core.{Out as out}
 use Rattle.dpj_meaning.specs.Counts.{Brought, Back, Trap_of_branch, brought}
@@ -27,7 +27,7 @@ use Rattle.dpj_elided.proofs.Counts.{joined_alike}
 use Rattle.dpj_elided.proofs.Meaning.{does_alike}
 use Rattle.dpj_elided.proofs.Doing.{structure_step}
 use Rattle.dpj_meaning.proofs.Turns.{bind_done}
-use Rattle.dpj_elided.proofs.Simulation.{ToldOf, ResultOf, ResultIn, OutOf, OutIn, told_on, Ghost, noted, bind_assoc, fork_stays, join_stays}
+use Rattle.dpj_elided.proofs.Simulation.{ReportedOf, ResultOf, ResultIn, OutOf, OutIn, reported_on, Ghost, noted, bind_assoc, fork_stays, join_stays}
 use Rattle.dpj_elided.proofs.Simulation.{Ready, After, after_then, Post, Sim, ready_same, ready_next, after_noted, out_after, post_after, sim_done, sim_trapped}
 use Rattle.dpj_elided.proofs.Simulation.{sim_later, sim_same, sim_bind, sim_act, sim_make}
 use Rattle.dpj_elided.proofs.Loops.{sim_again}
@@ -41,22 +41,22 @@ module _ (P : PlainProgram) (arg : ℤ) where
       (ms : List (Store → OutIn ResultIn)) (sims : AllSim P arg ts ms) (k : Brought ℕ → Prog ℕ Counted) (j : Brought Name → Prog Name LocalRegion)
       (falls : (trap : Trap) (p : Place) → k (Trap_of_branch trap p) ≡ Traps trap p)
       (hk : (ls : Names) (x : Brought ℕ) (y : Brought Name) → Later ns ls → BroughtLike ls x y
-      → Sim P arg (ResultLike c) b ls (λ u. run (told (named_by path)) (j y) u) (λ w. run sequential (k x) w)) where
+      → Sim P arg (ResultLike c) b ls (λ u. run (reported (named_by path)) (j y) u) (λ w. run sequential (k x) w)) where
     abbrev all_forked : Branches
     all_forked = record { kind = forking; tasks = ss }
 
-    abbrev then_told : Brought Name → ToldOf → OutOf ResultOf
-    then_told y u = run (told (named_by path)) (j y) u
+    abbrev then_reported : Brought Name → ReportedOf → OutOf ResultOf
+    then_reported y u = run (reported (named_by path)) (j y) u
 
     -- after the join, where the branches brought this
-    behind : (g h : Ghost) (w v : Store) (t : Task) (K : ResultOf → ToldOf → OutOf ResultOf) (x : Brought ℕ) (y : Brought Name) → Later ns h.names
+    following : (g h : Ghost) (w v : Store) (t : Task) (K : ResultOf → ReportedOf → OutOf ResultOf) (x : Brought ℕ) (y : Brought Name) → Later ns h.names
         → BroughtLike h.names x y
-        → v.turns < b → After P arg g h w v → v.trap ≡ brought_down x w.trap → Ready P arg h v t (λ u. bind (then_told y u) K)
+        → v.turns < b → After P arg g h w v → v.trap ≡ brought_down x w.trap → Ready P arg h v t (λ u. bind (then_reported y u) K)
         → Post P arg (ResultLike c) g w t K (run sequential (k x) v)
-    behind g h w v t K (Back ls) y l like lt a e r =
+    following g h w v t K (Back ls) y l like lt a e r =
         post_after P arg (ResultLike c) t K (run sequential (k (Back ls)) v) a e ((hk h.names (Back ls) y l like).from h v t K
         (later_none r.holds.distinct) lt r)
-    behind g h w v t K (Trap_of_branch trap p) y l like lt a e r = done (subst (λ (q : Prog ℕ Counted). Post P arg (ResultLike c) h v t K
+    following g h w v t K (Trap_of_branch trap p) y l like lt a e r = done (subst (λ (q : Prog ℕ Counted). Post P arg (ResultLike c) h v t K
         (run sequential q v)) (falls trap p)
         ((hk h.names (Trap_of_branch trap p) y l like).from h v t K (later_none r.holds.distinct) lt r))
       where
@@ -83,15 +83,15 @@ module _ (P : PlainProgram) (arg : ℤ) where
         down_brought None = refl
         down_brought (Some e) = refl
 
-    sim_split : Sim P arg (ResultLike c) b ns (λ u. bind (told_fork forking ss u) then_told)
+    sim_split : Sim P arg (ResultLike c) b ns (λ u. bind (reported_fork forking ss u) then_reported)
         (λ w. bind (bind (one_by_one ts ms (one_step w)) (λ xs v. Done (brought {M = Counted} (joined_in xs)) (one_step v))) (λ x v. run sequential (k x) v))
     sim_split = record {
-      from = λ g w t K l lt r. at g w t K l lt (ready_same P arg r (λ xs. ap (replied t.work) (bind_assoc (told_fork forking ss
-          (told_on g.since g.made xs)) then_told K)));
+      from = λ g w t K l lt r. at g w t K l lt (ready_same P arg r (λ xs. ap (replied t.work) (bind_assoc (reported_fork forking ss
+          (reported_on g.since g.made xs)) then_reported K)));
     }
       where
-        at : (g : Ghost) (w : Store) (t : Task) (K : ResultOf → ToldOf → OutOf ResultOf) → Later ns g.names → w.turns < b
-            → Ready P arg g w t (λ u. bind (told_fork forking ss u) (λ y v. bind (then_told y v) K))
+        at : (g : Ghost) (w : Store) (t : Task) (K : ResultOf → ReportedOf → OutOf ResultOf) → Later ns g.names → w.turns < b
+            → Ready P arg g w t (λ u. bind (reported_fork forking ss u) (λ y v. bind (then_reported y v) K))
             → Post P arg (ResultLike c) g w t K (bind (bind (one_by_one ts ms (one_step w)) (λ xs v. Done (brought {M = Counted} (joined_in xs)) (one_step v)))
             (λ x v. run sequential (k x) v))
         at g w t K l lt r =
@@ -100,8 +100,8 @@ module _ (P : PlainProgram) (arg : ℤ) where
             (one_step w) l r1 now
             (λ k s e. subst (λ n. slice_get ss n ≡ Some s) (sym (zero-add k)) e) (let e = ap length (mine_same fork g.log g.path refl) in omega arith))
           where
-            next : Brought Name → ToldOf → OutOf ResultOf
-            next y v = bind (then_told y v) K
+            next : Brought Name → ReportedOf → OutOf ResultOf
+            next y v = bind (then_reported y v) K
 
             fork : Event
             fork = record { path = g.path; turns = g.since; act = Fork (record { kind = forking; tasks = ss }); ans = Went }
@@ -111,8 +111,8 @@ module _ (P : PlainProgram) (arg : ℤ) where
 
             r1 : Ready P arg (forked_at g.path g.made (record { path = g.path; turns = g.since; act = Fork all_forked; ans = Went } ∷ g.log) g.names)
                 (one_step w) t
-                (λ u. bind (begins_then 0 (length ss) told_join u) (λ y v. bind (then_told y v) K))
-            r1 = ready_next P arg (λ u. bind (begins_then 0 (length ss) told_join u) (λ y v. bind (then_told y v) K)) g.since (Fork all_forked) Went g.made
+                (λ u. bind (begins_then 0 (length ss) reported_join u) (λ y v. bind (then_reported y v) K))
+            r1 = ready_next P arg (λ u. bind (begins_then 0 (length ss) reported_join u) (λ y v. bind (then_reported y v) K)) g.since (Fork all_forked) Went g.made
                 (one_step w) g.names (fork_stays _) r refl refl
                 (structure_step Q r.holds g.path fork refl (λ c. refl) fork_prints refl (one_step w) refl refl refl refl (omega arith)) (λ xs. refl)
 
@@ -124,7 +124,7 @@ module _ (P : PlainProgram) (arg : ℤ) where
             a1 = after_noted P arg g w (one_step w) g.made g.since (Fork all_forked) Went g.names (later_none r.holds.distinct) (omega arith) (omega arith)
 
             joins : {v : Store} {xs : List (EndingOver ℕ)}
-                (h : Branched P arg t (λ y v. bind (then_told y v) K) g.path (count g.log g.path) 0 g.made (fork ∷ g.log) g.names (one_step w) v (length ss) xs)
+                (h : Branched P arg t (λ y v. bind (then_reported y v) K) g.path (count g.log g.path) 0 g.made (fork ∷ g.log) g.names (one_step w) v (length ss) xs)
                 → Joins h.log g.path (joined h.ends)
             joins h = record {
               before = g.log;
@@ -144,18 +144,18 @@ module _ (P : PlainProgram) (arg : ℤ) where
             }
 
             go : (o : OutIn (List (EndingOver ℕ)))
-                → PostBranches P arg t (λ y v. bind (then_told y v) K) g.path (count g.log g.path) 0 g.made (fork ∷ g.log) g.names (one_step w) (length ss) o
+                → PostBranches P arg t (λ y v. bind (then_reported y v) K) g.path (count g.log g.path) 0 g.made (fork ∷ g.log) g.names (one_step w) (length ss) o
                 → Post P arg (ResultLike c) g w t K (bind (bind o (λ xs v. Done (brought {M = Counted} (joined_in xs)) (one_step v))) (λ x v. run sequential
                 (k x) v))
             go (out.Trapped trap q v) h = absurd h
             go (Stopped n a) h = h
             go (Lost v) h = out_after P arg a1 h
             go (Done xs v) h =
-                behind g (noted (forked_at g.path g.made h.log h.names) g.made 0 Join (joined h.ends) h.names) w (one_step v) t K
+                following g (noted (forked_at g.path g.made h.log h.names) g.made 0 Join (joined h.ends) h.names) w (one_step v) t K
                 (brought {M = Counted} (joined_in xs)) (brought {M = LocalRegion} (joined h.ends)) (later_then l h.later) (joined_alike h.like)
                 (let z = h.turns in omega arith)
                 (after_then P arg a1 (after_then P arg a2 a3)) (h.trap ∙ falls_joined xs w.trap)
-                (ready_next P arg (λ v. bind (then_told (brought {M = LocalRegion} (joined h.ends)) v) K) 0 Join (joined h.ends) g.made
+                (ready_next P arg (λ v. bind (then_reported (brought {M = LocalRegion} (joined h.ends)) v) K) 0 Join (joined h.ends) g.made
                 (one_step v) h.names join_stays h.ready refl (joins h)
                 (structure_step Q h.ready.holds g.path (record { path = g.path; turns = 0; act = Join; ans = joined h.ends }) refl
                 (λ c. refl) join_prints refl (one_step v) refl refl refl refl (omega arith))
@@ -172,7 +172,7 @@ module _ (P : PlainProgram) (arg : ℤ) where
   -- what a task of the elision does, and what its like does in a run
   abbrev AllAlike : Prog ℕ Counted → Type 0
   AllAlike p = (c : ℕ) (ns : Names) (q : Prog Name LocalRegion) (path : Path) → Distinct ns → Alike P c ns p q → (b : ℕ)
-      → Sim P arg (ResultLike c) b ns (λ u. run (told (named_by path)) q u) (λ w. run sequential p w)
+      → Sim P arg (ResultLike c) b ns (λ u. run (reported (named_by path)) q u) (λ w. run sequential p w)
 
   all_sim : (bs : ℕ → Prog ℕ Counted) → ((i : ℕ) → AllAlike (bs i)) → (ts : List (TaskOver ℕ Counted)) (j : ℕ)
       → ((k : ℕ) (t : TaskOver ℕ Counted) → slice_get ts k ≡ Some t → bs (j + k) ≡ does in_order P t)
@@ -195,7 +195,7 @@ module _ (P : PlainProgram) (arg : ℤ) where
   prog_sim (Makes k) c ns _ path d (alike_makes {j = j} h) b =
       sim_bind P arg (sim_make P arg path) (λ ms m l l' a. sim_later P arg l' (prog_sim (k m) c ns (j l) path d (h m l) b))
   prog_sim (Again t a f k) c ns _ path d (alike_again e {s = s} {a = z} {g = g} {j = j} ht hb hf h) b =
-      sim_same P arg (λ u lw. ap (λ o. bind o (λ r v. run (told (named_by path)) (j r) v)) (sym (bind_done _)))
+      sim_same P arg (λ u lw. ap (λ o. bind o (λ r v. run (reported (named_by path)) (j r) v)) (sym (bind_done _)))
       (sim_bind P arg (sim_again P arg path e t a s z ns
       (λ c' ms x y l m. prog_sim (t x) e ms (s y) path l.distinct (ht ms x y l m) c')
       (λ c' ms x y l m. prog_sim (a x) e ms (z y) path l.distinct (hb ms x y l m) c') b f g d hf)

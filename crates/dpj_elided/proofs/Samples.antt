@@ -6,7 +6,7 @@ use Rattle.dpj_base.specs.declared.value.Trap.TheVariants.{Divide}
 use Rattle.dpj_typed.specs.Plain.{PlainProgram}
 use Rattle.dpj_typed.specs.Samples.{here}
 use Rattle.dpj_meaning.specs.Actions.{Ending as EndingOver}
-use Rattle.dpj_meaning.specs.Asking.{ask, does, meaning, replied, told}
+use Rattle.dpj_meaning.specs.Asking.{ask, does, meaning, replied, reported}
 use Rattle.dpj_meaning.specs.Core.{run}
 use Rattle.dpj_meaning.specs.Elision.{elided, ran_through}
 use Rattle.dpj_meaning.specs.Outcomes.{Came, Limited}
@@ -71,7 +71,7 @@ NotFork Over = Unit {0}
 NotFork Unknown = Unit {0}
 
 abbrev reply_on : List Answer → Reply
-reply_on xs = replied Sum.root.work (run (told (named_by [])) (does (named_by []) sums Sum.root) (record { since = 0; made = 0; to_come = xs }))
+reply_on xs = replied Sum.root.work (run (reported (named_by [])) (does (named_by []) sums Sum.root) (record { since = 0; made = 0; to_come = xs }))
 
 no_fork_on : (xs : List Answer) → NotFork (reply_on xs)
 unfolding meaning digits

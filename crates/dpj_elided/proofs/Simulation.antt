@@ -9,7 +9,7 @@ use Rattle.dpj_base.specs.declared.place.Place.{Place}
 use Rattle.dpj_base.specs.declared.value.Trap.{Trap}
 use Rattle.dpj_typed.specs.Plain.{PlainProgram}
 use Rattle.dpj_meaning.specs.Actions.{Own as OwnOver}
-use Rattle.dpj_meaning.specs.Asking.{most_turns, Told, asked, turned, made_region, told, replied, does, ask}
+use Rattle.dpj_meaning.specs.Asking.{most_turns, Reported, asked, turned, made_region, reported, replied, does, ask}
 use Rattle.dpj_meaning.specs.Core.{Result, Done, Stopped, Lost, bind, run}
 use Rattle.dpj_meaning.specs.Core.{Out as out}
 use Rattle.dpj_meaning.specs.Elision.{LocalRegion as Counted, Store, answer, after, one_turn, new_region, first_of}
@@ -33,8 +33,8 @@ use Rattle.dpj_elided.proofs.Doing.{own_step, structure_step, turn_step}
 use Rattle.dpj_meaning.proofs.Turns.{most_pos, turned_if}
 use Rattle.dpj_runs.proofs.Working.{Working, greatest_now, may, stays, in_order_after}
 
-abbrev pub ToldOf : Type 0
-ToldOf = Told Name LocalRegion
+abbrev pub ReportedOf : Type 0
+ReportedOf = Reported Name LocalRegion
 
 abbrev pub ResultOf : Type 0
 ResultOf = Result Name LocalRegion
@@ -43,13 +43,13 @@ abbrev pub ResultIn : Type 0
 ResultIn = Result ℕ Counted
 
 abbrev pub OutOf : Type 0 → Type 0
-OutOf V = out Name LocalRegion V ToldOf
+OutOf V = out Name LocalRegion V ReportedOf
 
 abbrev pub OutIn : Type 0 → Type 0
 OutIn V = out ℕ Counted V Store
 
-abbrev pub told_on : ℕ → ℕ → List Answer → ToldOf
-told_on since made xs = record { since = since; made = made; to_come = xs }
+abbrev pub reported_on : ℕ → ℕ → List Answer → ReportedOf
+reported_on since made xs = record { since = since; made = made; to_come = xs }
 
 -- the run so far: the task at work, the events, its turns since the last of them, how many local regions it has made, and the names
 -- of all objects in order
@@ -68,7 +68,7 @@ bind_assoc (Stopped n a) k j = refl
 bind_assoc (Lost w) k j = refl
 
 ask_is : (p : Path) (P : PlainProgram) (t : Task) (got : List Answer)
-    → ask (named_by p) P t got ≡ replied t.work (run (told (named_by p)) (does (named_by p) P t) (told_on 0 0 (reverse got)))
+    → ask (named_by p) P t got ≡ replied t.work (run (reported (named_by p)) (does (named_by p) P t) (reported_on 0 0 (reverse got)))
 unfolding ask
 ask_is p P t got = refl
 
@@ -120,12 +120,12 @@ module _ (P : PlainProgram) (arg : ℤ) where
   }
 
   -- what is left to do after the answers so far
-  abbrev Residual : Path → Task → List Answer → (ToldOf → OutOf ResultOf) → ℕ → ℕ → Type 0
+  abbrev Residual : Path → Task → List Answer → (ReportedOf → OutOf ResultOf) → ℕ → ℕ → Type 0
   Residual p t got m n k = (xs : List Answer)
-      → replied t.work (run (told (named_by p)) (does (named_by p) P t) (told_on 0 0 (reverse got ++ xs))) ≡ replied t.work (m (told_on n k xs))
+      → replied t.work (run (reported (named_by p)) (does (named_by p) P t) (reported_on 0 0 (reverse got ++ xs))) ≡ replied t.work (m (reported_on n k xs))
 
   -- a legal run, in which m is what is left to do of the task at work
-  pub record Ready (g : Ghost) (w : Store) (t : Task) (m : ToldOf → OutOf ResultOf) : Type 0 where
+  pub record Ready (g : Ghost) (w : Store) (t : Task) (m : ReportedOf → OutOf ResultOf) : Type 0 where
     pub legal : Legal Q g.log
     pub order : InOrder g.log
     pub greedy : Greedy Q g.log
@@ -168,7 +168,7 @@ module _ (P : PlainProgram) (arg : ℤ) where
     spent = (let x = a.spent in let y = b.spent in omega arith);
   }
 
-  abbrev pub Post : {V X : Type 0} → (Names → V → X → Type 0) → Ghost → Store → Task → (X → ToldOf → OutOf ResultOf) → OutIn V → Type 0
+  abbrev pub Post : {V X : Type 0} → (Names → V → X → Type 0) → Ghost → Store → Task → (X → ReportedOf → OutOf ResultOf) → OutIn V → Type 0
   Post {V} {X} VR g w t K (Done v u) = (h : Ghost) × (x : X) × VR h.names v x × After g h w u × Ready h u t (K x) × (u.trap ≡ w.trap)
   Post VR g w t K (out.Trapped trap p u) = (h : Ghost) × After g h w u × Ready h u t (λ y. out.Trapped trap p y)
       × (first_of u.trap (trap, p) ≡ first_of w.trap (trap, p))
@@ -176,12 +176,12 @@ module _ (P : PlainProgram) (arg : ℤ) where
   Post VR g w t K (Lost u) = RanOut g.log w u
 
   -- the one is what a task does on its answers, the other what the elision does with less than b turns left
-  pub record Sim {V X : Type 0} (VR : Names → V → X → Type 0) (b : ℕ) (ns : Names) (m : ToldOf → OutOf X) (n : Store → OutIn V) : Type 0 where
-    pub from : (g : Ghost) (w : Store) (t : Task) (K : X → ToldOf → OutOf ResultOf) → Later ns g.names → w.turns < b → Ready g w t (λ u. bind (m u) K)
+  pub record Sim {V X : Type 0} (VR : Names → V → X → Type 0) (b : ℕ) (ns : Names) (m : ReportedOf → OutOf X) (n : Store → OutIn V) : Type 0 where
+    pub from : (g : Ghost) (w : Store) (t : Task) (K : X → ReportedOf → OutOf ResultOf) → Later ns g.names → w.turns < b → Ready g w t (λ u. bind (m u) K)
         → Post VR g w t K (n w)
 
-  pub ready_same : {g : Ghost} {w : Store} {t : Task} {m m' : ToldOf → OutOf ResultOf} → Ready g w t m
-      → ((xs : List Answer) → replied t.work (m (told_on g.since g.made xs)) ≡ replied t.work (m' (told_on g.since g.made xs))) → Ready g w t m'
+  pub ready_same : {g : Ghost} {w : Store} {t : Task} {m m' : ReportedOf → OutOf ResultOf} → Ready g w t m
+      → ((xs : List Answer) → replied t.work (m (reported_on g.since g.made xs)) ≡ replied t.work (m' (reported_on g.since g.made xs))) → Ready g w t m'
   ready_same r h = record {
     legal = r.legal;
     order = r.order;
@@ -194,8 +194,8 @@ module _ (P : PlainProgram) (arg : ℤ) where
   }
 
   -- the next event is legal
-  pub allowed_next : {g : Ghost} {w : Store} {t : Task} {m : ToldOf → OutOf ResultOf} (n : ℕ) (a : Action) (x : Answer) → Ready g w t m
-      → replied t.work (m (told_on g.since g.made [])) ≡ Next n a → Right Q g.log g.path a x
+  pub allowed_next : {g : Ghost} {w : Store} {t : Task} {m : ReportedOf → OutOf ResultOf} (n : ℕ) (a : Action) (x : Answer) → Ready g w t m
+      → replied t.work (m (reported_on g.since g.made [])) ≡ Next n a → Right Q g.log g.path a x
       → Allowed Q g.log (record { path = g.path; turns = n; act = a; ans = x })
   allowed_next {g} {w} {t} {m} n a x r e h =
       allowed_from Q D g.log (record { path = g.path; turns = n; act = a; ans = x }) (legal_faithful Q g.log r.legal) (record {
@@ -203,7 +203,7 @@ module _ (P : PlainProgram) (arg : ℤ) where
           task = t;
           begun = r.begun;
           asks = ask_is g.path P t (answers (mine g.log g.path))
-              ∙ ap (λ l. replied t.work (run (told (named_by g.path)) (does (named_by g.path) P t) (told_on 0 0 l))) (sym (append-nil (reverse (answers
+              ∙ ap (λ l. replied t.work (run (reported (named_by g.path)) (does (named_by g.path) P t) (reported_on 0 0 l))) (sym (append-nil (reverse (answers
               (mine g.log g.path)))))
               ∙ r.resid [] ∙ e;
           right = h;
@@ -212,12 +212,12 @@ module _ (P : PlainProgram) (arg : ℤ) where
       })
 
   -- what is left to do after it
-  pub resid_next : (p : Path) (t : Task) (R : Run) (m m' : ToldOf → OutOf ResultOf) (n k k' i : ℕ) (a : Action) (x : Answer)
+  pub resid_next : (p : Path) (t : Task) (R : Run) (m m' : ReportedOf → OutOf ResultOf) (n k k' i : ℕ) (a : Action) (x : Answer)
       → Residual p t (answers (mine R p)) m n k
-      → ((xs : List Answer) → replied t.work (m (told_on n k (x ∷ xs))) ≡ replied t.work (m' (told_on 0 k' xs)))
+      → ((xs : List Answer) → replied t.work (m (reported_on n k (x ∷ xs))) ≡ replied t.work (m' (reported_on 0 k' xs)))
       → Residual p t (answers (mine (record { path = p; turns = i; act = a; ans = x } ∷ R) p)) m' 0 k'
   resid_next p t R m m' n k k' i a x r h xs =
-      ap (λ l. replied t.work (run (told (named_by p)) (does (named_by p) P t) (told_on 0 0 l))) list ∙ r (x ∷ xs) ∙ h xs
+      ap (λ l. replied t.work (run (reported (named_by p)) (does (named_by p) P t) (reported_on 0 0 l))) list ∙ r (x ∷ xs) ∙ h xs
     where
       got : List Answer
       got = answers (mine R p)
@@ -226,11 +226,11 @@ module _ (P : PlainProgram) (arg : ℤ) where
       list = ap (λ l. reverse (answers l) ++ xs) (mine_same (record { path = p; turns = i; act = a; ans = x }) R p refl)
           ∙ ap (λ l. l ++ xs) (reverse-append (x ∷ []) got) ∙ append_assoc (reverse got) (x ∷ []) xs
 
-  pub ready_next : {g : Ghost} {w : Store} {t : Task} {m : ToldOf → OutOf ResultOf} (m' : ToldOf
+  pub ready_next : {g : Ghost} {w : Store} {t : Task} {m : ReportedOf → OutOf ResultOf} (m' : ReportedOf
       → OutOf ResultOf) (n : ℕ) (a : Action) (x : Answer) (made : ℕ) (v : Store)
-      (ns : Names) → Stays a → Ready g w t m → replied t.work (m (told_on g.since g.made [])) ≡ Next n a → Right Q g.log g.path a x
+      (ns : Names) → Stays a → Ready g w t m → replied t.work (m (reported_on g.since g.made [])) ≡ Next n a → Right Q g.log g.path a x
       → Holds Q (record { path = g.path; turns = n; act = a; ans = x } ∷ g.log) ns 0 v
-      → ((xs : List Answer) → replied t.work (m (told_on g.since g.made (x ∷ xs))) ≡ replied t.work (m' (told_on 0 made xs)))
+      → ((xs : List Answer) → replied t.work (m (reported_on g.since g.made (x ∷ xs))) ≡ replied t.work (m' (reported_on 0 made xs)))
       → Ready (noted g made n a x ns) v t m'
   ready_next {g} {w} {t} {m} m' n a x made v ns st r e h hd nx = record {
     legal = legal;
@@ -275,7 +275,7 @@ module _ (P : PlainProgram) (arg : ℤ) where
     spent = (let x = a.spent in let y = o.spent in omega arith);
   }
 
-  pub post_after : {V X : Type 0} (VR : Names → V → X → Type 0) {g h : Ghost} {w v : Store} (t : Task) (K : X → ToldOf → OutOf ResultOf) (o : OutIn V)
+  pub post_after : {V X : Type 0} (VR : Names → V → X → Type 0) {g h : Ghost} {w v : Store} (t : Task) (K : X → ReportedOf → OutOf ResultOf) (o : OutIn V)
       → After g h w v
       → v.trap ≡ w.trap → Post VR h v t K o → Post VR g w t K o
   post_after VR t K (Done x u) a e p = (p.0, p.1, p.2, after_then a p.3, p.4, p.5 ∙ e)
@@ -291,27 +291,27 @@ module _ (P : PlainProgram) (arg : ℤ) where
       → Sim VR b ns (λ u. out.Trapped trap p u) (λ w. out.Trapped trap p w)
   sim_trapped trap p = record { from = λ g w t K l lt r. (g, after_none g w r.holds.distinct, r, refl) }
 
-  pub sim_later : {V X : Type 0} {VR : Names → V → X → Type 0} {b : ℕ} {ns ms : Names} {m : ToldOf → OutOf X} {n : Store → OutIn V} → Later ns ms
+  pub sim_later : {V X : Type 0} {VR : Names → V → X → Type 0} {b : ℕ} {ns ms : Names} {m : ReportedOf → OutOf X} {n : Store → OutIn V} → Later ns ms
       → Sim VR b ns m n → Sim VR b ms m n
   sim_later l s = record { from = λ g w t K h lt r. s.from g w t K (later_then l h) lt r }
 
-  pub sim_same : {V X : Type 0} {VR : Names → V → X → Type 0} {b : ℕ} {ns : Names} {m m' : ToldOf → OutOf X} {n : Store → OutIn V}
-      → ((u : ToldOf) → u.since < most_turns → m' u ≡ m u) → Sim VR b ns m n → Sim VR b ns m' n
+  pub sim_same : {V X : Type 0} {VR : Names → V → X → Type 0} {b : ℕ} {ns : Names} {m m' : ReportedOf → OutOf X} {n : Store → OutIn V}
+      → ((u : ReportedOf) → u.since < most_turns → m' u ≡ m u) → Sim VR b ns m n → Sim VR b ns m' n
   sim_same h s = record {
     from = λ g w t K l lt r. s.from g w t K l lt
-        (ready_same r (λ xs. ap (λ o. replied t.work (bind o K)) (h (told_on g.since g.made xs) r.low)));
+        (ready_same r (λ xs. ap (λ o. replied t.work (bind o K)) (h (reported_on g.since g.made xs) r.low)));
   }
 
-  pub sim_bind : {V X U Y : Type 0} {VR : Names → V → X → Type 0} {UR : Names → U → Y → Type 0} {b : ℕ} {ns : Names} {m : ToldOf → OutOf X} {n : Store
+  pub sim_bind : {V X U Y : Type 0} {VR : Names → V → X → Type 0} {UR : Names → U → Y → Type 0} {b : ℕ} {ns : Names} {m : ReportedOf → OutOf X} {n : Store
       → OutIn V}
-      {j : X → ToldOf → OutOf Y} {k : V → Store → OutIn U} → Sim VR b ns m n
+      {j : X → ReportedOf → OutOf Y} {k : V → Store → OutIn U} → Sim VR b ns m n
       → ((ms : Names) (v : V) (x : X) → Later ns ms → VR ms v x → Sim UR b ms (j x) (k v)) → Sim UR b ns (λ u. bind (m u) j) (λ w. bind (n w) k)
   sim_bind {V} {X} {U} {Y} {VR} {UR} {b} {ns} {m} {n} {j} {k} s h = record {
     from = λ g w t K l lt r. go g w t K l lt (n w)
-        (s.from g w t (λ x u. bind (j x u) K) l lt (ready_same r (λ xs. ap (replied t.work) (bind_assoc (m (told_on g.since g.made xs)) j K))));
+        (s.from g w t (λ x u. bind (j x u) K) l lt (ready_same r (λ xs. ap (replied t.work) (bind_assoc (m (reported_on g.since g.made xs)) j K))));
   }
     where
-      go : (g : Ghost) (w : Store) (t : Task) (K : Y → ToldOf → OutOf ResultOf) → Later ns g.names → w.turns < b → (o : OutIn V)
+      go : (g : Ghost) (w : Store) (t : Task) (K : Y → ReportedOf → OutOf ResultOf) → Later ns g.names → w.turns < b → (o : OutIn V)
           → Post VR g w t (λ x u. bind (j x u) K) o → Post UR g w t K (bind o k)
       go g w t K l lt (Done v u) p =
           let a = p.3.turns in
@@ -324,7 +324,7 @@ module _ (P : PlainProgram) (arg : ℤ) where
       → Sim AnswerLike b ns (λ u. asked (Do q) u) (λ w. Done (answer w.heap o) (after o w))
   sim_act {b} {ns} {o} {q} like = record { from = from }
     where
-      from : (g : Ghost) (w : Store) (t : Task) (K : Answer → ToldOf → OutOf ResultOf) → Later ns g.names → w.turns < b
+      from : (g : Ghost) (w : Store) (t : Task) (K : Answer → ReportedOf → OutOf ResultOf) → Later ns g.names → w.turns < b
           → Ready g w t (λ u. bind (asked (Do q) u) K)
           → Post AnswerLike g w t K (Done (answer w.heap o) (after o w))
       from g w t K l lt r =
@@ -337,21 +337,21 @@ module _ (P : PlainProgram) (arg : ℤ) where
             refl,
           )
 
-  pub turn_from : (g : Ghost) (w : Store) (t : Task) (made : ℕ) (m next : ToldOf → OutOf ResultOf) → Ready g w t m
-      → ((xs : List Answer) → replied t.work (m (told_on g.since g.made xs)) ≡ replied t.work (bind (turned (told_on g.since made xs)) (λ a v. next v)))
+  pub turn_from : (g : Ghost) (w : Store) (t : Task) (made : ℕ) (m next : ReportedOf → OutOf ResultOf) → Ready g w t m
+      → ((xs : List Answer) → replied t.work (m (reported_on g.since g.made xs)) ≡ replied t.work (bind (turned (reported_on g.since made xs)) (λ a v. next v)))
       → (n : ℕ) → w.turns ≡ suc n → (h : Ghost) × (h.made ≡ made) × After g h w (turn_now w n) × Ready h (turn_now w n) t next
   turn_from g w t made m next r h n e = go (suc g.since == most_turns) refl (λ xs. r.resid xs ∙ h xs)
     where
       go : (d : Bool) → (suc g.since == most_turns) ≡ d → ((xs : List Answer)
-          → replied t.work (run (told (named_by g.path)) (does (named_by g.path) P t) (told_on 0 0 (reverse (answers (mine g.log g.path)) ++ xs)))
-          ≡ replied t.work (bind (turned_if d (told_on g.since made xs)) (λ a v. next v)))
+          → replied t.work (run (reported (named_by g.path)) (does (named_by g.path) P t) (reported_on 0 0 (reverse (answers (mine g.log g.path)) ++ xs)))
+          ≡ replied t.work (bind (turned_if d (reported_on g.since made xs)) (λ a v. next v)))
           → (h : Ghost) × (h.made ≡ made) × After g h w (turn_now w n) × Ready h (turn_now w n) t next
       go true q k =
           let ev : Event = record { path = g.path; turns = suc g.since; act = Do Rest; ans = Went } in
           let k0 : Holds Q g.log g.names (suc g.since) (turn_now w n) = turn_step Q r.holds g.path (turn_now w n) refl refl refl refl refl in
           let k1 : Holds Q (ev ∷ g.log) g.names 0 (turn_now w n) =
           structure_step Q k0 g.path ev refl (λ c. refl) (λ f. rest_prints f) refl (turn_now w n) refl refl refl refl (omega arith) in
-          let mm : ToldOf → OutOf ResultOf = (λ u. bind (turned_if true (told_on g.since made u.to_come)) (λ a v. next v)) in
+          let mm : ReportedOf → OutOf ResultOf = (λ u. bind (turned_if true (reported_on g.since made u.to_come)) (λ a v. next v)) in
           let r1 : Ready g w t mm = record {
             legal = r.legal;
             order = r.order;
@@ -391,7 +391,7 @@ module _ (P : PlainProgram) (arg : ℤ) where
             },
           )
 
-  pub ran_out : (g : Ghost) (w : Store) (t : Task) (m : ToldOf → OutOf ResultOf) → Ready g w t m → w.turns ≡ 0 → RanOut g.log w w
+  pub ran_out : (g : Ghost) (w : Store) (t : Task) (m : ReportedOf → OutOf ResultOf) → Ready g w t m → w.turns ≡ 0 → RanOut g.log w w
   ran_out g w t m r e = record {
     log = g.log;
     names = g.names;
@@ -406,34 +406,34 @@ module _ (P : PlainProgram) (arg : ℤ) where
     spent = omega arith;
   }
 
-  pub sim_turn : {V X : Type 0} {VR : Names → V → X → Type 0} {b : ℕ} {ns : Names} {j : ToldOf → OutOf X} {k : Store → OutIn V} → Sim VR b ns j k
+  pub sim_turn : {V X : Type 0} {VR : Names → V → X → Type 0} {b : ℕ} {ns : Names} {j : ReportedOf → OutOf X} {k : Store → OutIn V} → Sim VR b ns j k
       → Sim VR (suc b) ns (λ u. bind (turned u) (λ a v. j v)) (λ w. bind (one_turn w.turns w) (λ a v. k v))
   sim_turn {V} {X} {VR} {b} {ns} {j} {k} s = record { from = λ g w t K l lt r. go g w t K l lt r w.turns refl }
     where
-      go : (g : Ghost) (w : Store) (t : Task) (K : X → ToldOf → OutOf ResultOf) → Later ns g.names → w.turns < suc b
+      go : (g : Ghost) (w : Store) (t : Task) (K : X → ReportedOf → OutOf ResultOf) → Later ns g.names → w.turns < suc b
           → Ready g w t (λ u. bind (bind (turned u) (λ a v. j v)) K) → (n : ℕ) → w.turns ≡ n → Post VR g w t K (bind (one_turn n w) (λ a v. k v))
       go g w t K l lt r zero e = ran_out g w t (λ u. bind (bind (turned u) (λ a v. j v)) K) r e
       go g w t K l lt r (suc n) e =
           let z = turn_from g w t g.made (λ u. bind (bind (turned u) (λ a v. j v)) K) (λ v. bind (j v) K) r
-          (λ xs. ap (replied t.work) (bind_assoc (turned (told_on g.since g.made xs)) (λ a v. j v) K)) n e in
+          (λ xs. ap (replied t.work) (bind_assoc (turned (reported_on g.since g.made xs)) (λ a v. j v) K)) n e in
           post_after VR t K (k (turn_now w n)) z.2 refl (s.from z.0 (turn_now w n) t K (later_then l z.2.names) (omega arith) z.3)
 
   pub sim_make : (path : Path) {b : ℕ} {ns : Names} → Sim AnyRegion b ns (λ u. made_region (named_by path) u) new_region
   sim_make path {b} {ns} = record { from = λ g w t K l lt r. go g w t K r w.turns refl }
     where
-      go : (g : Ghost) (w : Store) (t : Task) (K : LocalRegion → ToldOf → OutOf ResultOf) → Ready g w t (λ u. bind (made_region (named_by path) u) K) → (n : ℕ)
+      go : (g : Ghost) (w : Store) (t : Task) (K : LocalRegion → ReportedOf → OutOf ResultOf) → Ready g w t (λ u. bind (made_region (named_by path) u) K) → (n : ℕ)
           → w.turns ≡ n → Post AnyRegion g w t K (bind (one_turn n w) (λ u v. Done (Counted.Made v.regions) (record v { regions = suc v.regions })))
       go g w t K r zero e = ran_out g w t (λ u. bind (made_region (named_by path) u) K) r e
       go g w t K r (suc n) e =
           let x : LocalRegion = (named_by path).made g.made in
           let z = turn_from g w t (suc g.made) (λ u. bind (made_region (named_by path) u) K) (K x) r
-          (λ xs. ap (replied t.work) (bind_assoc (turned (told_on g.since (suc g.made) xs)) (λ u v. Done x v) K)) n e in
+          (λ xs. ap (replied t.work) (bind_assoc (turned (reported_on g.since (suc g.made) xs)) (λ u v. Done x v) K)) n e in
           (z.0, x, tt, other_regions z.2, ready_regions z.3, refl)
         where
           other_regions : {h : Ghost} → After g h w (turn_now w n) → After g h w (record (turn_now w n) { regions = suc w.regions })
           other_regions a = record { path = a.path; grown = a.grown; kept = a.kept; names = a.names; turns = a.turns; spent = a.spent }
 
-          ready_regions : {h : Ghost} {m : ToldOf → OutOf ResultOf} → Ready h (turn_now w n) t m
+          ready_regions : {h : Ghost} {m : ReportedOf → OutOf ResultOf} → Ready h (turn_now w n) t m
               → Ready h (record (turn_now w n) { regions = suc w.regions }) t m
           ready_regions r = record {
             legal = r.legal;

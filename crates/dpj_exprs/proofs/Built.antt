@@ -1,5 +1,5 @@
 -- Typed expressions of the code, one level of each.
-use Rattle.std.proofs.Common.{◌≡◌, ◌∙◌, ℕ, ℤ, Bool, List, [], ◌∷◌, ◌++◌, map, ap, refl, sym, rules, Result, Ok}
+use Rattle.std.proofs.Common.{◌≡◌, ◌∙◌, ℤ, Bool, List, [], ◌∷◌, ◌++◌, map, ap, refl, sym, rules, Result, Ok}
 use Rattle.dpj_base.specs.declared.place.Place.{Place}
 use Rattle.dpj_base.specs.declared.region.Rpl.{Rpl}
 use Rattle.dpj_base.specs.Types.{PlainType}
@@ -12,7 +12,7 @@ use Rattle.dpj_typed.specs.declared.ids.ClassId.{ClassId}
 use Rattle.dpj_typed.specs.declared.ids.FieldSlot.{FieldSlot}
 use Rattle.dpj_typed.specs.declared.ids.Row.{Row}
 use Rattle.dpj_typed.specs.declared.ids.Slot.{Slot}
-use Rattle.dpj_typed.specs.Plain.{TypedExpr, typed, TypedExprs, more_exprs, exprs_of, plain_expr}
+use Rattle.dpj_typed.specs.Plain.{TypedExpr, typed, more_exprs, exprs_of, plain_expr}
 use Rattle.dpj_typed.specs.Plain.{ExprForm as form}
 use Rattle.dpj_base.specs.declared.refusal.Refusal.{Refusal}
 use Rattle.dpj_exprs.specs.Typing.{created}

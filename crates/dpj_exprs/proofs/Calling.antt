@@ -33,7 +33,7 @@ use Rattle.dpj_exprs.specs.declared.typed.Typed.{Typed}
 use Rattle.dpj_exprs.specs.declared.typed.Typed.TheVariants.{Known, Any}
 use Rattle.dpj_exprs.specs.Refusing.{refusal_at}
 use Rattle.dpj_exprs.specs.Typed.{plain_node, plain_typed, type_in, value_type, nodes_at, may_be, is_value}
-use Rattle.dpj_exprs.specs.Uses.{args_noted, UseTold, unknown_told, method_through, called, CallOf, CallOn, Call}
+use Rattle.dpj_exprs.specs.Uses.{args_noted, UseReported, unknown_reported, method_through, called, CallOf, CallOn, Call}
 use Rattle.dpj_exprs.proofs.Built.{types_in}
 use Rattle.dpj_exprs.proofs.Passing.{says_all}
 
@@ -58,39 +58,39 @@ fit_for headers others actuals declared shown fit f h d =
     subst (λ (z : List Ty). fit ≡ shapes_fit others actuals z) d (subst (λ (z : Headers). fit ≡ shapes_fit z actuals declared) h f)
 
 -- what is reported of a call with these region arguments, after these faults, through a partial receiver or not
-abbrev pub CallTold : Env → MethodRow → List (Option PlainType) → Place → Option Refusal → List Rpl → Faults → Bool → Type 0
-CallTold env row actuals place told_one all before partial =
-    UseTold env before all actuals row.params partial (all_hold (given_in env) all row.given) place told_one
+abbrev pub CallReported : Env → MethodRow → List (Option PlainType) → Place → Option Refusal → List Rpl → Faults → Bool → Type 0
+CallReported env row actuals place reported_one all before partial =
+    UseReported env before all actuals row.params partial (all_hold (given_in env) all row.given) place reported_one
 
-told_same : (env : Env) (row : MethodRow) (actuals : List (Option PlainType)) (place : Place) (told_one : Option Refusal) (all all' : List Rpl) (before before' : Faults) (partial partial' : Bool) →
-    all ≡ all' → before ≡ before' → partial ≡ partial' → CallTold env row actuals place told_one all before partial → CallTold env row actuals place told_one all' before' partial'
-told_same env row actuals place told_one all all' before before' partial partial' e f p h =
-    subst (λ (z : Bool). CallTold env row actuals place told_one all' before' z) p
-    (subst (λ (z : Faults). CallTold env row actuals place told_one all' z partial) f
-    (subst (λ (z : List Rpl). CallTold env row actuals place told_one z before partial) e h))
+reported_same : (env : Env) (row : MethodRow) (actuals : List (Option PlainType)) (place : Place) (reported_one : Option Refusal) (all all' : List Rpl) (before before' : Faults) (partial partial' : Bool) →
+    all ≡ all' → before ≡ before' → partial ≡ partial' → CallReported env row actuals place reported_one all before partial → CallReported env row actuals place reported_one all' before' partial'
+reported_same env row actuals place reported_one all all' before before' partial partial' e f p h =
+    subst (λ (z : Bool). CallReported env row actuals place reported_one all' before' z) p
+    (subst (λ (z : Faults). CallReported env row actuals place reported_one all' z partial) f
+    (subst (λ (z : List Rpl). CallReported env row actuals place reported_one z before partial) e h))
 
 -- as what several expressions give, and as their types
 types_for : (actuals shown : List Typed) → shown ≡ actuals → map value_type shown ≡ map type_in (map plain_typed actuals)
 types_for actuals shown shows = ap (map value_type) shows ∙ types_in actuals
 
-told_for : (env : Env) (row : MethodRow) (owned : List Rpl) (args : ReadArgs) (actuals shown : List Typed) (place : Place) (regions all : List Rpl) (before : Faults) (partial : Bool)
-    (told_one : Option Refusal) → all ≡ owned ++ regions → before ≡ args_noted args row.regions place → partial ≡ is_partial_call owned row → shown ≡ actuals →
-    CallTold env row (map value_type shown) place told_one all before partial →
-    CallTold env row (map type_in (map plain_typed actuals)) place told_one (owned ++ regions) (args_noted args row.regions place) (is_partial_call owned row)
-told_for env row owned args actuals shown place regions all before partial told_one e b p shows told =
-    subst (λ (z : List (Option PlainType)). CallTold env row z place told_one (owned ++ regions) (args_noted args row.regions place) (is_partial_call owned row))
+reported_for : (env : Env) (row : MethodRow) (owned : List Rpl) (args : ReadArgs) (actuals shown : List Typed) (place : Place) (regions all : List Rpl) (before : Faults) (partial : Bool)
+    (reported_one : Option Refusal) → all ≡ owned ++ regions → before ≡ args_noted args row.regions place → partial ≡ is_partial_call owned row → shown ≡ actuals →
+    CallReported env row (map value_type shown) place reported_one all before partial →
+    CallReported env row (map type_in (map plain_typed actuals)) place reported_one (owned ++ regions) (args_noted args row.regions place) (is_partial_call owned row)
+reported_for env row owned args actuals shown place regions all before partial reported_one e b p shows reported =
+    subst (λ (z : List (Option PlainType)). CallReported env row z place reported_one (owned ++ regions) (args_noted args row.regions place) (is_partial_call owned row))
     (types_for actuals shown shows)
-    (told_same env row (map value_type shown) place told_one all (owned ++ regions) before (args_noted args row.regions place) partial (is_partial_call owned row) e b p told)
+    (reported_same env row (map value_type shown) place reported_one all (owned ++ regions) before (args_noted args row.regions place) partial (is_partial_call owned row) e b p reported)
 
 -- a call that fits, and one that is faulty
 pub of_used : (env : Env) (e : TypedExpr) (class : ℕ) (row : MethodRow) (owned : List Rpl) (args : ReadArgs) (actuals shown : List Typed) (place : Place) (f g : Found)
     (regions all : List Rpl) (before : Faults) (partial : Bool) (t : Ty) (number : ℕ) (passed : List Expr) (made : TypedExpr) →
     args_given args.written args.paths row.regions ≡ Some regions → all ≡ owned ++ regions → before ≡ args_noted args row.regions place → partial ≡ is_partial_call owned row →
-    shown ≡ actuals → CallTold env row (map value_type shown) place None all before partial → plain_type t ≡ type_with all (plain_type row.result) →
+    shown ≡ actuals → CallReported env row (map value_type shown) place None all before partial → plain_type t ≡ type_with all (plain_type row.result) →
     g ≡ with_call (table_of env) f row all → number ≡ row_of (table_of env) row.id → exprs_of (map plain_node passed) ≡ nodes_at place (map plain_typed actuals) →
     made ≡ typed place (plain_type t) (call e class number regions (exprs_of (map plain_node passed))) →
     CallOf env e class row owned args (map plain_typed actuals) place f (gives (Some made) g)
-of_used env e class row owned args actuals shown place f g regions all before partial t number passed made given a b p shows told is found numbers nodes makes =
+of_used env e class row owned args actuals shown place f g regions all before partial t number passed made given a b p shows reported is found numbers nodes makes =
     let result : PlainType = type_with (owned ++ regions) (plain_type row.result) in
     let same : made ≡ called env e class row owned regions (map plain_typed actuals) place =
     makes
@@ -100,23 +100,23 @@ of_used env e class row owned args actuals shown place f g regions all before pa
     let after : g ≡ with_call (table_of env) f row (owned ++ regions) = found ∙ ap (λ (z : List Rpl). with_call (table_of env) f row z) a in
     subst (λ (z : TypedExpr). CallOf env e class row owned args (map plain_typed actuals) place f (gives (Some z) g)) (sym same)
     (subst (λ (z : Found). CallOf env e class row owned args (map plain_typed actuals) place f (gives (Some (called env e class row owned regions (map plain_typed actuals) place)) z)) (sym after)
-    (CallOf.fitting_call given (told_for env row owned args actuals shown place regions all before partial None a b p shows told)))
+    (CallOf.fitting_call given (reported_for env row owned args actuals shown place regions all before partial None a b p shows reported)))
 
 pub of_faulty : (env : Env) (e : TypedExpr) (class : ℕ) (row : MethodRow) (owned : List Rpl) (args : ReadArgs) (actuals shown : List Typed) (place : Place) (f : Found)
     (regions all : List Rpl) (before : Faults) (partial : Bool) (q : Refusal) →
     args_given args.written args.paths row.regions ≡ Some regions → all ≡ owned ++ regions → before ≡ args_noted args row.regions place → partial ≡ is_partial_call owned row →
-    shown ≡ actuals → CallTold env row (map value_type shown) place (Some q) all before partial → CallOf env e class row owned args (map plain_typed actuals) place f (refused q)
-of_faulty env e class row owned args actuals shown place f regions all before partial q given a b p shows told =
-    CallOf.faulty_call given (told_for env row owned args actuals shown place regions all before partial (Some q) a b p shows told)
+    shown ≡ actuals → CallReported env row (map value_type shown) place (Some q) all before partial → CallOf env e class row owned args (map plain_typed actuals) place f (refused q)
+of_faulty env e class row owned args actuals shown place f regions all before partial q given a b p shows reported =
+    CallOf.faulty_call given (reported_for env row owned args actuals shown place regions all before partial (Some q) a b p shows reported)
 
 pub of_unknown : (env : Env) (e : TypedExpr) (class : ℕ) (row : MethodRow) (owned : List Rpl) (args : ReadArgs) (actuals shown : List Typed) (place : Place) (f : Found) (before : Faults) (fit : Bool) (s : Stop) →
     args_given args.written args.paths row.regions ≡ None → before ≡ args_noted args row.regions place → shown ≡ actuals → fit ≡ shapes_fit (headers_of (table_of env)) (map value_type shown) row.params →
-    s ≡ stop.Refused (unknown_told before fit place) → IfRefused s (λ q. CallOf env e class row owned args (map plain_typed actuals) place f (refused q))
+    s ≡ stop.Refused (unknown_reported before fit place) → IfRefused s (λ q. CallOf env e class row owned args (map plain_typed actuals) place f (refused q))
 of_unknown env e class row owned args actuals shown place f before fit s given b shows fits is =
     let all = map plain_typed actuals in
     subst (λ (z : Stop). IfRefused z (λ q. CallOf env e class row owned args all place f (refused q))) (sym is)
-    (subst (λ (z : Faults). CallOf env e class row owned args all place f (refused (unknown_told z fit place))) (sym b)
-    (subst (λ (z : Bool). CallOf env e class row owned args all place f (refused (unknown_told (args_noted args row.regions place) z place)))
+    (subst (λ (z : Faults). CallOf env e class row owned args all place f (refused (unknown_reported z fit place))) (sym b)
+    (subst (λ (z : Bool). CallOf env e class row owned args all place f (refused (unknown_reported (args_noted args row.regions place) z place)))
     (sym (fits ∙ ap (λ (z : List (Option PlainType)). shapes_fit (headers_of (table_of env)) z row.params) (types_for actuals shown shows)))
     (CallOf.unknown_args given)))
 
@@ -138,14 +138,14 @@ on_known env of e name args actuals place f a is d = subst (λ (z : Typed). Call
 
 pub on_any : (env : Env) (of : Typed) (name : ℕ) (args : ReadArgs) (actuals shown : List Typed) (place : Place) (f : Found) (values : Bool) →
     of ≡ Any → shown ≡ actuals → values ≡ list_all (may_be is_value) (map value_type shown) → values ≡ true → Call env (plain_typed of) name args (map plain_typed actuals) place f (gives None f)
-on_any env of name args actuals shown place f values is shows told so =
+on_any env of name args actuals shown place f values is shows reported so =
     subst (λ (z : Typed). Call env (plain_typed z) name args (map plain_typed actuals) place f (gives None f)) (sym is)
-    (Call.on_anything (ap (list_all (may_be is_value)) (sym (types_for actuals shown shows)) ∙ sym told ∙ so))
+    (Call.on_anything (ap (list_all (may_be is_value)) (sym (types_for actuals shown shows)) ∙ sym reported ∙ so))
 
 pub on_any_faulty : (env : Env) (of : Typed) (name : ℕ) (args : ReadArgs) (actuals shown : List Typed) (place : Place) (f : Found) (values : Bool) (s : Stop) →
     of ≡ Any → shown ≡ actuals → values ≡ list_all (may_be is_value) (map value_type shown) → values ≡ false → s ≡ refusal_at kind.Type place →
     IfRefused s (λ q. Call env (plain_typed of) name args (map plain_typed actuals) place f (refused q))
-on_any_faulty env of name args actuals shown place f values s is shows told so at =
+on_any_faulty env of name args actuals shown place f values s is shows reported so at =
     subst (λ (z : Stop). IfRefused z (λ q. Call env (plain_typed of) name args (map plain_typed actuals) place f (refused q))) (sym at)
     (subst (λ (z : Typed). Call env (plain_typed z) name args (map plain_typed actuals) place f (refused (fault kind.Type place))) (sym is)
-    (Call.no_value_passed (ap (list_all (may_be is_value)) (sym (types_for actuals shown shows)) ∙ sym told ∙ so)))
+    (Call.no_value_passed (ap (list_all (may_be is_value)) (sym (types_for actuals shown shows)) ∙ sym reported ∙ so)))

@@ -9,11 +9,11 @@ use Rattle.dpj_exprs.specs.declared.typed.Typed.{Typed}
 use Rattle.dpj_exprs.specs.Typed.{value_type, Fits, ActualsFit, AllFit}
 
 pub fits_at : (supers : List Super) (args : List Rpl) (values : List Typed) (declared : List Ty) (i : ℕ) (x : Typed) (y : Ty) (fit : Bool) → i < length values → i < length declared → x ≡ get_or values i x → y ≡ get_or declared i y → IsTrue fit ↔ Fits supers x (type_with args (plain_type y)) → IsTrue fit → (v : Typed) (t : Ty) → Fits supers (get_or values i v) (type_with args (plain_type (get_or declared i t)))
-fits_at supers args values declared i x y fit p q e f told h v t =
+fits_at supers args values declared i x y fit p q e f reported h v t =
     subst
     (λ (z : Typed). Fits supers z (type_with args (plain_type (get_or declared i t))))
     (get_or_read values i x p e v)
-    (subst (λ (z : Ty). Fits supers x (type_with args (plain_type z))) (get_or_read declared i y q f t) (told.0 h))
+    (subst (λ (z : Ty). Fits supers x (type_with args (plain_type z))) (get_or_read declared i y q f t) (reported.0 h))
 
 -- the same told by places, and one after the other
 pub all_of_places : (supers : List Super) (args : List Rpl) (values : List Typed) (declared : List Ty) → ActualsFit supers args values declared → AllFit supers args (map value_type values) declared
@@ -40,5 +40,5 @@ places_of_all supers args (v ∷ vs) (t ∷ ts) h =
     (ap suc rest.0, each_place supers args v vs t ts h.0 rest.1)
 
 pub all_fit_iff : (supers : List Super) (args : List Rpl) (values : List Typed) (declared : List Ty) (fit : Bool) → IsTrue fit ↔ ActualsFit supers args values declared → IsTrue fit ↔ AllFit supers args (map value_type values) declared
-all_fit_iff supers args values declared fit told =
-    (λ h. all_of_places supers args values declared (told.0 h), λ h. told.1 (places_of_all supers args values declared h))
+all_fit_iff supers args values declared fit reported =
+    (λ h. all_of_places supers args values declared (reported.0 h), λ h. reported.1 (places_of_all supers args values declared h))

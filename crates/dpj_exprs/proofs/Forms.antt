@@ -1,15 +1,9 @@
 -- The forms of the code's expressions.
-use Rattle.std.proofs.Common.{◌≡◌, ◌∙◌, ℕ, ℤ, Bool, List, Option, map, ap, rules}
-use Rattle.dpj_tree.specs.declared.region.Named.{Named}
-use Rattle.dpj_tree.specs.declared.region.RplTree.{RplTree}
-use Rattle.dpj_tree.specs.declared.region.BaseTree.{BaseTree}
-use Rattle.dpj_tree.specs.declared.region.Suffix.{Suffix}
-use Rattle.dpj_tree.specs.declared.expr.UnaryOp.{UnaryOp}
-use Rattle.dpj_tree.specs.declared.expr.BinaryOp.{BinaryOp}
+use Rattle.std.proofs.Common.{◌≡◌, ◌∙◌, ℕ, ℤ, Bool, ap, rules}
 use Rattle.dpj_tree.specs.declared.expr.Expr.{Expr}
 use Rattle.dpj_tree.specs.declared.expr.ExprKind.{ExprKind, fold-ExprKind, the_lemmas}
 use Rattle.dpj_tree.specs.declared.expr.ExprKind.TheVariants as kind
-use Rattle.dpj_tree.specs.Plain.{PlainExpr, expression, ExprForm, int, boolean, null, this, local, field, element, call, create, create_array, unary, binary, expr_form, expr_node, plain_expr, plain_exprs}
+use Rattle.dpj_tree.specs.Plain.{PlainExpr, expression, ExprForm, int, boolean, null, this, local, field, element, expr_form, expr_node, plain_expr}
 
 abbrev pub plain_kind : ExprKind → ExprForm
 plain_kind = fold-ExprKind ExprForm PlainExpr expr_form expr_node
@@ -41,24 +35,6 @@ kind_Field of name = search (rules, the_lemmas)
 kind_Element : (of at : Expr) → plain_kind (kind.Element of at) ≡ element (plain_expr of) (plain_expr at)
 kind_Element of at = search (rules, the_lemmas)
 
-kind_Call : (of : Expr) (regions : List RplTree) (name : ℕ) (actuals : List Expr) →
-    plain_kind (kind.Call of regions name actuals) ≡ call (plain_expr of) regions name (plain_exprs (map plain_expr actuals))
-kind_Call of regions name actuals = search (rules, the_lemmas)
-
-kind_New : (class : Named) (regions : List RplTree) (actuals : List Expr) →
-    plain_kind (kind.New class regions actuals) ≡ create class regions (plain_exprs (map plain_expr actuals))
-kind_New class regions actuals = search (rules, the_lemmas)
-
-kind_NewArray : (start : BaseTree) (suffixes : List Suffix) (len : Expr) (rpl : Option RplTree) (index : Option Named) →
-    plain_kind (kind.NewArray start suffixes len rpl index) ≡ create_array start suffixes (plain_expr len) rpl index
-kind_NewArray start suffixes len rpl index = search (rules, the_lemmas)
-
-kind_Unary : (op : UnaryOp) (arg : Expr) → plain_kind (kind.Unary op arg) ≡ unary op (plain_expr arg)
-kind_Unary op arg = search (rules, the_lemmas)
-
-kind_Binary : (op : BinaryOp) (left right : Expr) → plain_kind (kind.Binary op left right) ≡ binary op (plain_expr left) (plain_expr right)
-kind_Binary op left right = search (rules, the_lemmas)
-
 pub at_Int : (e : Expr) (n : ℤ) → e.kind ≡ kind.Int n → plain_expr e ≡ expression e.place (int n)
 at_Int e n is = of_kind e (kind.Int n) (int n) is (kind_Int n)
 
@@ -79,24 +55,3 @@ at_Field e of name is = of_kind e (kind.Field of name) (field (plain_expr of) na
 
 pub at_Element : (e of at : Expr) → e.kind ≡ kind.Element of at → plain_expr e ≡ expression e.place (element (plain_expr of) (plain_expr at))
 at_Element e of at is = of_kind e (kind.Element of at) (element (plain_expr of) (plain_expr at)) is (kind_Element of at)
-
-pub at_Unary : (e : Expr) (op : UnaryOp) (arg : Expr) → e.kind ≡ kind.Unary op arg → plain_expr e ≡ expression e.place (unary op (plain_expr arg))
-at_Unary e op arg is = of_kind e (kind.Unary op arg) (unary op (plain_expr arg)) is (kind_Unary op arg)
-
-pub at_Binary : (e : Expr) (op : BinaryOp) (left right : Expr) → e.kind ≡ kind.Binary op left right → plain_expr e ≡ expression e.place (binary op (plain_expr left) (plain_expr right))
-at_Binary e op left right is = of_kind e (kind.Binary op left right) (binary op (plain_expr left) (plain_expr right)) is (kind_Binary op left right)
-
-pub at_Call : (e of : Expr) (regions : List RplTree) (name : ℕ) (actuals : List Expr) → e.kind ≡ kind.Call of regions name actuals →
-    plain_expr e ≡ expression e.place (call (plain_expr of) regions name (plain_exprs (map plain_expr actuals)))
-at_Call e of regions name actuals is =
-    of_kind e (kind.Call of regions name actuals) (call (plain_expr of) regions name (plain_exprs (map plain_expr actuals))) is (kind_Call of regions name actuals)
-
-pub at_New : (e : Expr) (class : Named) (regions : List RplTree) (actuals : List Expr) → e.kind ≡ kind.New class regions actuals →
-    plain_expr e ≡ expression e.place (create class regions (plain_exprs (map plain_expr actuals)))
-at_New e class regions actuals is =
-    of_kind e (kind.New class regions actuals) (create class regions (plain_exprs (map plain_expr actuals))) is (kind_New class regions actuals)
-
-pub at_NewArray : (e : Expr) (start : BaseTree) (suffixes : List Suffix) (len : Expr) (rpl : Option RplTree) (index : Option Named) → e.kind ≡ kind.NewArray start suffixes len rpl index →
-    plain_expr e ≡ expression e.place (create_array start suffixes (plain_expr len) rpl index)
-at_NewArray e start suffixes len rpl index is =
-    of_kind e (kind.NewArray start suffixes len rpl index) (create_array start suffixes (plain_expr len) rpl index) is (kind_NewArray start suffixes len rpl index)

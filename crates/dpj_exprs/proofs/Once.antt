@@ -1,5 +1,5 @@
 -- An expression is typed in one way at most: what two derivations say of it is the same.
-use Rattle.std.proofs.Common.{◌≡◌, ◌∙◌, ℕ, List, [], ◌∷◌, true, false, Option, Some, None, Result, refl, sym, ap}
+use Rattle.std.proofs.Common.{◌≡◌, ◌∙◌, ℕ, List, [], ◌∷◌, Option, Some, None, Result, refl, sym, ap}
 use Rattle.dpj_base.specs.declared.place.Place.{Place}
 use Rattle.dpj_base.specs.declared.refusal.Refusal.{Refusal}
 use Rattle.dpj_base.specs.Types.{PlainType as ty}
@@ -17,7 +17,7 @@ use Rattle.dpj_exprs.specs.declared.env.Env.{Env}
 use Rattle.dpj_exprs.specs.declared.env.LocalRow.{LocalRow}
 use Rattle.dpj_exprs.specs.declared.found.Found.{Found}
 use Rattle.dpj_exprs.specs.Answer.{Answer, gives, refused}
-use Rattle.dpj_exprs.specs.Arrays.{made_names, front_of, front_told, created_array}
+use Rattle.dpj_exprs.specs.Arrays.{made_names, front_of, front_reported, created_array}
 use Rattle.dpj_exprs.specs.Elements.{read_element, read_part}
 use Rattle.dpj_exprs.specs.Env.{table_of, part_of}
 use Rattle.dpj_exprs.specs.Fields.{read_field}
@@ -25,7 +25,7 @@ use Rattle.dpj_exprs.specs.Locals.{measured}
 use Rattle.dpj_exprs.specs.Operations.{unary_typed, binary_typed}
 use Rattle.dpj_exprs.specs.Typed.{type_in, node_at}
 use Rattle.dpj_exprs.specs.Typing.{answer, created, leaf_typed, AllAnswer, all_give, one_refused, Typing, TypingArray, TypingAll}
-use Rattle.dpj_exprs.specs.Uses.{args_of, args_told, callee_params, created_params, Call, Creation}
+use Rattle.dpj_exprs.specs.Uses.{args_of, args_reported, callee_params, created_params, Call, Creation}
 use Rattle.dpj_exprs.proofs.OnceUsed.{call_once, creation_once}
 
 -- nothing else is said of an expression, of several, and of the creation of an array
@@ -47,8 +47,8 @@ same_found e = cc
 same_types : {t u : List (Option TypedExpr)} {f g : Found} → all_give t f ≡ all_give u g → t ≡ u
 same_types e = cc
 
-same_behind : {t u : List (Option TypedExpr)} {f g : Found} → all_give t f ≡ all_give u g → f ≡ g
-same_behind e = cc
+same_after : {t u : List (Option TypedExpr)} {f g : Found} → all_give t f ≡ all_give u g → f ≡ g
+same_after e = cc
 
 -- equal arguments, equal values
 by_one : {A C : Type 0} (to : A → C) {x y : A} {a b : C} → x ≡ y → to x ≡ a → to y ≡ b → a ≡ b
@@ -195,61 +195,61 @@ receiver_alone q only f' b p (Typing.call_args_refused {g = g'} {t = t'} d' l') 
 receiver_alone q only f' b p (Typing.call_actual_refused {g = g'} {t = t'} d' l' i') = let e = only f' (gives t' g') p d' in cc
 receiver_alone q only f' b p (Typing.method_call {g = g'} {t = t'} d' l' i' r') = let e = only f' (gives t' g') p d' in cc
 
-call_args_alone : {env : Env} {place : Place} {of : PlainExpr} {regions : List RplTree} {name : ℕ} {actuals : PlainExprs} {f : Found} (g : Found) (t : Option TypedExpr) (refusal : Refusal) → Alone env of f (gives t g) → args_told env (callee_params (table_of env) (type_in t) name) regions ≡ Some refusal → Alone env (expression place (call of regions name actuals)) f (refused refusal)
+call_args_alone : {env : Env} {place : Place} {of : PlainExpr} {regions : List RplTree} {name : ℕ} {actuals : PlainExprs} {f : Found} (g : Found) (t : Option TypedExpr) (refusal : Refusal) → Alone env of f (gives t g) → args_reported env (callee_params (table_of env) (type_in t) name) regions ≡ Some refusal → Alone env (expression place (call of regions name actuals)) f (refused refusal)
 call_args_alone g t q only l f' b p (Typing.no_parts l' s') = cc
 call_args_alone g t q only l f' b p (Typing.receiver_refused {refusal = q'} d') = let e = only f' (refused q') p d' in cc
 call_args_alone {env} {place} {of} {regions} {name} g t q only l f' b p (Typing.call_args_refused {g = g'} {t = t'} {refusal = q'} d' l') =
-    let e : Some q ≡ Some q' = by_one (λ v. args_told env (callee_params (table_of env) (type_in v) name) regions) (same_type (only f' (gives t' g') p d')) l l' in cc
+    let e : Some q ≡ Some q' = by_one (λ v. args_reported env (callee_params (table_of env) (type_in v) name) regions) (same_type (only f' (gives t' g') p d')) l l' in cc
 call_args_alone {env} {place} {of} {regions} {name} g t q only l f' b p (Typing.call_actual_refused {g = g'} {t = t'} d' l' i') =
-    let e : Some q ≡ None = by_one (λ v. args_told env (callee_params (table_of env) (type_in v) name) regions) (same_type (only f' (gives t' g') p d')) l l' in cc
+    let e : Some q ≡ None = by_one (λ v. args_reported env (callee_params (table_of env) (type_in v) name) regions) (same_type (only f' (gives t' g') p d')) l l' in cc
 call_args_alone {env} {place} {of} {regions} {name} g t q only l f' b p (Typing.method_call {g = g'} {t = t'} d' l' i' r') =
-    let e : Some q ≡ None = by_one (λ v. args_told env (callee_params (table_of env) (type_in v) name) regions) (same_type (only f' (gives t' g') p d')) l l' in cc
+    let e : Some q ≡ None = by_one (λ v. args_reported env (callee_params (table_of env) (type_in v) name) regions) (same_type (only f' (gives t' g') p d')) l l' in cc
 
 call_actual_alone : {env : Env} {place : Place} {of : PlainExpr} {regions : List RplTree} {name : ℕ} {actuals : PlainExprs} {f : Found} (g : Found) (t : Option TypedExpr) (refusal : Refusal) →
-    Alone env of f (gives t g) → args_told env (callee_params (table_of env) (type_in t) name) regions ≡ None → AllAlone env actuals g (one_refused refusal) → Alone env (expression place (call of regions name actuals)) f (refused refusal)
+    Alone env of f (gives t g) → args_reported env (callee_params (table_of env) (type_in t) name) regions ≡ None → AllAlone env actuals g (one_refused refusal) → Alone env (expression place (call of regions name actuals)) f (refused refusal)
 call_actual_alone g t q only l next f' b p (Typing.no_parts l' s') = cc
 call_actual_alone g t q only l next f' b p (Typing.receiver_refused {refusal = q'} d') = let e = only f' (refused q') p d' in cc
 call_actual_alone {env} {place} {of} {regions} {name} g t q only l next f' b p (Typing.call_args_refused {g = g'} {t = t'} {refusal = q'} d' l') =
-    let e : None ≡ Some q' = by_one (λ v. args_told env (callee_params (table_of env) (type_in v) name) regions) (same_type (only f' (gives t' g') p d')) l l' in cc
+    let e : None ≡ Some q' = by_one (λ v. args_reported env (callee_params (table_of env) (type_in v) name) regions) (same_type (only f' (gives t' g') p d')) l l' in cc
 call_actual_alone g t q only l next f' b p (Typing.call_actual_refused {g = g'} {t = t'} {refusal = q'} d' l' i') =
     let e = next g' (one_refused q') (same_found (only f' (gives t' g') p d')) i' in cc
 call_actual_alone g t q only l next f' b p (Typing.method_call {g = g'} {h = h'} {t = t'} {types = types'} d' l' i' r') =
     let e = next g' (all_give types' h') (same_found (only f' (gives t' g') p d')) i' in cc
 
 call_alone : {env : Env} {place : Place} {of : PlainExpr} {regions : List RplTree} {name : ℕ} {actuals : PlainExprs} {f : Found} {a : Answer} (g h : Found) (t : Option TypedExpr) (types : List (Option TypedExpr)) →
-    Alone env of f (gives t g) → args_told env (callee_params (table_of env) (type_in t) name) regions ≡ None → AllAlone env actuals g (all_give types h) → Call env t name (args_of env regions) types place h a → Alone env (expression place (call of regions name actuals)) f a
+    Alone env of f (gives t g) → args_reported env (callee_params (table_of env) (type_in t) name) regions ≡ None → AllAlone env actuals g (all_give types h) → Call env t name (args_of env regions) types place h a → Alone env (expression place (call of regions name actuals)) f a
 call_alone g h t types only l next r f' b p (Typing.no_parts l' s') = cc
 call_alone g h t types only l next r f' b p (Typing.receiver_refused {refusal = q'} d') = let e = only f' (refused q') p d' in cc
 call_alone {env} {place} {of} {regions} {name} g h t types only l next r f' b p (Typing.call_args_refused {g = g'} {t = t'} {refusal = q'} d' l') =
-    let e : None ≡ Some q' = by_one (λ v. args_told env (callee_params (table_of env) (type_in v) name) regions) (same_type (only f' (gives t' g') p d')) l l' in cc
+    let e : None ≡ Some q' = by_one (λ v. args_reported env (callee_params (table_of env) (type_in v) name) regions) (same_type (only f' (gives t' g') p d')) l l' in cc
 call_alone g h t types only l next r f' b p (Typing.call_actual_refused {g = g'} {t = t'} {refusal = q'} d' l' i') =
     let e = next g' (one_refused q') (same_found (only f' (gives t' g') p d')) i' in cc
 call_alone {env} {place} {of} {regions} {name} {a = a} g h t types only l next r f' b p (Typing.method_call {g = g'} {h = h'} {t = t'} {types = types'} d' l' i' r') =
     let e = only f' (gives t' g') p d' in
     let d = next g' (all_give types' h') (same_found e) i' in
-    call_once env t t' name (args_of env regions) types types' place h h' a b (same_type e) (same_types d) (same_behind d) r r'
+    call_once env t t' name (args_of env regions) types types' place h h' a b (same_type e) (same_types d) (same_after d) r r'
 
 -- the creation of an object
-new_args_alone : {env : Env} {place : Place} {class : Named} {regions : List RplTree} {actuals : PlainExprs} {f : Found} (refusal : Refusal) → args_told env (created_params (table_of env) class) regions ≡ Some refusal → Alone env (expression place (create class regions actuals)) f (refused refusal)
+new_args_alone : {env : Env} {place : Place} {class : Named} {regions : List RplTree} {actuals : PlainExprs} {f : Found} (refusal : Refusal) → args_reported env (created_params (table_of env) class) regions ≡ Some refusal → Alone env (expression place (create class regions actuals)) f (refused refusal)
 new_args_alone q l f' b p (Typing.no_parts l' s') = cc
 new_args_alone q l f' b p (Typing.new_args_refused l') = cc
 new_args_alone q l f' b p (Typing.new_actual_refused l' i') = cc
 new_args_alone q l f' b p (Typing.new_object l' i' r') = cc
 
-new_actual_alone : {env : Env} {place : Place} {class : Named} {regions : List RplTree} {actuals : PlainExprs} {f : Found} (refusal : Refusal) → args_told env (created_params (table_of env) class) regions ≡ None → AllAlone env actuals f (one_refused refusal) → Alone env (expression place (create class regions actuals)) f (refused refusal)
+new_actual_alone : {env : Env} {place : Place} {class : Named} {regions : List RplTree} {actuals : PlainExprs} {f : Found} (refusal : Refusal) → args_reported env (created_params (table_of env) class) regions ≡ None → AllAlone env actuals f (one_refused refusal) → Alone env (expression place (create class regions actuals)) f (refused refusal)
 new_actual_alone q l next f' b p (Typing.no_parts l' s') = cc
 new_actual_alone q l next f' b p (Typing.new_args_refused l') = cc
 new_actual_alone q l next f' b p (Typing.new_actual_refused {refusal = q'} l' i') = let e = next f' (one_refused q') p i' in cc
 new_actual_alone q l next f' b p (Typing.new_object {g = g'} {types = types'} l' i' r') = let e = next f' (all_give types' g') p i' in cc
 
 new_alone : {env : Env} {place : Place} {class : Named} {regions : List RplTree} {actuals : PlainExprs} {f : Found} {a : Answer} (g : Found) (types : List (Option TypedExpr)) →
-    args_told env (created_params (table_of env) class) regions ≡ None → AllAlone env actuals f (all_give types g) → Creation env class (args_of env regions) types place g a → Alone env (expression place (create class regions actuals)) f a
+    args_reported env (created_params (table_of env) class) regions ≡ None → AllAlone env actuals f (all_give types g) → Creation env class (args_of env regions) types place g a → Alone env (expression place (create class regions actuals)) f a
 new_alone g types l next r f' b p (Typing.no_parts l' s') = cc
 new_alone g types l next r f' b p (Typing.new_args_refused l') = cc
 new_alone g types l next r f' b p (Typing.new_actual_refused {refusal = q'} l' i') = let e = next f' (one_refused q') p i' in cc
 new_alone {env} {place} {class} {regions} {a = a} g types l next r f' b p (Typing.new_object {g = g'} {types = types'} l' i' r') =
     let e = next f' (all_give types' g') p i' in
-    creation_once env class (args_of env regions) types types' place g g' a b (same_types e) (same_behind e) r r'
+    creation_once env class (args_of env regions) types types' place g g' a b (same_types e) (same_after e) r r'
 
 -- the creation of an array
 new_array_alone : {env : Env} {place : Place} {base : BaseTree} {suffixes : List Suffix} {len : PlainExpr} {rpl : Option RplTree} {index : Option Named} {f : Found} {a : Answer} →
@@ -257,18 +257,18 @@ new_array_alone : {env : Env} {place : Place} {base : BaseTree} {suffixes : List
 new_array_alone only f' b p (Typing.no_parts l' s') = cc
 new_array_alone only f' b p (Typing.new_array d') = only f' b p d'
 
-front_alone : {env : Env} {around : PlainIndex} {base : BaseTree} {len : PlainExpr} {rpl : Option RplTree} {place : Place} {f : Found} (refusal : Refusal) → front_told env around base ≡ Some refusal → ArrayAlone env around base len rpl place f (refused refusal)
+front_alone : {env : Env} {around : PlainIndex} {base : BaseTree} {len : PlainExpr} {rpl : Option RplTree} {place : Place} {f : Found} (refusal : Refusal) → front_reported env around base ≡ Some refusal → ArrayAlone env around base len rpl place f (refused refusal)
 front_alone q l f' b p (TypingArray.front_refused l') = cc
 front_alone q l f' b p (TypingArray.length_refused l' d') = cc
 front_alone q l f' b p (TypingArray.array_created l' d' r') = cc
 
-length_refused_alone : {env : Env} {around : PlainIndex} {base : BaseTree} {len : PlainExpr} {rpl : Option RplTree} {place : Place} {f : Found} (refusal : Refusal) → front_told env around base ≡ None → Alone env len f (refused refusal) → ArrayAlone env around base len rpl place f (refused refusal)
+length_refused_alone : {env : Env} {around : PlainIndex} {base : BaseTree} {len : PlainExpr} {rpl : Option RplTree} {place : Place} {f : Found} (refusal : Refusal) → front_reported env around base ≡ None → Alone env len f (refused refusal) → ArrayAlone env around base len rpl place f (refused refusal)
 length_refused_alone q l only f' b p (TypingArray.front_refused l') = cc
 length_refused_alone q l only f' b p (TypingArray.length_refused l' d') = only f' _ p d'
 length_refused_alone q l only f' b p (TypingArray.array_created {g = g'} {t = t'} l' d' r') = let e = only f' (gives t' g') p d' in cc
 
 array_alone : {env : Env} {around : PlainIndex} {base : BaseTree} {len : PlainExpr} {rpl : Option RplTree} {place : Place} {f : Found} {a : Answer} (g : Found) (t : Option TypedExpr) →
-    front_told env around base ≡ None → Alone env len f (gives t g) → answer (created place (node_at place t) (created_array env around (front_of env around base) (type_in t) rpl place)) g ≡ a → ArrayAlone env around base len rpl place f a
+    front_reported env around base ≡ None → Alone env len f (gives t g) → answer (created place (node_at place t) (created_array env around (front_of env around base) (type_in t) rpl place)) g ≡ a → ArrayAlone env around base len rpl place f a
 array_alone g t l only r f' b p (TypingArray.front_refused l') = cc
 array_alone g t l only r f' b p (TypingArray.length_refused {refusal = q'} l' d') = let e = only f' (refused q') p d' in cc
 array_alone {env} {around} {base} {len} {rpl} {place} g t l only r f' b p (TypingArray.array_created {g = g'} {t = t'} l' d' r') =

@@ -7,7 +7,7 @@ use Rattle.dpj_base.specs.declared.ty.Ty.{Ty}
 use Rattle.dpj_base.specs.Types.{PlainType}
 use Rattle.dpj_base.specs.Types.{PlainType as ty}
 use Rattle.dpj_headers.specs.declared.faults.Faults.{Faults}
-use Rattle.dpj_headers.specs.Faults.{told, all_noted}
+use Rattle.dpj_headers.specs.Faults.{reported, all_noted}
 use Rattle.dpj_resolve.specs.declared.args.ReadArgs.{ReadArgs}
 use Rattle.dpj_resolve.specs.Args.{args_given}
 use Rattle.dpj_resolve.specs.Constraints.{all_hold}
@@ -21,9 +21,9 @@ use Rattle.dpj_exprs.specs.Answer.{Answer, gives, with_call}
 use Rattle.dpj_exprs.specs.Env.{table_of, given_in}
 use Rattle.dpj_exprs.specs.Partial.{is_partial_call}
 use Rattle.dpj_exprs.specs.Typed.{type_in, nodes_at}
-use Rattle.dpj_exprs.specs.Uses.{args_noted, called, formals_of, use_faults, UseTold, with_constructor, CallOf, CallOn, Call, CreationOf, Creation}
-use Rattle.dpj_exprs.proofs.Calling.{CallTold}
-use Rattle.dpj_exprs.proofs.Creating.{params_at, CreationTold}
+use Rattle.dpj_exprs.specs.Uses.{args_noted, called, formals_of, use_faults, UseReported, with_constructor, CallOf, CallOn, Call, CreationOf, Creation}
+use Rattle.dpj_exprs.proofs.Calling.{CallReported}
+use Rattle.dpj_exprs.proofs.Creating.{params_at, CreationReported}
 
 one_truth : {A : Type 0} (a b : Bool) → IsTrue a ↔ A → IsTrue b ↔ A → a ≡ b
 one_truth true true x y = refl
@@ -36,17 +36,17 @@ one_given o r s p q = cc
 
 -- what is reported of one use
 use_once : (env : Env) (before : Faults) (args : List Rpl) (actuals : List (Option PlainType)) (declared : List Ty) (partial hold : Bool) (place : Place) (p q : Option Refusal) →
-    UseTold env before args actuals declared partial hold place p → UseTold env before args actuals declared partial hold place q → p ≡ q
+    UseReported env before args actuals declared partial hold place p → UseReported env before args actuals declared partial hold place q → p ≡ q
 use_once env before args actuals declared partial hold place p q x y =
-    sym x.tells ∙ ap (λ fit. told (all_noted before (use_faults partial fit hold place))) (one_truth x.fit y.fit x.fits y.fits) ∙ y.tells
+    sym x.tells ∙ ap (λ fit. reported (all_noted before (use_faults partial fit hold place))) (one_truth x.fit y.fit x.fits y.fits) ∙ y.tells
 
-call_told_once : (env : Env) (row : MethodRow) (owned : List Rpl) (args : ReadArgs) (actuals : List (Option PlainType)) (place : Place) (r s : List Rpl) (p q : Option Refusal) →
+call_reported_once : (env : Env) (row : MethodRow) (owned : List Rpl) (args : ReadArgs) (actuals : List (Option PlainType)) (place : Place) (r s : List Rpl) (p q : Option Refusal) →
     args_given args.written args.paths row.regions ≡ Some r → args_given args.written args.paths row.regions ≡ Some s →
-    CallTold env row actuals place p (owned ++ r) (args_noted args row.regions place) (is_partial_call owned row) →
-    CallTold env row actuals place q (owned ++ s) (args_noted args row.regions place) (is_partial_call owned row) → p ≡ q
-call_told_once env row owned args actuals place r s p q g h x y =
+    CallReported env row actuals place p (owned ++ r) (args_noted args row.regions place) (is_partial_call owned row) →
+    CallReported env row actuals place q (owned ++ s) (args_noted args row.regions place) (is_partial_call owned row) → p ≡ q
+call_reported_once env row owned args actuals place r s p q g h x y =
     use_once env _ (owned ++ r) actuals row.params (is_partial_call owned row) (all_hold (given_in env) (owned ++ r) row.given) place p q x
-    (subst (λ (z : List Rpl). CallTold env row actuals place q (owned ++ z) (args_noted args row.regions place) (is_partial_call owned row)) (one_given _ r s g h) y)
+    (subst (λ (z : List Rpl). CallReported env row actuals place q (owned ++ z) (args_noted args row.regions place) (is_partial_call owned row)) (one_given _ r s g h) y)
 
 call_of_once : {env : Env} {e : TypedExpr} {class : ℕ} {row : MethodRow} {owned : List Rpl} {args : ReadArgs} {actuals : List (Option TypedExpr)} {place : Place} {f : Found} {a b : Answer} →
     CallOf env e class row owned args actuals place f a → CallOf env e class row owned args actuals place f b → a ≡ b
@@ -55,12 +55,12 @@ call_of_once (CallOf.unknown_args g) (CallOf.faulty_call h y) = cc
 call_of_once (CallOf.unknown_args g) (CallOf.fitting_call h y) = cc
 call_of_once (CallOf.faulty_call g x) (CallOf.unknown_args h) = cc
 call_of_once {env} {e} {class} {row} {owned} {args} {actuals} {place} (CallOf.faulty_call {regions = r} {refusal = p} g x) (CallOf.faulty_call {regions = s} {refusal = q} h y) =
-    let o : Some p ≡ Some q = call_told_once env row owned args (map type_in actuals) place r s (Some p) (Some q) g h x y in cc
+    let o : Some p ≡ Some q = call_reported_once env row owned args (map type_in actuals) place r s (Some p) (Some q) g h x y in cc
 call_of_once {env} {e} {class} {row} {owned} {args} {actuals} {place} (CallOf.faulty_call {regions = r} {refusal = p} g x) (CallOf.fitting_call {regions = s} h y) =
-    let o : Some p ≡ None = call_told_once env row owned args (map type_in actuals) place r s (Some p) None g h x y in cc
+    let o : Some p ≡ None = call_reported_once env row owned args (map type_in actuals) place r s (Some p) None g h x y in cc
 call_of_once (CallOf.fitting_call g x) (CallOf.unknown_args h) = cc
 call_of_once {env} {e} {class} {row} {owned} {args} {actuals} {place} (CallOf.fitting_call {regions = r} g x) (CallOf.faulty_call {regions = s} {refusal = q} h y) =
-    let o : None ≡ Some q = call_told_once env row owned args (map type_in actuals) place r s None (Some q) g h x y in cc
+    let o : None ≡ Some q = call_reported_once env row owned args (map type_in actuals) place r s None (Some q) g h x y in cc
 call_of_once {env} {e} {class} {row} {owned} {args} {actuals} {place} {f} (CallOf.fitting_call {regions = r} g x) (CallOf.fitting_call {regions = s} h y) =
     ap (λ (z : List Rpl). gives (Some (called env e class row owned z actuals place)) (with_call (table_of env) f row (owned ++ z))) (sym (one_given _ r s g h))
 
@@ -92,13 +92,13 @@ call_once env t u name args given others place f g a b p q r x y =
     (subst (λ (z : List (Option TypedExpr)). Call env u name args z place f b) (sym q)
     (subst (λ (z : Found). Call env u name args others place z b) (sym r) y)))
 
-creation_told_once : (env : Env) (at : ℕ) (args : ReadArgs) (actuals : List (Option PlainType)) (place : Place) (r s : List Rpl) (p q : Option Refusal) →
+creation_reported_once : (env : Env) (at : ℕ) (args : ReadArgs) (actuals : List (Option PlainType)) (place : Place) (r s : List Rpl) (p q : Option Refusal) →
     args_given args.written args.paths (params_at env at) ≡ Some r → args_given args.written args.paths (params_at env at) ≡ Some s →
-    CreationTold env at actuals place p r (args_noted args (params_at env at) place) →
-    CreationTold env at actuals place q s (args_noted args (params_at env at) place) → p ≡ q
-creation_told_once env at args actuals place r s p q g h x y =
+    CreationReported env at actuals place p r (args_noted args (params_at env at) place) →
+    CreationReported env at actuals place q s (args_noted args (params_at env at) place) → p ≡ q
+creation_reported_once env at args actuals place r s p q g h x y =
     use_once env _ r actuals (formals_of (table_of env) at) false (all_hold (given_in env) r (given_of (table_of env) at)) place p q x
-    (subst (λ (z : List Rpl). CreationTold env at actuals place q z (args_noted args (params_at env at) place)) (one_given _ r s g h) y)
+    (subst (λ (z : List Rpl). CreationReported env at actuals place q z (args_noted args (params_at env at) place)) (one_given _ r s g h) y)
 
 creation_of_once : {env : Env} {at : ℕ} {args : ReadArgs} {actuals : List (Option TypedExpr)} {place : Place} {f : Found} {a b : Answer} →
     CreationOf env at args actuals place f a → CreationOf env at args actuals place f b → a ≡ b
@@ -107,12 +107,12 @@ creation_of_once (CreationOf.unknown_args g) (CreationOf.faulty_creation h y) = 
 creation_of_once (CreationOf.unknown_args g) (CreationOf.created h y) = cc
 creation_of_once (CreationOf.faulty_creation g x) (CreationOf.unknown_args h) = cc
 creation_of_once {env} {at} {args} {actuals} {place} (CreationOf.faulty_creation {regions = r} {refusal = p} g x) (CreationOf.faulty_creation {regions = s} {refusal = q} h y) =
-    let e : Some p ≡ Some q = creation_told_once env at args (map type_in actuals) place r s (Some p) (Some q) g h x y in cc
+    let e : Some p ≡ Some q = creation_reported_once env at args (map type_in actuals) place r s (Some p) (Some q) g h x y in cc
 creation_of_once {env} {at} {args} {actuals} {place} (CreationOf.faulty_creation {regions = r} {refusal = p} g x) (CreationOf.created {regions = s} h y) =
-    let e : Some p ≡ None = creation_told_once env at args (map type_in actuals) place r s (Some p) None g h x y in cc
+    let e : Some p ≡ None = creation_reported_once env at args (map type_in actuals) place r s (Some p) None g h x y in cc
 creation_of_once (CreationOf.created g x) (CreationOf.unknown_args h) = cc
 creation_of_once {env} {at} {args} {actuals} {place} (CreationOf.created {regions = r} g x) (CreationOf.faulty_creation {regions = s} {refusal = q} h y) =
-    let e : None ≡ Some q = creation_told_once env at args (map type_in actuals) place r s None (Some q) g h x y in cc
+    let e : None ≡ Some q = creation_reported_once env at args (map type_in actuals) place r s None (Some q) g h x y in cc
 creation_of_once {env} {at} {args} {actuals} {place} {f} (CreationOf.created {regions = r} g x) (CreationOf.created {regions = s} h y) =
     ap (λ (z : List Rpl). gives (Some (typed place (ty.class at z) (create (nodes_at place actuals)))) (with_constructor (table_of env) f (constructor_of (table_of env) at) z)) (sym (one_given _ r s g h))
 

@@ -7,21 +7,21 @@ use Rattle.dpj_headers.specs.Faults.{none_by, all_noted}
 use Rattle.dpj_resolve.specs.Reading.{path_faults}
 use Rattle.dpj_resolve.specs.Index.{PlainIndex}
 use Rattle.dpj_resolve.specs.Scopes.{PlainScope}
-use Rattle.dpj_resolve.specs.Telling.{told_at}
+use Rattle.dpj_resolve.specs.Telling.{reported_at}
 use Rattle.dpj_tree.specs.declared.region.RplTree.{RplTree}
 use Rattle.dpj_exprs.specs.declared.env.Env.{Env}
 use Rattle.dpj_exprs.specs.Arrays.{full_path, around_own}
 use Rattle.dpj_exprs.specs.Env.{scope_of}
-use Rattle.dpj_exprs.specs.Refusing.{told_first}
+use Rattle.dpj_exprs.specs.Refusing.{reported_first}
 
-abbrev pub told_there : PlainScope → PlainIndex → Faults → RplTree → Option Refusal
-told_there scope around faults tree = told_at scope.site (all_noted faults (path_faults scope around full_path tree))
+abbrev pub reported_there : PlainScope → PlainIndex → Faults → RplTree → Option Refusal
+reported_there scope around faults tree = reported_at scope.site (all_noted faults (path_faults scope around full_path tree))
 
 -- in a body, of faults of which none was noted before
-pub told_here : (env : Env) (scope : PlainScope) (around index : PlainIndex) (faults : Faults) (tree : RplTree) →
+pub reported_here : (env : Env) (scope : PlainScope) (around index : PlainIndex) (faults : Faults) (tree : RplTree) →
     scope ≡ scope_of env → index ≡ around_own around → faults ≡ none_by order.Number →
-    told_there scope index faults tree ≡ told_first (path_faults (scope_of env) (around_own around) full_path tree)
-told_here env scope around index faults tree same is none =
-    ap (λ (z : PlainScope). told_there z index faults tree) same
-    ∙ ap (λ (z : PlainIndex). told_there (scope_of env) z faults tree) is
-    ∙ ap (λ (z : Faults). told_there (scope_of env) (around_own around) z tree) none
+    reported_there scope index faults tree ≡ reported_first (path_faults (scope_of env) (around_own around) full_path tree)
+reported_here env scope around index faults tree same is none =
+    ap (λ (z : PlainScope). reported_there z index faults tree) same
+    ∙ ap (λ (z : PlainIndex). reported_there (scope_of env) z faults tree) is
+    ∙ ap (λ (z : Faults). reported_there (scope_of env) (around_own around) z tree) none

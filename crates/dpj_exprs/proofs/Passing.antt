@@ -35,7 +35,7 @@ pub refuses : {T A : Type 0} (Q : A → Type 0) (made : T → A) (refuse : Refus
 refuses Q made refuse s q is h = subst (λ (z : Stop). IfRefused z (λ x. Q (refuse x))) (sym is) h
 
 -- which fault is reported, where two clauses say it
-pub told_says : {T : Type 0} (told : Option Refusal) (r : Result T Stop) →
-    OnOk r (told ≡ None) → IfErr r (λ s. IfRefused s (λ q. told ≡ Some q)) → Says r (λ x. None) Some (λ t. told ≡ t)
-told_says told (Ok x) untold h = untold
-told_says told (Err s) untold h = h
+pub reported_says : {T : Type 0} (reported : Option Refusal) (r : Result T Stop) →
+    OnOk r (reported ≡ None) → IfErr r (λ s. IfRefused s (λ q. reported ≡ Some q)) → Says r (λ x. None) Some (λ t. reported ≡ t)
+reported_says reported (Ok x) unreported h = unreported
+reported_says reported (Err s) unreported h = h

@@ -12,37 +12,37 @@ use Rattle.dpj_exprs.specs.Typed.{plain_typed}
 use Rattle.dpj_exprs.specs.Typing.{AllAnswer, all_give, one_refused, Typing, TypingAll, none_left, first_refused, later_refused, one_more}
 
 -- an answer of the rest, with types in front
-abbrev pub behind : List (Option TypedExpr) → AllAnswer → AllAnswer
-behind types (all_give others f) = all_give (types ++ others) f
-behind types (one_refused refusal) = one_refused refusal
+abbrev pub following : List (Option TypedExpr) → AllAnswer → AllAnswer
+following types (all_give others f) = all_give (types ++ others) f
+following types (one_refused refusal) = one_refused refusal
 
 -- so many of the expressions give these types, and what is said of the others is said of all
 pub record SoFar (env : Env) (all : List Expr) (f : Found) (i : ℕ) (made : List Typed) (g : Found) : Type 0 where
   pub goes_on : (a : AllAnswer) → TypingAll env (plain_exprs (map plain_expr (drop i all))) g a →
-      TypingAll env (plain_exprs (map plain_expr all)) f (behind (map plain_typed made) a)
+      TypingAll env (plain_exprs (map plain_expr all)) f (following (map plain_typed made) a)
   -- what reached an nd construct still does
   pub keeps_nd : IsTrue f.reaches_nd → IsTrue g.reaches_nd
 
-behind_none : (a : AllAnswer) → behind [] a ≡ a
-behind_none (all_give others f) = refl
-behind_none (one_refused refusal) = refl
+after_none : (a : AllAnswer) → following [] a ≡ a
+after_none (all_give others f) = refl
+after_none (one_refused refusal) = refl
 
-behind_more : (types : List (Option TypedExpr)) (t : Option TypedExpr) (a : AllAnswer) → behind types (behind (t ∷ []) a) ≡ behind (types ++ t ∷ []) a
-behind_more types t (all_give others f) = ap (λ all. all_give all f) (sym (append_assoc types (t ∷ []) others))
-behind_more types t (one_refused refusal) = refl
+after_more : (types : List (Option TypedExpr)) (t : Option TypedExpr) (a : AllAnswer) → following types (following (t ∷ []) a) ≡ following (types ++ t ∷ []) a
+after_more types t (all_give others f) = ap (λ all. all_give all f) (sym (append_assoc types (t ∷ []) others))
+after_more types t (one_refused refusal) = refl
 
 map_more : (made : List Typed) (x : Typed) → map plain_typed (made ++ x ∷ []) ≡ map plain_typed made ++ plain_typed x ∷ []
 map_more [] x = refl
 map_more (y ∷ made) x = ap (λ rest. plain_typed y ∷ rest) (map_more made x)
 
 pub none_so_far : (env : Env) (all : List Expr) (f : Found) → SoFar env all f 0 [] f
-none_so_far env all f = record { goes_on = λ a d. subst (λ b. TypingAll env (plain_exprs (map plain_expr all)) f b) (sym (behind_none a)) d; keeps_nd = λ n. n }
+none_so_far env all f = record { goes_on = λ a d. subst (λ b. TypingAll env (plain_exprs (map plain_expr all)) f b) (sym (after_none a)) d; keeps_nd = λ n. n }
 
 next_is : (all : List Expr) (i : ℕ) (e : Expr) → i < length all → e ≡ get_or all i e → drop i all ≡ e ∷ drop (i + 1) all
 next_is all i e below is = drop-cons all i e below ∙ ap (λ x. x ∷ drop (suc i) all) (sym is) ∙ ap (λ k. e ∷ drop k all) (sym (add-one i))
 
 step : (env : Env) (e : Expr) (es : List Expr) (f g : Found) (t : Option TypedExpr) (a : AllAnswer) → Typing env (plain_expr e) f (gives t g) → TypingAll env (plain_exprs (map plain_expr es)) g a →
-    TypingAll env (plain_exprs (map plain_expr (e ∷ es))) f (behind (t ∷ []) a)
+    TypingAll env (plain_exprs (map plain_expr (e ∷ es))) f (following (t ∷ []) a)
 step env e es f g t (all_give others h) d rest = one_more d rest
 step env e es f g t (one_refused refusal) d rest = later_refused d rest
 
@@ -50,12 +50,12 @@ pub one_so_far : (env : Env) (all : List Expr) (f : Found) (i : ℕ) (made : Lis
     SoFar env all f i made g → i < length all → e ≡ get_or all i e → Typing env (plain_expr e) g (gives (plain_typed x) h) → others ≡ made ++ x ∷ [] → (IsTrue g.reaches_nd → IsTrue h.reaches_nd) → SoFar env all f (i + 1) others h
 one_so_far env all f i made g h e x others so_far below is d same kept = record {
   goes_on = λ a rest.
-      let here : TypingAll env (plain_exprs (map plain_expr (e ∷ drop (i + 1) all))) g (behind (plain_typed x ∷ []) a) = step env e (drop (i + 1) all) g h (plain_typed x) a d rest in
-      let there : TypingAll env (plain_exprs (map plain_expr (drop i all))) g (behind (plain_typed x ∷ []) a) =
-      subst (λ es. TypingAll env (plain_exprs (map plain_expr es)) g (behind (plain_typed x ∷ []) a)) (sym (next_is all i e below is)) here in
+      let here : TypingAll env (plain_exprs (map plain_expr (e ∷ drop (i + 1) all))) g (following (plain_typed x ∷ []) a) = step env e (drop (i + 1) all) g h (plain_typed x) a d rest in
+      let there : TypingAll env (plain_exprs (map plain_expr (drop i all))) g (following (plain_typed x ∷ []) a) =
+      subst (λ es. TypingAll env (plain_exprs (map plain_expr es)) g (following (plain_typed x ∷ []) a)) (sym (next_is all i e below is)) here in
       subst (λ b. TypingAll env (plain_exprs (map plain_expr all)) f b)
-      (behind_more (map plain_typed made) (plain_typed x) a ∙ ap (λ types. behind types a) (sym (map_more made x) ∙ ap (map plain_typed) (sym same)))
-      (so_far.goes_on (behind (plain_typed x ∷ []) a) there);
+      (after_more (map plain_typed made) (plain_typed x) a ∙ ap (λ types. following types a) (sym (map_more made x) ∙ ap (map plain_typed) (sym same)))
+      (so_far.goes_on (following (plain_typed x ∷ []) a) there);
   keeps_nd = λ n. kept (so_far.keeps_nd n);
 }
 

@@ -34,4 +34,4 @@ pub of_none : (e : Expr) (s : Stop) → is_access (form_of (plain_expr e)) ≡ f
 of_none e s other is =
     subst (λ (z : Stop). IfRefused z (λ q. (env : Env) (f : Found) → Targeting env (plain_expr e) f (misses q))) (sym is)
     (λ env f.
-    subst (λ (z : PlainExpr). is_access (form_of z) ≡ false → Targeting env z f (misses (fault kind.Type e.place))) (sym (plain_node e)) (λ told. Targeting.no_target told) other)
+    subst (λ (z : PlainExpr). is_access (form_of z) ≡ false → Targeting env z f (misses (fault kind.Type e.place))) (sym (plain_node e)) (λ reported. Targeting.no_target reported) other)

@@ -15,7 +15,7 @@ use Rattle.dpj_resolve.specs.declared.scope.Site.TheVariants as site
 use Rattle.dpj_resolve.specs.Args.{root_path}
 use Rattle.dpj_resolve.specs.Index.{PlainIndex}
 use Rattle.dpj_resolve.specs.Reading.{path_meant, path_faults}
-use Rattle.dpj_resolve.specs.Telling.{parts_told}
+use Rattle.dpj_resolve.specs.Telling.{parts_reported}
 use Rattle.dpj_resolve.specs.Written.{at_suffix, type_read, type_parts, array_meant, array_faults}
 use Rattle.dpj_tree.specs.declared.region.BaseTree.{BaseTree}
 use Rattle.dpj_tree.specs.declared.region.Named.{Named}
@@ -23,7 +23,7 @@ use Rattle.dpj_tree.specs.declared.region.RplTree.{RplTree}
 use Rattle.dpj_tree.specs.declared.region.Suffix.{Suffix}
 use Rattle.dpj_exprs.specs.declared.env.Env.{Env}
 use Rattle.dpj_exprs.specs.Env.{scope_of}
-use Rattle.dpj_exprs.specs.Refusing.{told_first}
+use Rattle.dpj_exprs.specs.Refusing.{reported_first}
 use Rattle.dpj_exprs.specs.Typed.{may_be, is_int}
 
 -- the index names of a creation: those of the suffixes in front of its length, and its own
@@ -34,8 +34,8 @@ made_names suffixes index = record { suffixes = suffixes; inside = 0; made = ind
 abbrev pub front_of : Env → PlainIndex → BaseTree → ReadType
 front_of env around base = type_read (scope_of env) around base
 
-abbrev pub front_told : Env → PlainIndex → BaseTree → Option Refusal
-front_told env around base = parts_told site.Body (none_by order.Number) (type_parts (scope_of env) around base)
+abbrev pub front_reported : Env → PlainIndex → BaseTree → Option Refusal
+front_reported env around base = parts_reported site.Body (none_by order.Number) (type_parts (scope_of env) around base)
 
 -- the region path of the elements is to be fully specified
 abbrev pub full_path : Need
@@ -46,36 +46,36 @@ abbrev pub around_own : PlainIndex → PlainIndex
 around_own around = at_suffix around (length around.suffixes)
 
 -- a path, unless a fault is reported
-abbrev pub path_told : Option Refusal → Option Rpl → Place → Result Rpl Refusal
-path_told (Some refusal) rpl place = Err refusal
-path_told None None place = Err (fault kind.Unknown place)
-path_told None (Some rpl) place = Ok rpl
+abbrev pub path_reported : Option Refusal → Option Rpl → Place → Result Rpl Refusal
+path_reported (Some refusal) rpl place = Err refusal
+path_reported None None place = Err (fault kind.Unknown place)
+path_reported None (Some rpl) place = Ok rpl
 
 -- the region path of the elements: `Root` where none is written
 abbrev pub own_path : Env → PlainIndex → Option RplTree → Result Rpl Refusal
 own_path env around None = Ok root_path
 own_path env around (Some tree) =
-    path_told (told_first (path_faults (scope_of env) (around_own around) full_path tree)) (path_meant (scope_of env) (around_own around) tree) tree.place
+    path_reported (reported_first (path_faults (scope_of env) (around_own around) full_path tree)) (path_meant (scope_of env) (around_own around) tree) tree.place
 
 -- where it is written, else the creation
 abbrev pub own_place : Option RplTree → Place → Place
 own_place rpl place = option_map_or (λ tree. tree.place) rpl place
 
 -- the fault of a creation that is reported: the length is no int, or the type is faulty
-abbrev pub array_told : Env → PlainIndex → ReadType → Bool → Rpl → Place → Place → Option Refusal
-array_told env around front is_length own own_at place =
-    told_first (fault_if (not is_length) kind.Type place ++ array_faults (scope_of env) around front own own_at place)
+abbrev pub array_reported : Env → PlainIndex → ReadType → Bool → Rpl → Place → Place → Option Refusal
+array_reported env around front is_length own own_at place =
+    reported_first (fault_if (not is_length) kind.Type place ++ array_faults (scope_of env) around front own own_at place)
 
 -- a type, unless a fault is reported
-abbrev pub type_told : Option Refusal → Option PlainType → Place → Result PlainType Refusal
-type_told (Some refusal) t place = Err refusal
-type_told None None place = Err (fault kind.RegionArgs place)
-type_told None (Some t) place = Ok t
+abbrev pub type_reported : Option Refusal → Option PlainType → Place → Result PlainType Refusal
+type_reported (Some refusal) t place = Err refusal
+type_reported None None place = Err (fault kind.RegionArgs place)
+type_reported None (Some t) place = Ok t
 
 abbrev pub array_with : Env → PlainIndex → ReadType → Bool → Result Rpl Refusal → Place → Place → Result PlainType Refusal
 array_with env around front is_length (Err refusal) own_at place = Err refusal
 array_with env around front is_length (Ok own) own_at place =
-    type_told (array_told env around front is_length own own_at place) (array_meant (scope_of env) around front own) place
+    type_reported (array_reported env around front is_length own own_at place) (array_meant (scope_of env) around front own) place
 
 -- the type of the creation, where the length has this type
 abbrev pub created_array : Env → PlainIndex → ReadType → Option PlainType → Option RplTree → Place → Result PlainType Refusal

@@ -6,11 +6,11 @@ use Rattle.dpj_base.specs.declared.refusal.Refusal.{Refusal}
 use Rattle.dpj_base.specs.declared.refusal.Stop.{Stop}
 use Rattle.dpj_base.specs.declared.refusal.Stop.TheVariants.{Refused}
 use Rattle.dpj_headers.specs.declared.faults.Order.TheVariants as order
-use Rattle.dpj_headers.specs.Faults.{told, none_by, all_noted}
+use Rattle.dpj_headers.specs.Faults.{reported, none_by, all_noted}
 
 abbrev pub refusal_at : Kind → Place → Stop
 refusal_at kind place = Refused (record { kind = kind; place = place })
 
 -- of the faults of one expression the one with the lowest number is reported, at one number the first in the text
-abbrev pub told_first : List Refusal → Option Refusal
-told_first faults = told (all_noted (none_by order.Number) faults)
+abbrev pub reported_first : List Refusal → Option Refusal
+reported_first faults = reported (all_noted (none_by order.Number) faults)

@@ -19,14 +19,14 @@ use Rattle.dpj_exprs.specs.declared.env.Env.{Env}
 use Rattle.dpj_exprs.specs.declared.env.LocalRow.{LocalRow}
 use Rattle.dpj_exprs.specs.declared.found.Found.{Found}
 use Rattle.dpj_exprs.specs.Answer.{Answer, gives, refused}
-use Rattle.dpj_exprs.specs.Arrays.{made_names, front_of, front_told, created_array}
+use Rattle.dpj_exprs.specs.Arrays.{made_names, front_of, front_reported, created_array}
 use Rattle.dpj_exprs.specs.Elements.{read_element, read_part}
 use Rattle.dpj_exprs.specs.Env.{table_of, local_of, part_of, this_type_of}
 use Rattle.dpj_exprs.specs.Locals.{local_typed, measured}
 use Rattle.dpj_exprs.specs.Fields.{read_field}
 use Rattle.dpj_exprs.specs.Operations.{unary_typed, binary_typed}
 use Rattle.dpj_exprs.specs.Typed.{type_in, node_at}
-use Rattle.dpj_exprs.specs.Uses.{args_of, args_told, callee_params, created_params, Call, Creation}
+use Rattle.dpj_exprs.specs.Uses.{args_of, args_reported, callee_params, created_params, Call, Creation}
 
 -- an expression without effects of its own, or a refusal
 abbrev pub answer : Result TypedExpr Refusal → Found → Answer
@@ -98,24 +98,24 @@ mutual
     receiver_refused : {place : Place} {of : PlainExpr} {regions : List RplTree} {name : ℕ} {actuals : PlainExprs} {f : Found} {refusal : Refusal} →
         Typing env of f (refused refusal) → Typing env (expression place (call of regions name actuals)) f (refused refusal)
     call_args_refused : {place : Place} {of : PlainExpr} {regions : List RplTree} {name : ℕ} {actuals : PlainExprs} {f g : Found} {t : Option TypedExpr} {refusal : Refusal} →
-        Typing env of f (gives t g) → args_told env (callee_params (table_of env) (type_in t) name) regions ≡ Some refusal →
+        Typing env of f (gives t g) → args_reported env (callee_params (table_of env) (type_in t) name) regions ≡ Some refusal →
         Typing env (expression place (call of regions name actuals)) f (refused refusal)
     call_actual_refused : {place : Place} {of : PlainExpr} {regions : List RplTree} {name : ℕ} {actuals : PlainExprs} {f g : Found} {t : Option TypedExpr} {refusal : Refusal} →
-        Typing env of f (gives t g) → args_told env (callee_params (table_of env) (type_in t) name) regions ≡ None → TypingAll env actuals g (one_refused refusal) →
+        Typing env of f (gives t g) → args_reported env (callee_params (table_of env) (type_in t) name) regions ≡ None → TypingAll env actuals g (one_refused refusal) →
         Typing env (expression place (call of regions name actuals)) f (refused refusal)
     method_call : {place : Place} {of : PlainExpr} {regions : List RplTree} {name : ℕ} {actuals : PlainExprs} {f g h : Found} {t : Option TypedExpr} {types : List (Option TypedExpr)} {a : Answer} →
-        Typing env of f (gives t g) → args_told env (callee_params (table_of env) (type_in t) name) regions ≡ None → TypingAll env actuals g (all_give types h) →
+        Typing env of f (gives t g) → args_reported env (callee_params (table_of env) (type_in t) name) regions ≡ None → TypingAll env actuals g (all_give types h) →
         Call env t name (args_of env regions) types place h a →
         Typing env (expression place (call of regions name actuals)) f a
     -- the region arguments, the actuals, then the creation
     new_args_refused : {place : Place} {class : Named} {regions : List RplTree} {actuals : PlainExprs} {f : Found} {refusal : Refusal} →
-        args_told env (created_params (table_of env) class) regions ≡ Some refusal →
+        args_reported env (created_params (table_of env) class) regions ≡ Some refusal →
         Typing env (expression place (create class regions actuals)) f (refused refusal)
     new_actual_refused : {place : Place} {class : Named} {regions : List RplTree} {actuals : PlainExprs} {f : Found} {refusal : Refusal} →
-        args_told env (created_params (table_of env) class) regions ≡ None → TypingAll env actuals f (one_refused refusal) →
+        args_reported env (created_params (table_of env) class) regions ≡ None → TypingAll env actuals f (one_refused refusal) →
         Typing env (expression place (create class regions actuals)) f (refused refusal)
     new_object : {place : Place} {class : Named} {regions : List RplTree} {actuals : PlainExprs} {f g : Found} {types : List (Option TypedExpr)} {a : Answer} →
-        args_told env (created_params (table_of env) class) regions ≡ None → TypingAll env actuals f (all_give types g) →
+        args_reported env (created_params (table_of env) class) regions ≡ None → TypingAll env actuals f (all_give types g) →
         Creation env class (args_of env regions) types place g a →
         Typing env (expression place (create class regions actuals)) f a
     -- the creation of an array
@@ -126,11 +126,11 @@ mutual
   -- what stands in front of the length of an array creation, the length, then the array
   pub data TypingArray (env : Env) : PlainIndex → BaseTree → PlainExpr → Option RplTree → Place → Found → Answer → Type 0 where
     front_refused : {around : PlainIndex} {base : BaseTree} {len : PlainExpr} {rpl : Option RplTree} {place : Place} {f : Found} {refusal : Refusal} →
-        front_told env around base ≡ Some refusal → TypingArray env around base len rpl place f (refused refusal)
+        front_reported env around base ≡ Some refusal → TypingArray env around base len rpl place f (refused refusal)
     length_refused : {around : PlainIndex} {base : BaseTree} {len : PlainExpr} {rpl : Option RplTree} {place : Place} {f : Found} {refusal : Refusal} →
-        front_told env around base ≡ None → Typing env len f (refused refusal) → TypingArray env around base len rpl place f (refused refusal)
+        front_reported env around base ≡ None → Typing env len f (refused refusal) → TypingArray env around base len rpl place f (refused refusal)
     array_created : {around : PlainIndex} {base : BaseTree} {len : PlainExpr} {rpl : Option RplTree} {place : Place} {f g : Found} {t : Option TypedExpr} {a : Answer} →
-        front_told env around base ≡ None → Typing env len f (gives t g) →
+        front_reported env around base ≡ None → Typing env len f (gives t g) →
         answer (created place (node_at place t) (created_array env around (front_of env around base) (type_in t) rpl place)) g ≡ a →
         TypingArray env around base len rpl place f a
 

@@ -12,7 +12,7 @@ use Rattle.dpj_base.specs.Types.{PlainType as ty}
 use Rattle.dpj_headers.specs.declared.faults.Faults.{Faults}
 use Rattle.dpj_headers.specs.declared.faults.Order.TheVariants as order
 use Rattle.dpj_headers.specs.declared.header.ParamRow.{ParamRow}
-use Rattle.dpj_headers.specs.Faults.{told, none_by, all_noted}
+use Rattle.dpj_headers.specs.Faults.{reported, none_by, all_noted}
 use Rattle.dpj_headers.specs.Headers.{class_of}
 use Rattle.dpj_headers.specs.Passes.{fault, fault_if}
 use Rattle.dpj_resolve.specs.declared.args.ReadArgs.{ReadArgs}
@@ -22,7 +22,7 @@ use Rattle.dpj_resolve.specs.Classes.{params_in}
 use Rattle.dpj_resolve.specs.Constraints.{all_hold}
 use Rattle.dpj_resolve.specs.Index.{no_index}
 use Rattle.dpj_resolve.specs.Reading.{args_read, arg_faults}
-use Rattle.dpj_resolve.specs.Telling.{parts_told}
+use Rattle.dpj_resolve.specs.Telling.{parts_reported}
 use Rattle.dpj_tree.specs.declared.region.Named.{Named}
 use Rattle.dpj_tree.specs.declared.region.RplTree.{RplTree}
 use Rattle.dpj_classes.specs.declared.rows.MethodRow.{MethodRow}
@@ -41,8 +41,8 @@ use Rattle.dpj_exprs.specs.Typed.{type_in, nodes_at, may_be, is_value, AllFit}
 abbrev pub args_of : Env → List RplTree → ReadArgs
 args_of env trees = args_read (scope_of env) no_index trees
 
-abbrev pub args_told : Env → List ParamRow → List RplTree → Option Refusal
-args_told env params trees = parts_told site.Body (none_by order.Number) (arg_faults (scope_of env) no_index params true trees)
+abbrev pub args_reported : Env → List ParamRow → List RplTree → Option Refusal
+args_reported env params trees = parts_reported site.Body (none_by order.Number) (arg_faults (scope_of env) no_index params true trees)
 
 -- the receiver's class, the method of that name there, and the region arguments of the class that declares it
 abbrev pub owned_method : ℕ → MethodRow → Option (List Rpl) → Place → Result (ℕ × MethodRow × List Rpl) Refusal
@@ -80,15 +80,15 @@ abbrev pub args_noted : ReadArgs → List ParamRow → Place → Faults
 args_noted args params place = all_noted (none_by order.Number) (args_faults args.local args.written params place)
 
 -- the fault that is reported of a use whose region arguments are known, or none
-pub record UseTold (env : Env) (before : Faults) (args : List Rpl) (actuals : List (Option PlainType)) (declared : List Ty) (partial hold : Bool) (place : Place) (told_one : Option Refusal) : Type 0 where
+pub record UseReported (env : Env) (before : Faults) (args : List Rpl) (actuals : List (Option PlainType)) (declared : List Ty) (partial hold : Bool) (place : Place) (reported_one : Option Refusal) : Type 0 where
   pub fit : Bool
   pub fits : IsTrue fit ↔ AllFit (supers_of env) args actuals declared
-  pub tells : told (all_noted before (use_faults partial fit hold place)) ≡ told_one
+  pub tells : reported (all_noted before (use_faults partial fit hold place)) ≡ reported_one
 
 -- the fault that is reported of one whose region arguments aren't known, where the actuals may fit for some regions or not
-abbrev pub unknown_told : Faults → Bool → Place → Refusal
-unknown_told before fit place =
-    option_map_or (λ refusal. refusal) (told (all_noted before (fault_if (not fit) kind.Type place))) (fault kind.RegionArgs place)
+abbrev pub unknown_reported : Faults → Bool → Place → Refusal
+unknown_reported before fit place =
+    option_map_or (λ refusal. refusal) (reported (all_noted before (fault_if (not fit) kind.Type place))) (fault kind.RegionArgs place)
 
 -- a call, with the region arguments of its own
 abbrev pub called : Env → TypedExpr → ℕ → MethodRow → List Rpl → List Rpl → List (Option TypedExpr) → Place → TypedExpr
@@ -101,17 +101,17 @@ pub data CallOf (env : Env) (e : TypedExpr) (class : ℕ) (row : MethodRow) (own
   unknown_args :
       args_given args.written args.paths row.regions ≡ None →
       CallOf env e class row owned args actuals place found
-      (refused (unknown_told (args_noted args row.regions place) (shapes_fit (headers_of (table_of env)) (map type_in actuals) row.params) place))
+      (refused (unknown_reported (args_noted args row.regions place) (shapes_fit (headers_of (table_of env)) (map type_in actuals) row.params) place))
   -- the call has a fault
   faulty_call : {regions : List Rpl} {refusal : Refusal} →
       args_given args.written args.paths row.regions ≡ Some regions →
-      UseTold env (args_noted args row.regions place) (owned ++ regions) (map type_in actuals) row.params (is_partial_call owned row)
+      UseReported env (args_noted args row.regions place) (owned ++ regions) (map type_in actuals) row.params (is_partial_call owned row)
       (all_hold (given_in env) (owned ++ regions) row.given) place (Some refusal) →
       CallOf env e class row owned args actuals place found (refused refusal)
   -- it has the effects of the summary and the type of the result, with region arguments put in
   fitting_call : {regions : List Rpl} →
       args_given args.written args.paths row.regions ≡ Some regions →
-      UseTold env (args_noted args row.regions place) (owned ++ regions) (map type_in actuals) row.params (is_partial_call owned row)
+      UseReported env (args_noted args row.regions place) (owned ++ regions) (map type_in actuals) row.params (is_partial_call owned row)
       (all_hold (given_in env) (owned ++ regions) row.given) place None →
       CallOf env e class row owned args actuals place found
       (gives (Some (called env e class row owned regions actuals place)) (with_call (table_of env) found row (owned ++ regions)))
@@ -143,18 +143,18 @@ pub data CreationOf (env : Env) (at : ℕ) (args : ReadArgs) (actuals : List (Op
   unknown_args :
       args_given args.written args.paths (params_in (headers_of (table_of env)) at) ≡ None →
       CreationOf env at args actuals place found
-      (refused (unknown_told (args_noted args (params_in (headers_of (table_of env)) at) place)
+      (refused (unknown_reported (args_noted args (params_in (headers_of (table_of env)) at) place)
       (shapes_fit (headers_of (table_of env)) (map type_in actuals) (formals_of (table_of env) at)) place))
   -- the creation has a fault
   faulty_creation : {regions : List Rpl} {refusal : Refusal} →
       args_given args.written args.paths (params_in (headers_of (table_of env)) at) ≡ Some regions →
-      UseTold env (args_noted args (params_in (headers_of (table_of env)) at) place) regions (map type_in actuals) (formals_of (table_of env) at) false
+      UseReported env (args_noted args (params_in (headers_of (table_of env)) at) place) regions (map type_in actuals) (formals_of (table_of env) at) false
       (all_hold (given_in env) regions (given_of (table_of env) at)) place (Some refusal) →
       CreationOf env at args actuals place found (refused refusal)
   -- it has the effects of the constructor, with region arguments put in
   created : {regions : List Rpl} →
       args_given args.written args.paths (params_in (headers_of (table_of env)) at) ≡ Some regions →
-      UseTold env (args_noted args (params_in (headers_of (table_of env)) at) place) regions (map type_in actuals) (formals_of (table_of env) at) false
+      UseReported env (args_noted args (params_in (headers_of (table_of env)) at) place) regions (map type_in actuals) (formals_of (table_of env) at) false
       (all_hold (given_in env) regions (given_of (table_of env) at)) place None →
       CreationOf env at args actuals place found
       (gives (Some (typed place (ty.class at regions) (create (nodes_at place actuals))))

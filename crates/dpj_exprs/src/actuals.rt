@@ -1,13 +1,13 @@
 ghost use Rattle.std.specs.Prelude.{◌≡◌, ◌↔◌, ◌++◌, None, Some, not, map, length, IsTrue, IfOk};
 ghost use Rattle.std.specs.Option.{option_map_or};
 ghost use Rattle.dpj_base.specs.Types.{plain_type, type_with};
-ghost use Rattle.dpj_headers.specs.Faults.{told, all_noted, settled};
+ghost use Rattle.dpj_headers.specs.Faults.{reported, all_noted, settled};
 ghost use Rattle.dpj_headers.specs.Passes.{fault_if};
 ghost use Rattle.dpj_resolve.specs.Constraints.{all_hold};
 ghost use Rattle.dpj_exprs.specs.Answer.{Says};
 ghost use Rattle.dpj_exprs.specs.Env.{supers_of, given_in};
 ghost use Rattle.dpj_exprs.specs.Typed.{value_type, Fits, ActualsFit, AllFit};
-ghost use Rattle.dpj_exprs.specs.Uses.{use_faults, UseTold, unknown_told};
+ghost use Rattle.dpj_exprs.specs.Uses.{use_faults, UseReported, unknown_reported};
 
 use crate::env::Env;
 use crate::fitting::{fits, refused};
@@ -40,7 +40,7 @@ pub fn check_use(
     partial: bool,
     place: Place,
 ) -> Result<(), Stop>
-    ensures { Says result (λ u. None) Some (UseTold env.now faults args.now (map value_type actuals.now) declared.now partial (all_hold (given_in env.now) args.now constraints.now) place) }
+    ensures { Says result (λ u. None) Some (UseReported env.now faults args.now (map value_type actuals.now) declared.now partial (all_hold (given_in env.now) args.now constraints.now) place) }
 {
     let fit = all_fit(alloc, env, actuals, declared, args)?;
     let hold = constraints_hold(alloc, constraints, args, env.given())?;
@@ -50,7 +50,7 @@ pub fn check_use(
 
 #[tactic(auto, using(crate::proofs::Telling::noted_three))]
 fn tell_use(faults: Faults, partial: bool, fit: bool, hold: bool, place: Place) -> Result<(), Stop>
-    ensures { result ≡ settled (told (all_noted faults (use_faults partial fit hold place))) }
+    ensures { result ≡ settled (reported (all_noted faults (use_faults partial fit hold place))) }
 {
     let mut faults = faults;
     note_if(&mut faults, partial, Kind::PartialWrite, place);
@@ -62,7 +62,7 @@ fn tell_use(faults: Faults, partial: bool, fit: bool, hold: bool, place: Place) 
 /// The refusal of a call or a creation whose region arguments aren't known, where the actuals may fit for some regions
 /// or not.
 pub fn unknown_args(faults: Faults, fit: bool, place: Place) -> Stop
-    ensures { result ≡ Stop.Refused (unknown_told faults fit place) }
+    ensures { result ≡ Stop.Refused (unknown_reported faults fit place) }
 {
     let mut faults = faults;
     note_if(&mut faults, !fit, Kind::Type, place);

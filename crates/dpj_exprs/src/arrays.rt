@@ -4,9 +4,9 @@ ghost use Rattle.dpj_base.specs.Types.{plain_type};
 ghost use Rattle.dpj_resolve.specs.Reading.{path_meant, path_faults};
 ghost use Rattle.dpj_resolve.specs.Index.{plain_index};
 ghost use Rattle.dpj_exprs.specs.Answer.{Says};
-ghost use Rattle.dpj_exprs.specs.Arrays.{front_of, front_told, full_path, around_own, own_path, own_place, array_with, created_array};
+ghost use Rattle.dpj_exprs.specs.Arrays.{front_of, front_reported, full_path, around_own, own_path, own_place, array_with, created_array};
 ghost use Rattle.dpj_exprs.specs.Env.{scope_of};
-ghost use Rattle.dpj_exprs.specs.Refusing.{told_first};
+ghost use Rattle.dpj_exprs.specs.Refusing.{reported_first};
 ghost use Rattle.dpj_exprs.specs.Typed.{value_type};
 
 use crate::actuals::note_if;
@@ -27,7 +27,7 @@ pub fn read_array(
     around: IndexNames,
 ) -> Result<ReadType, Stop>
     ensures read { IfOk result (λ read. read ≡ front_of env.now (plain_index around.entry) base.now) }
-    ensures told { Says result (λ read. None) Some (λ t. front_told env.now (plain_index around.entry) base.now ≡ t) }
+    ensures reported { Says result (λ read. None) Some (λ t. front_reported env.now (plain_index around.entry) base.now ≡ t) }
 {
     let mut faults = Faults::by_number();
     read_type(alloc, &env.scope(), &mut faults, base, around)
@@ -65,7 +65,7 @@ fn read_path(
     around: IndexNames,
 ) -> Result<Option<Rpl>, Stop>
     ensures read { IfOk result (λ rpl. rpl ≡ path_meant (scope_of env.now) (around_own (plain_index around.entry)) tree.now) }
-    ensures told { Says result (λ rpl. None) Some (λ t. told_first (path_faults (scope_of env.now) (around_own (plain_index around.entry)) full_path tree.now) ≡ t) }
+    ensures reported { Says result (λ rpl. None) Some (λ t. reported_first (path_faults (scope_of env.now) (around_own (plain_index around.entry)) full_path tree.now) ≡ t) }
 {
     let mut faults = Faults::by_number();
     let need = Need {

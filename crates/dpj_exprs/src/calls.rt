@@ -7,7 +7,7 @@ ghost use Rattle.dpj_exprs.specs.Answer.{gives, refused, with_call, Says};
 ghost use Rattle.dpj_exprs.specs.Env.{table_of, given_in};
 ghost use Rattle.dpj_exprs.specs.Partial.{some_mention_partial, is_partial_call};
 ghost use Rattle.dpj_exprs.specs.Typed.{plain_node, plain_typed, value_type, may_be, is_value};
-ghost use Rattle.dpj_exprs.specs.Uses.{args_of, args_told, args_noted, callee_params, UseTold, method_through, CallOf, CallOn, Call};
+ghost use Rattle.dpj_exprs.specs.Uses.{args_of, args_reported, args_noted, callee_params, UseReported, method_through, CallOf, CallOn, Call};
 
 use crate::actuals::{check_use, unknown_args};
 use crate::env::Env;
@@ -33,7 +33,7 @@ pub fn read_full_args(
     params: &[ParamRow],
 ) -> Result<ReadArgs, Stop>
     ensures read { IfOk result (λ args. args ≡ args_of env.now trees.now) }
-    ensures told { Says result (λ args. None) Some (λ t. args_told env.now params.now trees.now ≡ t) }
+    ensures reported { Says result (λ args. None) Some (λ t. args_reported env.now params.now trees.now ≡ t) }
 {
     let mut faults = Faults::by_number();
     let around = IndexNames::none();
@@ -57,7 +57,7 @@ pub fn read_call_args(
     trees: &[RplTree],
 ) -> Result<ReadArgs, Stop>
     ensures read { IfOk result (λ args. args ≡ args_of env.now trees.now) }
-    ensures told { Says result (λ args. None) Some (λ t. args_told env.now (callee_params (table_of env.now) (value_type of.now) name) trees.now ≡ t) }
+    ensures reported { Says result (λ args. None) Some (λ t. args_reported env.now (callee_params (table_of env.now) (value_type of.now) name) trees.now ≡ t) }
 {
     read_full_args(alloc, env, trees, callee_params(env, of, name))
 }
@@ -267,7 +267,7 @@ fn call_with(
     actuals: &[Typed],
     place: Place,
 ) -> Result<Ty, Stop>
-    ensures told { Says result (λ ty. None) Some (UseTold env.now faults args.now (map value_type actuals.now) row.now.params partial (all_hold (given_in env.now) args.now row.now.given) place) }
+    ensures reported { Says result (λ ty. None) Some (UseReported env.now faults args.now (map value_type actuals.now) row.now.params partial (all_hold (given_in env.now) args.now row.now.given) place) }
     ensures ty { IfOk result (λ ty. plain_type ty ≡ type_with args.now (plain_type row.now.result)) }
     ensures found { OnOk result (found.new ≡ with_call (table_of env.now) found.old row.now args.now) }
     ensures nd { OnOk result (IsTrue found.old.reaches_nd → IsTrue found.new.reaches_nd) }

@@ -7,7 +7,7 @@ ghost use Rattle.dpj_classes.specs.Table.{headers_of, constructor_of, given_of};
 ghost use Rattle.dpj_exprs.specs.Answer.{gives, refused, Says};
 ghost use Rattle.dpj_exprs.specs.Env.{table_of, given_in};
 ghost use Rattle.dpj_exprs.specs.Typed.{plain_node, plain_typed, value_type};
-ghost use Rattle.dpj_exprs.specs.Uses.{args_of, args_told, args_noted, created_params, formals_of, UseTold, with_constructor, CreationOf, Creation};
+ghost use Rattle.dpj_exprs.specs.Uses.{args_of, args_reported, args_noted, created_params, formals_of, UseReported, with_constructor, CreationOf, Creation};
 
 use crate::actuals::{check_use, unknown_args};
 use crate::calls::read_full_args;
@@ -32,7 +32,7 @@ pub fn read_new_args(
     trees: &[RplTree],
 ) -> Result<ReadArgs, Stop>
     ensures read { IfOk result (λ args. args ≡ args_of env.now trees.now) }
-    ensures told { Says result (λ args. None) Some (λ t. args_told env.now (created_params (table_of env.now) class) trees.now ≡ t) }
+    ensures reported { Says result (λ args. None) Some (λ t. args_reported env.now (created_params (table_of env.now) class) trees.now ≡ t) }
 {
     read_full_args(alloc, env, trees, created_params(env, class))
 }
@@ -118,7 +118,7 @@ fn creation_with(
     actuals: &[Typed],
     place: Place,
 ) -> Result<Ty, Stop>
-    ensures told { Says result (λ ty. None) Some (UseTold env.now faults args (map value_type actuals.now) (formals_of (table_of env.now) class) false (all_hold (given_in env.now) args (given_of (table_of env.now) class)) place) }
+    ensures reported { Says result (λ ty. None) Some (UseReported env.now faults args (map value_type actuals.now) (formals_of (table_of env.now) class) false (all_hold (given_in env.now) args (given_of (table_of env.now) class)) place) }
     ensures ty { IfOk result (λ ty. plain_type ty ≡ plain.class class args) }
     ensures found { OnOk result (found.new ≡ with_constructor (table_of env.now) found.old (constructor_of (table_of env.now) class) args) }
     ensures nd { OnOk result (IsTrue found.old.reaches_nd → IsTrue found.new.reaches_nd) }

@@ -147,20 +147,11 @@ fn unary_op(op: UnaryOp) -> dpj_typed::UnaryOp
 }
 
 /// An operation of two operands.
-pub fn binary(
-    alloc: Global,
-    place: Place,
-    ty: Ty,
-    op: BinaryOp,
-    left: Expr,
-    right: Expr,
-) -> Result<Expr, NoMemory>
-    ensures { IfOk result (λ e. plain_node e ≡ typed place (plain_type ty) (binary_form op (plain_node left) (plain_node right))) }
+pub fn binary(place: Place, ty: Ty, op: BinaryOp, left: Boxed<Expr>, right: Boxed<Expr>) -> Expr
+    ensures { plain_node result ≡ typed place (plain_type ty) (binary_form op (plain_node left) (plain_node right)) }
 {
-    let left = Boxed::new(alloc, left)?;
-    let right = Boxed::new(alloc, right)?;
     let form = binary_form(op, left, right);
-    Ok(Expr { place, ty, form })
+    Expr { place, ty, form }
 }
 
 fn binary_form(op: BinaryOp, left: Boxed<Expr>, right: Boxed<Expr>) -> ExprForm

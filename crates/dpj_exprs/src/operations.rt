@@ -7,7 +7,7 @@ ghost use Rattle.dpj_exprs.specs.Typed.{plain_node, plain_typed, value_type};
 use crate::fitting::refused;
 use crate::nodes;
 use crate::typed::Typed;
-use dpj_base::{Kind, Place, Stop, Ty};
+use dpj_base::{Boxed, Kind, Place, Stop, Ty};
 use dpj_tree::{BinaryOp, UnaryOp};
 use dpj_typed::Expr;
 use std::alloc::Global;
@@ -82,7 +82,7 @@ pub fn binary(
     if !binary_takes(op, &left, &right) {
         return Err(refused(Kind::Type, place));
     }
-    let left = left.into_node(place);
-    let right = right.into_node(place);
-    Ok(nodes::binary(alloc, place, binary_gives(op), op, left, right)?)
+    let left = Boxed::new(alloc, left.into_node(place))?;
+    let right = Boxed::new(alloc, right.into_node(place))?;
+    Ok(nodes::binary(place, binary_gives(op), op, left, right))
 }

@@ -14,18 +14,18 @@ use Rattle.dpj_check.specs.Once.{OneChecking}
 use Rattle.dpj_front.specs.Judging.{HasNames, HasTable, IsAccepted, IsFaulty, of_table, of_bodies}
 
 pub fault-unique : OneTable → OneFault → OneChecking → (program : Program) (first second : Refusal) → IsFaulty program first → IsFaulty program second → first ≡ second
-fault-unique tables faults checks program first second (of_table told) (of_table told') = faults.one program first second told told'
-fault-unique tables faults checks program first second (of_table told) (of_bodies table has checked) =
-    absurd (faults.none program table first has.named has.is_table has.whole told)
-fault-unique tables faults checks program first second (of_bodies table has checked) (of_table told) =
-    absurd (faults.none program table second has.named has.is_table has.whole told)
+fault-unique tables faults checks program first second (of_table reported) (of_table reported') = faults.one program first second reported reported'
+fault-unique tables faults checks program first second (of_table reported) (of_bodies table has checked) =
+    absurd (faults.none program table first has.named has.is_table has.whole reported)
+fault-unique tables faults checks program first second (of_bodies table has checked) (of_table reported) =
+    absurd (faults.none program table second has.named has.is_table has.whole reported)
 fault-unique tables faults checks program first second (of_bodies table has checked) (of_bodies table' has' checked') =
     let same : table' ≡ table = tables program table' table has'.is_table has.is_table in
     let verdicts = checks program table (Err first) (Err second) checked (subst (λ t. BodiesChecking program t (Err second)) same checked') in
     cc verdicts
 
 pub accepted-alone : OneTable → OneFault → OneChecking → (program : Program) (typed : PlainProgram) (refusal : Refusal) → IsAccepted program typed → IsFaulty program refusal → ⊥
-accepted-alone tables faults checks program typed refusal a (of_table told) = faults.none program a.table refusal a.has_table.named a.has_table.is_table a.has_table.whole told
+accepted-alone tables faults checks program typed refusal a (of_table reported) = faults.none program a.table refusal a.has_table.named a.has_table.is_table a.has_table.whole reported
 accepted-alone tables faults checks program typed refusal a (of_bodies table has checked) =
     let same : table ≡ a.table = tables program table a.table has.is_table a.has_table.is_table in
     let verdicts = checks program a.table (Ok a.bodies) (Err refusal) a.checked (subst (λ t. BodiesChecking program t (Err refusal)) same checked) in

@@ -1,3 +1,3 @@
-pub mod Told
+pub mod Reported
 pub mod Judgements
 pub mod Runnable

@@ -5,7 +5,7 @@ use Rattle.dpj_base.specs.declared.refusal.Refusal.{Refusal}
 use Rattle.dpj_base.specs.Types.{Ordered}
 use Rattle.dpj_tree.specs.declared.class.Program.{Program}
 use Rattle.dpj_classes.specs.declared.table.Table.{Table}
-use Rattle.dpj_classes.specs.Build.{AreWellNamed, IsTable, IsTold, first_of, table_faults}
+use Rattle.dpj_classes.specs.Build.{AreWellNamed, IsTable, IsReported, first_of, table_faults}
 use Rattle.dpj_classes.specs.Table.{supers_of}
 use Rattle.dpj_check.specs.declared.accepted.Accepted.{Accepted}
 use Rattle.dpj_check.specs.Keeping.{ProgramKeeps}
@@ -47,7 +47,7 @@ pub record HasNames (program : Program) (names : ProgramNames) : Type 0 where
 
 -- the first fault of its class table, or where it has one, of its bodies
 pub data IsFaulty (program : Program) (refusal : Refusal) : Type 0 where
-  of_table : IsTold program refusal → IsFaulty program refusal
+  of_table : IsReported program refusal → IsFaulty program refusal
   of_bodies : (table : Table) → HasTable program table → BodiesChecking program table (Err refusal) → IsFaulty program refusal
 
 -- the typed program that a class table, the names of a text and what the checker made of its bodies are put together to

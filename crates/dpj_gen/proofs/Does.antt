@@ -7,15 +7,15 @@ use Rattle.dpj_meaning.specs.Actions.{Task, Ending, Trapped, Rest, Action, Do, B
 use Rattle.dpj_meaning.specs.Core.{Result, Prog, Ret, Traps, Act, Makes, Again, Split, on, each_from, Out, Done, Stopped, Lost, bind, World, loop, run}
 use Rattle.dpj_meaning.specs.Core.{Out as out}
 use Rattle.dpj_meaning.specs.Counts.{Brought, brought}
-use Rattle.dpj_meaning.specs.Asking.{most_turns, Told, take_answer, asked, begins_then, told_join, told, ending}
-use Rattle.dpj_meaning.specs.Asking.{turned as turned_told}
+use Rattle.dpj_meaning.specs.Asking.{most_turns, Reported, take_answer, asked, begins_then, reported_join, reported, ending}
+use Rattle.dpj_meaning.specs.Asking.{turned as turned_reported}
 use Rattle.dpj_code.specs.Plain.{PlainCode}
 use Rattle.dpj_code.specs.Machine.{Start, State, Off, Goes, Turns, Waits, step, solo, stood, answered, turned}
 use Rattle.dpj_code.specs.Machine.{Stand as stand}
 use Rattle.dpj_gen.specs.Compiled.{SameAct, SameReply}
 
 -- the reply of a stretch of work and what follows it
-abbrev pub after : {N M : Type 0} → Out N M (Result N M) (Told N M) → (Result N M → Told N M → Reply N M (Task N M)) → Reply N M (Task N M)
+abbrev pub after : {N M : Type 0} → Out N M (Result N M) (Reported N M) → (Result N M → Reported N M → Reply N M (Task N M)) → Reply N M (Task N M)
 after (Done r w) k = k r w
 after (out.Trapped trap p w) k = ending (Trapped trap p) w.since w.to_come
 after (Stopped n a) k = Next n a
@@ -26,7 +26,7 @@ unfolding most_turns
 most_pos = lit< tt
 
 -- the turns that a task can make at most on these answers
-abbrev pub room : {N M : Type 0} → Told N M → ℕ
+abbrev pub room : {N M : Type 0} → Reported N M → ℕ
 room w = most_turns * length w.to_come + (most_turns - w.since)
 
 bind_through : {N M V U T W : Type 0} (o : Out N M V W) (k : V → W → Out N M U W) (h : V → W → Out N M T W) (m : T → W → Out N M U W) →
@@ -49,8 +49,8 @@ run_on wd (Split nd ts bs j) k w =
     bind_through (wd.fork nd ts (each_from (λ i v. run wd (bs i) v) 0 ts) w) (λ x v. run wd (on (j x) k) v) (λ x v. run wd (j x) v) (λ f v. run wd (k f) v)
     (λ x v. run_on wd (j x) k v)
 
-pub after_assoc : {N M : Type 0} (o : Out N M (Result N M) (Told N M)) (j : Result N M → Told N M → Out N M (Result N M) (Told N M)) (K : Result N M →
-    Told N M → Reply N M (Task N M)) → after (bind o j) K ≡ after o (λ r v. after (j r v) K)
+pub after_assoc : {N M : Type 0} (o : Out N M (Result N M) (Reported N M)) (j : Result N M → Reported N M → Out N M (Result N M) (Reported N M)) (K : Result N M →
+    Reported N M → Reply N M (Task N M)) → after (bind o j) K ≡ after o (λ r v. after (j r v) K)
 after_assoc (Done v w) j K = refl
 after_assoc (out.Trapped t p w) j K = refl
 after_assoc (Stopped n a) j K = refl
@@ -71,9 +71,9 @@ pub record Replies {N M : Type 0} (names : Naming N M) (C : PlainCode) (P : Plai
   pub stands : solo names C fuel n m s xs ≡ Some reply
   pub same : SameReply C P r reply
 
-pub record Does {N M : Type 0} (names : Naming N M) (C : PlainCode) (P : PlainProgram) (b : ℕ) (s : State N M) (h : Told N M →
+pub record Does {N M : Type 0} (names : Naming N M) (C : PlainCode) (P : PlainProgram) (b : ℕ) (s : State N M) (h : Reported N M →
     Reply N M (Task N M)) : Type 0 where
-  pub from : (w : Told N M) → w.since < most_turns → room w < b → Replies names C P w.since w.made s w.to_come (h w)
+  pub from : (w : Reported N M) → w.since < most_turns → room w < b → Replies names C P w.since w.made s w.to_come (h w)
 
 -- what an action and its answers lead to
 record Answers {N M : Type 0} (names : Naming N M) (C : PlainCode) (P : PlainProgram) (n m : ℕ) (a : Action N M (Start N M)) (k : Answer N M →
@@ -98,19 +98,19 @@ record Ticks {N M : Type 0} (names : Naming N M) (C : PlainCode) (P : PlainProgr
   same : SameReply C P r reply
 
 module _ {N M : Type 0} {names : Naming N M} {C : PlainCode} {P : PlainProgram} where
-  pub does_same : {b : ℕ} {s : State N M} {h k : Told N M → Reply N M (Task N M)} → ((w : Told N M) → h w ≡ k w) → Does names C P b s h → Does names C P b s k
+  pub does_same : {b : ℕ} {s : State N M} {h k : Reported N M → Reply N M (Task N M)} → ((w : Reported N M) → h w ≡ k w) → Does names C P b s h → Does names C P b s k
   does_same {b} {s} {h} {k} e d = record { from = λ w l r. subst (λ x. Replies names C P w.since w.made s w.to_come x) (e w) (d.from w l r) }
 
-  pub does_less : {a b : ℕ} {s : State N M} {h : Told N M → Reply N M (Task N M)} → b ≤ a → Does names C P a s h → Does names C P b s h
+  pub does_less : {a b : ℕ} {s : State N M} {h : Reported N M → Reply N M (Task N M)} → b ≤ a → Does names C P a s h → Does names C P b s h
   does_less m d = record { from = λ w l r. d.from w l (omega arith) }
 
-  pub does_on : {b : ℕ} {s : State N M} (p : Prog N M) (j : Result N M → Prog N M) (K : Result N M → Told N M → Reply N M (Task N M)) →
-      Does names C P b s (λ w. after (run (told names) p w) (λ r v. after (run (told names) (j r) v) K)) →
-      Does names C P b s (λ w. after (run (told names) (on p j) w) K)
+  pub does_on : {b : ℕ} {s : State N M} (p : Prog N M) (j : Result N M → Prog N M) (K : Result N M → Reported N M → Reply N M (Task N M)) →
+      Does names C P b s (λ w. after (run (reported names) p w) (λ r v. after (run (reported names) (j r) v) K)) →
+      Does names C P b s (λ w. after (run (reported names) (on p j) w) K)
   does_on p j K d = does_same
-      (λ w. sym (ap (λ o. after o K) (run_on (told names) p j w) ∙ after_assoc (run (told names) p w) (λ r v. run (told names) (j r) v) K)) d
+      (λ w. sym (ap (λ o. after o K) (run_on (reported names) p j w) ∙ after_assoc (run (reported names) p w) (λ r v. run (reported names) (j r) v) K)) d
 
-  pub does_step : {b : ℕ} {s t : State N M} {h : Told N M → Reply N M (Task N M)} → step names C s ≡ Goes t → Does names C P b t h → Does names C P b s h
+  pub does_step : {b : ℕ} {s t : State N M} {h : Reported N M → Reply N M (Task N M)} → step names C s ≡ Goes t → Does names C P b t h → Does names C P b s h
   does_step e d = record {
     from = λ w l r. (let x = d.from w l r in
         record {
@@ -122,16 +122,16 @@ module _ {N M : Type 0} {names : Naming N M} {C : PlainCode} {P : PlainProgram} 
         });
   }
 
-  answers : (w : Told N M) (a : Action N M (Task N M)) (b : Action N M (Start N M)) (k : Answer N M → State N M) (m : Answer N M → Told N M →
-      Out N M (Result N M) (Told N M)) (K : Result N M → Told N M → Reply N M (Task N M)) (xs : List (Answer N M)) → SameAct C P a b →
+  answers : (w : Reported N M) (a : Action N M (Task N M)) (b : Action N M (Start N M)) (k : Answer N M → State N M) (m : Answer N M → Reported N M →
+      Out N M (Result N M) (Reported N M)) (K : Result N M → Reported N M → Reply N M (Task N M)) (xs : List (Answer N M)) → SameAct C P a b →
       ((x : Answer N M) (ys : List (Answer N M)) → xs ≡ x ∷ ys →
       Replies names C P 0 w.made (k x) ys (after (m x (record { since = 0; made = w.made; to_come = ys })) K)) →
       Answers names C P w.since w.made b k xs (after (bind (take_answer a w xs) m) K)
   answers w a b k m K [] s h = record { fuel = 0; reply = Next w.since b; stands = refl; same = (b, refl, s) }
   answers w a b k m K (x ∷ ys) s h = let r = h x ys refl in record { fuel = r.fuel; reply = r.reply; stands = r.stands; same = r.same }
 
-  pub does_act : {b : ℕ} {s : State N M} {k : Answer N M → State N M} (a : Action N M (Task N M)) (c : Action N M (Start N M)) (m : Answer N M → Told N M →
-      Out N M (Result N M) (Told N M)) (K : Result N M → Told N M → Reply N M (Task N M)) → SameAct C P a c → step names C s ≡ Waits c k →
+  pub does_act : {b : ℕ} {s : State N M} {k : Answer N M → State N M} (a : Action N M (Task N M)) (c : Action N M (Start N M)) (m : Answer N M → Reported N M →
+      Out N M (Result N M) (Reported N M)) (K : Result N M → Reported N M → Reply N M (Task N M)) → SameAct C P a c → step names C s ≡ Waits c k →
       ((x : Answer N M) → Does names C P b (k x) (λ w. after (m x w) K)) → Does names C P b s (λ w. after (bind (asked a w) m) K)
   does_act {b} {s} {k} a c m K q e d = record {
     from = λ w l r. (let x =
@@ -147,12 +147,12 @@ module _ {N M : Type 0} {names : Naming N M} {C : PlainCode} {P : PlainProgram} 
   }
 
   -- a turn takes from the number of turns that are possible
-  ticks : {b : ℕ} {s : State N M} (m : Told N M → Out N M (Result N M) (Told N M)) (K : Result N M → Told N M → Reply N M (Task N M)) →
-      Does names C P b s (λ w. after (m w) K) → (w : Told N M) → w.since < most_turns → room w < suc b →
-      Ticks names C P w.since w.made s w.to_come (after (bind (turned_told w) (λ u v. m v)) K)
+  ticks : {b : ℕ} {s : State N M} (m : Reported N M → Out N M (Result N M) (Reported N M)) (K : Result N M → Reported N M → Reply N M (Task N M)) →
+      Does names C P b s (λ w. after (m w) K) → (w : Reported N M) → w.since < most_turns → room w < suc b →
+      Ticks names C P w.since w.made s w.to_come (after (bind (turned_reported w) (λ u v. m v)) K)
   ticks {b} {s} m K d w l r = go (suc w.since == most_turns) refl
     where
-      later : Told N M
+      later : Reported N M
       later = record w { since = suc w.since }
 
       room_rest : (xs ys : List (Answer N M)) (x : Answer N M) → xs ≡ x ∷ ys → most_turns * length xs + (most_turns - w.since) < suc b →
@@ -162,7 +162,7 @@ module _ {N M : Type 0} {names : Naming N M} {C : PlainCode} {P : PlainProgram} 
           let j : most_turns * length xs ≡ most_turns * length ys + most_turns = rw i (omega arith) in
           omega arith
 
-      go : (t : Bool) → (suc w.since == most_turns) ≡ t → Ticks names C P w.since w.made s w.to_come (after (bind (turned_told w) (λ u v. m v)) K)
+      go : (t : Bool) → (suc w.since == most_turns) ≡ t → Ticks names C P w.since w.made s w.to_come (after (bind (turned_reported w) (λ u v. m v)) K)
       go true q =
           let x = answers (record w { since = suc w.since }) (Do Rest) (Do Rest) (λ x. s) (λ a v. m v) K w.to_come refl
           (λ x ys z. d.from (record { since = 0; made = w.made; to_come = ys }) most_pos (room_rest w.to_come ys x z r)) in
@@ -192,8 +192,8 @@ module _ {N M : Type 0} {names : Naming N M} {C : PlainCode} {P : PlainProgram} 
                 (record w { since = suc w.since })) (λ u v. m v)) q))) x.same;
           }
 
-  pub does_turn : {b : ℕ} {s t : State N M} (m : Told N M → Out N M (Result N M) (Told N M)) (K : Result N M → Told N M → Reply N M (Task N M)) →
-      step names C s ≡ Turns t → Does names C P b t (λ w. after (m w) K) → Does names C P (suc b) s (λ w. after (bind (turned_told w) (λ u v. m v)) K)
+  pub does_turn : {b : ℕ} {s t : State N M} (m : Reported N M → Out N M (Result N M) (Reported N M)) (K : Result N M → Reported N M → Reply N M (Task N M)) →
+      step names C s ≡ Turns t → Does names C P b t (λ w. after (m w) K) → Does names C P (suc b) s (λ w. after (bind (turned_reported w) (λ u v. m v)) K)
   does_turn {b} {s} {t} m K e d = record {
     from = λ w l r. (let x = ticks m K d w l r in
         record {
@@ -206,9 +206,9 @@ module _ {N M : Type 0} {names : Naming N M} {C : PlainCode} {P : PlainProgram} 
   }
 
   -- a new local region
-  pub does_make : {b : ℕ} {s : State N M} {k : M → State N M} (q : M → Told N M → Out N M (Result N M) (Told N M)) (K : Result N M → Told N M →
+  pub does_make : {b : ℕ} {s : State N M} {k : M → State N M} (q : M → Reported N M → Out N M (Result N M) (Reported N M)) (K : Result N M → Reported N M →
       Reply N M (Task N M)) → step names C s ≡ stand.Makes k → ((r : M) → Does names C P b (k r) (λ w. after (q r w) K)) →
-      Does names C P b s (λ w. after (bind ((told names).make w) q) K)
+      Does names C P b s (λ w. after (bind ((reported names).make w) q) K)
   does_make {b} {s} {k} q K e d = record {
     from = λ w l r. (let x =
         ticks {b = b} {s = k (names.made w.made)} (λ v. q (names.made w.made) v) K (d (names.made w.made)) (record w { made = suc w.made }) l (omega arith) in
@@ -217,7 +217,7 @@ module _ {N M : Type 0} {names : Naming N M} {C : PlainCode} {P : PlainProgram} 
           reply = x.reply;
           stands = ap (λ o. stood names (λ n m t ys. solo names C x.fuel n m t ys) w.since w.made o w.to_come) e ∙ x.stands;
           same = subst (λ y. SameReply C P y x.reply)
-              (sym (ap (λ o. after o K) (bind_assoc (turned_told (record w { made = suc w.made })) (λ u v. Done (names.made w.made) v) q))) x.same;
+              (sym (ap (λ o. after o K) (bind_assoc (turned_reported (record w { made = suc w.made })) (λ u v. Done (names.made w.made) v) q))) x.same;
         });
   }
 
@@ -230,15 +230,15 @@ module _ {N M : Type 0} {names : Naming N M} {C : PlainCode} {P : PlainProgram} 
       at_end n m (x ∷ xs) = record { fuel = 1; reply = _; stands = refl; same = refl }
 
   -- in front of a join, where branch k is next and m are left of n; D: after it
-  pub does_begins : {b : ℕ} (n : ℕ) (J : ℕ → ℕ → State N M) (D : Brought N → State N M) (Y : Brought N → Told N M →
-      Out N M (Result N M) (Told N M)) (K : Result N M → Told N M → Reply N M (Task N M)) →
+  pub does_begins : {b : ℕ} (n : ℕ) (J : ℕ → ℕ → State N M) (D : Brought N → State N M) (Y : Brought N → Reported N M →
+      Out N M (Result N M) (Reported N M)) (K : Result N M → Reported N M → Reply N M (Task N M)) →
       ((k m : ℕ) → k + suc m ≡ n → step names C (J k (suc m)) ≡ Waits (Begin k) (λ x. J (suc k) m)) →
       ((k : ℕ) → step names C (J k 0) ≡ Waits Join (λ x. D (brought x))) → ((x : Brought N) → Does names C P b (D x) (λ w. after (Y x w) K)) → (m k : ℕ) →
-      k + m ≡ n → Does names C P b (J k m) (λ w. after (bind (begins_then k m told_join w) Y) K)
+      k + m ≡ n → Does names C P b (J k m) (λ w. after (bind (begins_then k m reported_join w) Y) K)
   does_begins n J D Y K begin join out zero k e =
       does_same (λ w. ap (λ o. after o K) (sym (bind_assoc (asked Join w) (λ a v. Done (brought a) v) Y)))
       (does_act Join Join (λ x v. Y (brought x) v) K refl (join k) (λ x. out (brought x)))
   does_begins n J D Y K begin join out (suc m) k e =
-      does_same (λ w. ap (λ o. after o K) (sym (bind_assoc (asked (Begin k) w) (λ a v. begins_then (suc k) m told_join v) Y)))
-      (does_act (Begin k) (Begin k) (λ a v. bind (begins_then (suc k) m told_join v) Y) K refl (begin k m e)
+      does_same (λ w. ap (λ o. after o K) (sym (bind_assoc (asked (Begin k) w) (λ a v. begins_then (suc k) m reported_join v) Y)))
+      (does_act (Begin k) (Begin k) (λ a v. bind (begins_then (suc k) m reported_join v) Y) K refl (begin k m e)
       (λ x. does_begins n J D Y K begin join out m (suc k) (omega arith)))

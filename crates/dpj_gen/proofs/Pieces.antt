@@ -17,14 +17,14 @@ pub split : {A : Type 0} (c xs ys : List A) (p : ℕ) → Holds c p (xs ++ ys) �
 split c [] ys p h = (tt, subst (λ q. Holds c q ys) (omega arith) h)
 split c (x ∷ xs) ys p h = let r = split c xs ys (suc p) h.1 in ((h.0, r.0), subst (λ q. Holds c q ys) (omega arith) r.1)
 
-get_behind : {A : Type 0} (xs ys : List A) (y : A) → slice_get (xs ++ y ∷ ys) (length xs) ≡ Some y
-get_behind [] ys y = refl
-get_behind (x ∷ xs) ys y = get_behind xs ys y
+get_after : {A : Type 0} (xs ys : List A) (y : A) → slice_get (xs ++ y ∷ ys) (length xs) ≡ Some y
+get_after [] ys y = refl
+get_after (x ∷ xs) ys y = get_after xs ys y
 
 whole : {A : Type 0} (xs ys c : List A) → c ≡ xs ++ ys → Holds c (length xs) ys
 whole xs [] c e = tt
 whole xs (y ∷ ys) c e = (
-  ap (λ l. slice_get l (length xs)) e ∙ get_behind xs ys y,
+  ap (λ l. slice_get l (length xs)) e ∙ get_after xs ys y,
   subst (λ n. Holds c n ys) (let l = length-append xs (y ∷ []) in
       omega arith) (whole (xs ++ y ∷ []) ys c (e ∙ sym (append_assoc xs (y ∷ []) ys))),
 )

@@ -21,7 +21,7 @@ use Rattle.dpj_meaning.specs.Regions.{around, concrete, is_long, some_long, regi
 use Rattle.dpj_meaning.specs.Expressions as meaning
 use Rattle.dpj_meaning.specs.Expressions.{Deeper, gives, none, of_expr, of_exprs}
 use Rattle.dpj_meaning.specs.Statements.{write_cell}
-use Rattle.dpj_meaning.specs.Asking.{told}
+use Rattle.dpj_meaning.specs.Asking.{reported}
 use Rattle.dpj_code.specs.declared.instr.Instr.{Instr}
 use Rattle.dpj_code.specs.declared.instr.Instr.TheVariants as i
 use Rattle.dpj_code.specs.Plain.{PlainCode, call_site, new_site, body_at, parent_of, constructor_of}
@@ -147,7 +147,7 @@ module _ {N M : Type 0} (names : Naming N M) (C : PlainCode) (P : PlainProgram) 
   in_member d k deep e r n m im vs regions g fs l {B} {G} j goes back =
       subst (λ s. Sim names C P d s B G (on (deep m.body f) j)) (sym same) (record {
         does = λ a K h q. does_on (deep m.body f) j K
-            ((r n m im (g ∷ fs) f left).does a (λ x v. after (run (told names) (j x) v) K) (λ v y z. (goes v y).does a K h q) (λ v. (back v).does a K h q));
+            ((r n m im (g ∷ fs) f left).does a (λ x v. after (run (reported names) (j x) v) K) (λ v y z. (goes v y).does a K h q) (λ v. (back v).does a K h q));
       })
     where
       f : Frame N M

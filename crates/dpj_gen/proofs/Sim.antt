@@ -9,7 +9,7 @@ use Rattle.dpj_meaning.specs.Actions.{Frame, Task, Trapped, Own, Do, Fork, Begin
 use Rattle.dpj_meaning.specs.Core.{Result, Goes_on, Returns, Prog, Ret, Traps, Act, Makes, Again, Split, next_of, and_then, Out, Done, bind, loop, tested, rounded, run}
 use Rattle.dpj_meaning.specs.Counts.{truth, Brought, brought}
 use Rattle.dpj_meaning.specs.Expressions.{gives}
-use Rattle.dpj_meaning.specs.Asking.{Told, asked, turned, begins_then, told_join, told}
+use Rattle.dpj_meaning.specs.Asking.{Reported, asked, turned, begins_then, reported_join, reported}
 use Rattle.dpj_code.specs.Plain.{PlainCode}
 use Rattle.dpj_code.specs.Machine.{Start, State, Off, Goes, Turns, Waits, trapped, step}
 use Rattle.dpj_code.specs.Machine.{Stand as stand}
@@ -17,18 +17,18 @@ use Rattle.dpj_gen.specs.Compiled.{AllCompiled}
 use Rattle.dpj_gen.proofs.Does.{after, room, after_assoc, bind_assoc, Replies, Does, does_same, does_less, does_on, does_step, does_act, does_turn, does_make, does_end, does_begins}
 
 -- a loop over what is reported
-abbrev pub again : {N M : Type 0} → Naming N M → (t b : Frame N M → Prog N M) → ℕ → Frame N M → Told N M → Out N M (Result N M) (Told N M)
-again names t b m f w = loop turned (λ g v. run (told names) (t g) v) (λ g v. run (told names) (b g) v) m f w
+abbrev pub again : {N M : Type 0} → Naming N M → (t b : Frame N M → Prog N M) → ℕ → Frame N M → Reported N M → Out N M (Result N M) (Reported N M)
+again names t b m f w = loop turned (λ g v. run (reported names) (t g) v) (λ g v. run (reported names) (b g) v) m f w
 
-abbrev pub past_test : {N M : Type 0} → Naming N M → (t b : Frame N M → Prog N M) → ℕ → Result N M → Told N M → Out N M (Result N M) (Told N M)
-past_test names t b m r w = tested turned (λ g v. run (told names) (b g) v) (λ g u. again names t b m g u) r w
+abbrev pub past_test : {N M : Type 0} → Naming N M → (t b : Frame N M → Prog N M) → ℕ → Result N M → Reported N M → Out N M (Result N M) (Reported N M)
+past_test names t b m r w = tested turned (λ g v. run (reported names) (b g) v) (λ g u. again names t b m g u) r w
 
 -- s: where it starts; B: where it goes on, with a value and a frame at this depth; G: where it has returned
 pub record Sim {N M : Type 0} (names : Naming N M) (C : PlainCode) (P : PlainProgram) (d : ℕ) (s : State N M) (B : Value N → Frame N M →
     State N M) (G : Value N → State N M) (p : Prog N M) : Type 0 where
-  pub does : (b : ℕ) (K : Result N M → Told N M → Reply N M (Task N M)) →
+  pub does : (b : ℕ) (K : Result N M → Reported N M → Reply N M (Task N M)) →
       ((v : Value N) (g : Frame N M) → g.left ≡ d → Does names C P b (B v g) (K (Goes_on v g))) → ((v : Value N) → Does names C P b (G v) (K (Returns v))) →
-      Does names C P b s (λ w. after (run (told names) p w) K)
+      Does names C P b s (λ w. after (run (reported names) p w) K)
 
 module _ {N M : Type 0} {names : Naming N M} {C : PlainCode} {P : PlainProgram} {d : ℕ} where
   -- there already
@@ -66,7 +66,7 @@ module _ {N M : Type 0} {names : Naming N M} {C : PlainCode} {P : PlainProgram} 
   pub sim_then : {s : State N M} {B B' : Value N → Frame N M → State N M} {G : Value N → State N M} {p : Prog N M} {q : Value N → Frame N M → Prog N M} →
       Sim names C P d s B G p → ((v : Value N) (g : Frame N M) → g.left ≡ d → Sim names C P d (B v g) B' G (q v g)) → Sim names C P d s B' G (and_then p q)
   sim_then {s} {B} {B'} {G} {p} {q} x y = record {
-    does = λ b K h r. does_on p (next_of q) K (x.does b (λ x v. after (run (told names) (next_of q x) v) K) (λ v g i. (y v g i).does b K h r) r);
+    does = λ b K h r. does_on p (next_of q) K (x.does b (λ x v. after (run (reported names) (next_of q x) v) K) (λ v g i. (y v g i).does b K h r) r);
   }
 
   -- by the truth of a value
@@ -78,12 +78,12 @@ module _ {N M : Type 0} {names : Naming N M} {C : PlainCode} {P : PlainProgram} 
   pub sim_act : {s : State N M} {B : Value N → Frame N M → State N M} {G : Value N → State N M} {o : Own N M} {k : Answer N M → State N M} {j : Answer N M →
       Prog N M} → step names C s ≡ Waits (Do o) k → ((x : Answer N M) → Sim names C P d (k x) B G (j x)) → Sim names C P d s B G (Act o j)
   sim_act {s} {B} {G} {o} {k} {j} e x = record {
-    does = λ b K h r. does_act (Do o) (Do o) (λ x v. run (told names) (j x) v) K refl e (λ y. (x y).does b K h r);
+    does = λ b K h r. does_act (Do o) (Do o) (λ x v. run (reported names) (j x) v) K refl e (λ y. (x y).does b K h r);
   }
 
   pub sim_make : {s : State N M} {B : Value N → Frame N M → State N M} {G : Value N → State N M} {k : M → State N M} {j : M → Prog N M} →
       step names C s ≡ stand.Makes k → ((r : M) → Sim names C P d (k r) B G (j r)) → Sim names C P d s B G (Makes j)
-  sim_make {s} {B} {G} {k} {j} e x = record { does = λ b K h r. does_make (λ m v. run (told names) (j m) v) K e (λ m. (x m).does b K h r) }
+  sim_make {s} {B} {G} {k} {j} e x = record { does = λ b K h r. does_make (λ m v. run (reported names) (j m) v) K e (λ m. (x m).does b K h r) }
 
   -- a loop. H: its head; T: after the test; L: after the turn; F: after the body
   module _ (H L : Frame N M → State N M) (T F B : Value N → Frame N M → State N M) (G : Value N → State N M) (t b : Frame N M →
@@ -92,39 +92,39 @@ module _ {N M : Type 0} {names : Naming N M} {C : PlainCode} {P : PlainProgram} 
       step names C (T v g) ≡ Goes (B v g)) (enter : (v : Value N) (g : Frame N M) → truth v ≡ true →
       step names C (T v g) ≡ Goes (M' g)) (turn : (g : Frame N M) → step names C (M' g) ≡ Turns (L g)) (back : (v : Value N) (g : Frame N M) →
       step names C (F v g) ≡ Goes (H g)) where
-    at_test : (a m : ℕ) (K : Result N M → Told N M → Reply N M (Task N M)) →
+    at_test : (a m : ℕ) (K : Result N M → Reported N M → Reply N M (Task N M)) →
         ((i : Frame N M) → i.left ≡ d → Does names C P a (H i) (λ w. after (again names t b m i w) K)) →
         ((v : Value N) (g : Frame N M) → g.left ≡ d → Does names C P (suc a) (B v g) (K (Goes_on v g))) →
         ((v : Value N) → Does names C P (suc a) (G v) (K (Returns v))) → (v : Value N) (g : Frame N M) → g.left ≡ d → (x : Bool) → truth v ≡ x →
         Does names C P (suc a) (T v g) (λ w. after (past_test names t b m (Goes_on v g) w) K)
     at_test a m K more h r v g l false e =
         does_same (λ w. ap (λ x. after
-        (elim x as (λ y. Out N M (Result N M) (Told N M)) [
+        (elim x as (λ y. Out N M (Result N M) (Reported N M)) [
           | false ↦ Done (Goes_on v g) w
           | true ↦ bind (turned w)
-              (λ u w'. bind (run (told names) (b g) w') (λ r w''. rounded (again names t b m) r w''))
+              (λ u w'. bind (run (reported names) (b g) w') (λ r w''. rounded (again names t b m) r w''))
         ]) K) (sym e))
         (does_step (leave v g e) (h v g l))
     at_test a m K more h r v g l true e =
         does_same (λ w. ap (λ x. after
-        (elim x as (λ y. Out N M (Result N M) (Told N M)) [
+        (elim x as (λ y. Out N M (Result N M) (Reported N M)) [
           | false ↦ Done (Goes_on v g) w
           | true ↦ bind (turned w)
-              (λ u w'. bind (run (told names) (b g) w') (λ r w''. rounded (again names t b m) r w''))
+              (λ u w'. bind (run (reported names) (b g) w') (λ r w''. rounded (again names t b m) r w''))
         ]) K) (sym e))
         (does_step (enter v g e)
-        (does_turn (λ v. bind (run (told names) (b g) v) (λ r v. rounded (again names t b m) r v)) K (turn g)
-        (does_same (λ w. sym (after_assoc (run (told names) (b g) w) (λ r v. rounded (again names t b m) r v) K))
+        (does_turn (λ v. bind (run (reported names) (b g) v) (λ r v. rounded (again names t b m) r v)) K (turn g)
+        (does_same (λ w. sym (after_assoc (run (reported names) (b g) w) (λ r v. rounded (again names t b m) r v) K))
         ((hb g l).does a (λ r v. after (rounded (again names t b m) r v) K) (λ v i y. does_step (back v i) (more i y))
         (λ j. does_less (omega arith) (r j))))))
 
-    rounds : (a m : ℕ) → a ≤ m → (f : Frame N M) (K : Result N M → Told N M → Reply N M (Task N M)) → f.left ≡ d →
+    rounds : (a m : ℕ) → a ≤ m → (f : Frame N M) (K : Result N M → Reported N M → Reply N M (Task N M)) → f.left ≡ d →
         ((v : Value N) (g : Frame N M) → g.left ≡ d → Does names C P a (B v g) (K (Goes_on v g))) → ((v : Value N) → Does names C P a (G v) (K (Returns v))) →
         Does names C P a (H f) (λ w. after (again names t b m f w) K)
     rounds zero m le f K l h r = record { from = λ w i j. absurd (omega arith) }
     rounds (suc a) zero le f K l h r = absurd (omega arith)
     rounds (suc a) (suc m) le f K l h r =
-        does_same (λ w. sym (after_assoc (run (told names) (t f) w) (λ r v. past_test names t b m r v) K))
+        does_same (λ w. sym (after_assoc (run (reported names) (t f) w) (λ r v. past_test names t b m r v) K))
         ((ht f l).does (suc a) (λ r v. after (past_test names t b m r v) K)
         (λ v g y. at_test a m K (λ i y. rounds a m (omega arith) i K y (λ u j z. does_less (omega arith) (h u j z)) (λ j. does_less (omega arith) (r j)))
         h r v g y (truth v) refl) r)
@@ -149,9 +149,9 @@ module _ {N M : Type 0} {names : Naming N M} {C : PlainCode} {P : PlainProgram} 
       Sim names C P d s B G (Split forking ts bodies k)
   sim_split {s} {B} {G} forking ts bs bodies k J D n many all fork begin join out = record {
     does = λ b K h r.
-        (let Y : Brought N → Told N M → Out N M (Result N M) (Told N M) = λ x v. run (told names) (k x) v in
+        (let Y : Brought N → Reported N M → Out N M (Result N M) (Reported N M) = λ x v. run (reported names) (k x) v in
         let begins = does_begins {b = b} n J D Y K begin join (λ x. (out x).does b K h r) n 0 (omega arith) in
-        does_same (λ w. ap (λ o. after o K) (ap (λ i. bind (asked (Fork (record { kind = forking; tasks = ts })) w) (λ a v. bind (begins_then 0 i told_join v) Y)) (sym many) ∙
-        sym (bind_assoc (asked (Fork (record { kind = forking; tasks = ts })) w) (λ a v. begins_then 0 (length ts) told_join v) Y)))
-        (does_act (Fork (record { kind = forking; tasks = ts })) (Fork (record { kind = forking; tasks = bs })) (λ a v. bind (begins_then 0 n told_join v) Y) K (bs, refl, all) fork (λ x. begins)));
+        does_same (λ w. ap (λ o. after o K) (ap (λ i. bind (asked (Fork (record { kind = forking; tasks = ts })) w) (λ a v. bind (begins_then 0 i reported_join v) Y)) (sym many) ∙
+        sym (bind_assoc (asked (Fork (record { kind = forking; tasks = ts })) w) (λ a v. begins_then 0 (length ts) reported_join v) Y)))
+        (does_act (Fork (record { kind = forking; tasks = ts })) (Fork (record { kind = forking; tasks = bs })) (λ a v. bind (begins_then 0 n reported_join v) Y) K (bs, refl, all) fork (λ x. begins)));
   }

@@ -9,7 +9,7 @@ use Rattle.dpj_meaning.specs.Core.{Out as out}
 use Rattle.dpj_meaning.specs.Counts.{assigned}
 use Rattle.dpj_meaning.specs.Expressions.{Deeper, none}
 use Rattle.dpj_meaning.specs.Statements.{begun, of_stmts}
-use Rattle.dpj_meaning.specs.Asking.{meaning, most_turns, Told, ended, ending, replied, ask}
+use Rattle.dpj_meaning.specs.Asking.{meaning, most_turns, Reported, ended, ending, replied, ask}
 use Rattle.dpj_code.specs.Plain.{PlainCode, body_at}
 use Rattle.dpj_code.specs.Machine.{State, Off, Start, Stand, Goes, Turns, Makes, Waits, Ends, Stuck, Solos, answered, turned, stood, step, solo, spot, begins_at, Solo}
 use Rattle.dpj_gen.specs.Scheme.{is_void, closes, after_stmts}
@@ -23,7 +23,7 @@ use Rattle.dpj_gen.proofs.Right.{gone}
 use Rattle.dpj_gen.proofs.Right as right
 use Rattle.dpj_gen.proofs.Statements.{right_stmts, right_none}
 
-replied_is : {N M : Type 0} (k : Work) (o : Out N M (Result N M) (Told N M)) → after o (λ r w. ending (ended k r) w.since w.to_come) ≡ replied k o
+replied_is : {N M : Type 0} (k : Work) (o : Out N M (Result N M) (Reported N M)) → after o (λ r w. ending (ended k r) w.since w.to_come) ≡ replied k o
 replied_is k (Done r w) = refl
 replied_is k (out.Trapped t p w) = refl
 replied_is k (Stopped n a) = refl
@@ -85,7 +85,7 @@ module _ {N M : Type 0} (names : Naming N M) (C : PlainCode) (P : PlainProgram) 
   pub code_is_right : (b : Start N M) (t : Task N M) → Compiled C P b t → (got : List (Answer N M)) → Right names C P b got (ask names P t got)
   unfolding ask
   code_is_right b t c got =
-      let w : Told N M = record { since = 0; made = 0; to_come = reverse got } in
+      let w : Reported N M = record { since = 0; made = 0; to_come = reverse got } in
       let s = right_task t.frame.left c.gives b.body t.work c.fits c.body t.frame refl in
       let d = s.does (suc (room w)) (λ r w. ending (ended t.work r) w.since w.to_come) (λ v g l. does_end (ended t.work (Goes_on v g)))
       (λ v. back (suc (room w)) c.gives v) in

@@ -9,7 +9,7 @@ use Rattle.dpj_tree.specs.declared.class.Class.{Class}
 use Rattle.dpj_tree.specs.declared.class.Program.{Program}
 use Rattle.dpj_headers.specs.declared.forest.Step.{Step}
 use Rattle.dpj_headers.specs.declared.header.Header.{Header}
-use Rattle.dpj_headers.specs.First.{class_named, parents_in, IsToldFirst}
+use Rattle.dpj_headers.specs.First.{class_named, parents_in, IsReportedFirst}
 use Rattle.dpj_headers.specs.Gathered.{header_row, header_rows, object_fields, all_regions, name_number, headers_in}
 use Rattle.dpj_headers.specs.Headers.{PlainHeaders, class_in, param_in}
 use Rattle.dpj_headers.specs.Numbering.{with_all_params, counted_way, counted_rows}
@@ -76,7 +76,7 @@ rows_same parents f g at (class ∷ classes) same =
     ap (λ count. record (header_row parents f at class) { fields = count } ∷ header_rows parents f (at + 1) classes) (same at (omega arith))
     ∙ ap (λ rows. header_row parents g at class ∷ rows) (rows_same parents f g (at + 1) classes (λ one l. same one (omega arith)))
 
-pub rows_gathered : (classes : List Class) → IsCounted classes → IsToldFirst classes None → counted_rows classes (parents_in classes) (way_of (parents_in classes)) ≡ header_rows (parents_in classes) (object_fields classes (parents_in classes)) 0 classes
+pub rows_gathered : (classes : List Class) → IsCounted classes → IsReportedFirst classes None → counted_rows classes (parents_in classes) (way_of (parents_in classes)) ≡ header_rows (parents_in classes) (object_fields classes (parents_in classes)) 0 classes
 rows_gathered classes counted first =
     rows_same (parents_in classes) _ (object_fields classes (parents_in classes)) 0 classes
     (λ one l. fields_counted classes (parents_in classes) one (sound_from classes counted first) (length_parents classes) (omega arith))
@@ -100,7 +100,7 @@ parents_gathered classes rows fields are =
     ∙ parents_rows (parents_in classes) fields 0 classes (parents_in classes) (λ j. let here : 0 + j ≡ j = omega arith in ap (entry_of (parents_in classes)) here) (length_parents classes)
 
 -- what is made of the classes, once the first pass found nothing, are the headers
-pub made_in : (result : Result PlainHeaders Stop) (program : Program) → IsCounted program.classes → IsToldFirst program.classes None →
+pub made_in : (result : Result PlainHeaders Stop) (program : Program) → IsCounted program.classes → IsReportedFirst program.classes None →
     IfOk result (λ headers. headers ≡ record { rows = counted_rows program.classes (parents_in program.classes) (way_of (parents_in program.classes)); regions = all_regions 0 program.classes; main = name_number program.names (codes "Main") }) →
     IfOk result (λ headers. headers ≡ headers_in program)
 made_in (Err found) program counted first h = tt

@@ -13,7 +13,7 @@ use Rattle.dpj_headers.specs.Members.{is_free, all_entered, all_left, second_nam
 use Rattle.dpj_headers.specs.Passes.{fault_if, is_constructor_result}
 use Rattle.dpj_headers.specs.Second.{regions_in, field_name, fields_in, method_in, method_name, method_names, constructor_names, own_params, own_regions, own_fields, own_methods, names_of, is_known, second_of, wrong_in_method, wrong_in_class}
 use Rattle.dpj_headers.proofs.Marks.{IsNoOwner, entered_and_left, Says, says_all_entered, AllBelow, second_same, entered_append, left_append, second_append, none_owned, none_said, other_owner}
-use Rattle.dpj_headers.proofs.Same.{Same, same_list, same_then, same_append, same_behind, same_moved, same_moved_two, same_moved_three, same_moved_four}
+use Rattle.dpj_headers.proofs.Same.{Same, same_list, same_then, same_append, same_after, same_moved, same_moved_two, same_moved_three, same_moved_four}
 
 abbrev regs : List Member → List Named
 regs members = flat_map regions_in members
@@ -187,7 +187,7 @@ method_kinds seen class number method members true =
     let rest = flat_map (in_method seen class) (meths members) in
     let x = second_at seen method true in
     let w = in_method seen class method in
-    same_then _ _ _ (same_behind x _ _ (same_moved_four w a f m made rest))
+    same_then _ _ _ (same_after x _ _ (same_moved_four w a f m made rest))
     (same_then _ _ _ (same_moved_three x a f m (made ++ (w ++ rest)))
     (same_list _ _ (ap (λ z. a ++ (f ++ (m ++ z))) (sym (append_assoc x made (w ++ rest))))))
 method_kinds seen class number method members false =
@@ -198,7 +198,7 @@ method_kinds seen class number method members false =
     let rest = flat_map (in_method seen class) (meths members) in
     let x = second_at seen method false in
     let w = in_method seen class method in
-    same_then _ _ _ (same_behind x _ _ (same_moved_four w a f m made rest))
+    same_then _ _ _ (same_after x _ _ (same_moved_four w a f m made rest))
     (same_then _ _ _ (same_moved_two x a f (m ++ (made ++ (w ++ rest))))
     (same_list _ _ (ap (λ z. a ++ (f ++ z)) (sym (append_assoc x m (made ++ (w ++ rest)))))))
 
@@ -209,7 +209,7 @@ members_by_kind seen class number (member.Regions is_atomic names ∷ members) p
     let next = record seen { regions = all_entered seen.regions number names } in
     let more = second_names next.regions number (regs members) in
     let rest = second_names seen.fields number (flds members) ++ (second_names seen.methods 0 (method_names (meths members)) ++ (second_names seen.constructors 0 (constructor_names (meths members)) ++ flat_map (in_method seen class) (meths members))) in
-    same_then _ _ _ (same_behind here _ _ (members_by_kind next class number members params formals))
+    same_then _ _ _ (same_after here _ _ (members_by_kind next class number members params formals))
     (same_list _ _ (sym (append_assoc here more rest) ∙ ap (λ z. z ++ rest) (sym (second_append seen.regions number names (regs members)))))
 members_by_kind seen class number (member.Field field ∷ members) params formals =
     let here = fault_if (not (is_free seen.fields field.name)) kind.Duplicate field.place in
@@ -217,7 +217,7 @@ members_by_kind seen class number (member.Field field ∷ members) params formal
     let regions = second_names seen.regions number (regs members) in
     let more = second_names next.fields number (flds members) in
     let rest = second_names seen.methods 0 (method_names (meths members)) ++ (second_names seen.constructors 0 (constructor_names (meths members)) ++ flat_map (in_method seen class) (meths members)) in
-    same_then _ _ _ (same_behind here _ _ (members_by_kind next class number members params formals))
+    same_then _ _ _ (same_after here _ _ (members_by_kind next class number members params formals))
     (same_then _ _ _ (same_moved here regions (more ++ rest)) (same_list _ _ (ap (λ z. regions ++ z) (sym (append_assoc here more rest)))))
 members_by_kind seen class number (member.Method method ∷ members) params formals =
     let b = is_constructor_result method.result in
@@ -278,6 +278,6 @@ class_second count seen number class regions fields clean says_regions says_fiel
     let i : flat_map (in_method inner class) (own_methods class) ≡ flat_map (wrong_in_method class) (own_methods class) =
     same_inner count inner class (own_methods class) inner_params (says_none count seen.formals clean.formals) below.inner in
     same_then _ _ _
-    (same_behind (second_names seen.params 0 (own_params class)) _ _
+    (same_after (second_names seen.params 0 (own_params class)) _ _
     (members_by_kind inner class number members (params_owner count seen.params (own_params class) clean.params) (no_owner count seen.formals 1 clean.formals)))
     (same_list _ _ (cc (p, r, f, m, c, i)))

@@ -10,7 +10,7 @@ use Rattle.dpj_base.specs.Text.{kind_number}
 use Rattle.dpj_headers.specs.declared.faults.Faults.{Faults}
 use Rattle.dpj_headers.specs.declared.faults.Order.{Order}
 use Rattle.dpj_headers.specs.declared.faults.Order.TheVariants as order
-use Rattle.dpj_headers.specs.Faults.{comes_first, told_of, noted, all_noted}
+use Rattle.dpj_headers.specs.Faults.{comes_first, reported_of, noted, all_noted}
 
 -- one number decides, or where it is the same the rest
 abbrev Lex : ℕ → ℕ → Type 0 → Type 0
@@ -201,24 +201,24 @@ not_earliest by k a b h =
       | inr e ↦ before_self by b (subst (λ z. Before by z b) e inner.1)
     ]
 
-told_swap : (by : Order) (kept : Option Refusal) (a b : Refusal) → told_of by (Some (told_of by kept a)) b ≡ told_of by (Some (told_of by kept b)) a
-told_swap by None a b = earlier_swap by a b
-told_swap by (Some k) a b = neither_first by _ _ (not_earliest by k a b) (not_earliest by k b a)
+reported_swap : (by : Order) (kept : Option Refusal) (a b : Refusal) → reported_of by (Some (reported_of by kept a)) b ≡ reported_of by (Some (reported_of by kept b)) a
+reported_swap by None a b = earlier_swap by a b
+reported_swap by (Some k) a b = neither_first by _ _ (not_earliest by k a b) (not_earliest by k b a)
 
 earlier_again : (by : Order) (k a : Refusal) → (Before by a k → ⊥) → earlier by k a ≡ k
 earlier_again by k a h = elim (earlier_is by k a) [ inl w ↦ absurd (h w.0) | inr w ↦ w.1 ]
 
-told_again : (by : Order) (kept : Option Refusal) (a : Refusal) → told_of by (Some (told_of by kept a)) a ≡ told_of by kept a
-told_again by None a = earlier_again by a a (before_self by a)
-told_again by (Some k) a = earlier_again by (earlier by k a) a (λ h. before_self by a (before_both by k a a h).1)
+reported_again : (by : Order) (kept : Option Refusal) (a : Refusal) → reported_of by (Some (reported_of by kept a)) a ≡ reported_of by kept a
+reported_again by None a = earlier_again by a a (before_self by a)
+reported_again by (Some k) a = earlier_again by (earlier by k a) a (λ h. before_self by a (before_both by k a a h).1)
 
 noted_swap : (faults : Faults) (a b : Refusal) → noted (noted faults a) b ≡ noted (noted faults b) a
 unfolding noted
-noted_swap faults a b = ap (λ o. record faults { kept = Some o }) (told_swap faults.order faults.kept a b)
+noted_swap faults a b = ap (λ o. record faults { kept = Some o }) (reported_swap faults.order faults.kept a b)
 
 noted_again : (faults : Faults) (a : Refusal) → noted (noted faults a) a ≡ noted faults a
 unfolding noted
-noted_again faults a = ap (λ o. record faults { kept = Some o }) (told_again faults.order faults.kept a)
+noted_again faults a = ap (λ o. record faults { kept = Some o }) (reported_again faults.order faults.kept a)
 
 -- one fault or a list of them, in either order
 one_swap : (faults : Faults) (a : Refusal) (found : List Refusal) → all_noted (noted faults a) found ≡ noted (all_noted faults found) a

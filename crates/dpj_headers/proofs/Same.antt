@@ -20,8 +20,8 @@ same_append xs ys more rest h k = record {
   noted = λ faults. noted_append faults xs more ∙ ap (λ f. all_noted f more) (h.noted faults) ∙ k.noted (all_noted faults ys) ∙ sym (noted_append faults ys rest);
 }
 
-pub same_behind : (xs more rest : List Refusal) → Same more rest → Same (xs ++ more) (xs ++ rest)
-same_behind xs more rest k = same_append xs xs more rest (same_list xs xs refl) k
+pub same_after : (xs more rest : List Refusal) → Same more rest → Same (xs ++ more) (xs ++ rest)
+same_after xs more rest k = same_append xs xs more rest (same_list xs xs refl) k
 
 -- the first list moves after the second
 pub same_moved : (xs ys rest : List Refusal) → Same (xs ++ (ys ++ rest)) (ys ++ (xs ++ rest))
@@ -33,12 +33,12 @@ same_moved xs ys rest = record {
 
 -- the first list moves after two, three and four others
 pub same_moved_two : (xs a b rest : List Refusal) → Same (xs ++ (a ++ (b ++ rest))) (a ++ (b ++ (xs ++ rest)))
-same_moved_two xs a b rest = same_then _ _ _ (same_moved xs a (b ++ rest)) (same_behind a (xs ++ (b ++ rest)) (b ++ (xs ++ rest)) (same_moved xs b rest))
+same_moved_two xs a b rest = same_then _ _ _ (same_moved xs a (b ++ rest)) (same_after a (xs ++ (b ++ rest)) (b ++ (xs ++ rest)) (same_moved xs b rest))
 
 pub same_moved_three : (xs a b c rest : List Refusal) → Same (xs ++ (a ++ (b ++ (c ++ rest)))) (a ++ (b ++ (c ++ (xs ++ rest))))
 same_moved_three xs a b c rest =
-    same_then _ _ _ (same_moved xs a (b ++ (c ++ rest))) (same_behind a (xs ++ (b ++ (c ++ rest))) (b ++ (c ++ (xs ++ rest))) (same_moved_two xs b c rest))
+    same_then _ _ _ (same_moved xs a (b ++ (c ++ rest))) (same_after a (xs ++ (b ++ (c ++ rest))) (b ++ (c ++ (xs ++ rest))) (same_moved_two xs b c rest))
 
 pub same_moved_four : (xs a b c d rest : List Refusal) → Same (xs ++ (a ++ (b ++ (c ++ (d ++ rest))))) (a ++ (b ++ (c ++ (d ++ (xs ++ rest)))))
 same_moved_four xs a b c d rest =
-    same_then _ _ _ (same_moved xs a (b ++ (c ++ (d ++ rest)))) (same_behind a (xs ++ (b ++ (c ++ (d ++ rest)))) (b ++ (c ++ (d ++ (xs ++ rest)))) (same_moved_three xs b c d rest))
+    same_then _ _ _ (same_moved xs a (b ++ (c ++ (d ++ rest)))) (same_after a (xs ++ (b ++ (c ++ (d ++ rest)))) (b ++ (c ++ (d ++ (xs ++ rest)))) (same_moved_three xs b c d rest))

@@ -20,14 +20,14 @@ use Rattle.dpj_tree.specs.declared.class.Parent.{Parent}
 use Rattle.dpj_tree.specs.declared.region.Named.{Named}
 use Rattle.dpj_headers.specs.declared.faults.Faults.{Faults}
 use Rattle.dpj_headers.specs.declared.faults.Order.TheVariants as order
-use Rattle.dpj_headers.specs.Around.{told_on_way}
-use Rattle.dpj_headers.specs.Faults.{noted, all_noted, told, none_by}
-use Rattle.dpj_headers.specs.First.{class_named, parents_in, first_faults, IsToldFirst}
+use Rattle.dpj_headers.specs.Around.{reported_on_way}
+use Rattle.dpj_headers.specs.Faults.{noted, all_noted, reported, none_by}
+use Rattle.dpj_headers.specs.First.{class_named, parents_in, first_faults, IsReportedFirst}
 use Rattle.dpj_headers.specs.Members.{param_names, formal_names}
 use Rattle.dpj_headers.specs.Numbers.{as_number}
 use Rattle.dpj_headers.specs.Passes.{fault_if, first_named, second_classes, named_parent, unknown_parents, extends_place, cycles, is_constructor_result}
 use Rattle.dpj_headers.specs.Rounds.{entry_of, IsRound}
-use Rattle.dpj_headers.specs.Second.{own_params, own_regions, own_fields, own_methods, method_name, method_names, constructor_names, are_below, declared_in_method, declared_in, AreNamed, AreCounted, told_second, IsToldOf}
+use Rattle.dpj_headers.specs.Second.{own_params, own_regions, own_fields, own_methods, method_name, method_names, constructor_names, are_below, declared_in_method, declared_in, AreNamed, AreCounted, reported_second, IsReportedOf}
 use Rattle.dpj_headers.specs.Way.{IsForest, IsCounted, way_of}
 use Rattle.dpj_headers.proofs.Cycles.{up_within}
 use Rattle.dpj_headers.proofs.Inside.{InnerBelow, Below}
@@ -35,17 +35,17 @@ use Rattle.dpj_headers.proofs.Marks.{AllBelow}
 use Rattle.dpj_headers.proofs.Walks.{way_second}
 
 -- where no fault is reported none is noted
-one_kept : (faults : Faults) (one : Refusal) → told (noted faults one) ≡ None → ⊥
+one_kept : (faults : Faults) (one : Refusal) → reported (noted faults one) ≡ None → ⊥
 unfolding noted
 one_kept faults one h = none-some _ (sym h)
 
-kept_told : (faults : Faults) (found : List Refusal) → told (all_noted faults found) ≡ None → told faults ≡ None
-kept_told faults [] h = h
-kept_told faults (one ∷ found) h = absurd (one_kept faults one (kept_told (noted faults one) found h))
+kept_reported : (faults : Faults) (found : List Refusal) → reported (all_noted faults found) ≡ None → reported faults ≡ None
+kept_reported faults [] h = h
+kept_reported faults (one ∷ found) h = absurd (one_kept faults one (kept_reported (noted faults one) found h))
 
-none_told : (faults : Faults) (found : List Refusal) → told (all_noted faults found) ≡ None → found ≡ []
-none_told faults [] h = refl
-none_told faults (one ∷ found) h = absurd (one_kept faults one (kept_told (noted faults one) found h))
+none_reported : (faults : Faults) (found : List Refusal) → reported (all_noted faults found) ≡ None → found ≡ []
+none_reported faults [] h = refl
+none_reported faults (one ∷ found) h = absurd (one_kept faults one (kept_reported (noted faults one) found h))
 
 append_none : {A : Type 0} (xs ys : List A) → xs ++ ys ≡ [] → (xs ≡ []) × (ys ≡ [])
 append_none [] ys h = (refl, h)
@@ -68,10 +68,10 @@ pub length_parents : (classes : List Class) → length (parents_in classes) ≡ 
 length_parents classes = length-map classes (named_parent (class_named classes))
 
 -- where the first pass finds nothing no class is its own superclass
-straight_from : (classes : List Class) → IsToldFirst classes None → (at : ℕ) → IsRound (parents_in classes) at → ⊥
+straight_from : (classes : List Class) → IsReportedFirst classes None → (at : ℕ) → IsRound (parents_in classes) at → ⊥
 straight_from classes h at round =
     let rounds = h.1.0 in
-    let none = none_told (none_by order.Place) (first_faults classes rounds) (sym (ap told h.1.2) ∙ h.2) in
+    let none = none_reported (none_by order.Place) (first_faults classes rounds) (sym (ap reported h.1.2) ∙ h.2) in
     let cycling = (append_none (cycles rounds 0 classes) _ (append_none (unknown_parents (class_named classes) classes) _ (append_none (second_classes [] classes) _ none).1).1).0 in
     let below = up_within (parents_in classes) round.0 at at round.1 in
     let zero_on : 0 + at ≡ at = omega arith in
@@ -96,7 +96,7 @@ parent_within named n (class ∷ classes) zero above within h = by class.parent 
     by (Some parent) k = within parent.name.name above k
 parent_within named n (class ∷ classes) (suc at) above within h = parent_within named n classes at above within h
 
-pub sound_from : (classes : List Class) → IsCounted classes → IsToldFirst classes None → IsForest (parents_in classes)
+pub sound_from : (classes : List Class) → IsCounted classes → IsReportedFirst classes None → IsForest (parents_in classes)
 sound_from classes counted h = record {
   counted = omega (arith, length_parents classes);
   straight = straight_from classes h;
@@ -169,26 +169,26 @@ classes_below count (one ∷ classes) h zero class is =
 classes_below count (one ∷ classes) h (suc at) class is = classes_below count classes (and_true (are_below count (declared_in one)) _ h).1 at class is
 
 -- what the way tells is what is reported of the members
-told_way : (count : ℕ) (classes : List Class) → AreCounted count classes → IsToldFirst classes None → told_on_way count classes (way_of (parents_in classes)) ≡ told_second classes
-told_way count classes fits first =
-    ap told ((way_second count classes (parents_in classes) (sound_from classes fits.0 first) (length_parents classes) (classes_below count classes fits.1)).noted (none_by order.Place))
+reported_way : (count : ℕ) (classes : List Class) → AreCounted count classes → IsReportedFirst classes None → reported_on_way count classes (way_of (parents_in classes)) ≡ reported_second classes
+reported_way count classes fits first =
+    ap reported ((way_second count classes (parents_in classes) (sound_from classes fits.0 first) (length_parents classes) (classes_below count classes fits.1)).noted (none_by order.Place))
 
 -- as many superclasses as classes
 pub parents_counted : (classes : List Class) → IsCounted classes → IsCounted (parents_in classes)
 parents_counted classes fits = omega (arith, fits, length_parents classes)
 
-pub accepted_second : {T : Type 0} (result : Result T Stop) (count : ℕ) (classes : List Class) → AreCounted count classes → IsToldFirst classes None →
-    OnOk result (told_on_way count classes (way_of (parents_in classes)) ≡ None) → OnOk result (told_second classes ≡ None)
-accepted_second (Ok value) count classes fits first h = sym (told_way count classes fits first) ∙ h
+pub accepted_second : {T : Type 0} (result : Result T Stop) (count : ℕ) (classes : List Class) → AreCounted count classes → IsReportedFirst classes None →
+    OnOk result (reported_on_way count classes (way_of (parents_in classes)) ≡ None) → OnOk result (reported_second classes ≡ None)
+accepted_second (Ok value) count classes fits first h = sym (reported_way count classes fits first) ∙ h
 accepted_second (Err found) count classes fits first h = tt
 
-pub refused_second : {T : Type 0} (result : Result T Stop) (count : ℕ) (classes : List Class) → AreCounted count classes → IsToldFirst classes None →
-    IfErr result (λ found. IfRefused found (λ fault. told_on_way count classes (way_of (parents_in classes)) ≡ Some fault)) → IfErr result (λ found. IfRefused found (IsToldOf classes))
+pub refused_second : {T : Type 0} (result : Result T Stop) (count : ℕ) (classes : List Class) → AreCounted count classes → IsReportedFirst classes None →
+    IfErr result (λ found. IfRefused found (λ fault. reported_on_way count classes (way_of (parents_in classes)) ≡ Some fault)) → IfErr result (λ found. IfRefused found (IsReportedOf classes))
 refused_second (Ok value) count classes fits first h = tt
 refused_second (Err stop.NoMemory) count classes fits first h = tt
-refused_second (Err (stop.Refused fault)) count classes fits first h = inr (first, sym (told_way count classes fits first) ∙ h)
+refused_second (Err (stop.Refused fault)) count classes fits first h = inr (first, sym (reported_way count classes fits first) ∙ h)
 
-pub refused_first : (classes : List Class) (found : Stop) → IfRefused found (λ fault. IsToldFirst classes (Some fault)) → IfRefused found (IsToldOf classes)
+pub refused_first : (classes : List Class) (found : Stop) → IfRefused found (λ fault. IsReportedFirst classes (Some fault)) → IfRefused found (IsReportedOf classes)
 refused_first classes (stop.Refused fault) h = inl h
 refused_first classes stop.NoMemory h = h
 

@@ -151,17 +151,17 @@ inside lists (suc n) class = class ∷ last_first (λ below. inside lists n belo
 
 record Walked (classes : List Class) (parents : List (Option ℕ)) (seen : Around) (steps : List Step) (through : List ℕ) : Type 0 where
   back : after_way classes seen steps ≡ seen
-  told : Same (way_faults classes seen steps) (flat_map (wrong_at classes parents) through)
+  reported : Same (way_faults classes seen steps) (flat_map (wrong_at classes parents) through)
 
 walked_then : (classes : List Class) (parents : List (Option ℕ)) (seen : Around) (xs ys : List Step) (first more : List ℕ) → Walked classes parents seen xs first → Walked classes parents seen ys more → Walked classes parents seen (xs ++ ys) (first ++ more)
 walked_then classes parents seen xs ys first more h k = record {
   back = after-append classes seen xs ys ∙ ap (λ s. after_way classes s ys) h.back ∙ k.back;
-  told = same_then _ _ _ (same_list _ _ (faults-append classes seen xs ys ∙ ap (λ s. way_faults classes seen xs ++ way_faults classes s ys) h.back))
-      (same_then _ _ _ (same_append _ _ _ _ h.told k.told) (same_list _ _ (sym (flat_map-append (wrong_at classes parents) first more))));
+  reported = same_then _ _ _ (same_list _ _ (faults-append classes seen xs ys ∙ ap (λ s. way_faults classes seen xs ++ way_faults classes s ys) h.back))
+      (same_then _ _ _ (same_append _ _ _ _ h.reported k.reported) (same_list _ _ (sym (flat_map-append (wrong_at classes parents) first more))));
 }
 
 walked_last : (classes : List Class) (parents : List (Option ℕ)) (seen : Around) (f : ℕ → List Step) (g : ℕ → List ℕ) (numbers : List ℕ) → ((one : ℕ) → Among one numbers → Walked classes parents seen (f one) (g one)) → Walked classes parents seen (last_first f numbers) (last_first g numbers)
-walked_last classes parents seen f g [] h = record { back = refl; told = same_list _ _ refl }
+walked_last classes parents seen f g [] h = record { back = refl; reported = same_list _ _ refl }
 walked_last classes parents seen f g (one ∷ numbers) h =
     walked_then classes parents seen (last_first f numbers) (f one) (last_first g numbers) (g one) (walked_last classes parents seen f g numbers (λ other k. h other (inr k))) (h one (inl refl))
 
@@ -199,18 +199,18 @@ walk_deeper count classes parents n whole does seen number l ready =
           ∙ ap (λ s. after_step classes s (step.Leave number)) through.back
           ∙ step_out classes entered number class is
           ∙ class_passed count seen number class ready.clean (not_own parents seen.regions number sound l ready.region_owners) (not_own parents seen.fields number sound l ready.field_owners);
-      told = same_append _ _ _ _
+      reported = same_append _ _ _ _
           (same_then _ _ _ (same_list _ _ (ap (λ o. option_map_or (λ one. class_faults seen number one) o []) is)) same)
-          (same_then _ _ _ (same_list _ _ (ap (λ s. way_faults classes s (down ++ step.Leave number ∷ [])) in_is ∙ faults-append classes entered down (step.Leave number ∷ []) ∙ append_nil (way_faults classes entered down))) through.told);
+          (same_then _ _ _ (same_list _ _ (ap (λ s. way_faults classes s (down ++ step.Leave number ∷ [])) in_is ∙ faults-append classes entered down (step.Leave number ∷ []) ∙ append_nil (way_faults classes entered down))) through.reported);
     }
   where
     append_nil : (xs : List Refusal) → xs ++ [] ≡ xs
     append_nil [] = refl
     append_nil (x ∷ xs) = ap (λ z. x ∷ z) (append_nil xs)
 
-walk_told : (count : ℕ) (classes : List Class) (parents : List (Option ℕ)) (n : ℕ) → Whole count classes parents → DoesWalk count classes parents n
-walk_told count classes parents zero whole seen class l ready = record { back = refl; told = same_list _ _ refl }
-walk_told count classes parents (suc n) whole seen class l ready = walk_deeper count classes parents n whole (walk_told count classes parents n whole) seen class l ready
+walk_reported : (count : ℕ) (classes : List Class) (parents : List (Option ℕ)) (n : ℕ) → Whole count classes parents → DoesWalk count classes parents n
+walk_reported count classes parents zero whole seen class l ready = record { back = refl; reported = same_list _ _ refl }
+walk_reported count classes parents (suc n) whole seen class l ready = walk_deeper count classes parents n whole (walk_reported count classes parents n whole) seen class l ready
 
 -- at a class without a superclass nothing is declared
 root_ready : (count : ℕ) (classes : List Class) (parents : List (Option ℕ)) (root : ℕ) → entry_of parents root ≡ None → Ready count classes parents (none_around count) root
@@ -233,15 +233,15 @@ root_ready count classes parents root none = record {
 abbrev pub insides : List (List ℕ) → ℕ → List ℕ → List ℕ
 insides lists n classes = flat_map (inside lists n) classes
 
-walks_told : (count : ℕ) (classes : List Class) (parents : List (Option ℕ)) (n : ℕ) (numbers : List ℕ) → Whole count classes parents → ((one : ℕ) → Among one numbers → (one < length parents) × (entry_of parents one ≡ None)) →
+walks_reported : (count : ℕ) (classes : List Class) (parents : List (Option ℕ)) (n : ℕ) (numbers : List ℕ) → Whole count classes parents → ((one : ℕ) → Among one numbers → (one < length parents) × (entry_of parents one ≡ None)) →
     Walked classes parents (none_around count) (walks (extensions parents) n numbers) (insides (extensions parents) n numbers)
-walks_told count classes parents n [] whole all = record { back = refl; told = same_list _ _ refl }
-walks_told count classes parents n (one ∷ numbers) whole all =
+walks_reported count classes parents n [] whole all = record { back = refl; reported = same_list _ _ refl }
+walks_reported count classes parents n (one ∷ numbers) whole all =
     let lists = extensions parents in
     let here = all one (inl refl) in
     walked_then classes parents (none_around count) (walk lists n one) (walks lists n numbers) (inside lists n one) (insides lists n numbers)
-    (walk_told count classes parents n whole (none_around count) one here.0 (root_ready count classes parents one here.1))
-    (walks_told count classes parents n numbers whole (λ other k. all other (inr k)))
+    (walk_reported count classes parents n whole (none_around count) one here.0 (root_ready count classes parents one here.1))
+    (walks_reported count classes parents n numbers whole (λ other k. all other (inr k)))
 
 -- every class is inside a class without a superclass, and no other numbers are
 inside_within : (parents : List (Option ℕ)) (n class one : ℕ) → IsForest parents → class < length parents → Among one (inside (extensions parents) n class) → one < length parents
@@ -297,8 +297,8 @@ pub way_second : (count : ℕ) (classes : List Class) (parents : List (Option �
     Same (way_faults classes (none_around count) (way_of parents)) (second_faults classes parents)
 way_second count classes parents sound each below =
     let whole : Whole count classes parents = record { sound = sound; each = each; below = below } in
-    let walked = walks_told count classes parents (deep parents) (roots 0 parents) whole (λ one k. root_is parents one sound.counted k) in
-    same_then _ _ _ walked.told (record {
+    let walked = walks_reported count classes parents (deep parents) (roots 0 parents) whole (λ one k. root_is parents one sound.counted k) in
+    same_then _ _ _ walked.reported (record {
       noted = λ faults. same_noted faults (flat_map wrong through) (flat_map wrong all)
           (λ f h. let w = from_flat wrong f through h in let l = only_inside parents w.0 sound w.1 in among_flat wrong f w.0 all (among_range w.0 0 (length classes) (omega arith) (omega arith)) w.2)
           (λ f h. let w = from_flat wrong f all h in let l = range_below w.0 0 (length classes) w.1 in among_flat wrong f w.0 through (all_inside parents w.0 sound (omega arith)) w.2);

@@ -4,7 +4,7 @@ use Rattle.std.proofs.lemmas.List.{drop_more}
 use Rattle.dpj_headers.specs.declared.forest.Step.{Step}
 use Rattle.dpj_headers.specs.declared.forest.Step.TheVariants as step
 use Rattle.dpj_headers.specs.Numbers.{as_number}
-use Rattle.dpj_headers.specs.Way.{extending, roots, last_first, walk, walks, Each, IsEnded, entered_below, behind}
+use Rattle.dpj_headers.specs.Way.{extending, roots, last_first, walk, walks, Each, IsEnded, entered_below, following}
 
 abbrev pub part_of : List (List ℕ) → ℕ → Step → List Step
 part_of lists n (step.Enter class) = walk lists n class
@@ -107,18 +107,18 @@ left_step lists n class steps pending all h e = (
 
 -- what is popped is taken, and what comes after it is pushed
 taken_here : (lists : List (List ℕ)) (n : ℕ) (taken : Step) (steps popped all : List Step) → AllEnded lists n (popped ++ taken ∷ []) × (steps ++ left_of lists n (popped ++ taken ∷ []) ≡ all) →
-    AllEnded lists n (popped ++ behind lists taken) × ((steps ++ taken ∷ []) ++ left_of lists n (popped ++ behind lists taken) ≡ all)
+    AllEnded lists n (popped ++ following lists taken) × ((steps ++ taken ∷ []) ++ left_of lists n (popped ++ following lists taken) ≡ all)
 taken_here lists n (step.Enter class) steps popped all h = entered_step lists n class steps popped all h.0 h.1
 taken_here lists n (step.Leave class) steps popped all h =
     let r = left_step lists n class steps popped all h.0 h.1 in
     subst (λ p. AllEnded lists n p × ((steps ++ step.Leave class ∷ []) ++ left_of lists n p ≡ all)) (sym (append-nil popped)) r
 
-pub step_taken : (lists : List (List ℕ)) (n : ℕ) (taken : Step) (steps more before popped after all : List Step) → before ≡ popped ++ taken ∷ [] → more ≡ steps ++ taken ∷ [] → after ≡ popped ++ behind lists taken →
+pub step_taken : (lists : List (List ℕ)) (n : ℕ) (taken : Step) (steps more before popped after all : List Step) → before ≡ popped ++ taken ∷ [] → more ≡ steps ++ taken ∷ [] → after ≡ popped ++ following lists taken →
     AllEnded lists n before × (steps ++ left_of lists n before ≡ all) → AllEnded lists n after × (more ++ left_of lists n after ≡ all)
 step_taken lists n taken steps more before popped after all pop push next h =
     let was = subst (λ p. AllEnded lists n p × (steps ++ left_of lists n p ≡ all)) pop h in
     let r = taken_here lists n taken steps popped all was in
-    subst (λ p. AllEnded lists n p × (more ++ left_of lists n p ≡ all)) (sym next) (subst (λ m. AllEnded lists n (popped ++ behind lists taken) × (m ++ left_of lists n (popped ++ behind lists taken) ≡ all)) (sym push) r)
+    subst (λ p. AllEnded lists n p × (more ++ left_of lists n p ≡ all)) (sym next) (subst (λ m. AllEnded lists n (popped ++ following lists taken) × (m ++ left_of lists n (popped ++ following lists taken) ≡ all)) (sym push) r)
 
 -- the next class is one without a superclass, or not
 pub root_next : (parents : List (Option ℕ)) (i : ℕ) → i < length parents → is_some (get_or parents i None) ≡ false → roots i (drop i parents) ≡ as_number i ∷ roots (i + 1) (drop (i + 1) parents)

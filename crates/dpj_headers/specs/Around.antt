@@ -13,7 +13,7 @@ use Rattle.dpj_headers.specs.declared.forest.Step.{Step}
 use Rattle.dpj_headers.specs.declared.forest.Step.TheVariants as step
 use Rattle.dpj_headers.specs.declared.faults.Order.TheVariants as order
 use Rattle.dpj_headers.specs.declared.members.Visible.{Visible}
-use Rattle.dpj_headers.specs.Faults.{all_noted, told, none_by}
+use Rattle.dpj_headers.specs.Faults.{all_noted, reported, none_by}
 use Rattle.dpj_headers.specs.Members.{marks, is_free, entered, left, all_entered, all_left, second_names, param_names, formal_names, misnamed}
 use Rattle.dpj_headers.specs.Passes.{fault_if, is_constructor_result}
 
@@ -145,5 +145,5 @@ way_faults classes seen [] = []
 way_faults classes seen (s ∷ more) = step_faults classes seen s ++ way_faults classes (after_step classes seen s) more
 
 -- the fault that is reported of these, if there is one
-abbrev pub told_on_way : ℕ → List Class → List Step → Option Refusal
-told_on_way names classes steps = told (all_noted (none_by order.Place) (way_faults classes (none_around names) steps))
+abbrev pub reported_on_way : ℕ → List Class → List Step → Option Refusal
+reported_on_way names classes steps = reported (all_noted (none_by order.Place) (way_faults classes (none_around names) steps))

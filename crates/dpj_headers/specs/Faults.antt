@@ -26,13 +26,13 @@ comes_first order.Number a b =
     || ((kind_number a.kind == kind_number b.kind) && is_before a.place b.place)
 
 -- the one that is reported, where one was reported so far and a further one is noted
-abbrev pub told_of : Order → Option Refusal → Refusal → Refusal
-told_of by None fault = fault
-told_of by (Some told) fault = cond (comes_first by fault told) fault told
+abbrev pub reported_of : Order → Option Refusal → Refusal → Refusal
+reported_of by None fault = fault
+reported_of by (Some reported) fault = cond (comes_first by fault reported) fault reported
 
 -- the fault that is reported, where one was noted
-abbrev pub told : Faults → Option Refusal
-told faults = faults.kept
+abbrev pub reported : Faults → Option Refusal
+reported faults = faults.kept
 
 -- no fault is noted, and the order is this one
 abbrev pub none_by : Order → Faults
@@ -40,7 +40,7 @@ none_by by = record { order = by; kept = None }
 
 -- with a further fault
 unfoldable pub noted : Faults → Refusal → Faults
-noted faults fault = record faults { kept = Some (told_of faults.order faults.kept fault) }
+noted faults fault = record faults { kept = Some (reported_of faults.order faults.kept fault) }
 
 -- with further faults, one after the other
 abbrev pub all_noted : Faults → List Refusal → Faults

@@ -4,7 +4,7 @@ use Rattle.dpj_base.specs.declared.refusal.Refusal.{Refusal}
 use Rattle.dpj_tree.specs.declared.class.Class.{Class}
 use Rattle.dpj_headers.specs.declared.faults.Faults.{Faults}
 use Rattle.dpj_headers.specs.declared.faults.Order.TheVariants as order
-use Rattle.dpj_headers.specs.Faults.{all_noted, told, none_by}
+use Rattle.dpj_headers.specs.Faults.{all_noted, reported, none_by}
 use Rattle.dpj_headers.specs.Passes.{first_named, second_classes, named_parent, unknown_parents, has_constructor, cycles, closed_parents}
 use Rattle.dpj_headers.specs.Rounds.{TellRounds}
 
@@ -29,5 +29,5 @@ IsNotedFirst classes old new =
     (rounds : List Bool) × TellRounds (parents_in classes) rounds × (new ≡ all_noted old (first_faults classes rounds))
 
 -- the fault that is reported of them, if there is one: that with the least place
-abbrev pub IsToldFirst : List Class → Option Refusal → Type 0
-IsToldFirst classes fault = (faults : Faults) × IsNotedFirst classes (none_by order.Place) faults × (told faults ≡ fault)
+abbrev pub IsReportedFirst : List Class → Option Refusal → Type 0
+IsReportedFirst classes fault = (faults : Faults) × IsNotedFirst classes (none_by order.Place) faults × (reported faults ≡ fault)

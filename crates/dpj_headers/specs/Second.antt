@@ -13,8 +13,8 @@ use Rattle.dpj_tree.specs.declared.class.Member.TheVariants as member
 use Rattle.dpj_tree.specs.declared.class.Method.{Method}
 use Rattle.dpj_tree.specs.declared.region.Named.{Named}
 use Rattle.dpj_headers.specs.declared.faults.Order.TheVariants as order
-use Rattle.dpj_headers.specs.Faults.{all_noted, told, none_by}
-use Rattle.dpj_headers.specs.First.{parents_in, IsToldFirst}
+use Rattle.dpj_headers.specs.Faults.{all_noted, reported, none_by}
+use Rattle.dpj_headers.specs.First.{parents_in, IsReportedFirst}
 use Rattle.dpj_headers.specs.Headers.{chain}
 use Rattle.dpj_headers.specs.Members.{param_names, formal_names, misnamed}
 use Rattle.dpj_headers.specs.Passes.{fault_if, is_constructor_result}
@@ -121,9 +121,9 @@ abbrev pub AreCounted : ℕ → List Class → Type 0
 AreCounted count classes = IsCounted classes × AreNamed count classes
 
 -- the fault that is reported of what is wrong in the members, if there is one: that with the least place
-abbrev pub told_second : List Class → Option Refusal
-told_second classes = told (all_noted (none_by order.Place) (second_faults classes (parents_in classes)))
+abbrev pub reported_second : List Class → Option Refusal
+reported_second classes = reported (all_noted (none_by order.Place) (second_faults classes (parents_in classes)))
 
 -- a refusal is that of the first pass, or where there is none that of the second
-abbrev pub IsToldOf : List Class → Refusal → Type 0
-IsToldOf classes fault = IsToldFirst classes (Some fault) ⊎ (IsToldFirst classes None × (told_second classes ≡ Some fault))
+abbrev pub IsReportedOf : List Class → Refusal → Type 0
+IsReportedOf classes fault = IsReportedFirst classes (Some fault) ⊎ (IsReportedFirst classes None × (reported_second classes ≡ Some fault))

@@ -68,9 +68,9 @@ abbrev pub entered_below : List ℕ → List Step
 entered_below classes = map (λ class. step.Enter class) classes
 
 -- what comes after a step, the last first
-abbrev pub behind : List (List ℕ) → Step → List Step
-behind lists (step.Enter class) = step.Leave class ∷ entered_below (extending lists class)
-behind lists (step.Leave class) = []
+abbrev pub following : List (List ℕ) → Step → List Step
+following lists (step.Enter class) = step.Leave class ∷ entered_below (extending lists class)
+following lists (step.Leave class) = []
 
 -- the superclasses of classes: there are fewer classes than numbers, each superclass is there, and no class is its own
 pub record IsForest (parents : List (Option ℕ)) : Type 0 where

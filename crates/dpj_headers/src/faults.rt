@@ -1,5 +1,5 @@
 ghost use Rattle.std.specs.Prelude.{◌≡◌, None};
-ghost use Rattle.dpj_headers.specs.Faults.{is_before, comes_first, told, none_by, noted, forgotten, settled};
+ghost use Rattle.dpj_headers.specs.Faults.{is_before, comes_first, reported, none_by, noted, forgotten, settled};
 
 use dpj_base::{Kind, Place, Refusal, Stop};
 
@@ -63,18 +63,18 @@ impl Faults {
         ensures { self.new ≡ noted self.old (record { kind = kind; place = place }) }
     {
         let fault = Refusal { kind, place };
-        let is_told = match self.kept {
+        let is_reported = match self.kept {
             None => true,
             Some(kept) => comes_first(self.order, fault, kept),
         };
-        if is_told {
+        if is_reported {
             self.kept = Some(fault);
         }
     }
 
     /// Tells the fault, where one was noted, and forgets it.
     pub fn settle(&mut self) -> Result<(), Stop>
-        ensures result { result ≡ settled (told self.old) }
+        ensures result { result ≡ settled (reported self.old) }
         ensures forgotten { self.new ≡ forgotten self.old }
     {
         match self.kept.take() {

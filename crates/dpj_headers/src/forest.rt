@@ -1,5 +1,5 @@
 ghost use Rattle.std.specs.Prelude.{◌≡◌, ℕ, ◌++◌, [], length, replicate, IfOk, OnOk};
-ghost use Rattle.dpj_headers.specs.Way.{with_filed, extensions, walk, IsEnded, IsCounted, entered_below, behind, way_of};
+ghost use Rattle.dpj_headers.specs.Way.{with_filed, extensions, walk, IsEnded, IsCounted, entered_below, following, way_of};
 
 use crate::numbers::number_at;
 use dpj_base::{Items, NoMemory};
@@ -75,14 +75,14 @@ fn visit(
     pending.push(Step::Enter(root))?;
     while let Some(step) = pending.pop() {
         steps.push(step)?;
-        push_behind(lists, step, &mut pending)?;
+        push_after(lists, step, &mut pending)?;
     }
     Ok(())
 }
 
 /// What comes after a step, the last first.
-fn push_behind(lists: &[Items<u32>], step: Step, pending: &mut Items<Step>) -> Result<(), NoMemory>
-    ensures { OnOk result (pending.new ≡ pending.old ++ behind lists.now step) }
+fn push_after(lists: &[Items<u32>], step: Step, pending: &mut Items<Step>) -> Result<(), NoMemory>
+    ensures { OnOk result (pending.new ≡ pending.old ++ following lists.now step) }
 {
     let Step::Enter(class) = step else {
         return Ok(());

@@ -1,11 +1,11 @@
 ghost use Rattle.std.specs.Prelude.{◌≡◌, ℕ, map, codes, length, slice_index_or, None, Some, IfOk, IfErr, OnOk};
 ghost use Rattle.dpj_base.specs.Refused.{IfRefused};
-ghost use Rattle.dpj_headers.specs.Around.{told_on_way};
-ghost use Rattle.dpj_headers.specs.First.{IsToldFirst, IsNotedFirst, parents_in, class_named};
+ghost use Rattle.dpj_headers.specs.Around.{reported_on_way};
+ghost use Rattle.dpj_headers.specs.First.{IsReportedFirst, IsNotedFirst, parents_in, class_named};
 ghost use Rattle.dpj_headers.specs.Gathered.{param_row, header_row, header_rows, name_number, all_regions, headers_in};
 ghost use Rattle.dpj_headers.specs.Numbering.{counted_rows};
 ghost use Rattle.dpj_headers.specs.Numbers.{number_of};
-ghost use Rattle.dpj_headers.specs.Second.{AreCounted, told_second, IsToldOf};
+ghost use Rattle.dpj_headers.specs.Second.{AreCounted, reported_second, IsReportedOf};
 ghost use Rattle.dpj_headers.specs.Way.{IsCounted, way_of};
 
 use crate::faults::Faults;
@@ -26,10 +26,10 @@ use std::alloc::Global;
 /// its class. Of these two groups the first comes first, and in a group the fault with the least place.
 pub fn headers(alloc: Global, program: &Program) -> Result<Headers, Stop>
     requires { AreCounted (length program.now.names) program.now.classes }
-    ensures first { OnOk result (IsToldFirst program.now.classes None) }
-    ensures second { OnOk result (told_second program.now.classes ≡ None) }
+    ensures first { OnOk result (IsReportedFirst program.now.classes None) }
+    ensures second { OnOk result (reported_second program.now.classes ≡ None) }
     ensures made { IfOk result (λ headers. headers ≡ headers_in program.now) }
-    ensures refused { IfErr result (λ stop. IfRefused stop (IsToldOf program.now.classes)) }
+    ensures refused { IfErr result (λ stop. IfRefused stop (IsReportedOf program.now.classes)) }
 {
     let linked = link_classes(alloc, program.classes.as_slice())?;
     of_linked(alloc, program, linked)
@@ -44,10 +44,10 @@ struct Linked {
 
 /// Looks at the classes alone, or tells the first fault there.
 fn link_classes(alloc: Global, classes: &[Class]) -> Result<Linked, Stop>
-    ensures accepted { IfOk result (λ linked. IsToldFirst classes.now None) }
+    ensures accepted { IfOk result (λ linked. IsReportedFirst classes.now None) }
     ensures named { IfOk result (λ linked. (name : ℕ) → number_of linked.numbers name ≡ class_named classes.now name) }
     ensures parents { IfOk result (λ linked. linked.parents ≡ parents_in classes.now) }
-    ensures fault { IfErr result (λ stop. IfRefused stop (λ fault. IsToldFirst classes.now (Some fault))) }
+    ensures fault { IfErr result (λ stop. IfRefused stop (λ fault. IsReportedFirst classes.now (Some fault))) }
 {
     let mut faults = Faults::by_place();
     let linked = look_at_classes(alloc, classes, &mut faults)?;
@@ -79,8 +79,8 @@ fn look_at_members(
     names: usize,
     steps: &[Step],
 ) -> Result<(), Stop>
-    ensures accepted { OnOk result (told_on_way names classes.now steps.now ≡ None) }
-    ensures fault { IfErr result (λ stop. IfRefused stop (λ fault. told_on_way names classes.now steps.now ≡ Some fault)) }
+    ensures accepted { OnOk result (reported_on_way names classes.now steps.now ≡ None) }
+    ensures fault { IfErr result (λ stop. IfRefused stop (λ fault. reported_on_way names classes.now steps.now ≡ Some fault)) }
 {
     let mut faults = Faults::by_place();
     check_members(alloc, classes, names, steps, &mut faults)?;
@@ -90,12 +90,12 @@ fn look_at_members(
 /// The headers, or the first fault of members.
 fn of_linked(alloc: Global, program: &Program, linked: Linked) -> Result<Headers, Stop>
     requires counted { IsCounted program.now.classes }
-    requires first { IsToldFirst program.now.classes None }
+    requires first { IsReportedFirst program.now.classes None }
     requires parents { linked.parents ≡ parents_in program.now.classes }
     requires named { (name : ℕ) → number_of linked.numbers name ≡ class_named program.now.classes name }
     ensures made { IfOk result (λ headers. headers ≡ record { rows = counted_rows program.now.classes (parents_in program.now.classes) (way_of (parents_in program.now.classes)); regions = all_regions 0 program.now.classes; main = name_number program.now.names (codes "Main") }) }
-    ensures accepted { OnOk result (told_on_way (length program.now.names) program.now.classes (way_of (parents_in program.now.classes)) ≡ None) }
-    ensures fault { IfErr result (λ stop. IfRefused stop (λ fault. told_on_way (length program.now.names) program.now.classes (way_of (parents_in program.now.classes)) ≡ Some fault)) }
+    ensures accepted { OnOk result (reported_on_way (length program.now.names) program.now.classes (way_of (parents_in program.now.classes)) ≡ None) }
+    ensures fault { IfErr result (λ stop. IfRefused stop (λ fault. reported_on_way (length program.now.names) program.now.classes (way_of (parents_in program.now.classes)) ≡ Some fault)) }
 {
     let Linked { numbers, parents } = linked;
     let classes = program.classes.as_slice();

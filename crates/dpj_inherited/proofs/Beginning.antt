@@ -31,7 +31,7 @@ use Rattle.dpj_classes.specs.Table.{headers_of, methods_of, constructor_of}
 use Rattle.dpj_resolved.specs.Accepted.{IsAccepted}
 use Rattle.dpj_resolved.proofs.Assembled.{facts, has_member, number_is}
 use Rattle.dpj_resolved.proofs.Expressions.{and_split}
-use Rattle.dpj_resolved.proofs.Free.{append_none, fault_none, none_told, not_false}
+use Rattle.dpj_resolved.proofs.Free.{append_none, fault_none, none_reported, not_false}
 use Rattle.dpj_resolved.proofs.Lists.{some_same, and_then_there, map_there, there, made_there}
 use Rattle.dpj_written.specs.Written.{IsWritten}
 use Rattle.dpj_inherited.specs.Laws.{AcceptedHasMain}
@@ -134,7 +134,7 @@ module _ (program : Program) (table : Table) (bodies : List PlainBody) (written 
     free : main_faults table program.names ≡ []
     free =
         (append_none (override_faults table (methods_of table)) (main_faults table program.names)
-        (none_told (none_by order.Place) (table_faults table program.names) accepted.whole)).1
+        (none_reported (none_by order.Place) (table_faults table program.names) accepted.whole)).1
 
     abbrev faults_of : Option ℕ → List Refusal
     faults_of o =

@@ -7,7 +7,7 @@ use Rattle.std.specs.Option.{option_map}
 use Rattle.std.specs.Prelude.{slice_get, slice_index_or}
 use Rattle.dpj_base.specs.declared.refusal.Kind.TheVariants as kind
 use Rattle.dpj_headers.specs.declared.faults.Order.TheVariants as order
-use Rattle.dpj_headers.specs.Faults.{none_by, told}
+use Rattle.dpj_headers.specs.Faults.{none_by, reported}
 use Rattle.dpj_headers.specs.First.{class_named, first_faults, parents_in}
 use Rattle.dpj_headers.specs.Headers.{parent_of}
 use Rattle.dpj_headers.specs.Passes.{closed_parents, cycles, extends_place, fault_if, has_constructor, is_among, is_constructor, second_classes, unknown_parents}
@@ -27,7 +27,7 @@ use Rattle.dpj_assembly.specs.Assembled.{PlainBody, member_of}
 use Rattle.dpj_resolved.specs.Accepted.{IsAccepted}
 use Rattle.dpj_resolved.proofs.Assembled.{facts, has_member}
 use Rattle.dpj_resolved.proofs.Expressions.{and_split}
-use Rattle.dpj_resolved.proofs.Free.{append_none, fault_none, none_told}
+use Rattle.dpj_resolved.proofs.Free.{append_none, fault_none, none_reported}
 use Rattle.dpj_resolved.proofs.Lists.{some_same, and_then_there, map_there, got_mapped}
 use Rattle.dpj_written.specs.Written.{IsWritten}
 use Rattle.dpj_inherited.proofs.Above.{P}
@@ -85,7 +85,7 @@ module _ (program : Program) (table : Table) (bodies : List PlainBody) (written 
         let first = accepted.rows.named.first in
         let rounds = first.1.0 in
         let classes = program.classes in
-        let none = none_told (none_by order.Place) (first_faults classes rounds) (ap told (sym first.1.2) ∙ first.2) in
+        let none = none_reported (none_by order.Place) (first_faults classes rounds) (ap reported (sym first.1.2) ∙ first.2) in
         let a = append_none (second_classes [] classes) _ none in
         let b = append_none (unknown_parents (class_named classes) classes) _ a.1 in
         (append_none (cycles rounds 0 classes) _ b.1).1

@@ -32,7 +32,7 @@ use Rattle.dpj_classes.specs.Table.{headers_of, methods_of, numbered, constructo
 use Rattle.dpj_assembly.specs.Assembled.{PlainBody, class_of, field_of, member_of, parent_at}
 use Rattle.dpj_resolved.specs.Accepted.{IsAccepted}
 use Rattle.dpj_resolved.proofs.Assembled.{facts, has_member}
-use Rattle.dpj_resolved.proofs.Free.{append_none, none_told}
+use Rattle.dpj_resolved.proofs.Free.{append_none, none_reported}
 use Rattle.dpj_resolved.proofs.Lists.{some_same, map_there, there, made_is}
 use Rattle.dpj_rows.proofs.Facts.{Facts, over_is, named_is, parent_is}
 use Rattle.dpj_rows.proofs.Numbers.{owner_of}
@@ -84,7 +84,7 @@ module _ (program : Program) (table : Table) (bodies : List PlainBody) (written 
         ∙ fields_with (parent_args_of table c) (fields_in table above) (declared_fields table c)
 
     faults_free : override_faults table (methods_of table) ≡ []
-    faults_free = (append_none (override_faults table (methods_of table)) (main_faults table program.names) (none_told (none_by order.Place) (table_faults table program.names) accepted.whole)).0
+    faults_free = (append_none (override_faults table (methods_of table)) (main_faults table program.names) (none_reported (none_by order.Place) (table_faults table program.names) accepted.whole)).0
 
     -- a method that overrides one fits it
     fits_there : (m n : ℕ) (row over : MethodRow) → slice_get (methods_of table) m ≡ Some row → slice_get (methods_of table) n ≡ Some over → overridden_by table m ≡ Some n → Fits (args_in table row over.owner) row over

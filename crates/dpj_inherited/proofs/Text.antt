@@ -43,15 +43,15 @@ record Among (scope : PlainScope) (members : List Member) (row : PlainMethod) : 
   id : ℕ
   is : row ≡ method_row scope id method
 
-behind_one : (scope : PlainScope) (m : Member) (members : List Member) (row : PlainMethod) → Among scope members row → Among scope (m ∷ members) row
-behind_one scope m members row w = record { method = w.method; spot = suc w.spot; declared = w.declared; id = w.id; is = w.is }
+after_one : (scope : PlainScope) (m : Member) (members : List Member) (row : PlainMethod) → Among scope members row → Among scope (m ∷ members) row
+after_one scope m members row w = record { method = w.method; spot = suc w.spot; declared = w.declared; id = w.id; is = w.is }
 
 from_members : (scope : PlainScope) (count : ℕ) (members : List Member) (i : ℕ) (row : PlainMethod) → slice_get (methods_from scope count members) i ≡ Some row → Among scope members row
 from_members scope count [] i row e = cc
-from_members scope count (member.Regions is_atomic names ∷ members) i row e = behind_one scope _ members row (from_members scope (count + 0) members i row e)
-from_members scope count (member.Field field ∷ members) i row e = behind_one scope _ members row (from_members scope (count + 0) members i row e)
+from_members scope count (member.Regions is_atomic names ∷ members) i row e = after_one scope _ members row (from_members scope (count + 0) members i row e)
+from_members scope count (member.Field field ∷ members) i row e = after_one scope _ members row (from_members scope (count + 0) members i row e)
 from_members scope count (member.Method method ∷ members) zero row e = record { method = method; spot = 0; declared = refl; id = as_number count; is = sym (some_same e) }
-from_members scope count (member.Method method ∷ members) (suc i) row e = behind_one scope _ members row (from_members scope (count + 1) members i row e)
+from_members scope count (member.Method method ∷ members) (suc i) row e = after_one scope _ members row (from_members scope (count + 1) members i row e)
 
 pub row_comes : (headers : Headers) (all : List (List Constraint)) (at count : ℕ) (classes : List Class) (i : ℕ) (row : PlainMethod) → slice_get (methods_meant headers all at count classes) i ≡ Some row → Comes classes at row
 row_comes headers all at count [] i row e = cc

@@ -1,6 +1,7 @@
 -- Effects that are alone interfere with no effect of another branch.
 use Rattle.std.proofs.Common.{◌≡◌, ◌≢◌, ℕ, true, false, not, ◌||◌, List, Option, Some, None, refl, sym, ap, ◌∙◌, subst, ⊎_elim}
-use Rattle.std.proofs.lemmas.Bool.{and_parts, and_left, and_right, or_cases, false≢true, not-true, not-false, ne_eqb, eqb-true, cases_Bool, cases_eq}
+use Rattle.std.proofs.lemmas.Bool.{and_parts, and_left, and_right, or_cases, false≢true, not-true, not-false, ne_eqb, eqb-true, cases_Bool}
+use Rattle.dpj_base.specs.declared.elems.Elem.{Elem}
 use Rattle.dpj_base.specs.declared.effect.Access.{Access}
 use Rattle.dpj_base.specs.declared.effect.Access.TheVariants.{Read, Write}
 use Rattle.dpj_base.specs.declared.effect.Effect.{Effect}
@@ -15,7 +16,7 @@ use Rattle.dpj_interfere.specs.declared.thin.Kinds.{Kinds}
 use Rattle.dpj_interfere.specs.Groups.{seen, has_other, group_shows, group_meets, key_of, keyed_group, group_at, shows, alone_at, alone}
 use Rattle.dpj_interfere.specs.Kept.{Grouped, kept, ThinnedBy}
 use Rattle.dpj_interfere.specs.Thinned.{Thinned}
-use Rattle.dpj_interfere.proofs.Keys.{keys-apart}
+use Rattle.dpj_interfere.proofs.Keys.{same_or_other, keys-apart}
 
 another : (s : Seen) (i j : ℕ) → i ≢ j → seen s j ≡ true → has_other s i ≡ true
 another Nobody i j ne h = absurd (false≢true h)
@@ -31,7 +32,7 @@ met g i j Read Read ne w h = absurd (false≢true w)
 unmet : (g : Group) (i j : ℕ) (a b : Access) → i ≢ j → (is_write a || is_write b) ≡ true → group_shows g j b ≡ true → not (group_meets g i a) ≡ true → ⊥
 unmet g i j a b ne w h k = false≢true (sym (not-true _ k) ∙ met g i j a b ne w h)
 
-apart-alone : (g : Groups) (given : List Constraint) (e f : Effect) (i j : ℕ) → i ≢ j → (is_write e.access || is_write f.access) ≡ true → (o p : Option ℕ) →
+apart-alone : (g : Groups) (given : List Constraint) (e f : Effect) (i j : ℕ) → i ≢ j → (is_write e.access || is_write f.access) ≡ true → (o p : Option (List Elem)) →
     key_of g.key e ≡ o → key_of g.key f ≡ p → alone_at o g i e.access ≡ true → group_shows g.all j f.access ≡ true →
     group_shows (group_at g p) j f.access ≡ true → apart given e.rpl f.rpl ≡ true
 apart-alone g given e f i j ne w None p ke kf a all s = absurd (unmet g.all i j e.access f.access ne w all a)
@@ -44,7 +45,7 @@ apart-alone g given e f i j ne w (Some k) (Some l) ke kf a all s =
     (subst (λ z. group_shows (keyed_group g.keyed z) j f.access ≡ true) (sym same) s)
     (and_parts (not (group_meets g.unkeyed i e.access)) _ a).1))
     (λ differ. keys-apart given g.key e f k l ke kf differ)
-    (cases_eq k l)
+    (same_or_other k l)
 
 alone-quiet : (g : Groups) (given : List Constraint) (e f : Effect) (i j : ℕ) → i ≢ j → alone g i e ≡ true → shows g j f ≡ true → interferes given e f ≡ false
 unfolding interferes

@@ -1,17 +1,26 @@
 -- Effects by groups: an effect clashes with none of a list but those of its group and those that belong to none.
-use Rattle.std.proofs.Common.{◌≡◌, ℕ, Bool, true, false, not, ◌&&◌, ◌||◌, cond, List, [], ◌∷◌, Option, Some, None, refl, sym, ap, ◌∙◌}
+use Rattle.std.proofs.Common.{◌≡◌, Bool, true, false, not, ◌&&◌, ◌||◌, cond, List, [], ◌∷◌, ◌++◌, Option, Some, None, refl, sym, ap, ◌∙◌}
 use Rattle.std.specs.List.{filter}
-use Rattle.std.proofs.lemmas.Bool.{and_right, eq-eqb, false≢true}
+use Rattle.std.specs.Prelude.{unwrap_or}
+use Rattle.std.specs.Borrow.{Bor}
+use Rattle.indexmap.specs.IndexMap.{IndexMap, get_by}
+use Rattle.dpj_base.specs.Keys.{elems_eq}
+use Rattle.std.proofs.lemmas.Bool.{and_right, false≢true}
+use Rattle.std.proofs.lemmas.List.{append-nil}
+use Rattle.std.proofs.lemmas.List.Elements.{filter-append}
+use Rattle.dpj_base.specs.declared.elems.Elem.{Elem}
+use Rattle.dpj_base.proofs.Equal.{elems_decides}
 use Rattle.dpj_base.specs.declared.effect.Effect.{Effect}
 use Rattle.dpj_base.specs.declared.effect.Constraint.{Constraint}
 use Rattle.dpj_base.specs.Apart.{apart}
 use Rattle.dpj_base.specs.Effects.{is_write, interferes}
 use Rattle.dpj_base.specs.Branches.{Atomic, clashes, some_clashes}
 use Rattle.dpj_interfere.specs.declared.key.Key.{Key}
-use Rattle.dpj_interfere.specs.Groups.{key_of, is_number}
-use Rattle.dpj_interfere.specs.InGroups.{is_none, is_in, is_in_none, in_group, in_no_group}
+use Rattle.dpj_interfere.specs.Groups.{key_of, is_key}
+use Rattle.dpj_interfere.specs.InGroups.{is_none, is_in, is_in_none, in_group, in_no_group, group_of, Sorted}
 use Rattle.dpj_interfere.proofs.Filtered.{quiet-clash}
 use Rattle.dpj_interfere.proofs.Keys.{keys-apart}
+use Rattle.dpj_interfere.proofs.Noted.{unwrapped, cond_at}
 
 -- two filters that leave out together only what isn't met
 or-mixed : (p q m s t : Bool) → (p ≡ false → q ≡ false → m ≡ false) → ((p && m) || s) || ((q && m) || t) ≡ m || (s || t)
@@ -50,14 +59,14 @@ module _ (given : List Constraint) (nd : Option Atomic) where
       ∙ ap (λ z. clashes given nd e f || z) (two-filters p q e h fs)
 
 -- effects of different groups don't interfere
-other-group : (given : List Constraint) (key : Key) (e f : Effect) (k : ℕ) → key_of key e ≡ Some k → is_in key k f ≡ false → is_in_none key f ≡ false →
+other-group : (given : List Constraint) (key : Key) (e f : Effect) (k : List Elem) → key_of key e ≡ Some k → is_in key k f ≡ false → is_in_none key f ≡ false →
     interferes given e f ≡ false
 unfolding interferes
 other-group given key e f k ke out keyed = and_right (is_write e.access || is_write f.access) _ (ap not (by_key (key_of key f) refl out keyed))
   where
-    by_key : (o : Option ℕ) → key_of key f ≡ o → is_number o k ≡ false → is_none o ≡ false → apart given e.rpl f.rpl ≡ true
+    by_key : (o : Option (List Elem)) → key_of key f ≡ o → is_key o k ≡ false → is_none o ≡ false → apart given e.rpl f.rpl ≡ true
     by_key None kf a b = absurd (false≢true (sym b))
-    by_key (Some l) kf a b = keys-apart given key e f k l ke kf (λ s. false≢true (sym a ∙ eq-eqb l k (sym s)))
+    by_key (Some l) kf a b = keys-apart given key e f k l ke kf (λ s. false≢true (sym a ∙ (elems_decides l k).1 (sym s)))
 
 or-false : (b : Bool) → b || false ≡ b
 or-false true = refl
@@ -67,7 +76,7 @@ pub clashes-by_group : (given : List Constraint) (nd : Option Atomic) (key : Key
     some_clashes given nd e (in_group key (key_of key e) fs) || some_clashes given nd e (in_no_group key (key_of key e) fs) ≡ some_clashes given nd e fs
 clashes-by_group given nd key e fs = by_key (key_of key e) refl
   where
-    by_key : (o : Option ℕ) → key_of key e ≡ o →
+    by_key : (o : Option (List Elem)) → key_of key e ≡ o →
         some_clashes given nd e (in_group key o fs) || some_clashes given nd e (in_no_group key o fs) ≡ some_clashes given nd e fs
     by_key None ke = or-false (some_clashes given nd e fs)
     by_key (Some k) ke =
@@ -83,3 +92,46 @@ pub other-tells : (found : List Effect → Bool) (fs one other near far : List E
     near ≡ one → b ≡ false → d ≡ found far → far ≡ other → d ≡ found fs
 other-tells found fs one other near far b d both is same f so like =
     so ∙ ap found like ∙ sym (ap (λ z. z || found other) (ap found (sym same) ∙ sym is ∙ f)) ∙ both
+
+-- an effect put last in the group of those with its elements in common
+pub put-there : {S : Type 0} (old new : IndexMap (Bor (List Elem)) (List Effect) S) (common q : List Elem) (g w : List Effect) (e : Effect) →
+    get_by (λ k. elems_eq q k.now) new ≡ cond (elems_eq common q) (Some w) (get_by (λ k. elems_eq q k.now) old) → w ≡ g ++ e ∷ [] → group_of old common ≡ g →
+    group_of new q ≡ cond (elems_eq common q) (group_of old q ++ e ∷ []) (group_of old q)
+put-there old new common q g w e h is there =
+    ap (λ o. unwrap_or o []) h ∙ unwrapped (elems_eq common q) w [] _
+    ∙ ap (λ z. cond (elems_eq common q) z (group_of old q)) (is ∙ ap (λ z. z ++ e ∷ []) (sym there))
+    ∙ cond_at common q (λ p. group_of old p ++ e ∷ []) (group_of old q)
+
+filter-last : (p : Effect → Bool) (xs : List Effect) (e : Effect) → filter p (xs ++ e ∷ []) ≡ cond (p e) (filter p xs ++ e ∷ []) (filter p xs)
+filter-last p xs e = filter-append p xs (e ∷ []) ∙ by (p e)
+  where
+    by : (b : Bool) → filter p xs ++ cond b (e ∷ []) [] ≡ cond b (filter p xs ++ e ∷ []) (filter p xs)
+    by true = refl
+    by false = append-nil (filter p xs)
+
+-- an effect more that belongs to no group
+pub sorted-none : {S : Type 0} (key : Key) (keyed : IndexMap (Bor (List Elem)) (List Effect) S) (rest more xs : List Effect) (e f : Effect) → Sorted key keyed rest xs →
+    None ≡ key_of key e → f ≡ e → more ≡ rest ++ f ∷ [] → Sorted key keyed more (xs ++ e ∷ [])
+sorted-none key keyed rest more xs e f s k same is = record {
+  groups = λ q.
+      let here = filter (is_in key q) xs in
+      s.groups q ∙ sym (filter-last (is_in key q) xs e ∙ ap (λ o. cond (is_key o q) (here ++ e ∷ []) here) (sym k));
+  rest =
+      let here = filter (is_in_none key) xs in
+      is ∙ ap (λ z. z ++ f ∷ []) s.rest ∙ ap (λ z. here ++ z ∷ []) same
+      ∙ sym (filter-last (is_in_none key) xs e ∙ ap (λ o. cond (is_none o) (here ++ e ∷ []) here) (sym k));
+}
+
+-- an effect more that is put into its group
+pub sorted-some : {S : Type 0} (key : Key) (old new : IndexMap (Bor (List Elem)) (List Effect) S) (rest xs : List Effect) (e f : Effect) (common : List Elem) →
+    Sorted key old rest xs → Some common ≡ key_of key e → f ≡ e →
+    ((q : List Elem) → group_of new q ≡ cond (elems_eq common q) (group_of old q ++ f ∷ []) (group_of old q)) → Sorted key new rest (xs ++ e ∷ [])
+sorted-some key old new rest xs e f common s k same put = record {
+  groups = λ q.
+      let here = filter (is_in key q) xs in
+      put q ∙ ap (λ z. cond (elems_eq common q) (z ++ f ∷ []) z) (s.groups q) ∙ ap (λ z. cond (elems_eq common q) (here ++ z ∷ []) here) same
+      ∙ sym (filter-last (is_in key q) xs e ∙ ap (λ o. cond (is_key o q) (here ++ e ∷ []) here) (sym k));
+  rest =
+      let here = filter (is_in_none key) xs in
+      s.rest ∙ sym (filter-last (is_in_none key) xs e ∙ ap (λ o. cond (is_none o) (here ++ e ∷ []) here) (sym k));
+}

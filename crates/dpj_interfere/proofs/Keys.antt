@@ -1,8 +1,8 @@
 -- Paths of different groups are apart.
-use Rattle.std.proofs.Common.{◌≡◌, ◌≢◌, ℕ, ◌<◌, Bool, true, false, ◌&&◌, cond, List, [], ◌∷◌, ◌++◌, length, reverse, Option, Some, None, refl, sym, ap}
+use Rattle.std.proofs.Common.{◌≡◌, ◌≢◌, ℕ, ◌-◌, take, drop, ◌<◌, Bool, true, false, ◌&&◌, cond, List, [], ◌∷◌, ◌++◌, length, reverse, Option, Some, None, refl, sym, ap}
 use Rattle.std.proofs.Common.{◌∙◌, subst, inl, inr, ◌⊎◌, ⊎_elim, arith}
-use Rattle.std.proofs.lemmas.Bool.{and_parts, and_from, or_left, or_right}
-use Rattle.std.proofs.lemmas.List.{reverse-append}
+use Rattle.std.proofs.lemmas.Bool.{and_parts, and_from, or_left, or_right, false≢true, cases_Bool}
+use Rattle.std.proofs.lemmas.List.{reverse-append, take-append-drop}
 use Rattle.dpj_base.specs.declared.elems.Elem.{Elem}
 use Rattle.dpj_base.specs.declared.region.Head.{Head}
 use Rattle.dpj_base.specs.declared.region.Rpl.{Rpl}
@@ -11,61 +11,67 @@ use Rattle.dpj_base.specs.declared.effect.Constraint.{Constraint}
 use Rattle.dpj_base.specs.Regions.{same_head}
 use Rattle.dpj_base.specs.Apart.{distinct, apart_front, solid, apart_as_shorter, apart}
 use Rattle.dpj_base.specs.Matching.{is_concrete, all_concrete}
-use Rattle.dpj_effects.specs.Index.{elem_number, mixed}
+use Rattle.dpj_base.specs.Keys.{elems_eq}
+use Rattle.dpj_base.proofs.Equal.{elems_decides}
 use Rattle.dpj_regions.proofs.Same.{same_head-is, same_head-refl}
 use Rattle.dpj_disjoint.proofs.Concrete.{concrete-no_star, same_or_distinct, distinct-front}
 use Rattle.dpj_disjoint.proofs.Lists.{front-step, solid-one, shorter-from}
 use Rattle.dpj_disjoint.proofs.Paths.{by_rule}
 use Rattle.dpj_interfere.specs.declared.key.Key.{Key}
 use Rattle.dpj_interfere.specs.declared.key.Key.TheVariants.{First, Last, Whole}
-use Rattle.dpj_interfere.specs.Groups.{fixed_number, first_number, last_number, key_of}
+use Rattle.dpj_interfere.specs.Groups.{fixed_one, key_of}
 
-cond-some : (b : Bool) (n p : ℕ) → cond b (Some n) None ≡ Some p → (b ≡ true) × (n ≡ p)
+cond-some : {X : Type 0} (b : Bool) (n p : X) → cond b (Some n) None ≡ Some p → (b ≡ true) × (n ≡ p)
 cond-some true n p e = (refl, cc)
 cond-some false n p e = absurd (cc)
 
-cond-known : (b : Bool) (o : Option ℕ) (p : ℕ) → cond b o None ≡ Some p → (b ≡ true) × (o ≡ Some p)
+cond-known : {X : Type 0} (b : Bool) (o : Option X) (p : X) → cond b o None ≡ Some p → (b ≡ true) × (o ≡ Some p)
 cond-known true o p e = (refl, e)
 cond-known false o p e = absurd (cc)
 
--- lists that begin with elements of different numbers
-numbers-front : (x y : Elem) (a b : List Elem) (p q : ℕ) → fixed_number x ≡ Some p → fixed_number y ≡ Some q → p ≢ q → apart_front (x ∷ a) (y ∷ b) ≡ true
-numbers-front x y a b p q e f ne =
-    let m = cond-some (is_concrete x) (elem_number x) p e in
-    let n = cond-some (is_concrete y) (elem_number y) q f in
+pub same_or_other : (p q : List Elem) → (p ≡ q) ⊎ (p ≢ q)
+same_or_other p q =
     ⊎_elim
-    (λ s. absurd (ne (sym m.1 ∙ ap elem_number s ∙ n.1)))
-    (λ d. distinct-front x y a b m.0 n.0 d)
-    (same_or_distinct x y m.0 n.0)
+    (λ t. inl ((elems_decides p q).0 t))
+    (λ f. inr (λ s. false≢true (sym f ∙ (elems_decides p q).1 s)))
+    (cases_Bool (elems_eq p q))
 
-firsts-front : (a b : List Elem) (p q : ℕ) → first_number a ≡ Some p → first_number b ≡ Some q → p ≢ q → apart_front a b ≡ true
+-- a list of one element that stands for itself
+abbrev One : List Elem → List Elem → Type 0
+One a p = (x : Elem) × (a ≡ x ∷ []) × (is_concrete x ≡ true) × (x ∷ [] ≡ p)
+
+fixed-is : (a p : List Elem) → fixed_one a ≡ Some p → One a p
+fixed-is [] p e = absurd (cc)
+fixed-is (x ∷ []) p e = let h = cond-some (is_concrete x) (x ∷ []) p e in (x, refl, h.0, h.1)
+fixed-is (x ∷ y ∷ r) p e = absurd (cc)
+
+-- lists that begin with different elements
+heads-front : (x y : Elem) (a b p q : List Elem) → is_concrete x ≡ true → is_concrete y ≡ true → x ∷ [] ≡ p → y ∷ [] ≡ q → p ≢ q → apart_front (x ∷ a) (y ∷ b) ≡ true
+heads-front x y a b p q c d e f ne =
+    ⊎_elim
+    (λ s. absurd (ne (sym e ∙ ap (λ z. z ∷ []) s ∙ f)))
+    (λ apart. distinct-front x y a b c d apart)
+    (same_or_distinct x y c d)
+
+firsts-front : (a b p q : List Elem) → fixed_one (take 1 a) ≡ Some p → fixed_one (take 1 b) ≡ Some q → p ≢ q → apart_front a b ≡ true
 firsts-front [] b p q e f ne = absurd (cc)
 firsts-front (x ∷ a) [] p q e f ne = absurd (cc)
-firsts-front (x ∷ a) (y ∷ b) p q e f ne = numbers-front x y a b p q e f ne
+firsts-front (x ∷ a) (y ∷ b) p q e f ne =
+    let m = cond-some (is_concrete x) (x ∷ []) p e in
+    let n = cond-some (is_concrete y) (y ∷ []) q f in
+    heads-front x y a b p q m.0 n.0 m.1 n.1 ne
 
 -- the last element of a list, and what stands before it
-abbrev Ends : List Elem → ℕ → Type 0
-Ends a p = (l : List Elem) × (x : Elem) × (a ≡ l ++ x ∷ []) × (fixed_number x ≡ Some p)
+ends : (a : List Elem) (x : Elem) (n : ℕ) → drop n a ≡ x ∷ [] → reverse a ≡ x ∷ reverse (take n a)
+ends a x n e = ap reverse (sym (take-append-drop n a) ∙ ap (λ z. take n a ++ z) e) ∙ reverse-append (take n a) (x ∷ [])
 
-last-ends : (o : Option ℕ) (a : List Elem) (p : ℕ) → last_number o a ≡ Some p → ((a ≡ []) × (o ≡ Some p)) ⊎ Ends a p
-last-ends o [] p e = inl (refl, e)
-last-ends o (x ∷ a) p e =
-    ⊎_elim
-    (λ h. inr ([], x, ap (λ z. x ∷ z) h.0, h.1))
-    (λ h. inr (x ∷ h.0, h.1, ap (λ z. x ∷ z) h.2, h.3))
-    (last-ends (fixed_number x) a p e)
-
-ends : (a : List Elem) (p : ℕ) → last_number None a ≡ Some p → Ends a p
-ends a p e = ⊎_elim (λ h. let none = h.1 in absurd (cc)) (λ h. h) (last-ends None a p e)
-
-lasts-front : (a b : List Elem) (p q : ℕ) → last_number None a ≡ Some p → last_number None b ≡ Some q → p ≢ q → apart_front (reverse a) (reverse b) ≡ true
+lasts-front : (a b p q : List Elem) → fixed_one (drop (length a - 1) a) ≡ Some p → fixed_one (drop (length b - 1) b) ≡ Some q → p ≢ q →
+    apart_front (reverse a) (reverse b) ≡ true
 lasts-front a b p q e f ne =
-    let m = ends a p e in
-    let n = ends b q f in
-    let r : reverse a ≡ m.1 ∷ reverse m.0 = ap reverse m.2 ∙ reverse-append m.0 (m.1 ∷ []) in
-    let s : reverse b ≡ n.1 ∷ reverse n.0 = ap reverse n.2 ∙ reverse-append n.0 (n.1 ∷ []) in
-    ap (λ z. apart_front z (reverse b)) r ∙ ap (apart_front (m.1 ∷ reverse m.0)) s
-    ∙ numbers-front m.1 n.1 (reverse m.0) (reverse n.0) p q m.3 n.3 ne
+    let m = fixed-is (drop (length a - 1) a) p e in
+    let n = fixed-is (drop (length b - 1) b) q f in
+    ap (λ z. apart_front z (reverse b)) (ends a m.0 (length a - 1) m.1) ∙ ap (apart_front (m.0 ∷ reverse (take (length a - 1) a))) (ends b n.0 (length b - 1) n.1)
+    ∙ heads-front m.0 n.0 (reverse (take (length a - 1) a)) (reverse (take (length b - 1) b)) p q m.2 n.2 m.3 n.3 ne
 
 solid-concrete : (a : List Elem) → all_concrete a ≡ true → solid a ≡ length a
 solid-concrete [] h = refl
@@ -107,22 +113,22 @@ longer-apart a b s h k lt =
     let d = solid-concrete b.elems k in
     and_from _ _ (or_left _ _ s) (shorter-from a.elems b.elems c (omega arith))
 
-pub keys-apart : (given : List Constraint) (key : Key) (e f : Effect) (p q : ℕ) → key_of key e ≡ Some p → key_of key f ≡ Some q → p ≢ q →
+pub keys-apart : (given : List Constraint) (key : Key) (e f : Effect) (p q : List Elem) → key_of key e ≡ Some p → key_of key f ≡ Some q → p ≢ q →
     apart given e.rpl f.rpl ≡ true
 keys-apart given (First h) e f p q m n ne =
-    let a = cond-known (same_head e.rpl.head h) (first_number e.rpl.elems) p m in
-    let b = cond-known (same_head f.rpl.head h) (first_number f.rpl.elems) q n in
+    let a = cond-known (same_head e.rpl.head h) (fixed_one (take 1 e.rpl.elems)) p m in
+    let b = cond-known (same_head f.rpl.head h) (fixed_one (take 1 f.rpl.elems)) q n in
     by_rule given e.rpl f.rpl (inl (and_from _ _ (heads-same e.rpl.head f.rpl.head h a.0 b.0) (firsts-front e.rpl.elems f.rpl.elems p q a.1 b.1 ne)))
 keys-apart given Last e f p q m n ne = by_rule given e.rpl f.rpl (inr (inr (inl (lasts-front e.rpl.elems f.rpl.elems p q m n ne))))
 keys-apart given (Whole h) e f p q m n ne =
-    let a = cond-some (same_head e.rpl.head h && all_concrete e.rpl.elems) (mixed 7 e.rpl.elems) p m in
-    let b = cond-some (same_head f.rpl.head h && all_concrete f.rpl.elems) (mixed 7 f.rpl.elems) q n in
+    let a = cond-some (same_head e.rpl.head h && all_concrete e.rpl.elems) e.rpl.elems p m in
+    let b = cond-some (same_head f.rpl.head h && all_concrete f.rpl.elems) f.rpl.elems q n in
     let c = and_parts (same_head e.rpl.head h) _ a.0 in
     let d = and_parts (same_head f.rpl.head h) _ b.0 in
     let s = heads-same e.rpl.head f.rpl.head h c.0 d.0 in
     let t = heads-same f.rpl.head e.rpl.head h d.0 c.0 in
     ⊎_elim
-    (λ same. absurd (ne (sym a.1 ∙ ap (mixed 7) same ∙ b.1)))
+    (λ same. absurd (ne (sym a.1 ∙ same ∙ b.1)))
     (λ differ. by_rule given e.rpl f.rpl (⊎_elim
     (λ front. inl (and_from _ _ s front))
     (λ l. inr (inl (⊎_elim

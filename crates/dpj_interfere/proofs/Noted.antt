@@ -1,10 +1,14 @@
 -- What groups show of branches, and what an effect more keeps.
-use Rattle.std.proofs.Common.{◌≡◌, ◌==◌, ◌+◌, ◌<◌, ℕ, true, not, ◌||◌, cond, IsTrue, List, take, length, get_or, Option, Some, None, refl, sym, ap}
+use Rattle.std.proofs.Common.{◌≡◌, ◌==◌, ◌+◌, ◌<◌, ℕ, Bool, true, false, not, ◌||◌, cond, IsTrue, List, take, length, get_or, Option, Some, None, refl, sym, ap}
 use Rattle.std.proofs.Common.{◌∙◌, subst, ⊎_elim, arith}
 use Rattle.std.specs.List.{All}
+use Rattle.std.specs.Prelude.{unwrap_or}
 use Rattle.std.proofs.lemmas.Bool.{and_parts, and_from, or_cases, or_left, or_right, false≢true, eq-eqb, cond_both, cases_eq}
 use Rattle.std.proofs.lemmas.List.{get_or_read}
 use Rattle.std.proofs.lemmas.List.Elements.{All-more, All-weaker}
+use Rattle.dpj_base.specs.declared.elems.Elem.{Elem}
+use Rattle.dpj_base.specs.Keys.{elems_eq}
+use Rattle.dpj_base.proofs.Equal.{elems_decides}
 use Rattle.dpj_base.specs.declared.effect.Access.{Access}
 use Rattle.dpj_base.specs.declared.effect.Access.TheVariants.{Read, Write}
 use Rattle.dpj_base.specs.declared.effect.Effect.{Effect}
@@ -13,7 +17,7 @@ use Rattle.dpj_interfere.specs.declared.seen.Seen.{Seen}
 use Rattle.dpj_interfere.specs.declared.seen.Seen.TheVariants.{Nobody, One, Many}
 use Rattle.dpj_interfere.specs.declared.seen.Group.{Group}
 use Rattle.dpj_interfere.specs.declared.grouping.Groups.{Groups}
-use Rattle.dpj_interfere.specs.Groups.{seen_with, seen, group_with, group_shows, key_of, keyed_group, group_at, shows, is_number, with_unkeyed, Noted, Shows}
+use Rattle.dpj_interfere.specs.Groups.{seen_with, seen, group_with, group_shows, key_of, keyed_group, group_at, shows, is_key, with_unkeyed, Noted, Shows}
 use Rattle.dpj_interfere.specs.Groups.{ShowsFirst}
 
 seen-kept : (s : Seen) (i j : ℕ) → seen s i ≡ true → seen (seen_with s j) i ≡ true
@@ -43,31 +47,44 @@ writers-there s j Read = refl
 group-there : (g : Group) (j : ℕ) (access : Access) → group_shows (group_with g j access) j access ≡ true
 group-there g j access = and_from _ _ (seen-there g.any j) (writers-there g.writers j access)
 
-unkeyed-kept : (o : Option ℕ) (g : Group) (i j : ℕ) (v access : Access) → group_shows g i v ≡ true → group_shows (with_unkeyed o g j access) i v ≡ true
+-- a value that may have been put
+pub unwrapped : {X : Type 0} (b : Bool) (v d : X) (o : Option X) → unwrap_or (cond b (Some v) o) d ≡ cond b v (unwrap_or o d)
+unwrapped true v d o = refl
+unwrapped false v d o = refl
+
+-- where the elements are these, the value may be that of these
+pub cond_at : {X : Type 0} (p q : List Elem) (f : List Elem → X) (x : X) → cond (elems_eq p q) (f p) x ≡ cond (elems_eq p q) (f q) x
+cond_at p q f x = by (elems_eq p q) (λ t. ap f ((elems_decides p q).0 t))
+  where
+    by : (b : Bool) → (b ≡ true → f p ≡ f q) → cond b (f p) x ≡ cond b (f q) x
+    by true h = h refl
+    by false h = refl
+
+unkeyed-kept : (o : Option (List Elem)) (g : Group) (i j : ℕ) (v access : Access) → group_shows g i v ≡ true → group_shows (with_unkeyed o g j access) i v ≡ true
 unkeyed-kept None g i j v access h = group-kept g i j v access h
 unkeyed-kept (Some k) g i j v access h = h
 
-group_at-kept : (old new : Groups) (j : ℕ) (e : Effect) → Noted old new j e → (o : Option ℕ) (i : ℕ) (v : Access) → group_shows (group_at old o) i v ≡ true →
+group_at-kept : (old new : Groups) (j : ℕ) (e : Effect) → Noted old new j e → (o : Option (List Elem)) (i : ℕ) (v : Access) → group_shows (group_at old o) i v ≡ true →
     group_shows (group_at new o) i v ≡ true
 group_at-kept old new j e n None i v h =
     subst (λ g. group_shows g i v ≡ true) (sym n.unkeyed) (unkeyed-kept (key_of old.key e) old.unkeyed i j v e.access h)
 group_at-kept old new j e n (Some q) i v h =
     subst (λ g. group_shows g i v ≡ true) (sym (n.keyed q))
     (cond_both
-    (is_number (key_of old.key e) q)
+    (is_key (key_of old.key e) q)
     (group_with (keyed_group old.keyed q) j e.access)
     (keyed_group old.keyed q)
     (λ g. group_shows g i v ≡ true)
     (λ _. group-kept (keyed_group old.keyed q) i j v e.access h)
     (λ _. h))
 
-group_at-there : (old new : Groups) (j : ℕ) (access : Access) (o : Option ℕ) → new.unkeyed ≡ with_unkeyed o old.unkeyed j access →
-    ((q : ℕ) → keyed_group new.keyed q ≡ cond (is_number o q) (group_with (keyed_group old.keyed q) j access) (keyed_group old.keyed q)) →
+group_at-there : (old new : Groups) (j : ℕ) (access : Access) (o : Option (List Elem)) → new.unkeyed ≡ with_unkeyed o old.unkeyed j access →
+    ((q : List Elem) → keyed_group new.keyed q ≡ cond (is_key o q) (group_with (keyed_group old.keyed q) j access) (keyed_group old.keyed q)) →
     group_shows (group_at new o) j access ≡ true
 group_at-there old new j access None u k = subst (λ g. group_shows g j access ≡ true) (sym u) (group-there old.unkeyed j access)
 group_at-there old new j access (Some q) u k =
     subst (λ g. group_shows g j access ≡ true)
-    (sym (k q ∙ ap (λ b. cond b (group_with (keyed_group old.keyed q) j access) (keyed_group old.keyed q)) (eq-eqb q q refl)))
+    (sym (k q ∙ ap (λ b. cond b (group_with (keyed_group old.keyed q) j access) (keyed_group old.keyed q)) ((elems_decides q q).1 refl)))
     (group-there (keyed_group old.keyed q) j access)
 
 noted-kept : (old new : Groups) (j : ℕ) (e : Effect) → Noted old new j e → (i : ℕ) (f : Effect) → shows old i f ≡ true → shows new i f ≡ true

@@ -18,13 +18,13 @@ pub first_pair-same : {X : Type 0} (R : X → X → Type 0) (xs ys : List X) →
     FirstPair R ys p → FirstPair R xs p
 first_pair-same R xs ys n same None h = λ i j d lt below r. h i j d lt (omega arith) ((same i j d lt below).1 r)
 first_pair-same R xs ys n same (Some p) h =
-    let within : p.1 < length xs = omega (arith, h.behind.within) in
+    let within : p.1 < length xs = omega (arith, h.following.within) in
     record {
-      behind = record {
-        in_order = h.behind.in_order;
+      following = record {
+        in_order = h.following.in_order;
         within = within;
-        holds = λ d. (same p.0 p.1 d h.behind.in_order within).0 (h.behind.holds d);
-        none_between = λ b d above below r. h.behind.none_between b d above below ((same p.0 b d above (omega arith)).1 r);
+        holds = λ d. (same p.0 p.1 d h.following.in_order within).0 (h.following.holds d);
+        none_between = λ b d above below r. h.following.none_between b d above below ((same p.0 b d above (omega arith)).1 r);
       };
       none_before = λ a b d below after inside r. h.none_before a b d below after (omega arith) ((same a b d after inside).1 r);
     }

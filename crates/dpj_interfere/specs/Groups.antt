@@ -1,17 +1,15 @@
--- Effects of branches by groups: a number of a path, such that paths with different numbers are apart.
-use Rattle.std.specs.Prelude.{◌≡◌, ℕ, ◌<◌, Bool, true, false, not, ◌&&◌, ◌||◌, cond, ◌==◌, IsTrue, List, [], ◌∷◌, length, All, slice_index_or, Option, Some}
+-- Effects of branches by groups: elements of a path, such that paths that differ in them are apart.
+use Rattle.std.specs.Prelude.{◌≡◌, ℕ, ◌-◌, ◌<◌, Bool, true, false, not, ◌&&◌, ◌||◌, cond, ◌==◌, IsTrue, List, [], ◌∷◌, length, take, drop, All, slice_index_or, Option, Some}
 use Rattle.std.specs.Prelude.{None, unwrap_or}
-use Rattle.std.specs.Ordering.{nat_cmp}
-use Rattle.std.specs.BTreeMap.{get}
-use Rattle.std.specs.declared.collections.BTreeMap.{BTreeMap}
-use Rattle.std.specs.declared.alloc.Global.{Global}
+use Rattle.std.specs.Borrow.{Bor}
+use Rattle.indexmap.specs.IndexMap.{IndexMap, get_by}
 use Rattle.dpj_base.specs.declared.elems.Elem.{Elem}
 use Rattle.dpj_base.specs.declared.effect.Access.{Access}
 use Rattle.dpj_base.specs.declared.effect.Effect.{Effect}
 use Rattle.dpj_base.specs.Regions.{same_head}
 use Rattle.dpj_base.specs.Effects.{is_write}
 use Rattle.dpj_base.specs.Matching.{is_concrete, all_concrete}
-use Rattle.dpj_effects.specs.Index.{elem_number, number_of}
+use Rattle.dpj_base.specs.Keys.{elems_eq}
 use Rattle.dpj_interfere.specs.declared.seen.Seen.{Seen}
 use Rattle.dpj_interfere.specs.declared.seen.Seen.TheVariants.{Nobody, One, Many}
 use Rattle.dpj_interfere.specs.declared.seen.Group.{Group}
@@ -49,28 +47,23 @@ group_shows g j access = seen g.any j && (not (is_write access) || seen g.writer
 abbrev pub group_meets : Group → ℕ → Access → Bool
 group_meets g j access = cond (is_write access) (has_other g.any j) (has_other g.writers j)
 
--- a number of an element that stands for itself alone
-abbrev pub fixed_number : Elem → Option ℕ
-fixed_number x = cond (is_concrete x) (Some (elem_number x)) None
+-- a list of one element that stands for itself alone
+abbrev pub fixed_one : List Elem → Option (List Elem)
+fixed_one [] = None
+fixed_one (x ∷ []) = cond (is_concrete x) (Some (x ∷ [])) None
+fixed_one (x ∷ y ∷ r) = None
 
-abbrev pub first_number : List Elem → Option ℕ
-first_number [] = None
-first_number (x ∷ r) = fixed_number x
+-- the first element, the last one or all of them, where these stand for themselves
+abbrev pub key_of : Key → Effect → Option (List Elem)
+key_of (First head) e = cond (same_head e.rpl.head head) (fixed_one (take 1 e.rpl.elems)) None
+key_of Last e = fixed_one (drop (length e.rpl.elems - 1) e.rpl.elems)
+key_of (Whole head) e = cond (same_head e.rpl.head head && all_concrete e.rpl.elems) (Some e.rpl.elems) None
 
-abbrev pub last_number : Option ℕ → List Elem → Option ℕ
-last_number before [] = before
-last_number before (x ∷ r) = last_number (fixed_number x) r
+abbrev pub keyed_group : {S : Type 0} → IndexMap (Bor (List Elem)) Group S → List Elem → Group
+keyed_group keyed q = unwrap_or (get_by (λ k. elems_eq q k.now) keyed) no_group
 
-abbrev pub key_of : Key → Effect → Option ℕ
-key_of (First head) e = cond (same_head e.rpl.head head) (first_number e.rpl.elems) None
-key_of Last e = last_number None e.rpl.elems
-key_of (Whole head) e = cond (same_head e.rpl.head head && all_concrete e.rpl.elems) (Some (number_of e)) None
-
-abbrev pub keyed_group : BTreeMap ℕ Group Global → ℕ → Group
-keyed_group keyed q = unwrap_or (get nat_cmp keyed q) no_group
-
--- the group of that number; without a number, that of the effects that have none
-abbrev pub group_at : Groups → Option ℕ → Group
+-- the group of the effects with these elements; without any, that of the effects that have none
+abbrev pub group_at : Groups → Option (List Elem) → Group
 group_at g None = g.unkeyed
 group_at g (Some q) = keyed_group g.keyed q
 
@@ -78,11 +71,11 @@ group_at g (Some q) = keyed_group g.keyed q
 abbrev pub shows : Groups → ℕ → Effect → Bool
 shows g j f = group_shows g.all j f.access && group_shows (group_at g (key_of g.key f)) j f.access
 
-abbrev pub is_number : Option ℕ → ℕ → Bool
-is_number None q = false
-is_number (Some k) q = k == q
+abbrev pub is_key : Option (List Elem) → List Elem → Bool
+is_key None q = false
+is_key (Some k) q = elems_eq k q
 
-abbrev pub with_unkeyed : Option ℕ → Group → ℕ → Access → Group
+abbrev pub with_unkeyed : Option (List Elem) → Group → ℕ → Access → Group
 with_unkeyed None g j access = group_with g j access
 with_unkeyed (Some k) g j access = g
 
@@ -91,8 +84,8 @@ pub record Noted (old new : Groups) (j : ℕ) (e : Effect) : Type 0 where
   pub key : new.key ≡ old.key
   pub all : new.all ≡ group_with old.all j e.access
   pub unkeyed : new.unkeyed ≡ with_unkeyed (key_of old.key e) old.unkeyed j e.access
-  pub keyed : (q : ℕ) →
-      keyed_group new.keyed q ≡ cond (is_number (key_of old.key e) q) (group_with (keyed_group old.keyed q) j e.access) (keyed_group old.keyed q)
+  pub keyed : (q : List Elem) →
+      keyed_group new.keyed q ≡ cond (is_key (key_of old.key e) q) (group_with (keyed_group old.keyed q) j e.access) (keyed_group old.keyed q)
 
 -- what was shown is shown, and so are these effects of the branch
 pub record Shows (old new : Groups) (j : ℕ) (es : List Effect) : Type 0 where
@@ -107,8 +100,8 @@ ShowsFirst g branches n = (j : ℕ) (d : List Effect) → j < n → All (λ f. I
 abbrev pub ShowsAll : Groups → List (List Effect) → Type 0
 ShowsAll g branches = ShowsFirst g branches (length branches)
 
--- an effect of the branch with this number meets none of another branch
-abbrev pub alone_at : Option ℕ → Groups → ℕ → Access → Bool
+-- an effect of the branch with these elements meets none of another branch
+abbrev pub alone_at : Option (List Elem) → Groups → ℕ → Access → Bool
 alone_at None g j access = not (group_meets g.all j access)
 alone_at (Some k) g j access = not (group_meets g.unkeyed j access) && not (group_meets (keyed_group g.keyed k) j access)
 

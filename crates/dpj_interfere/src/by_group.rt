@@ -1,28 +1,28 @@
-ghost use Rattle.std.specs.Prelude.{◌≡◌, ◌≢◌, ◌++◌, ◌∷◌, ℕ, [], unwrap_or, Some, IfOk, OnOk};
-ghost use Rattle.std.specs.Ordering.{nat_cmp};
-ghost use Rattle.std.specs.BTreeMap.{get};
+ghost use Rattle.std.specs.Prelude.{◌≡◌, ◌++◌, ◌∷◌, [], List, cond, IfOk, OnOk};
+ghost use Rattle.dpj_base.specs.declared.elems.Elem.{Elem as Element};
+ghost use Rattle.dpj_base.specs.Keys.{elems_eq};
 ghost use Rattle.dpj_interfere.specs.Groups.{key_of};
-ghost use Rattle.dpj_interfere.specs.InGroups.{in_group, in_no_group};
+ghost use Rattle.dpj_interfere.specs.InGroups.{group_of, in_group, in_no_group};
 
 use crate::key::{Key, key_of, same_head};
-use dpj_base::{Effect, Head, Items, NoMemory, Plain};
+use dpj_base::{Effect, Elem, Head, Items, NoMemory, Plain};
+use indexmap::IndexMap;
 use std::alloc::Global;
-use std::collections::BTreeMap;
 use std::marker::Model;
 
 /// A list of effects, by groups: it gives those that an effect may meet. A contract sees how they are put into
 /// groups, and the list.
 #[derive(Debug, Drop)]
-pub struct ByGroup {
+pub struct ByGroup<'a> {
     key: Key,
-    effects: Items<Effect>,
-    /// Copies of the effects that belong to a group, each under the number of its group.
-    keyed: BTreeMap<u32, Items<Effect>>,
+    effects: &'a [Effect],
+    /// Copies of the effects that belong to a group, each group under the elements that they have in common.
+    keyed: IndexMap<&'a [Elem], Items<Effect>>,
     /// Copies of those that belong to none.
     unkeyed: Items<Effect>,
 }
 
-impl Model for ByGroup {
+impl<'a> Model for ByGroup<'a> {
     ghost use Rattle.std.specs.Prelude.{List};
     ghost use Rattle.dpj_base.specs.declared.effect.Effect.{Effect};
     ghost use Rattle.dpj_interfere.specs.declared.key.Key.{Key};
@@ -30,19 +30,19 @@ impl Model for ByGroup {
 
     ghost Value = { Key × List Effect };
 
-    ghost view = { λ it. (it.key, it.effects) };
+    ghost view = { λ it. (it.key, it.effects.now) };
 
-    ghost invariant = { λ it. Sorted it.key it.keyed it.unkeyed it.effects };
+    ghost invariant = { λ it. Sorted it.key it.keyed it.unkeyed it.effects.now };
 }
 
-impl ByGroup {
+impl<'a> ByGroup<'a> {
     /// The effects by the first elements of the paths that have the head of most of them, or by the last elements
     /// of all, as fewer pairs are left to compare.
-    pub fn new(alloc: Global, effects: Items<Effect>) -> Result<ByGroup, NoMemory>
-        ensures { IfOk result (λ made. made.1 ≡ effects) }
+    pub fn new(alloc: Global, effects: &'a [Effect]) -> Result<ByGroup<'a>, NoMemory>
+        ensures { IfOk result (λ made. made.1 ≡ effects.now) }
     {
-        let head = majority_head(effects.as_slice());
-        let first = ByGroup::by(alloc, effects.copy(alloc)?, Key::First(head))?;
+        let head = majority_head(effects);
+        let first = ByGroup::by(alloc, effects, Key::First(head))?;
         let last = ByGroup::by(alloc, effects, Key::Last)?;
         Ok(if last.pairs() < first.pairs() {
             last
@@ -51,15 +51,15 @@ impl ByGroup {
         })
     }
 
-    fn by(alloc: Global, effects: Items<Effect>, key: Key) -> Result<ByGroup, NoMemory>
-        ensures { IfOk result (λ made. made.1 ≡ effects) }
+    fn by(alloc: Global, effects: &'a [Effect], key: Key) -> Result<ByGroup<'a>, NoMemory>
+        ensures { IfOk result (λ made. made.1 ≡ effects.now) }
     {
-        let mut keyed = BTreeMap::new(alloc);
+        let mut keyed = IndexMap::new(alloc);
         let mut unkeyed = Items::new(alloc);
-        for e in effects.as_slice() {
+        for e in effects {
             match key_of(key, e) {
                 None => unkeyed.push(e.copy(alloc)?)?,
-                Some(number) => put(alloc, &mut keyed, number, e.copy(alloc)?)?,
+                Some(common) => put(alloc, &mut keyed, common, e.copy(alloc)?)?,
             }
         }
         Ok(ByGroup {
@@ -73,7 +73,7 @@ impl ByGroup {
     /// How many pairs there are of an effect of the list and one that it may meet.
     fn pairs(&self) -> usize {
         let mut pairs = 0usize;
-        for e in self.effects.as_slice() {
+        for e in self.effects {
             pairs = pairs
                 .saturating_add(self.in_group(e).len())
                 .saturating_add(self.in_no_group(e).len());
@@ -86,8 +86,8 @@ impl ByGroup {
         ensures { result.now ≡ in_group self.now.0 (key_of self.now.0 e.now) self.now.1 }
     {
         match key_of(self.key, e) {
-            None => self.effects.as_slice(),
-            Some(number) => match self.keyed.get(&number) {
+            None => self.effects,
+            Some(common) => match self.keyed.get(common) {
                 None => &[],
                 Some(group) => group.as_slice(),
             },
@@ -122,22 +122,21 @@ fn majority_head(effects: &[Effect]) -> Head {
     head
 }
 
-/// Puts an effect last in the group with this number.
-fn put(
+/// Puts an effect last in the group of those with these elements in common.
+fn put<'a>(
     alloc: Global,
-    keyed: &mut BTreeMap<u32, Items<Effect>>,
-    number: u32,
+    keyed: &mut IndexMap<&'a [Elem], Items<Effect>>,
+    common: &'a [Elem],
     e: Effect,
 ) -> Result<(), NoMemory>
-    ensures others { OnOk result ((q : ℕ) → q ≢ number → get nat_cmp keyed.new q ≡ get nat_cmp keyed.old q) }
-    ensures there { OnOk result (get nat_cmp keyed.new number ≡ Some (unwrap_or (get nat_cmp keyed.old number) [] ++ e ∷ [])) }
+    ensures { OnOk result ((q : List Element) → group_of keyed.new q ≡ cond (elems_eq common.now q) (group_of keyed.old q ++ e ∷ []) (group_of keyed.old q)) }
 {
-    if let Some(group) = keyed.get_mut(&number) {
+    if let Some(group) = keyed.get_mut(common) {
         group.push(e)?;
         return Ok(());
     }
     let mut group = Items::new(alloc);
     group.push(e)?;
-    keyed.insert(number, group)?;
+    let _ = keyed.insert(common, group)?;
     Ok(())
 }

@@ -1,58 +1,61 @@
-ghost use Rattle.std.specs.Prelude.{◌≡◌, ◌<◌, ℕ, length, cond, ◌==◌, IfOk, OnOk};
+ghost use Rattle.std.specs.Prelude.{◌≡◌, ◌<◌, List, length, cond, IfOk, OnOk};
+ghost use Rattle.dpj_base.specs.declared.elems.Elem.{Elem as Element};
+ghost use Rattle.dpj_base.specs.Keys.{elems_eq};
 ghost use Rattle.dpj_interfere.specs.Groups.{keyed_group, group_with, Noted, Shows, ShowsAll, alone};
 
 use crate::key::{Key, key_of};
 use crate::seen::Group;
-use dpj_base::{Access, Effect, NoMemory};
+use dpj_base::{Access, Effect, Elem, NoMemory};
 use dpj_effects::EffectSet;
+use indexmap::IndexMap;
 use std::alloc::Global;
-use std::collections::BTreeMap;
 
 /// The effects of branches, by groups.
 #[derive(Debug, Drop)]
-pub struct Groups {
+pub struct Groups<'a> {
     key: Key,
-    keyed: BTreeMap<u32, Group>,
+    /// Each under the elements that its effects have in common.
+    keyed: IndexMap<&'a [Elem], Group>,
     /// The effects that belong to no group of their own.
     unkeyed: Group,
     /// All effects.
     all: Group,
 }
 
-fn keyed_group(keyed: &BTreeMap<u32, Group>, number: u32) -> Group
-    ensures { result ≡ keyed_group keyed.now number }
+fn keyed_group(keyed: &IndexMap<&[Elem], Group>, common: &[Elem]) -> Group
+    ensures { result ≡ keyed_group keyed.now common.now }
 {
-    match keyed.get(&number) {
+    match keyed.get(common) {
         None => Group::none(),
         Some(group) => *group,
     }
 }
 
-fn note_keyed(
-    keyed: &mut BTreeMap<u32, Group>,
-    number: u32,
+fn note_keyed<'a>(
+    keyed: &mut IndexMap<&'a [Elem], Group>,
+    common: &'a [Elem],
     branch: u32,
     access: Access,
 ) -> Result<(), NoMemory>
-    ensures { OnOk result ((q : ℕ) → keyed_group keyed.new q ≡ cond (number == q) (group_with (keyed_group keyed.old number) branch access) (keyed_group keyed.old q)) }
+    ensures { OnOk result ((q : List Element) → keyed_group keyed.new q ≡ cond (elems_eq common.now q) (group_with (keyed_group keyed.old q) branch access) (keyed_group keyed.old q)) }
 {
-    let group = keyed_group(keyed, number).with(branch, access);
-    keyed.insert(number, group)?;
+    let group = keyed_group(keyed, common).with(branch, access);
+    let _ = keyed.insert(common, group)?;
     Ok(())
 }
 
-fn note(groups: &mut Groups, e: &Effect, branch: u32) -> Result<(), NoMemory>
+fn note<'a>(groups: &mut Groups<'a>, e: &'a Effect, branch: u32) -> Result<(), NoMemory>
     ensures { OnOk result (Noted groups.old groups.new branch e.now) }
 {
     groups.all = groups.all.with(branch, e.access);
     match key_of(groups.key, e) {
         None => groups.unkeyed = groups.unkeyed.with(branch, e.access),
-        Some(number) => note_keyed(&mut groups.keyed, number, branch, e.access)?,
+        Some(common) => note_keyed(&mut groups.keyed, common, branch, e.access)?,
     }
     Ok(())
 }
 
-fn note_all(groups: &mut Groups, effects: &[Effect], branch: u32) -> Result<(), NoMemory>
+fn note_all<'a>(groups: &mut Groups<'a>, effects: &'a [Effect], branch: u32) -> Result<(), NoMemory>
     ensures { OnOk result (Shows groups.old groups.new branch effects.now) }
 {
     for e in effects {
@@ -62,13 +65,17 @@ fn note_all(groups: &mut Groups, effects: &[Effect], branch: u32) -> Result<(), 
 }
 
 /// The effects of all branches, by groups.
-pub fn grouped(alloc: Global, branches: &[EffectSet], key: Key) -> Result<Groups, NoMemory>
+pub fn grouped<'a>(
+    alloc: Global,
+    branches: &'a [EffectSet],
+    key: Key,
+) -> Result<Groups<'a>, NoMemory>
     requires { length branches.now < 4294967296 }
     ensures { IfOk result (λ groups. ShowsAll groups branches.now) }
 {
     let mut groups = Groups {
         key,
-        keyed: BTreeMap::new(alloc),
+        keyed: IndexMap::new(alloc),
         unkeyed: Group::none(),
         all: Group::none(),
     };
@@ -79,14 +86,14 @@ pub fn grouped(alloc: Global, branches: &[EffectSet], key: Key) -> Result<Groups
 }
 
 /// Whether an effect of a branch can't interfere with an effect of another branch, by its group.
-pub fn is_alone(groups: &Groups, e: &Effect, branch: u32) -> bool
+pub fn is_alone(groups: &Groups<'_>, e: &Effect, branch: u32) -> bool
     ensures { result ≡ alone groups.now branch e.now }
 {
     match key_of(groups.key, e) {
         None => !groups.all.meets(branch, e.access),
-        Some(number) => {
+        Some(common) => {
             !groups.unkeyed.meets(branch, e.access)
-                && !keyed_group(&groups.keyed, number).meets(branch, e.access)
+                && !keyed_group(&groups.keyed, common).meets(branch, e.access)
         }
     }
 }

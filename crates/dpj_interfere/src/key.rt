@@ -1,10 +1,10 @@
-ghost use Rattle.std.specs.Prelude.{◌≡◌, None};
+ghost use Rattle.std.specs.Prelude.{◌≡◌};
+ghost use Rattle.std.specs.Option.{option_copied};
 ghost use Rattle.dpj_base.specs.Regions.{same_head};
 ghost use Rattle.dpj_base.specs.Matching.{is_concrete, all_concrete};
-ghost use Rattle.dpj_interfere.specs.Groups.{fixed_number, first_number, last_number, key_of};
+ghost use Rattle.dpj_interfere.specs.Groups.{fixed_one, key_of};
 
 use dpj_base::{Effect, Elem, Head, Index};
-use dpj_effects::{elem_number, number_of};
 
 /// How effects are put into groups: paths of different groups are apart.
 #[derive(Clone, Copy, Debug, PartialEq, Eq)]
@@ -44,55 +44,25 @@ fn all_fixed(elems: &[Elem]) -> bool
     true
 }
 
-fn fixed_number(elem: Elem) -> Option<u32>
-    ensures { result ≡ fixed_number elem }
-{
-    if is_fixed(elem) {
-        Some(elem_number(elem))
-    } else {
-        None
-    }
-}
-
-fn first_number(elems: &[Elem]) -> Option<u32>
-    ensures { result ≡ first_number elems.now }
+/// The elements, if there is one alone and it stands for itself.
+fn fixed_one(elems: &[Elem]) -> Option<&[Elem]>
+    ensures { option_copied result ≡ fixed_one elems.now }
 {
     match elems {
-        [] => None,
-        [first, ..] => fixed_number(*first),
+        [one] if is_fixed(*one) => Some(elems),
+        _ => None,
     }
 }
 
-fn last_number(elems: &[Elem]) -> Option<u32>
-    ensures { result ≡ last_number None elems.now }
-{
-    let mut number = None;
-    for elem in elems {
-        number = fixed_number(*elem);
-    }
-    number
-}
-
-/// The number of the group that an effect belongs to, or None where it may meet effects of every group.
-pub fn key_of(key: Key, e: &Effect) -> Option<u32>
-    ensures { result ≡ key_of key e.now }
+/// What an effect has in common with all of its group, or None where it may meet effects of every group.
+pub fn key_of<'e>(key: Key, e: &'e Effect) -> Option<&'e [Elem]>
+    ensures { option_copied result ≡ key_of key e.now }
 {
     let elems = e.rpl.elems.as_slice();
     match key {
-        Key::First(head) => {
-            if same_head(e.rpl.head, head) {
-                first_number(elems)
-            } else {
-                None
-            }
-        }
-        Key::Last => last_number(elems),
-        Key::Whole(head) => {
-            if same_head(e.rpl.head, head) && all_fixed(elems) {
-                Some(number_of(e))
-            } else {
-                None
-            }
-        }
+        Key::First(head) if same_head(e.rpl.head, head) => fixed_one(&elems[..elems.len().min(1)]),
+        Key::Last => fixed_one(&elems[elems.len().saturating_sub(1)..]),
+        Key::Whole(head) if same_head(e.rpl.head, head) && all_fixed(elems) => Some(elems),
+        _ => None,
     }
 }

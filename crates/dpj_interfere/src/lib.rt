@@ -9,9 +9,9 @@
 //! body's effects with the renamed copy of the loop variable. `is_atomic` says whether a path is atomic. What they
 //! are good for is said in `laws`: effects that are covered by ones that don't clash don't either.
 //!
-//! Effects are put into groups by an element of their paths, such that paths of different groups are apart, and
+//! Many effects are put into groups by elements of their paths, such that paths of different groups are apart, and
 //! are compared with those of their own group and those that belong to none: of branches with regions of their own
-//! no pair is compared. `is_atomic` takes no memory, the others do.
+//! no pair is compared. A few are all compared with each other. `is_atomic` takes no memory, the others do.
 #![tactic(auto)]
 
 mod atomic;

@@ -10,10 +10,10 @@ use std::alloc::Global;
 
 /// The effects of all branches, by groups of three kinds.
 #[derive(Debug, Drop)]
-pub struct Kinds {
-    first: Groups,
-    last: Groups,
-    whole: Groups,
+pub struct Kinds<'a> {
+    first: Groups<'a>,
+    last: Groups<'a>,
+    whole: Groups<'a>,
 }
 
 /// The head of the first effect.
@@ -26,7 +26,7 @@ fn main_head(branches: &[EffectSet]) -> Head {
     Head::Root
 }
 
-fn by_kinds(alloc: Global, branches: &[EffectSet]) -> Result<Kinds, NoMemory>
+fn by_kinds<'a>(alloc: Global, branches: &'a [EffectSet]) -> Result<Kinds<'a>, NoMemory>
     requires { length branches.now < 4294967296 }
     ensures { IfOk result (λ made. Grouped made branches.now) }
 {
@@ -39,7 +39,7 @@ fn by_kinds(alloc: Global, branches: &[EffectSet]) -> Result<Kinds, NoMemory>
 }
 
 /// Whether an effect of a branch is kept: it isn't alone by groups of any kind.
-fn is_kept(kinds: &Kinds, e: &Effect, branch: u32) -> bool
+fn is_kept(kinds: &Kinds<'_>, e: &Effect, branch: u32) -> bool
     ensures { result ≡ kept kinds.now branch e.now }
 {
     !(is_alone(&kinds.first, e, branch)
@@ -51,7 +51,7 @@ fn thin_branch(
     alloc: Global,
     effects: &[Effect],
     branch: u32,
-    kinds: &Kinds,
+    kinds: &Kinds<'_>,
 ) -> Result<Items<Effect>, NoMemory>
     ensures { IfOk result (λ left. left ≡ filter (kept kinds.now branch) effects.now) }
 {
@@ -67,7 +67,7 @@ fn thin_branch(
 fn thin_all(
     alloc: Global,
     branches: &[EffectSet],
-    kinds: &Kinds,
+    kinds: &Kinds<'_>,
 ) -> Result<Items<Items<Effect>>, NoMemory>
     requires { length branches.now < 4294967296 }
     ensures { IfOk result (λ left. ThinnedBy (kept kinds.now) branches.now left) }

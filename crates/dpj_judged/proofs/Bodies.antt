@@ -70,8 +70,8 @@ classes_judged start (class ∷ classes) at number =
 
 -- what is around no class yet
 taken_by : (rows : List Super) (ordered : Bool) → IsTrue ordered ↔ Ordered rows → (taken : List Super) × AreTaken rows taken
-taken_by rows true told = (rows, inl (told.0 refl, refl))
-taken_by rows false told = ([], inr (λ o. false≢true (told.1 o), refl))
+taken_by rows true reported = (rows, inl (reported.0 refl, refl))
+taken_by rows false reported = ([], inr (λ o. false≢true (reported.1 o), refl))
 
 taken : (rows : List Super) → (taken : List Super) × AreTaken rows taken
 taken rows = let ordered = ordered_decided rows in taken_by rows ordered.0 ordered.1

@@ -19,7 +19,7 @@ use Rattle.dpj_check.specs.Checking.{InBlock}
 use Rattle.dpj_check.specs.Completes.{all_complete}
 use Rattle.dpj_check.specs.Deciding.{has_value}
 use Rattle.dpj_check.specs.Keeping.{method_around, MethodKeeps, MemberKeeps, MembersKeep, ClassesKeep}
-use Rattle.dpj_check.specs.Methods.{body_begun, summary_of, typed_body, is_method, method_told, after_ok, reported, method_judged, behind_bodies, bodies_of, PlainBodies, MethodChecking, of_method, MemberChecking, no_method, a_method, MembersChecking, ClassesChecking}
+use Rattle.dpj_check.specs.Methods.{body_begun, summary_of, typed_body, is_method, method_reported, after_ok, reported, method_judged, after_bodies, bodies_of, PlainBodies, MethodChecking, of_method, MemberChecking, no_method, a_method, MembersChecking, ClassesChecking}
 use Rattle.dpj_check.specs.Simple.{has_room}
 use Rattle.dpj_check.specs.Walks.{Verdict, passes, refused}
 use Rattle.dpj_judged.specs.Laws.{PassedKeeps}
@@ -37,7 +37,7 @@ made_after : {T U : Type 0} {P Q : Type 0} (make : T → U) (r : Result T Refusa
 made_after make (Ok made) next h = next h
 made_after make (Err q) next h = tt
 
-made_where : {T : Type 0} {P : Type 0} (told : Option Refusal) (made : T) → (told ≡ None → P) → IfMade (reported told made) P
+made_where : {T : Type 0} {P : Type 0} (stated : Option Refusal) (made : T) → (stated ≡ None → P) → IfMade (reported stated made) P
 made_where None made next = next refl
 made_where (Some q) made next = tt
 
@@ -50,7 +50,7 @@ verdict_done : (class_env : Env) (params : List Bool) (number : ℕ) (method : M
     InBlock params (method_around (has_value method.result)) (plain_stmts (map plain_stmt method.body)) (body_begun class_env number method) u →
     IfMade (method_judged class_env number method u) (MethodKeeps method)
 verdict_done class_env params number method (passes ss w) d =
-    made_where {P = MethodKeeps method} (method_told class_env number method w.found.effects) (typed_body ss w.env)
+    made_where {P = MethodKeeps method} (method_reported class_env number method w.found.effects) (typed_body ss w.env)
     (λ none. (
       body_keeps d,
       no_fault (has_value method.result && all_complete (plain_stmts (map plain_stmt method.body))) (set_covers (summary_of (numbered (table_of class_env) number)) w.found.effects)
@@ -79,8 +79,8 @@ members_done MembersChecking.no_members = tt
 members_done (MembersChecking.one_refused d) = tt
 members_done (MembersChecking.then_members {m = m} {ms = ms} {made = made} {u = u} d r j) =
     let first : MemberKeeps m = member_done d in
-    made_of (MembersKeep (m ∷ ms)) (after_ok (behind_bodies (bodies_of made)) u) j
-    (made_after {P = MembersKeep ms} {Q = MembersKeep (m ∷ ms)} (behind_bodies (bodies_of made)) u (λ rest. (first, rest)) (members_done r))
+    made_of (MembersKeep (m ∷ ms)) (after_ok (after_bodies (bodies_of made)) u) j
+    (made_after {P = MembersKeep ms} {Q = MembersKeep (m ∷ ms)} (after_bodies (bodies_of made)) u (λ rest. (first, rest)) (members_done r))
 
 classes_done : {start : Env} {at : ℕ} {classes : List Class} {number : ℕ} {v : Result (List PlainBody) Refusal} → ClassesChecking start at classes number v →
     IfMade v (ClassesKeep classes)

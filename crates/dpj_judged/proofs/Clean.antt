@@ -10,8 +10,8 @@ use Rattle.dpj_exprs.specs.Env.{local_of}
 use Rattle.dpj_check.specs.declared.node.Node.{Node}
 use Rattle.dpj_check.specs.Noting.{with_fault, with_found, with_fault_if, fault_of, without_faults, node_at}
 use Rattle.dpj_check.specs.Simple.{has_room, declaration_noted, is_region_name, region_declared, region_noted, regions_noted}
-use Rattle.dpj_check.specs.Walks.{Walk, Verdict, passes, refused, judged, behind}
-use Rattle.dpj_check.proofs.Noting.{noted_told}
+use Rattle.dpj_check.specs.Walks.{Walk, Verdict, passes, refused, judged, following}
+use Rattle.dpj_check.proofs.Noting.{noted_reported}
 
 -- where a piece passes, this is so of where the walk has come after it
 pub data IfPasses {T : Type 0} (P : Walk → Type 0) : Verdict T → Type 0 where
@@ -29,14 +29,14 @@ pub weaker : {T : Type 0} {P Q : Walk → Type 0} {v : Verdict T} → IfPasses P
 weaker (passed {w = w} p) next = passed (next w p)
 weaker not_passed next = not_passed
 
-judged_if : {T : Type 0} {P : Walk → Type 0} (told : Option Refusal) (made : T) (w : Walk) → (told ≡ None → P w) → IfPasses P (judged told made w)
+judged_if : {T : Type 0} {P : Walk → Type 0} (reported : Option Refusal) (made : T) (w : Walk) → (reported ≡ None → P w) → IfPasses P (judged reported made w)
 judged_if None made w next = passed (next refl)
 judged_if (Some q) made w next = not_passed
 
-behind_if : {T U : Type 0} {P Q : Walk → Type 0} {u : Verdict T} (told : Option Refusal) (make : T → U) → IfPasses Q u →
-    ((w : Walk) → Q w → told ≡ None → P w) → IfPasses P (behind told make u)
-behind_if told make (passed {made = made} {w = w} q) next = judged_if told (make made) w (next w q)
-behind_if told make not_passed next = not_passed
+after_if : {T U : Type 0} {P Q : Walk → Type 0} {u : Verdict T} (reported : Option Refusal) (make : T → U) → IfPasses Q u →
+    ((w : Walk) → Q w → reported ≡ None → P w) → IfPasses P (following reported make u)
+after_if reported make (passed {made = made} {w = w} q) next = judged_if reported (make made) w (next w q)
+after_if reported make not_passed next = not_passed
 
 pub at_verdict : {T : Type 0} {P : Walk → Type 0} {x v : Verdict T} → x ≡ v → IfPasses P x → IfPasses P v
 at_verdict {T} {P} is h = subst (λ (z : Verdict T). IfPasses P z) is h
@@ -45,13 +45,13 @@ at_verdict {T} {P} is h = subst (λ (z : Verdict T). IfPasses P z) is h
 pub at_node : {T : Type 0} {P : Walk → Type 0} {v : Verdict T} (node : Node) (made : T) (w : Walk) → judged (fault_of node) made w ≡ v → (IsClean node → P w) → IfPasses P v
 at_node node made w is next = at_verdict is (judged_if (fault_of node) made w next)
 
-pub at_behind : {T U : Type 0} {P Q : Walk → Type 0} {u : Verdict T} {v : Verdict U} (told : Option Refusal) (make : T → U) → behind told make u ≡ v → IfPasses Q u →
-    ((w : Walk) → Q w → told ≡ None → P w) → IfPasses P v
-at_behind told make is h next = at_verdict is (behind_if told make h next)
+pub at_after : {T U : Type 0} {P Q : Walk → Type 0} {u : Verdict T} {v : Verdict U} (reported : Option Refusal) (make : T → U) → following reported make u ≡ v → IfPasses Q u →
+    ((w : Walk) → Q w → reported ≡ None → P w) → IfPasses P v
+at_after reported make is h next = at_verdict is (after_if reported make h next)
 
 never_clean : (node : Node) (k : Kind) (place : Place) → IsClean (with_fault node k place) → ⊥
 never_clean node k place is =
-    let noted = sym (noted_told node.faults (record { kind = k; place = place })) ∙ is in cc
+    let noted = sym (noted_reported node.faults (record { kind = k; place = place })) ∙ is in cc
 
 pub found_clean : (node : Node) (fault : Option Kind) → IsClean (with_found node fault) → IsClean node
 found_clean node None is = is

@@ -15,12 +15,12 @@ use Rattle.dpj_exprs.specs.declared.env.Env.{Env}
 use Rattle.dpj_exprs.specs.declared.env.LocalRow.{LocalRow}
 use Rattle.dpj_exprs.specs.declared.found.Found.{Found}
 use Rattle.dpj_exprs.specs.Answer.{Answer, gives, refused}
-use Rattle.dpj_exprs.specs.Arrays.{made_names, front_told}
+use Rattle.dpj_exprs.specs.Arrays.{made_names, front_reported}
 use Rattle.dpj_exprs.specs.Env.{table_of, part_of}
 use Rattle.dpj_exprs.specs.Locals.{measured}
 use Rattle.dpj_exprs.specs.Typed.{type_in}
 use Rattle.dpj_exprs.specs.Typing.{answer, leaf_typed, AllAnswer, all_give, one_refused, Typing, TypingArray, TypingAll}
-use Rattle.dpj_exprs.specs.Uses.{args_of, args_told, callee_params, created_params}
+use Rattle.dpj_exprs.specs.Uses.{args_of, args_reported, callee_params, created_params}
 use Rattle.dpj_judged.proofs.Uses.{call_judged, creation_judged}
 
 -- it has an answer after all that was found before it
@@ -83,7 +83,7 @@ left_after (gives t g) d next = let two = next g in right_after t two.0 d two.1
 
 -- a call
 actuals_after : {env : Env} {place : Place} {of : PlainExpr} {regions : List RplTree} {name : ℕ} {actuals : PlainExprs} {f g : Found} (t : Option TypedExpr) (a : AllAnswer) →
-    Typing env of f (gives t g) → args_told env (callee_params (table_of env) (type_in t) name) regions ≡ None → TypingAll env actuals g a →
+    Typing env of f (gives t g) → args_reported env (callee_params (table_of env) (type_in t) name) regions ≡ None → TypingAll env actuals g a →
     At env place (call of regions name actuals) f
 actuals_after t (one_refused q) d is i = (refused q, Typing.call_actual_refused d is i)
 actuals_after {env} {place} {regions = regions} {name} t (all_give types h) d is i =
@@ -91,7 +91,7 @@ actuals_after {env} {place} {regions = regions} {name} t (all_give types h) d is
     (one.0, Typing.method_call d is i one.1)
 
 args_after : {env : Env} {place : Place} {of : PlainExpr} {regions : List RplTree} {name : ℕ} {actuals : PlainExprs} {f g : Found} (t : Option TypedExpr) (said : Option Refusal) →
-    Typing env of f (gives t g) → args_told env (callee_params (table_of env) (type_in t) name) regions ≡ said → AllJudged env actuals →
+    Typing env of f (gives t g) → args_reported env (callee_params (table_of env) (type_in t) name) regions ≡ said → AllJudged env actuals →
     At env place (call of regions name actuals) f
 args_after t (Some q) d is next = (refused q, Typing.call_args_refused d is)
 args_after {g = g} t None d is next = let two = next g in actuals_after t two.0 d is two.1
@@ -99,18 +99,18 @@ args_after {g = g} t None d is next = let two = next g in actuals_after t two.0 
 receiver_after : {env : Env} {place : Place} {of : PlainExpr} {regions : List RplTree} {name : ℕ} {actuals : PlainExprs} {f : Found} (a : Answer) →
     Typing env of f a → AllJudged env actuals → At env place (call of regions name actuals) f
 receiver_after (refused q) d next = (refused q, Typing.receiver_refused d)
-receiver_after {env} {regions = regions} {name} (gives t g) d next = args_after t (args_told env (callee_params (table_of env) (type_in t) name) regions) d refl next
+receiver_after {env} {regions = regions} {name} (gives t g) d next = args_after t (args_reported env (callee_params (table_of env) (type_in t) name) regions) d refl next
 
 -- the creation of an object
 values_after : {env : Env} {place : Place} {class : Named} {regions : List RplTree} {actuals : PlainExprs} {f : Found} (a : AllAnswer) →
-    args_told env (created_params (table_of env) class) regions ≡ None → TypingAll env actuals f a → At env place (create class regions actuals) f
+    args_reported env (created_params (table_of env) class) regions ≡ None → TypingAll env actuals f a → At env place (create class regions actuals) f
 values_after (one_refused q) is i = (refused q, Typing.new_actual_refused is i)
 values_after {env} {place} {class} {regions} (all_give types g) is i =
     let one = creation_judged env class (args_of env regions) types place g in
     (one.0, Typing.new_object is i one.1)
 
 new_judged : {env : Env} {place : Place} {class : Named} {regions : List RplTree} {actuals : PlainExprs} (said : Option Refusal) →
-    args_told env (created_params (table_of env) class) regions ≡ said → AllJudged env actuals → Judged env (expression place (create class regions actuals))
+    args_reported env (created_params (table_of env) class) regions ≡ said → AllJudged env actuals → Judged env (expression place (create class regions actuals))
 new_judged (Some q) is next f = (refused q, Typing.new_args_refused is)
 new_judged None is next f = let one = next f in values_after one.0 is one.1
 
@@ -119,19 +119,19 @@ abbrev ArrayJudged : Env → PlainIndex → BaseTree → PlainExpr → Option Rp
 ArrayJudged env around base len rpl place f = (a : Answer) × TypingArray env around base len rpl place f a
 
 length_after : {env : Env} {around : PlainIndex} {base : BaseTree} {len : PlainExpr} {rpl : Option RplTree} {place : Place} {f : Found} (a : Answer) →
-    front_told env around base ≡ None → Typing env len f a → ArrayJudged env around base len rpl place f
+    front_reported env around base ≡ None → Typing env len f a → ArrayJudged env around base len rpl place f
 length_after (refused q) is d = (refused q, TypingArray.length_refused is d)
 length_after (gives t g) is d = (_, TypingArray.array_created is d refl)
 
 front_after : {env : Env} {around : PlainIndex} {base : BaseTree} {len : PlainExpr} {rpl : Option RplTree} {place : Place} (said : Option Refusal) →
-    front_told env around base ≡ said → Judged env len → (f : Found) → ArrayJudged env around base len rpl place f
+    front_reported env around base ≡ said → Judged env len → (f : Found) → ArrayJudged env around base len rpl place f
 front_after (Some q) is next f = (refused q, TypingArray.front_refused is)
 front_after None is next f = let one = next f in length_after one.0 is one.1
 
 array_judged : {env : Env} {place : Place} {base : BaseTree} {suffixes : List Suffix} {len : PlainExpr} {rpl : Option RplTree} {index : Option Named} →
     Judged env len → Judged env (expression place (create_array base suffixes len rpl index))
 array_judged {env} {place} {base} {suffixes} {len} {rpl} {index} next f =
-    let one : ArrayJudged env (made_names suffixes index) base len rpl place f = front_after (front_told env (made_names suffixes index) base) refl next f in
+    let one : ArrayJudged env (made_names suffixes index) base len rpl place f = front_after (front_reported env (made_names suffixes index) base) refl next f in
     (one.0, Typing.new_array one.1)
 
 -- several expressions
@@ -157,7 +157,7 @@ mutual
   form_judged env place (field of name) = field_judged (measured env of name) refl (judged env of)
   form_judged env place (element array index) = element_judged (part_of env array) refl (judged env array) (judged env index)
   form_judged env place (call of regions name actuals) = λ f. let one = judged env of f in receiver_after one.0 one.1 (all_judged env actuals)
-  form_judged env place (create class regions actuals) = new_judged (args_told env (created_params (table_of env) class) regions) refl (all_judged env actuals)
+  form_judged env place (create class regions actuals) = new_judged (args_reported env (created_params (table_of env) class) regions) refl (all_judged env actuals)
   form_judged env place (create_array base suffixes len rpl index) = array_judged (judged env len)
   form_judged env place (unary op arg) = λ f. let one = judged env arg f in operation_after one.0 one.1
   form_judged env place (binary op left right) = λ f. let one = judged env left f in left_after one.0 one.1 (judged env right)

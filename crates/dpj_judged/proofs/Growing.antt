@@ -46,13 +46,13 @@ IfAims (aims aim g) P = P g
 IfAims (misses q) P = Unit {0}
 
 -- after a part
-behind : (f g : Found) (a : Answer) → Grows f g → IfGives a (Grows g) → IfGives a (Grows f)
-behind f g (gives t h) before after = λ n. after (before n)
-behind f g (refused q) before after = tt
+following : (f g : Found) (a : Answer) → Grows f g → IfGives a (Grows g) → IfGives a (Grows f)
+following f g (gives t h) before after = λ n. after (before n)
+following f g (refused q) before after = tt
 
-aim_behind : (f g : Found) (a : TargetAnswer) → Grows f g → IfAims a (Grows g) → IfAims a (Grows f)
-aim_behind f g (aims aim h) before after = λ n. after (before n)
-aim_behind f g (misses q) before after = tt
+aim_after : (f g : Found) (a : TargetAnswer) → Grows f g → IfAims a (Grows g) → IfAims a (Grows f)
+aim_after f g (aims aim h) before after = λ n. after (before n)
+aim_after f g (misses q) before after = tt
 
 answered : (f : Found) (r : Result TypedExpr Refusal) {a : Answer} → answer r f ≡ a → IfGives a (Grows f)
 answered f r is = subst (λ (z : Answer). IfGives z (Grows f)) is (of_result r)
@@ -124,7 +124,7 @@ creation_grows (Creation.of_class is d) = creation_of_grows d
 
 -- a rule that says what its answer is
 said : (f g : Found) (x : Answer) {a : Answer} → x ≡ a → Grows f g → IfGives x (Grows g) → IfGives a (Grows f)
-said f g x {a} is before after = behind f g a before (subst (λ (z : Answer). IfGives z (Grows g)) is after)
+said f g x {a} is before after = following f g a before (subst (λ (z : Answer). IfGives z (Grows g)) is after)
 
 mutual
   pub grows : {env : Env} {e : PlainExpr} {f : Found} {a : Answer} → Typing env e f a → IfGives a (Grows f)
@@ -144,30 +144,30 @@ mutual
       said f h (read_element env t index u place h) r (λ n. second (first n))
       (element_grows (form.element (node_at place t) (node_at place u)) (element_through (type_in t) (index_of env index) (type_in u) place) place h)
   grows (Typing.operand_refused d) = tt
-  grows {f = f} {a = a} (Typing.operation {g = g} d r) = behind f g a (grows d) (answered g _ r)
+  grows {f = f} {a = a} (Typing.operation {g = g} d r) = following f g a (grows d) (answered g _ r)
   grows (Typing.left_refused d) = tt
   grows (Typing.right_refused d i) = tt
   grows {f = f} {a = a} (Typing.both_operands {g = g} {h = h} d i r) =
       let first : Grows f g = grows d in
       let second : Grows g h = grows i in
-      behind f h a (λ n. second (first n)) (answered h _ r)
+      following f h a (λ n. second (first n)) (answered h _ r)
   grows (Typing.receiver_refused d) = tt
   grows (Typing.call_args_refused d l) = tt
   grows (Typing.call_actual_refused d l i) = tt
   grows {f = f} {a = a} (Typing.method_call {g = g} {h = h} d l i r) =
       let first : Grows f g = grows d in
       let second : Grows g h = all_grow i in
-      behind f h a (λ n. second (first n)) (call_grows r)
+      following f h a (λ n. second (first n)) (call_grows r)
   grows (Typing.new_args_refused l) = tt
   grows (Typing.new_actual_refused l i) = tt
-  grows {f = f} {a = a} (Typing.new_object {g = g} l i r) = behind f g a (all_grow i) (creation_grows r)
+  grows {f = f} {a = a} (Typing.new_object {g = g} l i r) = following f g a (all_grow i) (creation_grows r)
   grows (Typing.new_array d) = array_grows d
 
   array_grows : {env : Env} {around : PlainIndex} {base : BaseTree} {len : PlainExpr} {rpl : Option RplTree} {place : Place} {f : Found} {a : Answer} →
       TypingArray env around base len rpl place f a → IfGives a (Grows f)
   array_grows (TypingArray.front_refused l) = tt
   array_grows (TypingArray.length_refused l d) = tt
-  array_grows {f = f} {a = a} (TypingArray.array_created {g = g} l d r) = behind f g a (grows d) (answered g _ r)
+  array_grows {f = f} {a = a} (TypingArray.array_created {g = g} l d r) = following f g a (grows d) (answered g _ r)
 
   all_grow : {env : Env} {es : PlainExprs} {f : Found} {a : AllAnswer} → TypingAll env es f a → IfAllGive a (Grows f)
   all_grow TypingAll.none_left = λ n. n
@@ -189,15 +189,15 @@ aimed_grows f r is = subst (λ (z : TargetAnswer). IfAims z (Grows f)) is (of_re
 pub target_grows : {env : Env} {e : PlainExpr} {f : Found} {a : TargetAnswer} → Targeting env e f a → IfAims a (Grows f)
 target_grows (Targeting.length_assigned l) = tt
 target_grows (Targeting.receiver_refused l d) = tt
-target_grows {f = f} {a = a} (Targeting.field_assigned {g = g} l d r) = aim_behind f g a (grows d) (aimed_grows g _ r)
+target_grows {f = f} {a = a} (Targeting.field_assigned {g = g} l d r) = aim_after f g a (grows d) (aimed_grows g _ r)
 target_grows (Targeting.part_index_refused l d) = tt
-target_grows {f = f} {a = a} (Targeting.part_element_assigned {g = g} l d r) = aim_behind f g a (grows d) (aimed_grows g _ r)
+target_grows {f = f} {a = a} (Targeting.part_element_assigned {g = g} l d r) = aim_after f g a (grows d) (aimed_grows g _ r)
 target_grows (Targeting.array_refused l d) = tt
 target_grows (Targeting.index_refused l d i) = tt
 target_grows {f = f} {a = a} (Targeting.element_assigned {g = g} {h = h} l d i r) =
     let first : Grows f g = grows d in
     let second : Grows g h = grows i in
-    aim_behind f h a (λ n. second (first n)) (aimed_grows h _ r)
+    aim_after f h a (λ n. second (first n)) (aimed_grows h _ r)
 target_grows (Targeting.no_target n) = tt
 
 -- a write

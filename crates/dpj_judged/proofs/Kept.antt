@@ -29,8 +29,8 @@ use Rattle.dpj_check.specs.Gathering.{taken_in, handed_on}
 use Rattle.dpj_check.specs.Keeping.{inside, MayFollow, Keeps, FormKeeps, AllKeep, BranchesKeep}
 use Rattle.dpj_check.specs.Noting.{with_found, with_fault_if, fault_of, node_at, settled_node}
 use Rattle.dpj_check.specs.Simple.{declaration_noted, part_declared, target_fault, may_print, regions_noted, regions_declared, Declaring, AssigningLocal, AssigningPlace, Performing, Returning, Printing}
-use Rattle.dpj_check.specs.Walks.{Walk, Verdict, passes, apart_from, judged, behind, left_scope}
-use Rattle.dpj_judged.proofs.Clean.{IfPasses, passed, not_passed, at_end, IsClean, weaker, at_verdict, at_node, at_behind, found_clean, if_clean, declaration_clean, regions_clean, first_clean}
+use Rattle.dpj_check.specs.Walks.{Walk, Verdict, passes, apart_from, judged, following, left_scope}
+use Rattle.dpj_judged.proofs.Clean.{IfPasses, passed, not_passed, at_end, IsClean, weaker, at_verdict, at_node, at_after, found_clean, if_clean, declaration_clean, regions_clean, first_clean}
 use Rattle.dpj_judged.proofs.Growing.{Grows, grows, target_grows, write_grows}
 
 -- an nd construct is reached after a piece where one was reached before it, or the piece holds one
@@ -104,7 +104,7 @@ none_held true x next is = absurd (false≢true (sym is ∙ next refl))
 none_held false x next is = refl
 
 none_outer : (body : PlainStmt) (assigns : Bool) → AssignsIs body assigns → assigns ≡ false → ¬ AssignsOuter body
-none_outer body assigns told is outer = false≢true (sym is ∙ told.1 outer)
+none_outer body assigns reported is outer = false≢true (sym is ∙ reported.1 outer)
 
 -- statements that hold no other
 declaring_done : {around : Around} {node : Node} {is_final : Bool} {tree : TypeTree} {name : ℕ} {value : PlainExpr} {w : Walk} {v : Verdict TypedStmt} →
@@ -123,7 +123,7 @@ declaring_done {node = node} {name = name} {w = w} (Declaring.declared {g = g} {
 local_done : {around : Around} {node : Node} {target : Named} {value : PlainExpr} {w : Walk} {v : Verdict TypedStmt} →
     AssigningLocal node target value w v → IfPasses (FormDone around node (form.assign_local target value) w) v
 local_done (AssigningLocal.value_refused d) = not_passed
-local_done (AssigningLocal.no_local d is told) = not_passed
+local_done (AssigningLocal.no_local d is reported) = not_passed
 local_done {node = node} {w = w} (AssigningLocal.assigned {g = g} {row = row} {fit = fit} d is fits j) =
     let more : Grows w.found g = grows d in
     at_node (with_found node (local_fault fit row.is_final)) _ _ j
@@ -219,8 +219,8 @@ block_done {all = all} {w} (passed {w = u} order) =
 block_done not_passed = not_passed
 
 of_block_done : {around : Around} {node : Node} {all : PlainStmts} {w : Walk} {u : Verdict (List TypedStmt)} {v : Verdict TypedStmt} (make : List TypedStmt → TypedStmt) →
-    behind (fault_of node) make u ≡ v → IfPasses (AllDone around all w) u → IfPasses (FormDone around node (form.block all) w) v
-of_block_done {node = node} make is h = at_behind (fault_of node) make is h (λ x done clean. record { keeps = done.keeps; clean = clean; reaches = done.reaches })
+    following (fault_of node) make u ≡ v → IfPasses (AllDone around all w) u → IfPasses (FormDone around node (form.block all) w) v
+of_block_done {node = node} make is h = at_after (fault_of node) make is h (λ x done clean. record { keeps = done.keeps; clean = clean; reaches = done.reaches })
 
 -- an `if`
 abbrev OtherKeeps : Around → Option PlainStmt → Type 0
@@ -241,15 +241,15 @@ record ChoiceDone (around : Around) (node : Node) (first : PlainStmt) (other : O
   clean : IsClean node
   reaches : Reaches w u (holds_nd first || other_holds other)
 
-other_done : {around : Around} {s : PlainStmt} {w : Walk} {u : Verdict TypedStmt} {v : Verdict (Option TypedStmt)} → behind None Some u ≡ v →
+other_done : {around : Around} {s : PlainStmt} {w : Walk} {u : Verdict TypedStmt} {v : Verdict (Option TypedStmt)} → following None Some u ≡ v →
     IfPasses (StmtDone around false s w) u → IfPasses (OtherDone around (Some s) w) v
-other_done is h = at_behind None Some is h (λ x done same. record { keeps = done.keeps; reaches = done.reaches })
+other_done is h = at_after None Some is h (λ x done same. record { keeps = done.keeps; reaches = done.reaches })
 
 choice_done : {around : Around} {node : Node} {first : PlainStmt} {other : Option PlainStmt} {w x : Walk} {u : Verdict (Option TypedStmt)} {v : Verdict TypedStmt}
     (g : Found) (noted : Bool) (make : Option TypedStmt → TypedStmt) → Grows w.found g → StmtDone around false first (record w { found = g }) x →
-    IfPasses (OtherDone around other x) u → behind (fault_of (with_fault_if node kind.Type noted)) make u ≡ v → IfPasses (ChoiceDone around node first other w) v
+    IfPasses (OtherDone around other x) u → following (fault_of (with_fault_if node kind.Type noted)) make u ≡ v → IfPasses (ChoiceDone around node first other w) v
 choice_done {node = node} {first} {other} {w} {x} g noted make more one two is =
-    at_behind (fault_of (with_fault_if node kind.Type noted)) make is two
+    at_after (fault_of (with_fault_if node kind.Type noted)) make is two
     (λ y done clean. record {
       first_keeps = one.keeps;
       other_keeps = done.keeps;
@@ -271,9 +271,9 @@ choice_else_done h = weaker h (λ u done. record { keeps = (done.first_keeps, do
 -- a `while`
 while_done : {around : Around} {node : Node} {test : PlainExpr} {body : PlainStmt} {w : Walk} {u v : Verdict TypedStmt}
     (g : Found) (noted : Bool) (make : TypedStmt → TypedStmt) → Grows w.found g → IfPasses (StmtDone around false body (record w { found = g })) u →
-    behind (fault_of (with_fault_if node kind.Type noted)) make u ≡ v → IfPasses (FormDone around node (form.while_loop test body) w) v
+    following (fault_of (with_fault_if node kind.Type noted)) make u ≡ v → IfPasses (FormDone around node (form.while_loop test body) w) v
 while_done {node = node} {body = body} {w} g noted make more one is =
-    at_behind (fault_of (with_fault_if node kind.Type noted)) make is one
+    at_after (fault_of (with_fault_if node kind.Type noted)) make is one
     (λ y done clean. record {
       keeps = done.keeps;
       clean = (if_clean node kind.Type noted clean).0;
@@ -329,14 +329,14 @@ loop_done : {around : Around} {node : Node} {nd : Bool} {body : PlainStmt} {w u 
     judged (fault_of (with_fault_if (settled_node (with_fault_if (variable_noted w.env var node) kind.Assign assigns)) (interference nd) clash)) made
     (closed w (marks_after nd) (with_nd nd u.found) u) ≡ v →
     IfPasses (LoopDone around node body nd w) v
-loop_done {node = node} {nd} {body} {w} {u} var assigns clash made one told clean is =
+loop_done {node = node} {nd} {body} {w} {u} var assigns clash made one reported clean is =
     at_node (with_fault_if (settled_node (with_fault_if (variable_noted w.env var node) kind.Assign assigns)) (interference nd) clash) made
     (closed w (marks_after nd) (with_nd nd u.found) u) is
     (λ quiet.
     let noted : IsClean (variable_noted w.env var node) × (assigns ≡ false) = if_clean (variable_noted w.env var node) kind.Assign assigns clean in
     record {
       keeps = one.keeps;
-      quiet = none_outer body assigns told noted.1;
+      quiet = none_outer body assigns reported noted.1;
       clean = declaration_clean w.env var.name var.place node noted.0;
       reaches = second_too w.found.reaches_nd (nd || holds_nd body) (u.found.reaches_nd || nd) (either_too nd (holds_nd body) u.found.reaches_nd one.reaches);
     })
@@ -393,12 +393,12 @@ parts_done : {around : Around} {node noted : Node} {view var : Named} {array cou
     IsClean (with_fault_if noted kind.Assign assigns) →
     judged (fault_of (with_fault_if (settled_node (with_fault_if noted kind.Assign assigns)) kind.Interferes clash)) made (parts_left part w source x.found u) ≡ v →
     IfPasses (FormDone around node (form.foreach_parts view var array count body) w) v
-parts_done {noted = noted} {body = body} {w} {x} {u} source part assigns clash made o one told clean is =
+parts_done {noted = noted} {body = body} {w} {x} {u} source part assigns clash made o one reported clean is =
     at_node (with_fault_if (settled_node (with_fault_if noted kind.Assign assigns)) kind.Interferes clash) made (parts_left part w source x.found u) is
     (λ quiet.
     let noted_so : IsClean noted × (assigns ≡ false) = if_clean noted kind.Assign assigns clean in
     record {
-      keeps = (one.keeps, none_outer body assigns told noted_so.1);
+      keeps = (one.keeps, none_outer body assigns reported noted_so.1);
       clean = o.clean noted_so.0;
       reaches = λ t.
           second_too x.found.reaches_nd (holds_nd body) (handed_on part (outer_part source) u.found).reaches_nd
@@ -426,10 +426,10 @@ follow_on : (complete : Bool) (s : PlainStmt) (ss : PlainStmts) → complete ≡
 follow_on complete s ss is = subst (λ (z : Bool). MayFollow (z && completes s) ss) is
 
 order_done : {around : Around} {complete : Bool} {s : PlainStmt} {ss : PlainStmts} {w u : Walk} {x v : Verdict (List TypedStmt)} (made : TypedStmt) →
-    StmtDone around (not complete) s w u → IfPasses (OrderDone around (complete && completes s) ss u) x → behind None (λ others. made ∷ others) x ≡ v →
+    StmtDone around (not complete) s w u → IfPasses (OrderDone around (complete && completes s) ss u) x → following None (λ others. made ∷ others) x ≡ v →
     IfPasses (OrderDone around complete (more_stmts s ss) w) v
 order_done {complete = complete} {s} {ss} {w} {u} made one rest is =
-    at_behind None (λ others. made ∷ others) is rest
+    at_after None (λ others. made ∷ others) is rest
     (λ y order same.
     let is_complete : complete ≡ true = not-false complete one.first in
     record {

@@ -24,9 +24,9 @@ use Rattle.dpj_exprs.specs.Typing.{Typing}
 use Rattle.dpj_check.specs.declared.node.Around.{Around}
 use Rattle.dpj_check.specs.declared.node.Node.{Node}
 use Rattle.dpj_check.specs.Deciding.{Returned}
-use Rattle.dpj_check.specs.Simple.{declared_type, declared_told, Declaring, AssigningLocal, AssigningPlace, Performing, Returning, Printing}
+use Rattle.dpj_check.specs.Simple.{declared_type, declared_reported, Declaring, AssigningLocal, AssigningPlace, Performing, Returning, Printing}
 use Rattle.dpj_check.specs.Walks.{Walk, Verdict, refused}
-use Rattle.dpj_check.proofs.Noting.{noted_told}
+use Rattle.dpj_check.proofs.Noting.{noted_reported}
 use Rattle.dpj_judged.proofs.Decided.{Decided, tested}
 use Rattle.dpj_judged.proofs.Expressions.{judged}
 use Rattle.dpj_judged.proofs.Targets.{target_judged}
@@ -52,24 +52,24 @@ plain_again (ty.array elem rpl named) =
 
 -- `ty name = value;`
 value_declared : {node : Node} {is_final : Bool} {tree : TypeTree} {name : ℕ} {value : PlainExpr} {w : Walk} (a : answer) →
-    declared_told w.env tree ≡ None → Typing w.env value w.found a → (v : Verdict TypedStmt) × Declaring node is_final tree name value w v
+    declared_reported w.env tree ≡ None → Typing w.env value w.found a → (v : Verdict TypedStmt) × Declaring node is_final tree name value w v
 value_declared (answer.refused q) is d = (refused q, Declaring.value_refused is d)
 value_declared {tree = tree} {w = w} (answer.gives t g) is d =
     let fit : Decided (FitsAs (supers_of w.env) (type_in t) (declared_type w.env tree)) = fits_decided (supers_of w.env) (type_in t) (declared_type w.env tree) in
     (_, Declaring.declared (of_plain (declared_type w.env tree)) is (plain_again (declared_type w.env tree)) d fit.1 refl)
 
-type_declared : (node : Node) (is_final : Bool) (tree : TypeTree) (name : ℕ) (value : PlainExpr) (w : Walk) (said : Option Refusal) → declared_told w.env tree ≡ said →
+type_declared : (node : Node) (is_final : Bool) (tree : TypeTree) (name : ℕ) (value : PlainExpr) (w : Walk) (said : Option Refusal) → declared_reported w.env tree ≡ said →
     (v : Verdict TypedStmt) × Declaring node is_final tree name value w v
 type_declared node is_final tree name value w (Some q) is = (refused q, Declaring.type_refused is)
 type_declared node is_final tree name value w None is = let one = judged w.env value w.found in value_declared one.0 is one.1
 
 pub declaring_judged : (node : Node) (is_final : Bool) (tree : TypeTree) (name : ℕ) (value : PlainExpr) (w : Walk) → (v : Verdict TypedStmt) × Declaring node is_final tree name value w v
-declaring_judged node is_final tree name value w = type_declared node is_final tree name value w (declared_told w.env tree) refl
+declaring_judged node is_final tree name value w = type_declared node is_final tree name value w (declared_reported w.env tree) refl
 
 -- `target = value;` for a local
 to_local : {node : Node} {target : Named} {value : PlainExpr} {w : Walk} {t : Option TypedExpr} {g : Found} (row : Option LocalRow) →
     Typing w.env value w.found (gives t g) → local_of w.env target.name ≡ row → (v : Verdict TypedStmt) × AssigningLocal node target value w v
-to_local {node} {target} None d is = (refused _, AssigningLocal.no_local d is (noted_told node.faults (record { kind = kind.Unknown; place = target.place })))
+to_local {node} {target} None d is = (refused _, AssigningLocal.no_local d is (noted_reported node.faults (record { kind = kind.Unknown; place = target.place })))
 to_local {w = w} {t = t} (Some row) d is =
     let fit : Decided (FitsAs (supers_of w.env) (type_in t) (plain_type row.ty)) = fits_decided (supers_of w.env) (type_in t) (plain_type row.ty) in
     (_, AssigningLocal.assigned d is fit.1 refl)

@@ -108,8 +108,8 @@ of_while test only around node w = let one = expression.judged w.env test w.foun
 
 -- whether branches clash over locals, whether they interfere, and whether a body assigns outer locals
 clash_said : (branches : List Touched) (none : Bool) → IsTrue none ↔ NoPair Clash branches → ClashIs branches (not none)
-clash_said branches true told = told.0 refl
-clash_said branches false told = λ apart. false≢true (told.1 apart)
+clash_said branches true reported = reported.0 refl
+clash_said branches false reported = λ apart. false≢true (reported.1 apart)
 
 clash_is : (branches : List Touched) → (clash : Bool) × ClashIs branches clash
 clash_is branches = let none = no_clash_decided branches in (not none.0, clash_said branches none.0 none.1)

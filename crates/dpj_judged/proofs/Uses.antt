@@ -9,7 +9,7 @@ use Rattle.dpj_base.specs.declared.ty.Super.{Super}
 use Rattle.dpj_base.specs.declared.ty.Ty.{Ty}
 use Rattle.dpj_base.specs.Types.{PlainType, plain_type, type_with}
 use Rattle.dpj_headers.specs.declared.faults.Faults.{Faults}
-use Rattle.dpj_headers.specs.Faults.{told, all_noted}
+use Rattle.dpj_headers.specs.Faults.{reported, all_noted}
 use Rattle.dpj_headers.specs.Headers.{class_of}
 use Rattle.dpj_headers.specs.Passes.{fault}
 use Rattle.dpj_resolve.specs.declared.args.ReadArgs.{ReadArgs}
@@ -26,7 +26,7 @@ use Rattle.dpj_exprs.specs.Answer.{Answer, gives, refused}
 use Rattle.dpj_exprs.specs.Env.{table_of, supers_of, given_in}
 use Rattle.dpj_exprs.specs.Partial.{is_partial_call}
 use Rattle.dpj_exprs.specs.Typed.{type_in, may_be, is_value, FitsAs, AllFit}
-use Rattle.dpj_exprs.specs.Uses.{method_through, args_noted, formals_of, use_faults, UseTold, CallOf, CallOn, Call, CreationOf, Creation}
+use Rattle.dpj_exprs.specs.Uses.{method_through, args_noted, formals_of, use_faults, UseReported, CallOf, CallOn, Call, CreationOf, Creation}
 use Rattle.dpj_judged.proofs.Decided.{Decided, holds, fails, both}
 use Rattle.dpj_judged.proofs.Fitting.{subtype_decided}
 
@@ -43,31 +43,31 @@ all_fit_decided supers args (v ∷ values) (t ∷ declared) =
     both (fits_decided supers v (type_with args (plain_type t))) (all_fit_decided supers args values declared)
 
 -- what is reported of a use whose region arguments are known
-use_told : (env : Env) (before : Faults) (args : List Rpl) (actuals : List (Option PlainType)) (declared : List Ty) (partial hold : Bool) (place : Place) →
-    (one : Option Refusal) × UseTold env before args actuals declared partial hold place one
-use_told env before args actuals declared partial hold place =
+use_reported : (env : Env) (before : Faults) (args : List Rpl) (actuals : List (Option PlainType)) (declared : List Ty) (partial hold : Bool) (place : Place) →
+    (one : Option Refusal) × UseReported env before args actuals declared partial hold place one
+use_reported env before args actuals declared partial hold place =
     let fit : Decided (AllFit (supers_of env) args actuals declared) = all_fit_decided (supers_of env) args actuals declared in
-    (told (all_noted before (use_faults partial fit.0 hold place)), record { fit = fit.0; fits = fit.1; tells = refl })
+    (reported (all_noted before (use_faults partial fit.0 hold place)), record { fit = fit.0; fits = fit.1; tells = refl })
 
 -- a call of a method
 abbrev CallOfJudged : Env → TypedExpr → ℕ → MethodRow → List Rpl → ReadArgs → List (Option TypedExpr) → Place → Found → Type 0
 CallOfJudged env e class row owned args actuals place found = (a : Answer) × CallOf env e class row owned args actuals place found a
 
-call_told : {env : Env} {e : TypedExpr} {class : ℕ} {row : MethodRow} {owned : List Rpl} {args : ReadArgs} {actuals : List (Option TypedExpr)} {place : Place} {found : Found}
+call_reported : {env : Env} {e : TypedExpr} {class : ℕ} {row : MethodRow} {owned : List Rpl} {args : ReadArgs} {actuals : List (Option TypedExpr)} {place : Place} {found : Found}
     (regions : List Rpl) (one : Option Refusal) → args_given args.written args.paths row.regions ≡ Some regions →
-    UseTold env (args_noted args row.regions place) (owned ++ regions) (map type_in actuals) row.params (is_partial_call owned row)
+    UseReported env (args_noted args row.regions place) (owned ++ regions) (map type_in actuals) row.params (is_partial_call owned row)
     (all_hold (given_in env) (owned ++ regions) row.given) place one →
     CallOfJudged env e class row owned args actuals place found
-call_told regions (Some refusal) given said = (refused refusal, CallOf.faulty_call given said)
-call_told regions None given said = (_, CallOf.fitting_call given said)
+call_reported regions (Some refusal) given said = (refused refusal, CallOf.faulty_call given said)
+call_reported regions None given said = (_, CallOf.fitting_call given said)
 
 call_given : (env : Env) (e : TypedExpr) (class : ℕ) (row : MethodRow) (owned : List Rpl) (args : ReadArgs) (actuals : List (Option TypedExpr)) (place : Place) (found : Found)
     (given : Option (List Rpl)) → args_given args.written args.paths row.regions ≡ given → CallOfJudged env e class row owned args actuals place found
 call_given env e class row owned args actuals place found None is = (_, CallOf.unknown_args is)
 call_given env e class row owned args actuals place found (Some regions) is =
-    let one = use_told env (args_noted args row.regions place) (owned ++ regions) (map type_in actuals) row.params (is_partial_call owned row)
+    let one = use_reported env (args_noted args row.regions place) (owned ++ regions) (map type_in actuals) row.params (is_partial_call owned row)
     (all_hold (given_in env) (owned ++ regions) row.given) place in
-    call_told regions one.0 is one.1
+    call_reported regions one.0 is one.1
 
 call_on : (env : Env) (e : TypedExpr) (name : ℕ) (args : ReadArgs) (actuals : List (Option TypedExpr)) (place : Place) (found : Found)
     (through : Result (ℕ × MethodRow × List Rpl) Refusal) → method_through (table_of env) (type_of e) name place ≡ through →
@@ -93,21 +93,21 @@ call_judged env None name args actuals place found = call_anywhere env name args
 abbrev CreationOfJudged : Env → ℕ → ReadArgs → List (Option TypedExpr) → Place → Found → Type 0
 CreationOfJudged env at args actuals place found = (a : Answer) × CreationOf env at args actuals place found a
 
-creation_told : {env : Env} {at : ℕ} {args : ReadArgs} {actuals : List (Option TypedExpr)} {place : Place} {found : Found} (regions : List Rpl) (one : Option Refusal) →
+creation_reported : {env : Env} {at : ℕ} {args : ReadArgs} {actuals : List (Option TypedExpr)} {place : Place} {found : Found} (regions : List Rpl) (one : Option Refusal) →
     args_given args.written args.paths (params_in (headers_of (table_of env)) at) ≡ Some regions →
-    UseTold env (args_noted args (params_in (headers_of (table_of env)) at) place) regions (map type_in actuals) (formals_of (table_of env) at) false
+    UseReported env (args_noted args (params_in (headers_of (table_of env)) at) place) regions (map type_in actuals) (formals_of (table_of env) at) false
     (all_hold (given_in env) regions (given_of (table_of env) at)) place one →
     CreationOfJudged env at args actuals place found
-creation_told regions (Some refusal) given said = (refused refusal, CreationOf.faulty_creation given said)
-creation_told regions None given said = (_, CreationOf.created given said)
+creation_reported regions (Some refusal) given said = (refused refusal, CreationOf.faulty_creation given said)
+creation_reported regions None given said = (_, CreationOf.created given said)
 
 creation_given : (env : Env) (at : ℕ) (args : ReadArgs) (actuals : List (Option TypedExpr)) (place : Place) (found : Found) (given : Option (List Rpl)) →
     args_given args.written args.paths (params_in (headers_of (table_of env)) at) ≡ given → CreationOfJudged env at args actuals place found
 creation_given env at args actuals place found None is = (_, CreationOf.unknown_args is)
 creation_given env at args actuals place found (Some regions) is =
-    let one = use_told env (args_noted args (params_in (headers_of (table_of env)) at) place) regions (map type_in actuals) (formals_of (table_of env) at) false
+    let one = use_reported env (args_noted args (params_in (headers_of (table_of env)) at) place) regions (map type_in actuals) (formals_of (table_of env) at) false
     (all_hold (given_in env) regions (given_of (table_of env) at)) place in
-    creation_told regions one.0 is one.1
+    creation_reported regions one.0 is one.1
 
 creation_named : (env : Env) (class : Named) (args : ReadArgs) (actuals : List (Option TypedExpr)) (place : Place) (found : Found) (named : Option ℕ) →
     class_of (headers_of (table_of env)) class.name ≡ named → (a : Answer) × Creation env class args actuals place found a

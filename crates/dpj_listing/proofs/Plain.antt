@@ -13,10 +13,10 @@ all_instrs [] places even = refl
 all_instrs (i ∷ instrs) [] even = absurd (omega arith)
 all_instrs (i ∷ instrs) (p ∷ places) even = ap (λ is. i ∷ is) (all_instrs instrs places (omega arith))
 
-pub told_plainly : (bodies : List Body) → All (λ body. length body.instrs ≡ length body.places) bodies
+pub reported_plainly : (bodies : List Body) → All (λ body. length body.instrs ≡ length body.places) bodies
     → flat_map body_text bodies ≡ titled_text (map (λ body. body.title) bodies) (map plain_body bodies)
-told_plainly [] placed = refl
-told_plainly (b ∷ bodies) placed =
+reported_plainly [] placed = refl
+reported_plainly (b ∷ bodies) placed =
     ap₂ (λ is rest. title_line b.title ++ instr_lines 0 is ++ rest)
     (sym (all_instrs b.instrs b.places (All-head (λ body. length body.instrs ≡ length body.places) b bodies placed)))
-    (told_plainly bodies (All-tail (λ body. length body.instrs ≡ length body.places) b bodies placed))
+    (reported_plainly bodies (All-tail (λ body. length body.instrs ≡ length body.places) b bodies placed))

@@ -101,13 +101,13 @@ method Main.main
 ";
 
 #[test]
-fn bodies_are_told_line_by_line(rt: HostRuntime) -> Result<(), Fail> {
+fn bodies_are_reported_line_by_line(rt: HostRuntime) -> Result<(), Fail> {
     let alloc = rt.alloc();
-    let told = [
+    let reported = [
         (two_prints(alloc)?, TWO_PRINTS),
         (counting(alloc)?, COUNTING),
     ];
-    for (code, text) in &told {
+    for (code, text) in &reported {
         assert!(rt; listing(alloc, code)?.as_slice() == text.as_bytes());
     }
     Ok(())

@@ -38,8 +38,8 @@ earlier-more P bs n b lt is =
     (λ (p : P b). (n, omega arith, there P bs n b lt is p))
 
 -- a set that tells what the branches before do tells it with one branch more
-pub told-more : (P : Touched → Type 0) (bs : List Touched) (n : ℕ) (b : Touched) (before after : Bool) → n < length bs → b ≡ get_or bs n b → IsTrue before ↔ Earlier P bs n → IsTrue after ↔ (IsTrue before ⊎ P b) → IsTrue after ↔ Earlier P bs (n + 1)
-told-more P bs n b before after lt is h step = (
+pub reported-more : (P : Touched → Type 0) (bs : List Touched) (n : ℕ) (b : Touched) (before after : Bool) → n < length bs → b ≡ get_or bs n b → IsTrue before ↔ Earlier P bs n → IsTrue after ↔ (IsTrue before ⊎ P b) → IsTrue after ↔ Earlier P bs (n + 1)
+reported-more P bs n b before after lt is h step = (
   λ t. earlier-more P bs n b lt is (⊎_elim (λ (s : IsTrue before). inl (h.0 s)) (λ (p : P b). inr p) (step.0 t)),
   λ e. step.1 (⊎_elim (λ (s : Earlier P bs n). inl (h.1 s)) (λ (p : P b). inr p) (earlier-last P bs n b lt is e)),
 )
@@ -66,33 +66,33 @@ contains_noted (y ∷ ys) x zero lt e = or_left (y == x) (is_noted ys x) (eq-eqb
 contains_noted (y ∷ ys) x (suc k) lt e = or_right (y == x) (is_noted ys x) (contains_noted ys x k (omega (arith, lt)) e)
 
 -- one of the locals is in the set
-some_told : (set : BTreeSet ℕ) (xs : List ℕ) → has_some set xs ≡ true → HasSome set xs
-some_told set [] e = absurd (cc)
-some_told set (y ∷ ys) e =
+some_reported : (set : BTreeSet ℕ) (xs : List ℕ) → has_some set xs ≡ true → HasSome set xs
+some_reported set [] e = absurd (cc)
+some_reported set (y ∷ ys) e =
     ⊎_elim
     (λ (h : has set y ≡ true). (y, (0, omega arith, refl), h))
-    (λ (h : has_some set ys ≡ true). let s : HasSome set ys = some_told set ys h in (s.0, (suc s.1.0, omega (arith, s.1.1), s.1.2), s.2))
+    (λ (h : has_some set ys ≡ true). let s : HasSome set ys = some_reported set ys h in (s.0, (suc s.1.0, omega (arith, s.1.1), s.1.2), s.2))
     (or_cases (has set y) (has_some set ys) e)
 
-told_some : (set : BTreeSet ℕ) (xs : List ℕ) (x k : ℕ) → k < length xs → get_or xs k x ≡ x → has set x ≡ true → has_some set xs ≡ true
-told_some set [] x k lt e h = absurd (omega (arith, lt))
-told_some set (y ∷ ys) x zero lt e h = or_left (has set y) (has_some set ys) (subst (λ (z : ℕ). has set z ≡ true) (sym e) h)
-told_some set (y ∷ ys) x (suc k) lt e h = or_right (has set y) (has_some set ys) (told_some set ys x k (omega (arith, lt)) e h)
+reported_some : (set : BTreeSet ℕ) (xs : List ℕ) (x k : ℕ) → k < length xs → get_or xs k x ≡ x → has set x ≡ true → has_some set xs ≡ true
+reported_some set [] x k lt e h = absurd (omega (arith, lt))
+reported_some set (y ∷ ys) x zero lt e h = or_left (has set y) (has_some set ys) (subst (λ (z : ℕ). has set z ≡ true) (sym e) h)
+reported_some set (y ∷ ys) x (suc k) lt e h = or_right (has set y) (has_some set ys) (reported_some set ys x k (omega (arith, lt)) e h)
 
-meets_told : (used assigned : BTreeSet ℕ) (b : Touched) → IsTrue (meets used assigned b) ↔ Meets used assigned b
-meets_told used assigned b = (
+meets_reported : (used assigned : BTreeSet ℕ) (b : Touched) → IsTrue (meets used assigned b) ↔ Meets used assigned b
+meets_reported used assigned b = (
   λ t. ⊎_elim
-      (λ (h : has_some used b.writes ≡ true). inl (some_told used b.writes h))
-      (λ (h : has_some assigned b.reads ≡ true). inr (some_told assigned b.reads h))
+      (λ (h : has_some used b.writes ≡ true). inl (some_reported used b.writes h))
+      (λ (h : has_some assigned b.reads ≡ true). inr (some_reported assigned b.reads h))
       (or_cases (has_some used b.writes) (has_some assigned b.reads) t),
   λ m. ⊎_elim
-      (λ (s : HasSome used b.writes). or_left (has_some used b.writes) (has_some assigned b.reads) (told_some used b.writes s.0 s.1.0 s.1.1 s.1.2 s.2))
-      (λ (s : HasSome assigned b.reads). or_right (has_some used b.writes) (has_some assigned b.reads) (told_some assigned b.reads s.0 s.1.0 s.1.1 s.1.2 s.2))
+      (λ (s : HasSome used b.writes). or_left (has_some used b.writes) (has_some assigned b.reads) (reported_some used b.writes s.0 s.1.0 s.1.1 s.1.2 s.2))
+      (λ (s : HasSome assigned b.reads). or_right (has_some used b.writes) (has_some assigned b.reads) (reported_some assigned b.reads s.0 s.1.0 s.1.1 s.1.2 s.2))
       m,
 )
 
-noted_told : (before : Bool) (xs : List ℕ) (x : ℕ) → IsTrue (before || is_noted xs x) ↔ (IsTrue before ⊎ Contains xs x)
-noted_told before xs x = (
+noted_reported : (before : Bool) (xs : List ℕ) (x : ℕ) → IsTrue (before || is_noted xs x) ↔ (IsTrue before ⊎ Contains xs x)
+noted_reported before xs x = (
   λ t. ⊎_elim (λ (h : before ≡ true). inl h) (λ (h : is_noted xs x ≡ true). inr (noted_contains xs x h)) (or_cases before (is_noted xs x) t),
   λ m. ⊎_elim
       (λ (h : IsTrue before). or_left before (is_noted xs x) h)
@@ -101,16 +101,16 @@ noted_told before xs x = (
 )
 
 -- a set with the locals that a branch assigns
-pub assigned_told : (before after : BTreeSet ℕ) (b : Touched) (ws : List ℕ) → ws ≡ b.writes → ((x : ℕ) → has after x ≡ (has before x || is_noted ws x)) → (x : ℕ) → IsTrue (has after x) ↔ (IsTrue (has before x) ⊎ Contains b.writes x)
-assigned_told before after b ws same is x =
+pub assigned_reported : (before after : BTreeSet ℕ) (b : Touched) (ws : List ℕ) → ws ≡ b.writes → ((x : ℕ) → has after x ≡ (has before x || is_noted ws x)) → (x : ℕ) → IsTrue (has after x) ↔ (IsTrue (has before x) ⊎ Contains b.writes x)
+assigned_reported before after b ws same is x =
     subst (λ (zs : List ℕ). IsTrue (has after x) ↔ (IsTrue (has before x) ⊎ Contains zs x)) same
-    (subst (λ (t : Bool). IsTrue t ↔ (IsTrue (has before x) ⊎ Contains ws x)) (sym (is x)) (noted_told (has before x) ws x))
+    (subst (λ (t : Bool). IsTrue t ↔ (IsTrue (has before x) ⊎ Contains ws x)) (sym (is x)) (noted_reported (has before x) ws x))
 
 -- and with those that it reads
-pub used_told : (before mid after : BTreeSet ℕ) (b : Touched) (rs ws : List ℕ) → rs ≡ b.reads → ws ≡ b.writes → ((x : ℕ) → has mid x ≡ (has before x || is_noted rs x)) → ((x : ℕ) → has after x ≡ (has mid x || is_noted ws x)) → (x : ℕ) → IsTrue (has after x) ↔ (IsTrue (has before x) ⊎ Uses b x)
-used_told before mid after b rs ws reads writes first second x =
-    let one : IsTrue (has mid x) ↔ (IsTrue (has before x) ⊎ Contains b.reads x) = subst (λ (zs : List ℕ). IsTrue (has mid x) ↔ (IsTrue (has before x) ⊎ Contains zs x)) reads (subst (λ (t : Bool). IsTrue t ↔ (IsTrue (has before x) ⊎ Contains rs x)) (sym (first x)) (noted_told (has before x) rs x)) in
-    let two : IsTrue (has after x) ↔ (IsTrue (has mid x) ⊎ Contains b.writes x) = assigned_told mid after b ws writes second x in (
+pub used_reported : (before mid after : BTreeSet ℕ) (b : Touched) (rs ws : List ℕ) → rs ≡ b.reads → ws ≡ b.writes → ((x : ℕ) → has mid x ≡ (has before x || is_noted rs x)) → ((x : ℕ) → has after x ≡ (has mid x || is_noted ws x)) → (x : ℕ) → IsTrue (has after x) ↔ (IsTrue (has before x) ⊎ Uses b x)
+used_reported before mid after b rs ws reads writes first second x =
+    let one : IsTrue (has mid x) ↔ (IsTrue (has before x) ⊎ Contains b.reads x) = subst (λ (zs : List ℕ). IsTrue (has mid x) ↔ (IsTrue (has before x) ⊎ Contains zs x)) reads (subst (λ (t : Bool). IsTrue t ↔ (IsTrue (has before x) ⊎ Contains rs x)) (sym (first x)) (noted_reported (has before x) rs x)) in
+    let two : IsTrue (has after x) ↔ (IsTrue (has mid x) ⊎ Contains b.writes x) = assigned_reported mid after b ws writes second x in (
       λ t. ⊎_elim
           (λ (m : IsTrue (has mid x)). ⊎_elim (λ (o : IsTrue (has before x)). inl o) (λ (r : Contains b.reads x). inr (inl r)) (one.0 m))
           (λ (w : Contains b.writes x). inr (inr w))
@@ -150,7 +150,7 @@ none-more used assigned bs n b t lt is apart h i j d ij below clash =
     let same : j ≡ n = omega arith in
     let early : i < n = omega arith in
     let at : Clash (get_or bs i d) (get_or bs n d) = subst (λ (k : ℕ). Clash (get_or bs i d) (get_or bs k d)) same clash in
-    both_ways (meets used assigned b) apart ((meets_told used assigned b).1 (meets_from used assigned bs n i b d t early lt (here (Clash (get_or bs i d)) bs n b d lt is at))))
+    both_ways (meets used assigned b) apart ((meets_reported used assigned b).1 (meets_from used assigned bs n i b d t early lt (here (Clash (get_or bs i d)) bs n b d lt is at))))
     (cases_lt j n)
 
 -- the next branch meets one, so that two clash
@@ -165,11 +165,11 @@ met-pair used assigned bs n b t lt is (inr (x, r, s)) none =
     none e.0 n b e.1 lt (there (Clash (get_or bs e.0 b)) bs n b lt is clash b)
 
 pub some-pair : (used assigned : BTreeSet ℕ) (bs : List Touched) (n : ℕ) (b : Touched) → Tells used assigned bs n → n < length bs → b ≡ get_or bs n b → meets used assigned b ≡ true → ¬ NoPair Clash bs
-some-pair used assigned bs n b t lt is met = met-pair used assigned bs n b t lt is ((meets_told used assigned b).0 met)
+some-pair used assigned bs n b t lt is met = met-pair used assigned bs n b t lt is ((meets_reported used assigned b).0 met)
 
 -- the sets tell it of one branch more
 pub tells-more : (used assigned used' assigned' : BTreeSet ℕ) (bs : List Touched) (n : ℕ) (b : Touched) → Tells used assigned bs n → n < length bs → b ≡ get_or bs n b → ((x : ℕ) → IsTrue (has used' x) ↔ (IsTrue (has used x) ⊎ Uses b x)) → ((x : ℕ) → IsTrue (has assigned' x) ↔ (IsTrue (has assigned x) ⊎ Contains b.writes x)) → Tells used' assigned' bs (n + 1)
 tells-more used assigned used' assigned' bs n b t lt is first second = record {
-  used = λ x. told-more (UsesLocal x) bs n b (has used x) (has used' x) lt is (t.used x) (first x);
-  assigned = λ x. told-more (AssignsLocal x) bs n b (has assigned x) (has assigned' x) lt is (t.assigned x) (second x);
+  used = λ x. reported-more (UsesLocal x) bs n b (has used x) (has used' x) lt is (t.used x) (first x);
+  assigned = λ x. reported-more (AssignsLocal x) bs n b (has assigned x) (has assigned' x) lt is (t.assigned x) (second x);
 }

@@ -13,11 +13,11 @@ Same before after = (x : ℕ) → has after x ≡ has before x
 
 -- the name is in the set, or isn't inside and is asked for
 abbrev pub gained : BTreeSet ℕ → BTreeSet ℕ → (ℕ → Bool) → ℕ → Bool
-gained inside before told x = has before x || (not (has inside x) && told x)
+gained inside before reported x = has before x || (not (has inside x) && reported x)
 
 -- the set gains the names that are asked for and aren't inside
 abbrev pub Gains : BTreeSet ℕ → BTreeSet ℕ → BTreeSet ℕ → (ℕ → Bool) → Type 0
-Gains inside before after told = (x : ℕ) → has after x ≡ gained inside before told x
+Gains inside before after reported = (x : ℕ) → has after x ≡ gained inside before reported x
 
 -- one of the names is this
 abbrev pub is_noted : List ℕ → ℕ → Bool

@@ -1,5 +1,5 @@
 ghost use Rattle.std.specs.Prelude.{◌↔◌, ◌<◌, ℕ, length, IsTrue, Contains};
-ghost use Rattle.dpj_base.specs.Pairs.{FirstPair, FirstBehind};
+ghost use Rattle.dpj_base.specs.Pairs.{FirstPair, FirstAfter};
 ghost use Rattle.dpj_locals.specs.Clash.{Uses, Disturbs, Clash};
 
 use crate::branch::Touched;
@@ -11,7 +11,7 @@ pub fn clash(branches: &[Touched]) -> Option<(u32, u32)>
     ensures { FirstPair Clash branches.now result }
 {
     for i in 0..branches.len() {
-        if let Some(j) = clash_behind(branches, i) {
+        if let Some(j) = clash_after(branches, i) {
             return Some((i as u32, j as u32));
         }
     }
@@ -19,9 +19,9 @@ pub fn clash(branches: &[Touched]) -> Option<(u32, u32)>
 }
 
 /// The first branch after this one that clashes with it.
-fn clash_behind(branches: &[Touched], i: usize) -> Option<usize>
+fn clash_after(branches: &[Touched], i: usize) -> Option<usize>
     requires { i < length branches.now }
-    ensures { FirstBehind Clash branches.now i result }
+    ensures { FirstAfter Clash branches.now i result }
 {
     for j in i + 1..branches.len() {
         if clashes(&branches[i], &branches[j]) {

@@ -47,7 +47,7 @@ fn has(set: &BTreeSet<u32>, local: u32) -> bool
 }
 
 /// Adds the locals that a branch reads or assigns.
-#[tactic(auto, using(crate::proofs::Earlier::used_told))]
+#[tactic(auto, using(crate::proofs::Earlier::used_reported))]
 fn add_used(set: &mut BTreeSet<u32>, branch: &Touched) -> Result<(), NoMemory>
     ensures { OnOk result ((x : ℕ) → IsTrue (has set.new x) ↔ (IsTrue (has set.old x) ⊎ Uses branch.now x)) }
 {
@@ -57,7 +57,7 @@ fn add_used(set: &mut BTreeSet<u32>, branch: &Touched) -> Result<(), NoMemory>
 }
 
 /// Adds the locals that a branch assigns.
-#[tactic(auto, using(crate::proofs::Earlier::assigned_told))]
+#[tactic(auto, using(crate::proofs::Earlier::assigned_reported))]
 fn add_assigned(set: &mut BTreeSet<u32>, branch: &Touched) -> Result<(), NoMemory>
     ensures { OnOk result ((x : ℕ) → IsTrue (has set.new x) ↔ (IsTrue (has set.old x) ⊎ Contains branch.now.writes x)) }
 {

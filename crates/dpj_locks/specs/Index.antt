@@ -1,5 +1,5 @@
 -- How the blocks are found that may interfere: by numbers of the fixed elements at the front of a path.
-use Rattle.std.specs.Prelude.{◌≡◌, ℕ, ◌+◌, ◌*◌, ◌%◌, ◌^◌, ◌≤◌, ◌≢◌, ◌⊎◌, cond, nat_lt, Bool, true, false, List, [], ◌∷◌, Option, Some, None, MatchBool}
+use Rattle.std.specs.Prelude.{◌≡◌, ℕ, ◌++◌, ◌≤◌, ◌≢◌, ◌⊎◌, cond, fold, nat_lt, Bool, true, false, List, [], ◌∷◌, Option, Some, None, MatchBool}
 use Rattle.std.specs.Ordering.{nat_cmp}
 use Rattle.std.specs.BTreeMap.{get}
 use Rattle.std.specs.BTreeSet.{contains}
@@ -16,7 +16,9 @@ use Rattle.dpj_locks.specs.declared.standing.Standing.{Standing}
 use Rattle.dpj_locks.specs.declared.standing.Standing.TheVariants.{Opener}
 use Rattle.dpj_locks.specs.Locks.{Standings, AllRoot}
 use Rattle.std.specs.FinMap as map
-use Rattle.dpj_effects.specs.Index.{elem_number}
+use Rattle.std.specs.Hash as fed
+use Rattle.std.specs.Hash.FoldHasher as folding
+use Rattle.dpj_base.specs.contracts.elems.ElemHash.TheImpl as hashed
 
 -- sets of tasks under numbers
 abbrev pub Sets : Type 0
@@ -33,9 +35,9 @@ has sets number q = has_in (get nat_cmp sets number) q
 abbrev pub first_number : ℕ
 first_number = 7
 
--- the number of a path that is longer by one element
-abbrev pub mixed : ℕ → Elem → ℕ
-mixed number x = ((number * 16777619) % 2 ^ 32 + elem_number x) % 2 ^ 32
+-- the number of a path that is longer by one element: a hash of the number before and the element
+unfoldable pub mixed : ℕ → Elem → ℕ
+mixed number x = folding.finish (fold folding.write folding.initial (fed.u64 number ++ (hashed.ghosts).hash_input x))
 
 -- the task is found under the numbers of all fixed fronts of its path, and as ending there under that of the longest
 abbrev pub NotedFrom : Sets → Sets → ℕ → ℕ → List Elem → Type 0

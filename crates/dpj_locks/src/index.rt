@@ -4,12 +4,12 @@ ghost use Rattle.dpj_locks.specs.Index.{has, first_number, mixed, NotedFrom, Not
 
 use crate::sets::{Sets, add, take_out};
 use dpj_base::{Access, Effect, Elem, Index as ElemIndex, NoMemory};
-use dpj_effects::elem_number;
 use std::alloc::Global;
 use std::collections::BTreeMap;
+use std::hash::{FoldHasher, Hash, Hasher};
 
 /// The number of the path without elements.
-pub const FIRST_NUMBER: u32 = 7;
+pub const FIRST_NUMBER: u64 = 7;
 
 /// Under which numbers tasks are found, by the paths of effects that they hold.
 #[derive(Drop)]
@@ -32,12 +32,14 @@ pub fn is_fixed(elem: Elem) -> bool
 }
 
 /// The number of a path that is longer by one element.
-pub fn mixed(number: u32, elem: Elem) -> u32
+#[tactic(auto, unfolding(crate::specs::Index::mixed))]
+pub fn mixed(number: u64, elem: Elem) -> u64
     ensures { result ≡ mixed number elem }
 {
-    number
-        .wrapping_mul(16777619)
-        .wrapping_add(elem_number(elem))
+    let mut hasher = FoldHasher::default();
+    number.hash(&mut hasher);
+    elem.hash(&mut hasher);
+    hasher.finish()
 }
 
 impl Index {

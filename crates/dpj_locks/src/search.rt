@@ -93,7 +93,7 @@ pub fn lesser(one: Option<u32>, other: Option<u32>) -> Option<u32>
 }
 
 /// The least task of the set under a number that hinders.
-fn least_under(search: Search<'_>, sets: &Sets, number: u32) -> Option<u32>
+fn least_under(search: Search<'_>, sets: &Sets, number: u64) -> Option<u32>
     ensures sound { IfSome result (λ h. hinders search.entry.standings.now search.entry.task search.entry.wants.now h ≡ true) }
     ensures found { (q : ℕ) → has sets.now number q ≡ true
         → hinders search.entry.standings.now search.entry.task search.entry.wants.now q ≡ true → AtMost result q }

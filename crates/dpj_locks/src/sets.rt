@@ -6,10 +6,10 @@ use std::alloc::Global;
 use std::collections::{BTreeMap, BTreeSet};
 
 /// Sets of tasks under numbers.
-pub type Sets = BTreeMap<u32, BTreeSet<u32>>;
+pub type Sets = BTreeMap<u64, BTreeSet<u32>>;
 
 /// Puts a task into the set under a number.
-pub fn add(alloc: Global, sets: &mut Sets, number: u32, task: u32) -> Result<(), NoMemory>
+pub fn add(alloc: Global, sets: &mut Sets, number: u64, task: u32) -> Result<(), NoMemory>
     ensures there { OnOk result (has sets.new number task ≡ true) }
     ensures kept { (k : ℕ) (q : ℕ) → has sets.old k q ≡ true → has sets.new k q ≡ true }
 {
@@ -24,7 +24,7 @@ pub fn add(alloc: Global, sets: &mut Sets, number: u32, task: u32) -> Result<(),
 }
 
 /// Takes a task out of the set under a number, and keeps no empty set. It takes no memory.
-pub fn take_out(sets: &mut Sets, number: u32, task: u32)
+pub fn take_out(sets: &mut Sets, number: u64, task: u32)
     ensures { (k : ℕ) (q : ℕ) → q ≢ task → has sets.old k q ≡ true → has sets.new k q ≡ true }
 {
     let Some(set) = sets.get_mut(&number) else {

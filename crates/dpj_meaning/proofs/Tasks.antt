@@ -7,22 +7,22 @@ use Rattle.dpj_meaning.specs.Actions.{Work, Task, Branches, Own, Rest, Read, Wri
 use Rattle.dpj_meaning.specs.Actions.{Answer}
 use Rattle.dpj_meaning.specs.Actions.{Reply, Next, Over, Unknown}
 use Rattle.dpj_meaning.specs.Core.{Result, Out, Done, Trapped, Stopped, Lost, run}
-use Rattle.dpj_meaning.specs.Asking.{most_turns, Told, told, ended, ending, replied, meaning, ask}
+use Rattle.dpj_meaning.specs.Asking.{most_turns, Reported, reported, ended, ending, replied, meaning, ask}
 use Rattle.dpj_meaning.specs.Statements.{begun}
 use Rattle.dpj_meaning.specs.Tasks.{Replies, Asks, Disciplined, AfterFork, Lively, InTurn, Paced, IsDisciplined, IsLively, IsInTurn, IsPaced}
 use Rattle.dpj_meaning.proofs.Turns.{most_pos}
 use Rattle.dpj_meaning.proofs.Entries.{steady_meaning}
-use Rattle.dpj_meaning.proofs.Modes.{Mode, Free, Forked, Rested, Ended, behind, May, Goes, Good, good_end, good_same, finish, all_fine}
+use Rattle.dpj_meaning.proofs.Modes.{Mode, Free, Forked, Rested, Ended, following, May, Goes, Good, good_end, good_same, finish, all_fine}
 
 module _ {N M : Type 0} where
   -- where a task stands after some answers, the latest first; and the earliest first
   abbrev pub mode : Replies N M → List (Answer N M) → Mode N M
   mode m [] = Free
-  mode m (x ∷ got) = behind (mode m got) (m got)
+  mode m (x ∷ got) = following (mode m got) (m got)
 
   abbrev along : Mode N M → Replies N M → List (Answer N M) → Mode N M
   along g h [] = g
-  along g h (x ∷ xs) = along (behind g (h [])) (λ ys. h (x ∷ ys)) xs
+  along g h (x ∷ xs) = along (following g (h [])) (λ ys. h (x ∷ ys)) xs
 
   goes_along : (xs : List (Answer N M)) (g : Mode N M) (h : Replies N M) (d : ℕ) → length xs < d → Goes d g h → May (along g h xs) (h xs)
   goes_along [] g h zero l s = absurd (omega arith)
@@ -30,14 +30,14 @@ module _ {N M : Type 0} where
   goes_along (x ∷ xs) g h zero l s = absurd (omega arith)
   goes_along (x ∷ xs) g h (suc d) l s = goes_along xs _ _ d (omega arith) (s.1 x)
 
-  along_last : (xs : List (Answer N M)) (g : Mode N M) (h : Replies N M) (x : Answer N M) → along g h (xs ++ x ∷ []) ≡ behind (along g h xs) (h xs)
+  along_last : (xs : List (Answer N M)) (g : Mode N M) (h : Replies N M) (x : Answer N M) → along g h (xs ++ x ∷ []) ≡ following (along g h xs) (h xs)
   along_last [] g h x = refl
-  along_last (y ∷ xs) g h x = along_last xs (behind g (h [])) (λ ys. h (y ∷ ys)) x
+  along_last (y ∷ xs) g h x = along_last xs (following g (h [])) (λ ys. h (y ∷ ys)) x
 
   mode_along : (h : Replies N M) (got : List (Answer N M)) → along Free h (reverse got) ≡ mode (λ xs. h (reverse xs)) got
   mode_along h [] = refl
   mode_along h (x ∷ got) =
-      ap (λ l. along Free h l) (reverse-append (x ∷ []) got) ∙ along_last (reverse got) Free h x ∙ ap (λ g. behind g (h (reverse got))) (mode_along h got)
+      ap (λ l. along Free h l) (reverse-append (x ∷ []) got) ∙ along_last (reverse got) Free h x ∙ ap (λ g. following g (h (reverse got))) (mode_along h got)
 
   abbrev pub Keeps : Replies N M → Type 0
   Keeps m = (got : List (Answer N M)) → May (mode m got) (m got)
@@ -63,7 +63,7 @@ module _ {N M : Type 0} where
   over_ended Ended h = refl
 
   -- an end alone is after an end
-  own_goes_on : (g : Mode N M) (n : ℕ) (o : Own N M) → behind g (Next n (Do o)) ≡ Ended → ⊥
+  own_goes_on : (g : Mode N M) (n : ℕ) (o : Own N M) → following g (Next n (Do o)) ≡ Ended → ⊥
   own_goes_on g zero Rest e = cc
   own_goes_on g (suc n) Rest e = cc
   own_goes_on g n (Enter E) e = cc
@@ -74,13 +74,13 @@ module _ {N M : Type 0} where
   own_goes_on g n (Print bytes) e = cc
   own_goes_on g n Exit e = cc
 
-  begin_goes_on : (g : Mode N M) (n b : ℕ) → behind g (Next n (Begin b)) ≡ Ended → ⊥
+  begin_goes_on : (g : Mode N M) (n b : ℕ) → following g (Next n (Begin b)) ≡ Ended → ⊥
   begin_goes_on Free n b e = cc
   begin_goes_on (Forked ts k) n b e = cc
   begin_goes_on Rested n b e = cc
   begin_goes_on Ended n b e = cc
 
-  ended_by : (g : Mode N M) (n : ℕ) (c : Action N M (Task N M)) → behind g (Next n c) ≡ Ended → (x : Ending N) × (c ≡ End x)
+  ended_by : (g : Mode N M) (n : ℕ) (c : Action N M (Task N M)) → following g (Next n c) ≡ Ended → (x : Ending N) × (c ≡ End x)
   ended_by g n (Do o) e = absurd (own_goes_on g n o e)
   ended_by g n (Fork ts) e = absurd (cc)
   ended_by g n (Begin b) e = absurd (begin_goes_on g n b e)
@@ -88,7 +88,7 @@ module _ {N M : Type 0} where
   ended_by g n (End x) e = (x, refl)
 
   -- and a fork alone is in front of its branches
-  own_forks : (g : Mode N M) (n : ℕ) (o : Own N M) (ts : Branches (Task N M)) (b : ℕ) → behind g (Next n (Do o)) ≡ Forked ts b → ⊥
+  own_forks : (g : Mode N M) (n : ℕ) (o : Own N M) (ts : Branches (Task N M)) (b : ℕ) → following g (Next n (Do o)) ≡ Forked ts b → ⊥
   own_forks g zero Rest ts b e = cc
   own_forks g (suc n) Rest ts b e = cc
   own_forks g n (Enter E) ts b e = cc
@@ -99,12 +99,12 @@ module _ {N M : Type 0} where
   own_forks g n (Print bytes) ts b e = cc
   own_forks g n Exit ts b e = cc
 
-  begins_behind : (g : Mode N M) (n k : ℕ) (ts : Branches (Task N M)) (b : ℕ) → behind g (Next n (Begin k)) ≡ Forked ts b
+  begins_after : (g : Mode N M) (n k : ℕ) (ts : Branches (Task N M)) (b : ℕ) → following g (Next n (Begin k)) ≡ Forked ts b
       → (c : ℕ) × (b ≡ suc c) × (g ≡ Forked ts c)
-  begins_behind Free n k ts b e = absurd (cc)
-  begins_behind (Forked us c) n k ts b e = let i : us ≡ ts = cc in (c, cc, ap (λ vs. Forked vs c) i)
-  begins_behind Rested n k ts b e = absurd (cc)
-  begins_behind Ended n k ts b e = absurd (cc)
+  begins_after Free n k ts b e = absurd (cc)
+  begins_after (Forked us c) n k ts b e = let i : us ≡ ts = cc in (c, cc, ap (λ vs. Forked vs c) i)
+  begins_after Rested n k ts b e = absurd (cc)
+  begins_after Ended n k ts b e = absurd (cc)
 
   join_mode : (g : Mode N M) (n : ℕ) → May g (Next n Join) → (ts : Branches (Task N M)) × (g ≡ Forked ts (length ts.tasks))
   join_mode Free n h = absurd h
@@ -146,8 +146,8 @@ module _ {N M : Type 0} where
 
   module _ (m : Replies N M) (may : Keeps m) where
     -- after one more answer
-    then_may : (got : List (Answer N M)) (a : Answer N M) (r : Reply N M (Task N M)) → m got ≡ r → May (behind (mode m got) r) (m (a ∷ got))
-    then_may got a r e = subst (λ s. May (behind (mode m got) s) (m (a ∷ got))) e (may (a ∷ got))
+    then_may : (got : List (Answer N M)) (a : Answer N M) (r : Reply N M (Task N M)) → m got ≡ r → May (following (mode m got) r) (m (a ∷ got))
+    then_may got a r e = subst (λ s. May (following (mode m got) s) (m (a ∷ got))) e (may (a ∷ got))
 
     begins_or_joins : (got : List (Answer N M)) (ts : Branches (Task N M)) (k : ℕ) → mode m got ≡ Forked ts k
         → ((k < length ts.tasks) × (m got ≡ Next 0 (Begin k))) ⊎ ((k ≡ length ts.tasks) × (m got ≡ Next 0 Join))
@@ -157,7 +157,7 @@ module _ {N M : Type 0} where
         → k ≤ length ts.tasks
         → mode m (since ++ got) ≡ Forked ts k
     forked_since [] got ts k a l h = absurd (omega arith)
-    forked_since (x ∷ []) got ts zero a l h = ap (λ r. behind (mode m got) r) a.1
+    forked_since (x ∷ []) got ts zero a l h = ap (λ r. following (mode m got) r) a.1
     forked_since (x ∷ []) got ts (suc k) a l h = absurd (omega arith)
     forked_since (x ∷ (y ∷ ys)) got ts zero a l h = absurd (omega arith)
     forked_since (x ∷ (y ∷ ys)) got ts (suc k) a l h =
@@ -165,8 +165,8 @@ module _ {N M : Type 0} where
       where
         at : mode m ((y ∷ ys) ++ got) ≡ Forked ts k
             → ((k < length ts.tasks) × (m ((y ∷ ys) ++ got) ≡ Next 0 (Begin k))) ⊎ ((k ≡ length ts.tasks) × (m ((y ∷ ys) ++ got) ≡ Next 0 Join))
-            → behind (mode m ((y ∷ ys) ++ got)) (m ((y ∷ ys) ++ got)) ≡ Forked ts (suc k)
-        at e (inl b) = ap (λ g. behind g (m ((y ∷ ys) ++ got))) e ∙ ap (λ r. behind (Forked ts k) r) b.1
+            → following (mode m ((y ∷ ys) ++ got)) (m ((y ∷ ys) ++ got)) ≡ Forked ts (suc k)
+        at e (inl b) = ap (λ g. following g (m ((y ∷ ys) ++ got))) e ∙ ap (λ r. following (Forked ts k) r) b.1
         at e (inr j) = let i = j.0 in absurd (omega arith)
 
     pub disciplined : Disciplined m
@@ -200,14 +200,14 @@ module _ {N M : Type 0} where
           forks = a.forks;
         }
 
-        at : ((c : ℕ) → mode m got ≡ Forked ts c → AfterFork m got ts c) → (r : Reply N M (Task N M)) → m got ≡ r → behind (mode m got) r ≡ Forked ts b
+        at : ((c : ℕ) → mode m got ≡ Forked ts c → AfterFork m got ts c) → (r : Reply N M (Task N M)) → m got ≡ r → following (mode m got) r ≡ Forked ts b
             → AfterFork m (x ∷ got) ts b
         at more (Next n (Do o)) i h = absurd (own_forks (mode m got) n o ts b h)
         at more (Next n (Fork us)) i h =
             let j : us ≡ ts = cc in
             let k : 0 ≡ b = cc in
             record { since = []; answer = x; earlier = got; is = refl; number = k; forks = (n, i ∙ ap (λ vs. Next n (Fork vs)) j) }
-        at more (Next n (Begin k)) i h = let c = begins_behind (mode m got) n k ts b h in later c.0 c.1 (more c.0 c.2)
+        at more (Next n (Begin k)) i h = let c = begins_after (mode m got) n k ts b h in later c.0 c.1 (more c.0 c.2)
         at more (Next n Join) i h = absurd (cc)
         at more (Next n (End y)) i h = absurd (cc)
         at more Over i h = let o = over_ended (mode m got) (subst (λ r. May (mode m got) r) i (may got)) in absurd (cc)
@@ -221,7 +221,7 @@ module _ {N M : Type 0} where
       known = λ got e. no_unknown (mode m got) (asked_at got Unknown e);
       starts = λ e. asked_at [] Over e;
       goes_on = λ got a c e o.
-          ended_by (mode m got) e.0 c (over_ended _ (subst (λ r. May (behind (mode m got) (Next e.0 c)) r) o (then_may got a (Next e.0 c) e.1)));
+          ended_by (mode m got) e.0 c (over_ended _ (subst (λ r. May (following (mode m got) (Next e.0 c)) r) o (then_may got a (Next e.0 c) e.1)));
       joins_forked = λ got e. (let j = join_mode (mode m got) e.0 (asked_at got (Next e.0 Join) e.1) in (j.0, after_fork got j.0 (length j.0.tasks) j.1));
     }
 
@@ -237,7 +237,7 @@ module _ {N M : Type 0} where
       rests = λ got a e. rest_of (mode m got) a (asked_at got (Next most_turns a) e);
     }
 
-  replied_is : (k : Work) (o : Out N M (Result N M) (Told N M)) → finish o (λ r w. ending (ended k r) w.since w.to_come) ≡ replied k o
+  replied_is : (k : Work) (o : Out N M (Result N M) (Reported N M)) → finish o (λ r w. ending (ended k r) w.since w.to_come) ≡ replied k o
   replied_is k (Done r w) = refl
   replied_is k (Trapped trap p w) = refl
   replied_is k (Stopped n a) = refl
@@ -246,7 +246,7 @@ module _ {N M : Type 0} where
   module _ (names : Naming N M) (P : PlainProgram) (t : Task N M) where
     abbrev heard : Replies N M
     heard xs =
-        replied t.work (run (told names) (meaning names P t.frame.left t.work.stmts (begun t.work.takes t.frame)) (record {
+        replied t.work (run (reported names) (meaning names P t.frame.left t.work.stmts (begun t.work.takes t.frame)) (record {
           since =
               0;
           made = 0;
@@ -260,7 +260,7 @@ module _ {N M : Type 0} where
         all_fine names (meaning names P t.frame.left t.work.stmts (begun t.work.takes t.frame))
         (steady_meaning names P t.frame.left t.work.stmts (begun t.work.takes t.frame)) in
         let good : Good (suc (most_turns * d + most_turns)) Free
-        (λ w. replied t.work (run (told names) (meaning names P t.frame.left t.work.stmts (begun t.work.takes t.frame)) w)) =
+        (λ w. replied t.work (run (reported names) (meaning names P t.frame.left t.work.stmts (begun t.work.takes t.frame)) w)) =
         good_same (λ w l. replied_is t.work _) (fine.good _ (λ r w. ending (ended t.work r) w.since w.to_come) (λ r. good_end (ended t.work r))) in
         good.from d 0 0 p tt (omega arith))
 

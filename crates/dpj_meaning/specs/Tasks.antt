@@ -5,7 +5,7 @@ use Rattle.dpj_meaning.specs.Values.{Naming}
 use Rattle.dpj_meaning.specs.Actions.{Frame, Task, Branches, Effect, Ending, Rest, Enter, Action, Do, Fork, Begin, Join, End, Answer, Reply, Next, Over}
 use Rattle.dpj_meaning.specs.Actions.{Unknown}
 use Rattle.dpj_meaning.specs.Core.{Result, Prog, Ret, Again, Out, bind, tested, run}
-use Rattle.dpj_meaning.specs.Asking.{most_turns, Told, turned, told, ask}
+use Rattle.dpj_meaning.specs.Asking.{most_turns, Reported, turned, reported, ask}
 
 abbrev pub Replies : Type 0 → Type 0 → Type 0
 Replies N M = List (Answer N M) → Reply N M (Task N M)
@@ -64,10 +64,10 @@ abbrev pub IsPaced : Type 0 → Type 0 → Type 0
 IsPaced N M = (names : Naming N M) (P : PlainProgram) (t : Task N M) → Paced (ask names P t)
 
 -- a loop is its test, and where that is true a turn, its body and the loop again: no bound of a loop runs out
-abbrev pub again : {N M : Type 0} → Naming N M → (test body : Frame N M → Prog N M) → Frame N M → Told N M → Out N M (Result N M) (Told N M)
-again names test body f w = run (told names) (Again test body f (λ r. Ret r)) w
+abbrev pub again : {N M : Type 0} → Naming N M → (test body : Frame N M → Prog N M) → Frame N M → Reported N M → Out N M (Result N M) (Reported N M)
+again names test body f w = run (reported names) (Again test body f (λ r. Ret r)) w
 
 abbrev pub LoopsAgain : Type 0 → Type 0 → Type 0
-LoopsAgain N M = (names : Naming N M) (test body : Frame N M → Prog N M) (f : Frame N M) (w : Told N M) → w.since < most_turns
-    → again names test body f w ≡ bind (run (told names) (test f) w)
-    (λ r v. tested turned (λ g u. run (told names) (body g) u) (λ g u. again names test body g u) r v)
+LoopsAgain N M = (names : Naming N M) (test body : Frame N M → Prog N M) (f : Frame N M) (w : Reported N M) → w.since < most_turns
+    → again names test body f w ≡ bind (run (reported names) (test f) w)
+    (λ r v. tested turned (λ g u. run (reported names) (body g) u) (λ g u. again names test body g u) r v)

@@ -16,7 +16,7 @@ use Rattle.dpj_classes.specs.declared.table.Table.{Table}
 use Rattle.dpj_classes.specs.Table.{methods_of}
 use Rattle.dpj_assembly.specs.Assembled.{PlainBody, members_of, program_of}
 use Rattle.dpj_exprs.specs.declared.env.Env.{Env}
-use Rattle.dpj_check.specs.Methods.{typed_body, after_ok, reported, method_told, method_judged, MethodChecking, of_method, MemberChecking, bodies_of, PlainBodies, behind_bodies, MembersChecking, ClassesChecking}
+use Rattle.dpj_check.specs.Methods.{typed_body, after_ok, reported, method_reported, method_judged, MethodChecking, of_method, MemberChecking, bodies_of, PlainBodies, after_bodies, MembersChecking, ClassesChecking}
 use Rattle.dpj_check.specs.Walks.{Verdict, passes, refused}
 use Rattle.dpj_code.specs.declared.code.Code.{Code}
 use Rattle.dpj_code.specs.Plain.{plain_code}
@@ -32,7 +32,7 @@ abbrev IfOk : {T : Type 0} → (T → Type 0) → Result T Refusal → Type 0
 IfOk Q (Ok made) = Q made
 IfOk Q (Err refusal) = Unit {0}
 
-reported_if : {T : Type 0} (Q : T → Type 0) (told : Option Refusal) (made : T) → Q made → IfOk Q (reported told made)
+reported_if : {T : Type 0} (Q : T → Type 0) (stated : Option Refusal) (made : T) → Q made → IfOk Q (reported stated made)
 reported_if Q None made h = h
 reported_if Q (Some refusal) made h = tt
 
@@ -46,7 +46,7 @@ module _ (n : ℕ)
     OfBody body = AllNarrow n body.stmts
 
     judged_narrow : (env : Env) (number : ℕ) (method : Method) (v : Verdict (List TypedStmt)) → If (BlockNarrow n) v → IfOk OfBody (method_judged env number method v)
-    judged_narrow env number method (passes ss w) h = reported_if OfBody (method_told env number method w.found.effects) (typed_body ss w.env) h
+    judged_narrow env number method (passes ss w) h = reported_if OfBody (method_reported env number method w.found.effects) (typed_body ss w.env) h
     judged_narrow env number method (refused refusal) h = tt
 
     method_narrow : {env : Env} {params : List Bool} {number : ℕ} {method : Method} {r : Result PlainBody Refusal} → method_size method ≤ n → MethodChecking env params number method r → IfOk OfBody r
@@ -69,7 +69,7 @@ module _ (n : ℕ)
         let both = sum_by-cons member_size m ms in
         let h = member_narrow (omega (arith, small, both)) d in
         subst (IfOk OfBodies) j
-        (after_if OfBodies OfBodies (behind_bodies (bodies_of made)) u (λ all k. All-append OfBody (bodies_of made) all.bodies h k) (members_narrow (omega (arith, small, both)) rest))
+        (after_if OfBodies OfBodies (after_bodies (bodies_of made)) u (λ all k. All-append OfBody (bodies_of made) all.bodies h k) (members_narrow (omega (arith, small, both)) rest))
 
     classes_narrow : {start : Env} {at number : ℕ} {classes : List Class} {r : Result (List PlainBody) Refusal} → sum_by class_size classes ≤ n → ClassesChecking start at classes number r →
         IfOk (All OfBody) r

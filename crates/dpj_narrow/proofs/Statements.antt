@@ -18,7 +18,7 @@ use Rattle.dpj_check.specs.declared.node.Around.{Around}
 use Rattle.dpj_check.specs.declared.node.Node.{Node}
 use Rattle.dpj_check.specs.Checking.{block_left, branch_of, BranchesVerdict, all_pass, one_refused, after_branch, Checking, Choosing, InOther, Standing, standing, InScope, in_scope, InBlock, in_block, InOrder, Branching, Forking, Iterating, Parting}
 use Rattle.dpj_check.specs.Simple.{place_of, node_of, stored, printed_form, Declaring, AssigningLocal, AssigningPlace, Performing, Returning, Printing}
-use Rattle.dpj_check.specs.Walks.{Walk, Verdict, passes, refused, left_scope, judged, behind}
+use Rattle.dpj_check.specs.Walks.{Walk, Verdict, passes, refused, left_scope, judged, following}
 use Rattle.dpj_narrow.proofs.Narrow.{width, Narrow, AllNarrow, BranchesNarrow}
 
 -- what holds of what is made, where it passes
@@ -26,20 +26,20 @@ abbrev pub If : {T : Type 0} → (T → Type 0) → Verdict T → Type 0
 If Q (passes made w) = Q made
 If Q (refused refusal) = Unit {0}
 
-judged_if : {T : Type 0} (Q : T → Type 0) (told : Option Refusal) (made : T) (w : Walk) → Q made → If Q (judged told made w)
+judged_if : {T : Type 0} (Q : T → Type 0) (reported : Option Refusal) (made : T) (w : Walk) → Q made → If Q (judged reported made w)
 judged_if Q None made w h = h
 judged_if Q (Some refusal) made w h = tt
 
-judged_so : {T : Type 0} {made : T} {v : Verdict T} (Q : T → Type 0) (told : Option Refusal) (w : Walk) → judged told made w ≡ v → Q made → If Q v
-judged_so {made = made} Q told w j h = subst (If Q) j (judged_if Q told made w h)
+judged_so : {T : Type 0} {made : T} {v : Verdict T} (Q : T → Type 0) (reported : Option Refusal) (w : Walk) → judged reported made w ≡ v → Q made → If Q v
+judged_so {made = made} Q reported w j h = subst (If Q) j (judged_if Q reported made w h)
 
-behind_if : {T U : Type 0} (Q : T → Type 0) (R : U → Type 0) (told : Option Refusal) (make : T → U) (v : Verdict T) → ((made : T) → Q made → R (make made)) → If Q v →
-    If R (behind told make v)
-behind_if Q R told make (passes made w) to h = judged_if R told (make made) w (to made h)
-behind_if Q R told make (refused refusal) to h = tt
+after_if : {T U : Type 0} (Q : T → Type 0) (R : U → Type 0) (reported : Option Refusal) (make : T → U) (v : Verdict T) → ((made : T) → Q made → R (make made)) → If Q v →
+    If R (following reported make v)
+after_if Q R reported make (passes made w) to h = judged_if R reported (make made) w (to made h)
+after_if Q R reported make (refused refusal) to h = tt
 
-behind_so : {T U : Type 0} {v : Verdict U} (Q : T → Type 0) (R : U → Type 0) (told : Option Refusal) (make : T → U) (u : Verdict T) → behind told make u ≡ v → ((made : T) → Q made → R (make made)) → If Q u → If R v
-behind_so Q R told make u j to h = subst (If R) j (behind_if Q R told make u to h)
+after_so : {T U : Type 0} {v : Verdict U} (Q : T → Type 0) (R : U → Type 0) (reported : Option Refusal) (make : T → U) (u : Verdict T) → following reported make u ≡ v → ((made : T) → Q made → R (make made)) → If Q u → If R v
+after_so Q R reported make u j to h = subst (If R) j (after_if Q R reported make u to h)
 
 scope_if : {T : Type 0} (Q : T → Type 0) (before : Walk) (v : Verdict T) → If Q v → If Q (left_scope before v)
 scope_if Q before (passes made w) h = h
@@ -72,13 +72,13 @@ module _ (n : ℕ)
 
     -- statements that hold no other
     declaring_narrow : {node : Node} {is_final : Bool} {tree : TypeTree} {name : ℕ} {e : PlainExpr} {w : Walk} {v : Verdict TypedStmt} → Declaring node is_final tree name e w v → If (Narrow n) v
-    declaring_narrow (Declaring.type_refused told) = tt
-    declaring_narrow (Declaring.value_refused untold d) = tt
-    declaring_narrow (Declaring.declared made untold same d fits j) = judged_so (Narrow n) _ _ j tt
+    declaring_narrow (Declaring.type_refused reported) = tt
+    declaring_narrow (Declaring.value_refused unreported d) = tt
+    declaring_narrow (Declaring.declared made unreported same d fits j) = judged_so (Narrow n) _ _ j tt
 
     assigning_narrow : {node : Node} {target : Named} {e : PlainExpr} {w : Walk} {v : Verdict TypedStmt} → AssigningLocal node target e w v → If (Narrow n) v
     assigning_narrow (AssigningLocal.value_refused d) = tt
-    assigning_narrow (AssigningLocal.no_local d is told) = tt
+    assigning_narrow (AssigningLocal.no_local d is reported) = tt
     assigning_narrow (AssigningLocal.assigned d is fits j) = judged_so (Narrow n) _ _ j tt
 
     stored_narrow : (place : Place) (spot : PlainSpot) (e : TypedExpr) → Narrow n (statement place (stored spot e))
@@ -124,7 +124,7 @@ module _ (n : ℕ)
 
     mutual
       checking_narrow : {params : List Bool} {around : Around} {node : Node} {f : tree.StmtForm} {w : Walk} {v : Verdict TypedStmt} → stmt_form_size f ≤ n → Checking params around node f w v → If (Narrow n) v
-      checking_narrow small (Checking.of_block {u = u} d j) = behind_so BlockNarrow (Narrow n) _ _ u j (λ ss h. h) (block_narrow small d)
+      checking_narrow small (Checking.of_block {u = u} d j) = after_so BlockNarrow (Narrow n) _ _ u j (λ ss h. h) (block_narrow small d)
       checking_narrow small (Checking.of_declaration d) = declaring_narrow d
       checking_narrow small (Checking.of_local_assignment d) = assigning_narrow d
       checking_narrow small (Checking.of_field_assignment d) = placing_narrow d
@@ -138,7 +138,7 @@ module _ (n : ℕ)
       checking_narrow small (Checking.of_choice d) = choosing_narrow (omega (arith, small)) (omega arith) d
       checking_narrow small (Checking.of_choice_else d) = choosing_narrow (omega (arith, small)) (omega (arith, small)) d
       checking_narrow small (Checking.while_refused d) = tt
-      checking_narrow small (Checking.of_while {u = u} d i j) = behind_so (Narrow n) (Narrow n) _ _ u j (λ s h. h) (scope_narrow (omega (arith, small)) i)
+      checking_narrow small (Checking.of_while {u = u} d i j) = after_so (Narrow n) (Narrow n) _ _ u j (λ s h. h) (scope_narrow (omega (arith, small)) i)
       checking_narrow small (Checking.of_cobegin d) = forking_narrow small d
       checking_narrow small (Checking.start_refused d) = tt
       checking_narrow small (Checking.count_refused d i) = tt
@@ -153,12 +153,12 @@ module _ (n : ℕ)
       choosing_narrow small more (Choosing.first_refused d i) = tt
       choosing_narrow {node = node} {test = test} small more (Choosing.chosen {t = t} {made = made} {u = u} d i o j) =
           let h = scope_narrow small i in
-          behind_so OtherNarrow (Narrow n) _ _ u j (λ part k. chosen_narrow node.place (node_of test t) made part h k) (other_narrow more o)
+          after_so OtherNarrow (Narrow n) _ _ u j (λ part k. chosen_narrow node.place (node_of test t) made part h k) (other_narrow more o)
 
       other_narrow : {params : List Bool} {around : Around} {other : Option PlainStmt} {w : Walk} {v : Verdict (Option TypedStmt)} → other_size other ≤ n → InOther params around other w v →
           If OtherNarrow v
       other_narrow small InOther.no_other = tt
-      other_narrow small (InOther.an_other {u = u} d j) = behind_so (Narrow n) OtherNarrow None Some u j (λ s h. h) (scope_narrow small d)
+      other_narrow small (InOther.an_other {u = u} d j) = after_so (Narrow n) OtherNarrow None Some u j (λ s h. h) (scope_narrow small d)
 
       standing_narrow : {params : List Bool} {around : Around} {follows : Bool} {s : PlainStmt} {w : Walk} {v : Verdict TypedStmt} → stmt_size s ≤ n → Standing params around follows s w v → If (Narrow n) v
       standing_narrow small (standing d) = checking_narrow (omega (arith, small)) d
@@ -175,7 +175,7 @@ module _ (n : ℕ)
       order_narrow small (InOrder.statement_refused d) = tt
       order_narrow small (InOrder.then_others {made = made} {x = x} d rest j) =
           let h = standing_narrow (omega (arith, small)) d in
-          behind_so BlockNarrow BlockNarrow None (λ others. made ∷ others) x j (λ others k. (h, k)) (order_narrow (omega (arith, small)) rest)
+          after_so BlockNarrow BlockNarrow None (λ others. made ∷ others) x j (λ others k. (h, k)) (order_narrow (omega (arith, small)) rest)
 
       branching_narrow : {params : List Bool} {around : Around} {nd : Bool} {ss : PlainStmts} {w : Walk} {v : BranchesVerdict} → stmts_size ss ≤ n → Branching params around nd ss w v → IfBranches ss v
       branching_narrow small Branching.no_branches = (omega arith, tt)
@@ -187,7 +187,7 @@ module _ (n : ℕ)
       forking_narrow : {params : List Bool} {around : Around} {node : Node} {nd : Bool} {branches : PlainStmts} {w : Walk} {v : Verdict TypedStmt} → stmts_size branches ≤ n →
           Forking params around node nd branches w v → If (Narrow n) v
       forking_narrow small (Forking.some_refused d) = tt
-      forking_narrow small (Forking.clashing effects touched clash d c told) = tt
+      forking_narrow small (Forking.clashing effects touched clash d c reported) = tt
       forking_narrow small (Forking.forked effects touched clash apart d c free a j) =
           let h = branching_narrow small d in
           let few = h.0 in
@@ -196,12 +196,12 @@ module _ (n : ℕ)
       iterating_narrow : {params : List Bool} {around : Around} {node : Node} {nd : Bool} {var : Named} {start count : TypedExpr} {inner : PlainStmt} {w : Walk} {v : Verdict TypedStmt} →
           stmt_size inner ≤ n → Iterating params around node nd var start count inner w v → If (Narrow n) v
       iterating_narrow small (Iterating.iteration_refused d) = tt
-      iterating_narrow small (Iterating.iteration_assigning assigns d a told) = tt
+      iterating_narrow small (Iterating.iteration_assigning assigns d a reported) = tt
       iterating_narrow small (Iterating.iterated assigns d a free j) = judged_so (Narrow n) _ _ j (scope_narrow small d)
 
       parting_narrow : {params : List Bool} {around : Around} {node : Node} {view var : Named} {array count : PlainExpr} {inner : PlainStmt} {w : Walk} {v : Verdict TypedStmt} → stmt_size inner ≤ n →
           Parting params around node view var array count inner w v → If (Narrow n) v
       parting_narrow small (Parting.range_refused o) = tt
       parting_narrow small (Parting.part_refused o d) = tt
-      parting_narrow small (Parting.part_assigning assigns o d a told) = tt
+      parting_narrow small (Parting.part_assigning assigns o d a reported) = tt
       parting_narrow small (Parting.parted assigns o d a free j) = judged_so (Narrow n) _ _ j (scope_narrow small d)

@@ -9,10 +9,10 @@ use Rattle.dpj_tree.specs.declared.region.Named.{Named}
 use Rattle.dpj_tree.specs.Plain.{no_exprs, no_stmts}
 use Rattle.dpj_parse.specs.Taking.{Takes, TakesName, last, Many, none}
 use Rattle.dpj_parse.specs.Paths.{one_name, DerivesHead, DerivesWithin, star, within, DerivesRpl, path, no_args, args}
-use Rattle.dpj_parse.specs.Types.{DerivesBase, region, index, behind, type_of}
-use Rattle.dpj_parse.specs.Expressions.{as_value, as_name, as_field, as_element, as_call, as_creation, operand, postfix, new_array, primary, behind_dot, indexed, DerivesPrimary, number, array, no_actuals, end}
+use Rattle.dpj_parse.specs.Types.{DerivesBase, region, index, following, type_of}
+use Rattle.dpj_parse.specs.Expressions.{as_value, as_name, as_field, as_element, as_call, as_creation, operand, postfix, new_array, primary, after_dot, indexed, DerivesPrimary, number, array, no_actuals, end}
 use Rattle.dpj_parse.specs.Statements.{condition, value, range, braces, DerivesStmts, at_first, declaration, local_assignment, field_assignment, element_assignment, blocked, if_else, bare_return, printed_text}
-use Rattle.dpj_parse.specs.Classes.{DerivesAtomic, DerivesKind, DerivesKindOr, DerivesParamsBehind, DerivesConstr, DerivesGiven, DerivesParams, DerivesFormal, DerivesFormalList, DerivesFormals, DerivesItem, DerivesSummary, DerivesIn, DerivesResult, DerivesField, DerivesMethod, DerivesMember, DerivesParent, DerivesMembers, DerivesClass, DerivesProgram}
+use Rattle.dpj_parse.specs.Classes.{DerivesAtomic, DerivesKind, DerivesKindOr, DerivesParamsAfter, DerivesConstr, DerivesGiven, DerivesParams, DerivesFormal, DerivesFormalList, DerivesFormals, DerivesItem, DerivesSummary, DerivesIn, DerivesResult, DerivesField, DerivesMethod, DerivesMember, DerivesParent, DerivesMembers, DerivesClass, DerivesProgram}
 use Rattle.dpj_parse.specs.Expecting.{Part, Expected, one, part}
 use Rattle.dpj_parse.specs.Expecting.{Part as p}
 use Rattle.dpj_parse.proofs.Meant.{Meant, All, no_item, joined}
@@ -58,7 +58,7 @@ made p.args_if after = front (after) ([], no_args)
 made p.args after = front (after) ([], no_args)
 made p.params_if after = front (after) (_, DerivesParams.no_params)
 made p.params after = front (after) (_, DerivesParams.no_params)
-made p.more_declared after = front (after) (λ earlier. ([], DerivesParamsBehind.no_more))
+made p.more_declared after = front (after) (λ earlier. ([], DerivesParamsAfter.no_more))
 made p.kind after = front (record { terminal = terminal.Keyword Keyword.Region; place = nowhere } ∷ after) (false, DerivesKind.kind DerivesAtomic.plain takes)
 made p.atomic_if after = front (after) (false, DerivesAtomic.plain)
 made p.kind_if after = front (after) (λ earlier. (earlier, DerivesKindOr.same))
@@ -67,7 +67,7 @@ made p.constraint after = front (record { terminal = terminal.Keyword Keyword.Ro
 made p.type after = front (record { terminal = terminal.Keyword Keyword.Int; place = nowhere } ∷ after) (_, (type_of (stands nowhere _) (DerivesBase.int takes) none))
 made p.base after = front (record { terminal = terminal.Keyword Keyword.Int; place = nowhere } ∷ after) (_, DerivesBase.int takes)
 made p.suffixes after = front (after) ([], none)
-made p.brackets_behind after = front (record { terminal = terminal.Symbol Symbol.Less; place = nowhere } ∷ record { terminal = terminal.Keyword Keyword.Root; place = nowhere } ∷ record { terminal = terminal.Symbol Symbol.Greater; place = nowhere } ∷ record { terminal = terminal.Symbol Symbol.Hash; place = nowhere } ∷ record { terminal = terminal.Name 0; place = nowhere } ∷ after) (_, behind (region takes (path (stands nowhere _) (DerivesHead.root takes) none) takes) (index takes (takes_name)))
+made p.brackets_after after = front (record { terminal = terminal.Symbol Symbol.Less; place = nowhere } ∷ record { terminal = terminal.Keyword Keyword.Root; place = nowhere } ∷ record { terminal = terminal.Symbol Symbol.Greater; place = nowhere } ∷ record { terminal = terminal.Symbol Symbol.Hash; place = nowhere } ∷ record { terminal = terminal.Name 0; place = nowhere } ∷ after) (_, following (region takes (path (stands nowhere _) (DerivesHead.root takes) none) takes) (index takes (takes_name)))
 made p.region_if after = front (record { terminal = terminal.Symbol Symbol.Less; place = nowhere } ∷ record { terminal = terminal.Keyword Keyword.Root; place = nowhere } ∷ record { terminal = terminal.Symbol Symbol.Greater; place = nowhere } ∷ after) (_, (region takes (path (stands nowhere _) (DerivesHead.root takes) none) takes))
 made p.index_if after = front (record { terminal = terminal.Symbol Symbol.Hash; place = nowhere } ∷ record { terminal = terminal.Name 0; place = nowhere } ∷ after) (_, (index takes (takes_name)))
 made (p.expr level) after = front (record { terminal = terminal.Int (pos 0); place = nowhere } ∷ after) (_, (operand (postfix (primary (number takes)))))
@@ -75,15 +75,15 @@ made (p.climb level top) after = front (after) (λ s e d left. (e, d))
 made p.unary after = front (record { terminal = terminal.Int (pos 0); place = nowhere } ∷ after) (_, postfix (primary (number takes)))
 made p.created after = front (record { terminal = terminal.Name 0; place = nowhere } ∷ record { terminal = terminal.Symbol Symbol.OpenParen; place = nowhere } ∷ record { terminal = terminal.Symbol Symbol.CloseParen; place = nowhere } ∷ after) (λ s place t. (_, postfix (primary (DerivesPrimary.creation t (takes_name) no_args (no_actuals takes takes)))))
 made p.created_rest after = front (record { terminal = terminal.Symbol Symbol.OpenParen; place = nowhere } ∷ record { terminal = terminal.Symbol Symbol.CloseParen; place = nowhere } ∷ after) (λ s i j place name paths t n d. (_, postfix (primary (DerivesPrimary.creation t n d (no_actuals takes takes)))))
-made p.array after = front (record { terminal = terminal.Symbol Symbol.OpenBracket; place = nowhere } ∷ record { terminal = terminal.Int (pos 0); place = nowhere } ∷ record { terminal = terminal.Symbol Symbol.CloseBracket; place = nowhere } ∷ record { terminal = terminal.Symbol Symbol.Less; place = nowhere } ∷ record { terminal = terminal.Keyword Keyword.Root; place = nowhere } ∷ record { terminal = terminal.Symbol Symbol.Greater; place = nowhere } ∷ record { terminal = terminal.Symbol Symbol.Hash; place = nowhere } ∷ record { terminal = terminal.Name 0; place = nowhere } ∷ after) (λ s i j place start suffixes t d ss. (_, new_array (array t d ss takes (operand (postfix (primary (number takes)))) takes (behind (region takes (path (stands nowhere _) (DerivesHead.root takes) none) takes) (index takes (takes_name))))))
-made p.array_open after = front (record { terminal = terminal.Int (pos 0); place = nowhere } ∷ record { terminal = terminal.Symbol Symbol.CloseBracket; place = nowhere } ∷ record { terminal = terminal.Symbol Symbol.Less; place = nowhere } ∷ record { terminal = terminal.Keyword Keyword.Root; place = nowhere } ∷ record { terminal = terminal.Symbol Symbol.Greater; place = nowhere } ∷ record { terminal = terminal.Symbol Symbol.Hash; place = nowhere } ∷ record { terminal = terminal.Name 0; place = nowhere } ∷ after) (λ s i j k place at start suffixes t d ss o. (_, new_array (array t d ss o (operand (postfix (primary (number takes)))) takes (behind (region takes (path (stands nowhere _) (DerivesHead.root takes) none) takes) (index takes (takes_name))))))
+made p.array after = front (record { terminal = terminal.Symbol Symbol.OpenBracket; place = nowhere } ∷ record { terminal = terminal.Int (pos 0); place = nowhere } ∷ record { terminal = terminal.Symbol Symbol.CloseBracket; place = nowhere } ∷ record { terminal = terminal.Symbol Symbol.Less; place = nowhere } ∷ record { terminal = terminal.Keyword Keyword.Root; place = nowhere } ∷ record { terminal = terminal.Symbol Symbol.Greater; place = nowhere } ∷ record { terminal = terminal.Symbol Symbol.Hash; place = nowhere } ∷ record { terminal = terminal.Name 0; place = nowhere } ∷ after) (λ s i j place start suffixes t d ss. (_, new_array (array t d ss takes (operand (postfix (primary (number takes)))) takes (following (region takes (path (stands nowhere _) (DerivesHead.root takes) none) takes) (index takes (takes_name))))))
+made p.array_open after = front (record { terminal = terminal.Int (pos 0); place = nowhere } ∷ record { terminal = terminal.Symbol Symbol.CloseBracket; place = nowhere } ∷ record { terminal = terminal.Symbol Symbol.Less; place = nowhere } ∷ record { terminal = terminal.Keyword Keyword.Root; place = nowhere } ∷ record { terminal = terminal.Symbol Symbol.Greater; place = nowhere } ∷ record { terminal = terminal.Symbol Symbol.Hash; place = nowhere } ∷ record { terminal = terminal.Name 0; place = nowhere } ∷ after) (λ s i j k place at start suffixes t d ss o. (_, new_array (array t d ss o (operand (postfix (primary (number takes)))) takes (following (region takes (path (stands nowhere _) (DerivesHead.root takes) none) takes) (index takes (takes_name))))))
 made p.inner after = front (record { terminal = terminal.Symbol Symbol.OpenParen; place = nowhere } ∷ record { terminal = terminal.Int (pos 0); place = nowhere } ∷ record { terminal = terminal.Symbol Symbol.CloseParen; place = nowhere } ∷ after) (_, DerivesPrimary.parenthesised takes (operand (postfix (primary (number takes)))) takes)
 made p.literal after = front (record { terminal = terminal.Int (pos 0); place = nowhere } ∷ after) (_, _, number takes)
 made p.selected after = front (after) (λ s ending e d. (ending, e, d))
-made p.selection after = front (record { terminal = terminal.Symbol Symbol.Dot; place = nowhere } ∷ record { terminal = terminal.Name 0; place = nowhere } ∷ after) (λ s ending e d. (as_field, _, behind_dot d takes (takes_name)))
+made p.selection after = front (record { terminal = terminal.Symbol Symbol.Dot; place = nowhere } ∷ record { terminal = terminal.Name 0; place = nowhere } ∷ after) (λ s ending e d. (as_field, _, after_dot d takes (takes_name)))
 made p.element after = front (record { terminal = terminal.Symbol Symbol.OpenBracket; place = nowhere } ∷ record { terminal = terminal.Int (pos 0); place = nowhere } ∷ record { terminal = terminal.Symbol Symbol.CloseBracket; place = nowhere } ∷ after) (λ s ending e d. (_, indexed d takes (operand (postfix (primary (number takes)))) takes))
-made p.dotted_rest after = front (record { terminal = terminal.Name 0; place = nowhere } ∷ after) (λ s i ending e dot d t. (as_field, _, behind_dot d t (takes_name)))
-made p.actuals_if after = front (after) (λ s i j ending e dot name d t n. (as_field, _, behind_dot d t n))
+made p.dotted_rest after = front (record { terminal = terminal.Name 0; place = nowhere } ∷ after) (λ s i ending e dot d t. (as_field, _, after_dot d t (takes_name)))
+made p.actuals_if after = front (after) (λ s i j ending e dot name d t n. (as_field, _, after_dot d t n))
 made p.actuals after = front (record { terminal = terminal.Symbol Symbol.OpenParen; place = nowhere } ∷ record { terminal = terminal.Symbol Symbol.CloseParen; place = nowhere } ∷ after) (_, (no_actuals takes takes))
 made p.actuals_rest after = front (record { terminal = terminal.Symbol Symbol.CloseParen; place = nowhere } ∷ after) (λ s place o. (_, no_actuals o takes))
 made p.listed after = front (record { terminal = terminal.Int (pos 0); place = nowhere } ∷ after) (record { mid = _; first = _; others = no_exprs; level = (operand (postfix (primary (number takes)))); further = end })
@@ -101,16 +101,16 @@ made p.shown after = front (record { terminal = terminal.Text []; place = nowher
 made p.after_name after = front (record { terminal = terminal.Symbol Symbol.Assign; place = nowhere } ∷ record { terminal = terminal.Int (pos 0); place = nowhere } ∷ record { terminal = terminal.Symbol Symbol.Semicolon; place = nowhere } ∷ after) (λ s name n. (_, local_assignment n takes (value (operand (postfix (primary (number takes)))) takes)))
 made p.after_bracket after = front (record { terminal = terminal.Int (pos 0); place = nowhere } ∷ record { terminal = terminal.Symbol Symbol.CloseBracket; place = nowhere } ∷ record { terminal = terminal.Symbol Symbol.Assign; place = nowhere } ∷ record { terminal = terminal.Int (pos 0); place = nowhere } ∷ record { terminal = terminal.Symbol Symbol.Semicolon; place = nowhere } ∷ after) (λ s i name at n o. (_, element_assignment (indexed (primary (DerivesPrimary.name n)) o (operand (postfix (primary (number takes)))) takes) takes (value (operand (postfix (primary (number takes)))) takes)))
 made p.declared_name after = front (record { terminal = terminal.Name 0; place = nowhere } ∷ record { terminal = terminal.Symbol Symbol.Assign; place = nowhere } ∷ record { terminal = terminal.Int (pos 0); place = nowhere } ∷ record { terminal = terminal.Symbol Symbol.Semicolon; place = nowhere } ∷ after) (λ s i is_final ty f d. (_, declaration f d (takes_name) takes (value (operand (postfix (primary (number takes)))) takes)))
-made (p.selected_then as_value) after = front (record { terminal = terminal.Symbol Symbol.Dot; place = nowhere } ∷ record { terminal = terminal.Name 0; place = nowhere } ∷ record { terminal = terminal.Symbol Symbol.Assign; place = nowhere } ∷ record { terminal = terminal.Int (pos 0); place = nowhere } ∷ record { terminal = terminal.Symbol Symbol.Semicolon; place = nowhere } ∷ after) (λ s ending e d. (_, field_assignment (behind_dot d takes (takes_name)) takes (value (operand (postfix (primary (number takes)))) takes)))
-made (p.selected_then as_name) after = front (record { terminal = terminal.Symbol Symbol.Dot; place = nowhere } ∷ record { terminal = terminal.Name 0; place = nowhere } ∷ record { terminal = terminal.Symbol Symbol.Assign; place = nowhere } ∷ record { terminal = terminal.Int (pos 0); place = nowhere } ∷ record { terminal = terminal.Symbol Symbol.Semicolon; place = nowhere } ∷ after) (λ s e d. (_, field_assignment (behind_dot d takes (takes_name)) takes (value (operand (postfix (primary (number takes)))) takes)))
-made (p.selected_then as_field) after = front (record { terminal = terminal.Symbol Symbol.Dot; place = nowhere } ∷ record { terminal = terminal.Name 0; place = nowhere } ∷ record { terminal = terminal.Symbol Symbol.Assign; place = nowhere } ∷ record { terminal = terminal.Int (pos 0); place = nowhere } ∷ record { terminal = terminal.Symbol Symbol.Semicolon; place = nowhere } ∷ after) (λ s e d. (_, field_assignment (behind_dot d takes (takes_name)) takes (value (operand (postfix (primary (number takes)))) takes)))
-made (p.selected_then as_element) after = front (record { terminal = terminal.Symbol Symbol.Dot; place = nowhere } ∷ record { terminal = terminal.Name 0; place = nowhere } ∷ record { terminal = terminal.Symbol Symbol.Assign; place = nowhere } ∷ record { terminal = terminal.Int (pos 0); place = nowhere } ∷ record { terminal = terminal.Symbol Symbol.Semicolon; place = nowhere } ∷ after) (λ s e d. (_, field_assignment (behind_dot d takes (takes_name)) takes (value (operand (postfix (primary (number takes)))) takes)))
-made (p.selected_then as_call) after = front (record { terminal = terminal.Symbol Symbol.Dot; place = nowhere } ∷ record { terminal = terminal.Name 0; place = nowhere } ∷ record { terminal = terminal.Symbol Symbol.Assign; place = nowhere } ∷ record { terminal = terminal.Int (pos 0); place = nowhere } ∷ record { terminal = terminal.Symbol Symbol.Semicolon; place = nowhere } ∷ after) (λ s e d. (_, field_assignment (behind_dot d takes (takes_name)) takes (value (operand (postfix (primary (number takes)))) takes)))
-made (p.selected_then as_creation) after = front (record { terminal = terminal.Symbol Symbol.Dot; place = nowhere } ∷ record { terminal = terminal.Name 0; place = nowhere } ∷ record { terminal = terminal.Symbol Symbol.Assign; place = nowhere } ∷ record { terminal = terminal.Int (pos 0); place = nowhere } ∷ record { terminal = terminal.Symbol Symbol.Semicolon; place = nowhere } ∷ after) (λ s e d. (_, field_assignment (behind_dot d takes (takes_name)) takes (value (operand (postfix (primary (number takes)))) takes)))
-made p.selection_then after = front (record { terminal = terminal.Symbol Symbol.Dot; place = nowhere } ∷ record { terminal = terminal.Name 0; place = nowhere } ∷ record { terminal = terminal.Symbol Symbol.Assign; place = nowhere } ∷ record { terminal = terminal.Int (pos 0); place = nowhere } ∷ record { terminal = terminal.Symbol Symbol.Semicolon; place = nowhere } ∷ after) (λ s ending e d. (_, field_assignment (behind_dot d takes (takes_name)) takes (value (operand (postfix (primary (number takes)))) takes)))
-made p.dotted_then after = front (record { terminal = terminal.Name 0; place = nowhere } ∷ record { terminal = terminal.Symbol Symbol.Assign; place = nowhere } ∷ record { terminal = terminal.Int (pos 0); place = nowhere } ∷ record { terminal = terminal.Symbol Symbol.Semicolon; place = nowhere } ∷ after) (λ s i ending e dot d t. (_, field_assignment (behind_dot d t (takes_name)) takes (value (operand (postfix (primary (number takes)))) takes)))
-made p.dotted_rest_then after = front (record { terminal = terminal.Symbol Symbol.Assign; place = nowhere } ∷ record { terminal = terminal.Int (pos 0); place = nowhere } ∷ record { terminal = terminal.Symbol Symbol.Semicolon; place = nowhere } ∷ after) (λ s i j ending e dot name d t n. (_, field_assignment (behind_dot d t n) takes (value (operand (postfix (primary (number takes)))) takes)))
-made p.performed after = front (record { terminal = terminal.Int (pos 0); place = nowhere } ∷ record { terminal = terminal.Symbol Symbol.Dot; place = nowhere } ∷ record { terminal = terminal.Name 0; place = nowhere } ∷ record { terminal = terminal.Symbol Symbol.Assign; place = nowhere } ∷ record { terminal = terminal.Int (pos 0); place = nowhere } ∷ record { terminal = terminal.Symbol Symbol.Semicolon; place = nowhere } ∷ after) (_, field_assignment (behind_dot (primary (number takes)) takes (takes_name)) takes (value (operand (postfix (primary (number takes)))) takes))
+made (p.selected_then as_value) after = front (record { terminal = terminal.Symbol Symbol.Dot; place = nowhere } ∷ record { terminal = terminal.Name 0; place = nowhere } ∷ record { terminal = terminal.Symbol Symbol.Assign; place = nowhere } ∷ record { terminal = terminal.Int (pos 0); place = nowhere } ∷ record { terminal = terminal.Symbol Symbol.Semicolon; place = nowhere } ∷ after) (λ s ending e d. (_, field_assignment (after_dot d takes (takes_name)) takes (value (operand (postfix (primary (number takes)))) takes)))
+made (p.selected_then as_name) after = front (record { terminal = terminal.Symbol Symbol.Dot; place = nowhere } ∷ record { terminal = terminal.Name 0; place = nowhere } ∷ record { terminal = terminal.Symbol Symbol.Assign; place = nowhere } ∷ record { terminal = terminal.Int (pos 0); place = nowhere } ∷ record { terminal = terminal.Symbol Symbol.Semicolon; place = nowhere } ∷ after) (λ s e d. (_, field_assignment (after_dot d takes (takes_name)) takes (value (operand (postfix (primary (number takes)))) takes)))
+made (p.selected_then as_field) after = front (record { terminal = terminal.Symbol Symbol.Dot; place = nowhere } ∷ record { terminal = terminal.Name 0; place = nowhere } ∷ record { terminal = terminal.Symbol Symbol.Assign; place = nowhere } ∷ record { terminal = terminal.Int (pos 0); place = nowhere } ∷ record { terminal = terminal.Symbol Symbol.Semicolon; place = nowhere } ∷ after) (λ s e d. (_, field_assignment (after_dot d takes (takes_name)) takes (value (operand (postfix (primary (number takes)))) takes)))
+made (p.selected_then as_element) after = front (record { terminal = terminal.Symbol Symbol.Dot; place = nowhere } ∷ record { terminal = terminal.Name 0; place = nowhere } ∷ record { terminal = terminal.Symbol Symbol.Assign; place = nowhere } ∷ record { terminal = terminal.Int (pos 0); place = nowhere } ∷ record { terminal = terminal.Symbol Symbol.Semicolon; place = nowhere } ∷ after) (λ s e d. (_, field_assignment (after_dot d takes (takes_name)) takes (value (operand (postfix (primary (number takes)))) takes)))
+made (p.selected_then as_call) after = front (record { terminal = terminal.Symbol Symbol.Dot; place = nowhere } ∷ record { terminal = terminal.Name 0; place = nowhere } ∷ record { terminal = terminal.Symbol Symbol.Assign; place = nowhere } ∷ record { terminal = terminal.Int (pos 0); place = nowhere } ∷ record { terminal = terminal.Symbol Symbol.Semicolon; place = nowhere } ∷ after) (λ s e d. (_, field_assignment (after_dot d takes (takes_name)) takes (value (operand (postfix (primary (number takes)))) takes)))
+made (p.selected_then as_creation) after = front (record { terminal = terminal.Symbol Symbol.Dot; place = nowhere } ∷ record { terminal = terminal.Name 0; place = nowhere } ∷ record { terminal = terminal.Symbol Symbol.Assign; place = nowhere } ∷ record { terminal = terminal.Int (pos 0); place = nowhere } ∷ record { terminal = terminal.Symbol Symbol.Semicolon; place = nowhere } ∷ after) (λ s e d. (_, field_assignment (after_dot d takes (takes_name)) takes (value (operand (postfix (primary (number takes)))) takes)))
+made p.selection_then after = front (record { terminal = terminal.Symbol Symbol.Dot; place = nowhere } ∷ record { terminal = terminal.Name 0; place = nowhere } ∷ record { terminal = terminal.Symbol Symbol.Assign; place = nowhere } ∷ record { terminal = terminal.Int (pos 0); place = nowhere } ∷ record { terminal = terminal.Symbol Symbol.Semicolon; place = nowhere } ∷ after) (λ s ending e d. (_, field_assignment (after_dot d takes (takes_name)) takes (value (operand (postfix (primary (number takes)))) takes)))
+made p.dotted_then after = front (record { terminal = terminal.Name 0; place = nowhere } ∷ record { terminal = terminal.Symbol Symbol.Assign; place = nowhere } ∷ record { terminal = terminal.Int (pos 0); place = nowhere } ∷ record { terminal = terminal.Symbol Symbol.Semicolon; place = nowhere } ∷ after) (λ s i ending e dot d t. (_, field_assignment (after_dot d t (takes_name)) takes (value (operand (postfix (primary (number takes)))) takes)))
+made p.dotted_rest_then after = front (record { terminal = terminal.Symbol Symbol.Assign; place = nowhere } ∷ record { terminal = terminal.Int (pos 0); place = nowhere } ∷ record { terminal = terminal.Symbol Symbol.Semicolon; place = nowhere } ∷ after) (λ s i j ending e dot name d t n. (_, field_assignment (after_dot d t n) takes (value (operand (postfix (primary (number takes)))) takes)))
+made p.performed after = front (record { terminal = terminal.Int (pos 0); place = nowhere } ∷ record { terminal = terminal.Symbol Symbol.Dot; place = nowhere } ∷ record { terminal = terminal.Name 0; place = nowhere } ∷ record { terminal = terminal.Symbol Symbol.Assign; place = nowhere } ∷ record { terminal = terminal.Int (pos 0); place = nowhere } ∷ record { terminal = terminal.Symbol Symbol.Semicolon; place = nowhere } ∷ after) (_, field_assignment (after_dot (primary (number takes)) takes (takes_name)) takes (value (operand (postfix (primary (number takes)))) takes))
 made p.member after = front (record { terminal = terminal.Keyword Keyword.Int; place = nowhere } ∷ record { terminal = terminal.Name 0; place = nowhere } ∷ record { terminal = terminal.Symbol Symbol.Semicolon; place = nowhere } ∷ after) (_, DerivesMember.field (type_of (stands nowhere _) (DerivesBase.int takes) none) (takes_name) (DerivesField.field DerivesIn.nowhere takes))
 made p.after_member_name after = front (record { terminal = terminal.Name 0; place = nowhere } ∷ record { terminal = terminal.Symbol Symbol.Semicolon; place = nowhere } ∷ after) (λ s name n. (_, DerivesMember.field (type_of (stands nowhere s) (DerivesBase.class n no_args) none) (takes_name) (DerivesField.field DerivesIn.nowhere takes)))
 made p.field_or_method after = front (record { terminal = terminal.Symbol Symbol.Semicolon; place = nowhere } ∷ after) (λ s i ty name d n. (_, DerivesMember.field d n (DerivesField.field DerivesIn.nowhere takes)))

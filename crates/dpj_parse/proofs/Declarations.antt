@@ -134,7 +134,7 @@ opened_stops zs f (after_terminal test fits s) = after_terminal test fits (f s)
 
 -- in front of brackets
 abbrev bracket_parts : List Expected
-bracket_parts = one is_close_bracket ∷ part Part.brackets_behind ∷ part Part.suffixes ∷ []
+bracket_parts = one is_close_bracket ∷ part Part.brackets_after ∷ part Part.suffixes ∷ []
 
 no_args : (next : Placed) → next.terminal ≡ terminal.Symbol Symbol.OpenBracket → choose Part.args_if (Some next) ≡ Some []
 no_args next is = rw is refl

@@ -120,7 +120,7 @@ pub data IsInner : Part → Type 0 where
   args : IsInner Part.args
   more_paths : IsInner Part.more_paths
   suffixes : IsInner Part.suffixes
-  brackets_behind : IsInner Part.brackets_behind
+  brackets_after : IsInner Part.brackets_after
   region_if : IsInner Part.region_if
   index_if : IsInner Part.index_if
 
@@ -164,8 +164,8 @@ flat_inner IsInner.args next is =
 flat_inner IsInner.more_paths next is =
     some_flat is (flat_if (next_is is_comma next) (Flat.token comma_plain (Flat.path (Flat.inner IsInner.more_paths Flat.done))) Flat.done)
 flat_inner IsInner.suffixes next is =
-    some_flat is (flat_if (next_is is_open_bracket next) (Flat.brackets (Flat.inner IsInner.brackets_behind (Flat.inner IsInner.suffixes Flat.done))) Flat.done)
-flat_inner IsInner.brackets_behind next is = some_flat is (Flat.inner IsInner.region_if (Flat.inner IsInner.index_if Flat.done))
+    some_flat is (flat_if (next_is is_open_bracket next) (Flat.brackets (Flat.inner IsInner.brackets_after (Flat.inner IsInner.suffixes Flat.done))) Flat.done)
+flat_inner IsInner.brackets_after next is = some_flat is (Flat.inner IsInner.region_if (Flat.inner IsInner.index_if Flat.done))
 flat_inner IsInner.region_if next is =
     some_flat is (flat_if (next_is is_less next) (Flat.token less_plain (Flat.path (Flat.token greater_plain Flat.done))) Flat.done)
 flat_inner IsInner.index_if next is =
@@ -199,7 +199,7 @@ kept_inside IsInner.args_if is w k = k
 kept_inside IsInner.args is w k = k
 kept_inside IsInner.more_paths is w k = k
 kept_inside {before = before} IsInner.suffixes is w k = kept_more _ (next_is is_open_bracket (next_of before)) is w k
-kept_inside IsInner.brackets_behind is w k = k
+kept_inside IsInner.brackets_after is w k = k
 kept_inside IsInner.region_if is w k = k
 kept_inside IsInner.index_if is w k = k
 
@@ -208,7 +208,7 @@ outside_inner IsInner.args_if c d = refl
 outside_inner IsInner.args c d = refl
 outside_inner IsInner.more_paths c d = refl
 outside_inner IsInner.suffixes c d = refl
-outside_inner IsInner.brackets_behind c d = refl
+outside_inner IsInner.brackets_after c d = refl
 outside_inner IsInner.region_if c d = refl
 outside_inner IsInner.index_if c d = refl
 

@@ -31,7 +31,7 @@ use Rattle.dpj_parse.specs.Words.{is_name, is_less, is_comma, is_semicolon, is_o
 use Rattle.dpj_parse.specs.Expecting.{Expected, one, part, next_of, choose, Steps, pick, stay, Passes, IsLost}
 use Rattle.dpj_parse.proofs.Expected.{nothing, rule, on_next, took, link, two, is_next, lost_not_read, alike, lost_alike}
 use Rattle.dpj_parse.specs.Expecting.{Part as p}
-use Rattle.dpj_parse.proofs.ExpectedPaths.{unless, where_next, listed_passes, path_passes, args_pass, kind_passes, params_pass, type_passes, class_behind}
+use Rattle.dpj_parse.proofs.ExpectedPaths.{unless, where_next, listed_passes, path_passes, args_pass, kind_passes, params_pass, type_passes, class_after}
 use Rattle.dpj_parse.proofs.ExpectedStmts.{names_pass, block_passes}
 
 -- "(" [ Formals ] ")"
@@ -112,10 +112,10 @@ suffix_no_paren : {before two three : List Placed} {name : Named} {suffixes : Li
 suffix_no_paren Many.none n = rw n.first refl
 suffix_no_paren (Many.some (suffix o c d) ds) n = rw o.first refl
 
-behind_no_paren : {before between after rest : List Placed} {paths : List RplTree} {trees : List Suffix} {name : Named} →
+after_no_paren : {before between after rest : List Placed} {paths : List RplTree} {trees : List Suffix} {name : Named} →
     DerivesArgs before between paths → Many DerivesSuffix between after trees → TakesName after rest name → starts is_open_paren before ≡ false
-behind_no_paren no_args ss n = suffix_no_paren ss n
-behind_no_paren (args o ps c) ss n = rw o.first refl
+after_no_paren no_args ss n = suffix_no_paren ss n
+after_no_paren (args o ps c) ss n = rw o.first refl
 
 -- a type, a name, and what goes on after them
 typed_passes : {before after between rest : List Placed} {ty : TypeTree} {name : Named} →
@@ -123,7 +123,7 @@ typed_passes : {before after between rest : List Placed} {ty : TypeTree} {name :
 typed_passes (type_of s (DerivesBase.int t) ss) n q = on_next t refl (link (type_passes (type_of s (DerivesBase.int t) ss) n) (link (took n refl) q))
 typed_passes (type_of s (DerivesBase.boolean t) ss) n q = on_next t refl (link (type_passes (type_of s (DerivesBase.boolean t) ss) n) (link (took n refl) q))
 typed_passes (type_of s (DerivesBase.class t d) ss) n q =
-    on_next t refl (link (took t refl) (unless _ is_open_paren refl (behind_no_paren d ss n) (two (class_behind d ss n) (link (took n refl) q))))
+    on_next t refl (link (took t refl) (unless _ is_open_paren refl (after_no_paren d ss n) (two (class_after d ss n) (link (took n refl) q))))
 
 result_passes : {before after rest : List Placed} {answer : MethodResult} {name : Named} → DerivesResult before after answer → TakesName after rest name →
     Passes (part p.result ∷ []) before after

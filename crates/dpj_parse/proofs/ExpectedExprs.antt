@@ -14,8 +14,8 @@ use Rattle.dpj_tree.specs.declared.expr.BinaryOp.{BinaryOp}
 use Rattle.dpj_tree.specs.Plain.{PlainExpr, PlainExprs}
 use Rattle.dpj_parse.specs.Taking.{TakesSymbol, TakesName, Listed, Many, none, some}
 use Rattle.dpj_parse.specs.Paths.{DerivesRpl, DerivesArgs, no_args, args}
-use Rattle.dpj_parse.specs.Types.{DerivesBase, DerivesBehind, DerivesSuffix, suffix}
-use Rattle.dpj_parse.specs.Expressions.{symbol_of, unary_symbol, level_of, left_level, Ending, DerivesLevel, operand, operation, DerivesUnary, operator, postfix, new_array, DerivesPostfix, primary, behind_dot, called, indexed, DerivesPrimary, number, yes, no, nothing, receiver, name, parenthesised, creation, DerivesNewArray, array, DerivesActuals, no_actuals, actuals, DerivesFurther, end, further}
+use Rattle.dpj_parse.specs.Types.{DerivesBase, DerivesAfter, DerivesSuffix, suffix}
+use Rattle.dpj_parse.specs.Expressions.{symbol_of, unary_symbol, level_of, left_level, Ending, DerivesLevel, operand, operation, DerivesUnary, operator, postfix, new_array, DerivesPostfix, primary, after_dot, called, indexed, DerivesPrimary, number, yes, no, nothing, receiver, name, parenthesised, creation, DerivesNewArray, array, DerivesActuals, no_actuals, actuals, DerivesFurther, end, further}
 use Rattle.dpj_parse.proofs.OnceReader.{starts, many_first}
 use Rattle.dpj_parse.proofs.OnceExprs.{is_selector, op_next, op_of_symbol, not_leb, suffix_no_paren, Ends, ends_at, ends_at_op, ends_looser, no_selector}
 use Rattle.dpj_parse.proofs.OnceLevels.{level_begins, expr_begins_not, no_close_bracket, no_close_paren, actuals_start, top_of, level_low, left_low, level_left, top_high, further_ends}
@@ -24,7 +24,7 @@ use Rattle.dpj_parse.specs.Expecting.{Expected, one, part, next_of, op_of, climb
 use Rattle.dpj_parse.proofs.Expected.{picked, step_next, taken, rule, on_next, took, link, two, is_next}
 use Rattle.dpj_parse.specs.Expecting.{Part as p}
 use Rattle.dpj_parse.proofs.Expected.{nothing as no_more}
-use Rattle.dpj_parse.proofs.ExpectedPaths.{unless, where_next, listed_passes, path_passes, args_pass, behind_passes, suffix_no_less}
+use Rattle.dpj_parse.proofs.ExpectedPaths.{unless, where_next, listed_passes, path_passes, args_pass, after_passes, suffix_no_less}
 use Rattle.dpj_parse.proofs.OncePaths.{goes_on_path}
 
 op_same : (after : List Placed) → op_of (next_of after) ≡ op_next after
@@ -86,10 +86,10 @@ chosen_actuals here paren = rw (is_next is_open_paren here paren) refl
 lengths_pass : {two three four five six after : List Placed} {suffixes : List Suffix} {own : Suffix} {open_at close_at : Place} →
     Many DerivesSuffix two three suffixes → TakesSymbol Symbol.OpenBracket three four open_at → starts is_close_bracket four ≡ false →
     Passes (part (p.expr 0) ∷ []) four five →
-    TakesSymbol Symbol.CloseBracket five six close_at → DerivesBehind six after own → Passes (part p.array ∷ []) two after
-lengths_pass none o closed l c d = rule refl (link (took o refl) (unless _ is_close_bracket refl closed (link l (link (took c refl) (behind_passes d)))))
+    TakesSymbol Symbol.CloseBracket five six close_at → DerivesAfter six after own → Passes (part p.array ∷ []) two after
+lengths_pass none o closed l c d = rule refl (link (took o refl) (unless _ is_close_bracket refl closed (link l (link (took c refl) (after_passes d)))))
 lengths_pass (some (suffix a b e) ss) o closed l c d =
-    rule refl (link (took a refl) (where_next _ is_close_bracket refl (rw b.first refl) (link (took b refl) (link (behind_passes e)
+    rule refl (link (took a refl) (where_next _ is_close_bracket refl (rw b.first refl) (link (took b refl) (link (after_passes e)
     (lengths_pass ss o closed l c d)))))
 
 mutual
@@ -119,7 +119,7 @@ mutual
       DerivesPostfix ending before after e → starts is_open_paren after ≡ false → Steps to left (part p.selected ∷ others) after →
       Steps to left (part p.unary ∷ others) before
   postfix_steps (primary d) closed s = primary_steps d s
-  postfix_steps (behind_dot d dot n) closed s = postfix_steps d (rw dot.first refl) (rw dot.first (pick refl (pick refl (pass refl ((field_passes n closed).goes s)))))
+  postfix_steps (after_dot d dot n) closed s = postfix_steps d (rw dot.first refl) (rw dot.first (pick refl (pick refl (pass refl ((field_passes n closed).goes s)))))
   postfix_steps (called d dot r n a) closed s =
       postfix_steps d (rw dot.first refl) (rw dot.first (pick refl (pick refl (pass refl ((call_passes r n (actuals_start a is_open_paren) (actuals_pass a)).goes s)))))
   postfix_steps (indexed d o l c) closed s =

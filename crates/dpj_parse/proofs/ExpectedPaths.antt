@@ -18,8 +18,8 @@ use Rattle.dpj_tree.specs.declared.region.TypeTree.{TypeTree}
 use Rattle.dpj_base.specs.declared.place.Place.{Place}
 use Rattle.dpj_parse.specs.Taking.{Takes, TakesSymbol, TakesName, Listed, last, more, Many, none, some}
 use Rattle.dpj_parse.specs.Paths.{DerivesRName, one_name, two_names, DerivesHead, DerivesWithin, DerivesElem, star, within, DerivesNext, next, DerivesRpl, path, DerivesArgs, no_args, args}
-use Rattle.dpj_parse.specs.Types.{DerivesBase, DerivesRegion, no_region, region, DerivesIndex, no_index, index, DerivesBehind, behind, DerivesSuffix, suffix, DerivesType, type_of}
-use Rattle.dpj_parse.specs.Classes.{DerivesAtomic, DerivesKind, DerivesParam, DerivesKindOr, DerivesParamsBehind, DerivesDeclared, DerivesConstr, DerivesGiven, DerivesParams}
+use Rattle.dpj_parse.specs.Types.{DerivesBase, DerivesRegion, no_region, region, DerivesIndex, no_index, index, DerivesAfter, following, DerivesSuffix, suffix, DerivesType, type_of}
+use Rattle.dpj_parse.specs.Classes.{DerivesAtomic, DerivesKind, DerivesParam, DerivesKindOr, DerivesParamsAfter, DerivesDeclared, DerivesConstr, DerivesGiven, DerivesParams}
 use Rattle.dpj_parse.proofs.OnceReader.{starts, or_left, or_right, not_next, many_first}
 use Rattle.dpj_parse.proofs.OncePaths.{name_starts, goes_on_path, less_or_not, hash_or_not}
 use Rattle.dpj_parse.proofs.OnceMembers.{rpl_not}
@@ -117,10 +117,10 @@ kind_if_passes (DerivesKindOr.other (DerivesKind.kind (DerivesAtomic.atomic a) t
 param_passes : {found : Bool} {before after : List Placed} {tree : ParamTree} → DerivesParam found before after tree → Passes (one is_name ∷ []) before after
 param_passes (DerivesParam.param t) = took t refl
 
-more_declared_pass : {earlier : Bool} {before after : List Placed} {trees : List ParamTree} → DerivesParamsBehind earlier before after trees →
+more_declared_pass : {earlier : Bool} {before after : List Placed} {trees : List ParamTree} → DerivesParamsAfter earlier before after trees →
     starts is_comma after ≡ false → Passes (part p.more_declared ∷ []) before after
-more_declared_pass DerivesParamsBehind.no_more closed = unless _ is_comma refl closed nothing
-more_declared_pass (DerivesParamsBehind.behind t k d ds) closed =
+more_declared_pass DerivesParamsAfter.no_more closed = unless _ is_comma refl closed nothing
+more_declared_pass (DerivesParamsAfter.following t k d ds) closed =
     where_next _ is_comma refl (rw t.first refl) (link (took t refl) (link (kind_if_passes k d) (link (param_passes d) (more_declared_pass ds closed))))
 
 constraint_passes : (before after : List Placed) (tree : ConstrTree) → DerivesConstr before after tree → goes_on_path after ≡ false →
@@ -165,14 +165,14 @@ index_passes {before} (no_index n) = unless _ is_hash refl (not_next before is_h
 index_passes (index h t) = where_next _ is_hash refl (rw h.first refl) (link (took h refl) (took t refl))
 
 -- [ "<" Rpl ">" ] [ "#" Name ]
-pub behind_passes : {before after : List Placed} {tree : Suffix} → DerivesBehind before after tree → Passes (part p.brackets_behind ∷ []) before after
-behind_passes (behind r i) = rule refl (link (region_passes r) (index_passes i))
+pub after_passes : {before after : List Placed} {tree : Suffix} → DerivesAfter before after tree → Passes (part p.brackets_after ∷ []) before after
+after_passes (following r i) = rule refl (link (region_passes r) (index_passes i))
 
 pub suffixes_pass : {before after : List Placed} {trees : List Suffix} → Many DerivesSuffix before after trees → starts is_open_bracket after ≡ false →
     Passes (part p.suffixes ∷ []) before after
 suffixes_pass none closed = unless _ is_open_bracket refl closed nothing
 suffixes_pass (some (suffix o c d) ds) closed =
-    where_next _ is_open_bracket refl (rw o.first refl) (link (took o refl) (link (took c refl) (link (behind_passes d) (suffixes_pass ds closed))))
+    where_next _ is_open_bracket refl (rw o.first refl) (link (took o refl) (link (took c refl) (link (after_passes d) (suffixes_pass ds closed))))
 
 pub suffix_no_less : (before after : List Placed) (tree : Suffix) → DerivesSuffix before after tree → starts is_less before ≡ false
 suffix_no_less before after tree (suffix o c d) = rw o.first refl
@@ -184,8 +184,8 @@ type_passes (type_of s b ss) n =
     rule refl (link (base_passes b (many_first (λ here. starts is_less here ≡ false) suffix_no_less ss (rw n.first refl))) (suffixes_pass ss (rw n.first refl)))
 
 -- what stands after the first name of a type, in front of another name
-pub class_behind : {before after rest : List Placed} {paths : List RplTree} {trees : List Suffix} {between : List Placed} {named : Named} →
+pub class_after : {before after rest : List Placed} {paths : List RplTree} {trees : List Suffix} {between : List Placed} {named : Named} →
     DerivesArgs before between paths → Many DerivesSuffix between after trees → TakesName after rest named →
     Passes (part p.args_if ∷ part p.suffixes ∷ []) before after
-class_behind d ss n =
+class_after d ss n =
     link (args_pass d (many_first (λ here. starts is_less here ≡ false) suffix_no_less ss (rw n.first refl))) (suffixes_pass ss (rw n.first refl))

@@ -13,7 +13,7 @@ use Rattle.dpj_tree.specs.Plain.{PlainExpr, PlainStmt, StmtForm, PlainStmts}
 use Rattle.dpj_parse.specs.Taking.{Takes, TakesSymbol, TakesName, Listed, last, more, Many}
 use Rattle.dpj_parse.specs.Paths.{DerivesArgs, no_args, args}
 use Rattle.dpj_parse.specs.Types.{DerivesBase, DerivesSuffix, suffix, DerivesType, type_of}
-use Rattle.dpj_parse.specs.Expressions.{Ending, as_value, as_name, as_field, as_element, as_call, as_creation, DerivesPostfix, primary, behind_dot, called, indexed, DerivesPrimary, number, yes, no, receiver, parenthesised, creation}
+use Rattle.dpj_parse.specs.Expressions.{Ending, as_value, as_name, as_field, as_element, as_call, as_creation, DerivesPostfix, primary, after_dot, called, indexed, DerivesPrimary, number, yes, no, receiver, parenthesised, creation}
 use Rattle.dpj_parse.specs.Statements.{IsPerformed, DerivesFinal, not_final, final, DerivesCondition, condition, DerivesValue, value, DerivesRange, range, DerivesBlock, braces, DerivesStmts, DerivesStmt, at_first, declaration, local_assignment, field_assignment, element_assignment, performed, DerivesForm, blocked, if_alone, if_else, turning, bare_return, return_with, printed, printed_text, branching, spreading, parting, in_one, new_regions}
 use Rattle.dpj_parse.proofs.OnceReader.{starts, not_next}
 use Rattle.dpj_parse.proofs.OnceExprs.{ends_at}
@@ -23,7 +23,7 @@ use Rattle.dpj_parse.specs.Words.{is_name, is_text, is_dot, is_open_bracket, is_
 use Rattle.dpj_parse.specs.Expecting.{Part, Expected, one, part, next_of, choose, Steps, pick, pass, Passes}
 use Rattle.dpj_parse.proofs.Expected.{picked, step_next, taken, nothing, rule, on_next, took, link, two, is_next}
 use Rattle.dpj_parse.specs.Expecting.{Part as p}
-use Rattle.dpj_parse.proofs.ExpectedPaths.{unless, where_next, class_behind, type_passes, suffixes_pass, behind_passes, args_pass}
+use Rattle.dpj_parse.proofs.ExpectedPaths.{unless, where_next, class_after, type_passes, suffixes_pass, after_passes, args_pass}
 use Rattle.dpj_parse.proofs.ExpectedExprs.{args_alone, stops, level_steps, actuals_pass, expr_passes}
 
 -- what stands in more than one statement
@@ -49,13 +49,13 @@ pub names_pass : {before after : List Placed} {names : List Named} → Listed Ta
 names_pass ds closed = rule refl (names_listed ds closed)
 
 -- declarations
-behind_type : {before between after three rest : List Placed} {paths : List RplTree} {trees : List Suffix} {named : Named} →
+after_type : {before between after three rest : List Placed} {paths : List RplTree} {trees : List Suffix} {named : Named} →
     DerivesArgs before between paths → Many DerivesSuffix between after trees → TakesName after three named →
     Passes (part p.declared_name ∷ []) after rest → Passes (part p.after_name ∷ []) before rest
-behind_type no_args Many.none n q = on_next n refl (two (class_behind no_args Many.none n) q)
-behind_type (args o ps c) ss n q = on_next o refl (two (class_behind (args o ps c) ss n) q)
-behind_type no_args (Many.some (suffix o c d) ds) n q =
-    on_next o refl (link (took o refl) (where_next _ is_close_bracket refl (rw c.first refl) (link (took c refl) (link (behind_passes d) (link
+after_type no_args Many.none n q = on_next n refl (two (class_after no_args Many.none n) q)
+after_type (args o ps c) ss n q = on_next o refl (two (class_after (args o ps c) ss n) q)
+after_type no_args (Many.some (suffix o c d) ds) n q =
+    on_next o refl (link (took o refl) (where_next _ is_close_bracket refl (rw c.first refl) (link (took c refl) (link (after_passes d) (link
     (suffixes_pass ds (rw n.first refl)) q)))))
 
 declared_passes : {before first between after rest : List Placed} {is_final : Bool} {ty : TypeTree} {named : Named} →
@@ -64,7 +64,7 @@ declared_passes : {before first between after rest : List Placed} {is_final : Bo
 declared_passes (final t) d n q = on_next t refl (link (took t refl) (link (type_passes d n) q))
 declared_passes not_final (type_of s (DerivesBase.int t) ss) n q = on_next t refl (link (type_passes (type_of s (DerivesBase.int t) ss) n) q)
 declared_passes not_final (type_of s (DerivesBase.boolean t) ss) n q = on_next t refl (link (type_passes (type_of s (DerivesBase.boolean t) ss) n) q)
-declared_passes not_final (type_of s (DerivesBase.class t d) ss) n q = on_next t refl (link (took t refl) (behind_type d ss n q))
+declared_passes not_final (type_of s (DerivesBase.class t d) ss) n q = on_next t refl (link (took t refl) (after_type d ss n q))
 
 -- what is expected after an expression that a statement begins with
 abbrev rest_of_first : {ending : Ending} {before after : List Placed} {e : PlainExpr} → DerivesPrimary ending before after e → Part
@@ -75,7 +75,7 @@ rest_of_first _ = p.selected_then as_value
 
 abbrev rest_of : {ending : Ending} {before after : List Placed} {e : PlainExpr} → DerivesPostfix ending before after e → Part
 rest_of (primary d) = rest_of_first d
-rest_of (behind_dot d dot n) = p.selected_then as_field
+rest_of (after_dot d dot n) = p.selected_then as_field
 rest_of (called d dot r n a) = p.selected_then as_call
 rest_of (indexed d o l c) = p.selected_then as_element
 
@@ -103,7 +103,7 @@ dot_goes_on place (primary (receiver t)) = refl
 dot_goes_on place (primary (DerivesPrimary.name t)) = refl
 dot_goes_on place (primary (parenthesised o l c)) = refl
 dot_goes_on place (primary (creation t n r a)) = refl
-dot_goes_on place (behind_dot d dot n) = refl
+dot_goes_on place (after_dot d dot n) = refl
 dot_goes_on place (called d dot r n a) = refl
 dot_goes_on place (indexed d o l c) = refl
 
@@ -124,7 +124,7 @@ bracket_goes_on {after =
     step_next o refl (taken o refl (picked {n = p.after_bracket} {xs = index_rest} (rw (is_next is_close_bracket after closed) refl) s))
 bracket_goes_on (primary (parenthesised a l c)) o closed s = rw o.first (pick refl (pick refl (pass refl s)))
 bracket_goes_on (primary (creation t n r a)) o closed s = rw o.first (pick refl (pick refl (pass refl s)))
-bracket_goes_on (behind_dot d dot n) o closed s = rw o.first (pick refl (pick refl (pass refl s)))
+bracket_goes_on (after_dot d dot n) o closed s = rw o.first (pick refl (pick refl (pass refl s)))
 bracket_goes_on (called d dot r n a) o closed s = rw o.first (pick refl (pick refl (pass refl s)))
 bracket_goes_on (indexed d a l c) o closed s = rw o.first (pick refl (pick refl (pass refl s)))
 
@@ -150,7 +150,7 @@ call_then (args o ps c) n paren a s =
 target_steps : {to others : List Expected} {left : List Placed} {ending : Ending} {before after : List Placed} {e : PlainExpr} (d : DerivesPostfix ending before after e) →
     starts is_open_paren after ≡ false → Steps to left (part (rest_of d) ∷ others) after → Steps to left (part p.stmt ∷ others) before
 target_steps (primary d) closed s = first_steps d s
-target_steps (behind_dot {dot =
+target_steps (after_dot {dot =
     place} d dot n) closed s = target_steps d (rw dot.first refl) (step_next dot (dot_goes_on place d) (taken dot refl (field_then n closed s)))
 target_steps (called {dot = place} d dot r n a) closed s =
     target_steps d (rw dot.first refl) (step_next dot (dot_goes_on place d) (taken dot refl (call_then r n (actuals_start a is_open_paren) (actuals_pass a) s)))
@@ -163,7 +163,7 @@ assign_goes_on : {ending : Ending} {before after : List Placed} {e : PlainExpr} 
     (ending ≡ as_field) ⊎ (ending ≡ as_element) →
     choose (rest_of d) (Some (record { terminal = terminal.Symbol Symbol.Assign; place = place })) ≡ Some (one is_assign ∷ part p.value ∷ [])
 assign_goes_on place (primary d) is = absurd (primary_no_target d is)
-assign_goes_on place (behind_dot d dot n) is = refl
+assign_goes_on place (after_dot d dot n) is = refl
 assign_goes_on place (called d dot r n a) is = elim is [ inl e ↦ cc | inr e ↦ cc ]
 assign_goes_on place (indexed d o l c) is = refl
 
@@ -183,7 +183,7 @@ semicolon_goes_on : {ending : Ending} {before after : List Placed} {e : PlainExp
     IsPerformed ending →
     choose (rest_of d) (Some (record { terminal = terminal.Symbol Symbol.Semicolon; place = place })) ≡ Some (one is_semicolon ∷ [])
 semicolon_goes_on place (primary d) is = first_performed place d is
-semicolon_goes_on place (behind_dot d dot n) is = elim is [ inl e ↦ cc | inr e ↦ cc ]
+semicolon_goes_on place (after_dot d dot n) is = elim is [ inl e ↦ cc | inr e ↦ cc ]
 semicolon_goes_on place (called d dot r n a) is = refl
 semicolon_goes_on place (indexed d o l c) is = elim is [ inl e ↦ cc | inr e ↦ cc ]
 

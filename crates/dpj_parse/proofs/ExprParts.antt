@@ -75,19 +75,19 @@ pub array_refused : (c : Counts) (before : List Placed) (end : Place) (stop : St
 array_refused c before end stop r = refused_on _ stop (enter Part.array refl (λ d. refl)) refl r
 
 suffix_opened : {c : Counts} {here : List Placed} → Next (terminal.Symbol Symbol.CloseBracket) here →
-    Onward c (part Part.array_open ∷ []) here c (one is_close_bracket ∷ part Part.brackets_behind ∷ part Part.array ∷ []) here
+    Onward c (part Part.array_open ∷ []) here c (one is_close_bracket ∷ part Part.brackets_after ∷ part Part.array ∷ []) here
 suffix_opened {here = here} n =
     enter Part.array_open (rw (next_comes Symbol.CloseBracket here n) refl) (λ d. refl)
 
 pub length_opened : {c d : Counts} {before here : List Placed} → Onward c (part Part.array ∷ []) before d (part Part.array_open ∷ []) here →
     (Next (terminal.Symbol Symbol.CloseBracket) here → ⊥) →
-    Onward c (part Part.array ∷ []) before d (part (Part.expr 0) ∷ one is_close_bracket ∷ part Part.brackets_behind ∷ []) here
+    Onward c (part Part.array ∷ []) before d (part (Part.expr 0) ∷ one is_close_bracket ∷ part Part.brackets_after ∷ []) here
 length_opened {here = here} o not =
     over o (enter Part.array_open (rw (symbol_comes_not Symbol.CloseBracket here not) refl) (λ d. refl))
 
 pub suffix_read : {c d e f g : Counts} {before here one_after two_after after : List Placed} → Onward c (part Part.array ∷ []) before d (part Part.array_open ∷ []) here →
     Next (terminal.Symbol Symbol.CloseBracket) here → Within d (one is_close_bracket ∷ []) here e one_after →
-    Within e (part Part.brackets_behind ∷ []) one_after f two_after → Within (more f) (one is_open_bracket ∷ []) two_after g after →
+    Within e (part Part.brackets_after ∷ []) one_after f two_after → Within (more f) (one is_open_bracket ∷ []) two_after g after →
     Onward c (part Part.array ∷ []) before g (part Part.array_open ∷ []) after
 suffix_read o n close tail next = over o (over (suffix_opened n) (over (step _ close) (over (step _ tail) (array_opened next))))
 
@@ -98,37 +98,37 @@ suffix_close_refused end stop o n same r = refused_on _ stop (over o (suffix_ope
 
 pub suffix_tail_refused : {c d e : Counts} {before here one_after : List Placed} (end : Place) {last : Place} (stop : Stop) →
     Onward c (part Part.array ∷ []) before d (part Part.array_open ∷ []) here → Next (terminal.Symbol Symbol.CloseBracket) here →
-    Within d (one is_close_bracket ∷ []) here e one_after → last ≡ end → IfRefused stop (Refuses e (part Part.brackets_behind ∷ []) one_after last) →
+    Within d (one is_close_bracket ∷ []) here e one_after → last ≡ end → IfRefused stop (Refuses e (part Part.brackets_after ∷ []) one_after last) →
     IfRefused stop (Refuses c (part Part.array ∷ []) before end)
 suffix_tail_refused end stop o n close same r = refused_on _ stop (over o (over (suffix_opened n) (step _ close))) same r
 
 pub suffix_open_refused : {c d e f : Counts} {before here one_after two_after : List Placed} (end : Place) {last : Place} (stop : Stop) →
     Onward c (part Part.array ∷ []) before d (part Part.array_open ∷ []) here → Next (terminal.Symbol Symbol.CloseBracket) here →
-    Within d (one is_close_bracket ∷ []) here e one_after → Within e (part Part.brackets_behind ∷ []) one_after f two_after → last ≡ end →
+    Within d (one is_close_bracket ∷ []) here e one_after → Within e (part Part.brackets_after ∷ []) one_after f two_after → last ≡ end →
     IfRefused stop (Refuses (more f) (one is_open_bracket ∷ []) two_after last) → IfRefused stop (Refuses c (part Part.array ∷ []) before end)
 suffix_open_refused {f = f} end {last} stop o n close tail same r =
     refused_on [] stop (over o (over (suffix_opened n) (over (step _ close) (step _ tail)))) same (array_refused f _ last stop r)
 
 -- a new array, after the `[` of its length
 pub array_reads : {c d e f g : Counts} {before at length_after close_after after : List Placed} →
-    Onward c (part Part.array ∷ []) before d (part (Part.expr 0) ∷ one is_close_bracket ∷ part Part.brackets_behind ∷ []) at → Within d (part (Part.expr 0) ∷ []) at e length_after →
-    Within e (one is_close_bracket ∷ []) length_after f close_after → Within f (part Part.brackets_behind ∷ []) close_after g after → Within c (part Part.array ∷ []) before g after
+    Onward c (part Part.array ∷ []) before d (part (Part.expr 0) ∷ one is_close_bracket ∷ part Part.brackets_after ∷ []) at → Within d (part (Part.expr 0) ∷ []) at e length_after →
+    Within e (one is_close_bracket ∷ []) length_after f close_after → Within f (part Part.brackets_after ∷ []) close_after g after → Within c (part Part.array ∷ []) before g after
 array_reads o len close tail = o.reads _ _ (seq len (seq close tail))
 
 pub length_refused : {c d : Counts} {before at : List Placed} (end : Place) {last : Place} (stop : Stop) →
-    Onward c (part Part.array ∷ []) before d (part (Part.expr 0) ∷ one is_close_bracket ∷ part Part.brackets_behind ∷ []) at → last ≡ end →
+    Onward c (part Part.array ∷ []) before d (part (Part.expr 0) ∷ one is_close_bracket ∷ part Part.brackets_after ∷ []) at → last ≡ end →
     IfRefused stop (Refuses d (part (Part.expr 0) ∷ []) at last) → IfRefused stop (Refuses c (part Part.array ∷ []) before end)
 length_refused end stop o same r = refused_on _ stop o same r
 
 pub length_close_refused : {c d e : Counts} {before at length_after : List Placed} (end : Place) {last : Place} (stop : Stop) →
-    Onward c (part Part.array ∷ []) before d (part (Part.expr 0) ∷ one is_close_bracket ∷ part Part.brackets_behind ∷ []) at → Within d (part (Part.expr 0) ∷ []) at e length_after → last ≡ end →
+    Onward c (part Part.array ∷ []) before d (part (Part.expr 0) ∷ one is_close_bracket ∷ part Part.brackets_after ∷ []) at → Within d (part (Part.expr 0) ∷ []) at e length_after → last ≡ end →
     IfRefused stop (Refuses e (one is_close_bracket ∷ []) length_after last) → IfRefused stop (Refuses c (part Part.array ∷ []) before end)
 length_close_refused end stop o len same r = refused_on _ stop (over o (step _ len)) same r
 
 pub length_tail_refused : {c d e f : Counts} {before at length_after close_after : List Placed} (end : Place) {last : Place} (stop : Stop) →
-    Onward c (part Part.array ∷ []) before d (part (Part.expr 0) ∷ one is_close_bracket ∷ part Part.brackets_behind ∷ []) at → Within d (part (Part.expr 0) ∷ []) at e length_after →
+    Onward c (part Part.array ∷ []) before d (part (Part.expr 0) ∷ one is_close_bracket ∷ part Part.brackets_after ∷ []) at → Within d (part (Part.expr 0) ∷ []) at e length_after →
     Within e (one is_close_bracket ∷ []) length_after f close_after → last ≡ end →
-    IfRefused stop (Refuses f (part Part.brackets_behind ∷ []) close_after last) → IfRefused stop (Refuses c (part Part.array ∷ []) before end)
+    IfRefused stop (Refuses f (part Part.brackets_after ∷ []) close_after last) → IfRefused stop (Refuses c (part Part.array ∷ []) before end)
 length_tail_refused end stop o len close same r = refused_on _ stop (over o (over (step _ len) (step _ close))) same r
 
 -- "(" Expr ")"

@@ -29,10 +29,10 @@ use Rattle.dpj_tree.specs.Plain.{PlainExpr, PlainExprs, PlainStmt, StmtForm, Pla
 use Rattle.dpj_tree.specs.Names.{optional_names, region_names, head_names, elem_names, rpl_names, optional_rpl_names, base_names, suffixes_names, type_names, expr_names, exprs_names, stmt_names, stmt_form_names, stmts_names, params_names, parent_names, result_names, items_names, summary_names, member_names, class_names}
 use Rattle.dpj_parse.specs.Taking.{Takes, TakesName, Listed, last, more, Many, none, some}
 use Rattle.dpj_parse.specs.Paths.{DerivesRName, one_name, two_names, DerivesHead, root, DerivesWithin, DerivesElem, star, within, DerivesNext, next, DerivesRpl, path, DerivesArgs, no_args, args}
-use Rattle.dpj_parse.specs.Types.{DerivesBase, DerivesRegion, no_region, region, DerivesIndex, no_index, index, DerivesBehind, behind, DerivesSuffix, suffix, DerivesType, type_of}
-use Rattle.dpj_parse.specs.Expressions.{Ending, DerivesLevel, operand, operation, DerivesUnary, operator, postfix, new_array, DerivesPostfix, primary, behind_dot, called, indexed, DerivesPrimary, number, yes, no, nothing, receiver, parenthesised, creation, DerivesNewArray, array, DerivesActuals, no_actuals, actuals, DerivesFurther, end, further}
+use Rattle.dpj_parse.specs.Types.{DerivesBase, DerivesRegion, no_region, region, DerivesIndex, no_index, index, DerivesAfter, following, DerivesSuffix, suffix, DerivesType, type_of}
+use Rattle.dpj_parse.specs.Expressions.{Ending, DerivesLevel, operand, operation, DerivesUnary, operator, postfix, new_array, DerivesPostfix, primary, after_dot, called, indexed, DerivesPrimary, number, yes, no, nothing, receiver, parenthesised, creation, DerivesNewArray, array, DerivesActuals, no_actuals, actuals, DerivesFurther, end, further}
 use Rattle.dpj_parse.specs.Statements.{DerivesCondition, condition, DerivesValue, value, DerivesRange, range, DerivesBlock, braces, DerivesStmts, DerivesFinal, not_final, final, DerivesStmt, at_first, declaration, local_assignment, field_assignment, element_assignment, performed, DerivesForm, blocked, if_alone, if_else, turning, bare_return, return_with, printed, printed_text, branching, spreading, parting, in_one, new_regions}
-use Rattle.dpj_parse.specs.Classes.{DerivesAtomic, plain, atomic, DerivesKind, kind, DerivesParam, param, DerivesKindOr, same, other, DerivesParamsBehind, no_more, DerivesDeclared, declared, DerivesConstr, constraint, DerivesGiven, nothing_given, given, DerivesParams, no_params, params, DerivesFormal, formal, DerivesFormalList, no_formals, formals, DerivesFormals, DerivesItem, item, DerivesItems, DerivesSummary, no_summary, pure, reads, reads_and_writes, writes, DerivesIn, nowhere, in_region, DerivesResult, void, DerivesFront, constructs, answers, DerivesField, DerivesMethod, DerivesNamed, named, DerivesMember, DerivesParent, no_parent, extends, DerivesMembers, members, DerivesClass, class, DerivesProgram, program}
+use Rattle.dpj_parse.specs.Classes.{DerivesAtomic, plain, atomic, DerivesKind, kind, DerivesParam, param, DerivesKindOr, same, other, DerivesParamsAfter, no_more, DerivesDeclared, declared, DerivesConstr, constraint, DerivesGiven, nothing_given, given, DerivesParams, no_params, params, DerivesFormal, formal, DerivesFormalList, no_formals, formals, DerivesFormals, DerivesItem, item, DerivesItems, DerivesSummary, no_summary, pure, reads, reads_and_writes, writes, DerivesIn, nowhere, in_region, DerivesResult, void, DerivesFront, constructs, answers, DerivesField, DerivesMethod, DerivesNamed, named, DerivesMember, DerivesParent, no_parent, extends, DerivesMembers, members, DerivesClass, class, DerivesProgram, program}
 
 -- the name that a terminal says
 abbrev pub name_said : Terminal → List ℕ
@@ -123,11 +123,11 @@ index_held : {before after : List Placed} {tree : Option Named} → DerivesIndex
 index_held (no_index absent) = here
 index_held (index hash t) = join (takes hash) (takes t)
 
-behind_held : {before after : List Placed} {tree : Suffix} → DerivesBehind before after tree → Holds (optional_rpl_names tree.rpl ++ optional_names tree.index) before after
-behind_held (behind d i) = join (optional_rpl_held d) (index_held i)
+after_held : {before after : List Placed} {tree : Suffix} → DerivesAfter before after tree → Holds (optional_rpl_names tree.rpl ++ optional_names tree.index) before after
+after_held (following d i) = join (optional_rpl_held d) (index_held i)
 
 suffix_held : {before after : List Placed} {tree : Suffix} → DerivesSuffix before after tree → Holds (optional_rpl_names tree.rpl ++ optional_names tree.index) before after
-suffix_held (suffix open_at close_at d) = join (takes open_at) (join (takes close_at) (behind_held d))
+suffix_held (suffix open_at close_at d) = join (takes open_at) (join (takes close_at) (after_held d))
 
 suffixes_held : {before after : List Placed} {trees : List Suffix} → Many DerivesSuffix before after trees → Holds (suffixes_names trees) before after
 suffixes_held m = many DerivesSuffix (λ tree. optional_rpl_names tree.rpl ++ optional_names tree.index) (λ b a one each. suffix_held each) m
@@ -147,7 +147,7 @@ mutual
 
   postfix_held : {ending : Ending} {before after : List Placed} {e : PlainExpr} → DerivesPostfix ending before after e → Holds (expr_names e) before after
   postfix_held (primary d) = primary_held d
-  postfix_held (behind_dot d dot t) = join (close (postfix_held d) (takes dot)) (takes t)
+  postfix_held (after_dot d dot t) = join (close (postfix_held d) (takes dot)) (takes t)
   postfix_held (called d dot regions t all) = join (join (close (postfix_held d) (takes dot)) (args_held regions)) (join (takes t) (actuals_held all))
   postfix_held (indexed d open_at at close_at) = join (close (postfix_held d) (takes open_at)) (close (level_held at) (takes close_at))
 
@@ -162,7 +162,7 @@ mutual
   primary_held (creation at t regions all) = join (join (takes at) (join (takes t) (args_held regions))) (actuals_held all)
 
   array_held : {before after : List Placed} {e : PlainExpr} → DerivesNewArray before after e → Holds (expr_names e) before after
-  array_held (array at start suffixes open_at len close_at (behind d i)) =
+  array_held (array at start suffixes open_at len close_at (following d i)) =
       join (join (join (join (join (takes at) (base_held start)) (suffixes_held suffixes)) (join (takes open_at) (close (level_held len) (takes close_at)))) (optional_rpl_held d)) (index_held i)
 
   actuals_held : {before after : List Placed} {es : PlainExprs} → DerivesActuals before after es → Holds (exprs_names es) before after
@@ -234,12 +234,12 @@ kind_or_held (other d) = kind_held d
 param_held : {is_atomic : Bool} {before after : List Placed} {tree : ParamTree} → DerivesParam is_atomic before after tree → Holds (tree.name ∷ []) before after
 param_held (param t) = takes t
 
-params_behind_held : {earlier : Bool} {before after : List Placed} {trees : List ParamTree} → DerivesParamsBehind earlier before after trees → Holds (map (λ tree. tree.name) trees) before after
-params_behind_held no_more = here
-params_behind_held (DerivesParamsBehind.behind comma d one others) = join (join (join (takes comma) (kind_or_held d)) (param_held one)) (params_behind_held others)
+params_after_held : {earlier : Bool} {before after : List Placed} {trees : List ParamTree} → DerivesParamsAfter earlier before after trees → Holds (map (λ tree. tree.name) trees) before after
+params_after_held no_more = here
+params_after_held (DerivesParamsAfter.following comma d one others) = join (join (join (takes comma) (kind_or_held d)) (param_held one)) (params_after_held others)
 
 declared_held : {before after : List Placed} {trees : List ParamTree} → DerivesDeclared before after trees → Holds (map (λ tree. tree.name) trees) before after
-declared_held (declared d one others) = join (join (kind_held d) (param_held one)) (params_behind_held others)
+declared_held (declared d one others) = join (join (kind_held d) (param_held one)) (params_after_held others)
 
 constraint_held : {before after : List Placed} {tree : ConstrTree} → DerivesConstr before after tree → Holds (rpl_names tree.left ++ rpl_names tree.right) before after
 constraint_held (constraint left hash right) = join (close (rpl_held left) (takes hash)) (rpl_held right)

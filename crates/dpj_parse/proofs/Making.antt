@@ -17,9 +17,9 @@ use Rattle.dpj_tree.specs.declared.expr.ExprKind.TheVariants as kind
 use Rattle.dpj_tree.specs.Plain.{PlainExpr, PlainExprs, expression, ExprForm, create, plain_expr, plain_exprs}
 use Rattle.dpj_parse.specs.Taking.{Takes, TakesSymbol, TakesKeyword, TakesName, TakesOne, TakesNext, Next, NoNext, Many, Listed, last, more}
 use Rattle.dpj_parse.specs.Paths.{DerivesArgs, no_args, args}
-use Rattle.dpj_parse.specs.Types.{DerivesBase, class, DerivesBehind, suffix}
+use Rattle.dpj_parse.specs.Types.{DerivesBase, class, DerivesAfter, suffix}
 use Rattle.dpj_parse.specs.Expressions.{DerivesExpr, DerivesActuals, no_actuals, actuals, DerivesFurther, end, further, DerivesUnary, operator, new_array, array, DerivesPostfix, primary, DerivesPrimary, parenthesised, creation, Ending}
-use Rattle.dpj_parse.specs.Reading.{plain_kind, DerivesExprTree, ending_of, Spells, NextSpells, DerivesSelection, behind_dot, called, indexed, DerivesSelections, DerivesInner, inner, DerivesOpenSuffixes, opened, DerivesLengths, lengths}
+use Rattle.dpj_parse.specs.Reading.{plain_kind, DerivesExprTree, ending_of, Spells, NextSpells, DerivesSelection, after_dot, called, indexed, DerivesSelections, DerivesInner, inner, DerivesOpenSuffixes, opened, DerivesLengths, lengths}
 use Rattle.dpj_parse.specs.Expressions.{unary_symbol}
 use Rattle.dpj_parse.proofs.Lists.{many_more, listed_more}
 use Rattle.dpj_parse.proofs.Selecting.{selections_unary, selection_postfix}
@@ -42,7 +42,7 @@ pub made_array : {before one two after : List Placed} {start : BaseTree} {e : Pl
 made_array takes d (lengths (opened suffixes open_at) len close own) = new_array (array takes d suffixes open_at len close own)
 
 pub made_lengths : (start : BaseTree) (suffixes : List Suffix) (len e : Expr) (own : Suffix) {before one two three after : List Placed} {place : Place} →
-    DerivesOpenSuffixes before one suffixes → DerivesExpr one two (plain_expr len) → TakesOne (terminal.Symbol Symbol.CloseBracket) two three → DerivesBehind three after own →
+    DerivesOpenSuffixes before one suffixes → DerivesExpr one two (plain_expr len) → TakesOne (terminal.Symbol Symbol.CloseBracket) two three → DerivesAfter three after own →
     plain_expr e ≡ expression place (plain_kind (kind.NewArray start suffixes len own.rpl own.index)) → DerivesLengths start place before after (plain_expr e)
 made_lengths start suffixes len e own opening d close tail is =
     rw (is, kind_NewArray start suffixes len own.rpl own.index) (lengths opening d close.takes tail)
@@ -51,7 +51,7 @@ pub first_opened : {before after : List Placed} {place : Place} → TakesSymbol 
 first_opened takes = opened Many.none takes
 
 pub more_opened : {before one two three after : List Placed} {all : List Suffix} {next : Suffix} {place : Place} →
-    DerivesOpenSuffixes before one all → TakesOne (terminal.Symbol Symbol.CloseBracket) one two → DerivesBehind two three next → TakesSymbol Symbol.OpenBracket three after place →
+    DerivesOpenSuffixes before one all → TakesOne (terminal.Symbol Symbol.CloseBracket) one two → DerivesAfter two three next → TakesSymbol Symbol.OpenBracket three after place →
     {longer : List Suffix} → longer ≡ all ++ next ∷ [] → DerivesOpenSuffixes before after longer
 more_opened (opened many open_at) close tail takes is = rw is (opened (many_more many (suffix open_at close.takes tail)) takes)
 
@@ -98,7 +98,7 @@ pub made_field : (of e : Expr) (named : Named) {before one two after : List Plac
     plain_expr e ≡ expression named.place (plain_kind (kind.Field of named.name)) → DerivesSelection (plain_expr of) before after (plain_expr e)
 made_field of e named {after = after} next takes d none name is =
     let here : TakesName _ after named = rw (no_args_here d none) at name in
-    rw (is, kind_Field of named.name) (behind_dot (next-takes takes next) here)
+    rw (is, kind_Field of named.name) (after_dot (next-takes takes next) here)
 
 pub made_call : (of e : Expr) (named : Named) (regions : List RplTree) (all : List Expr) {before one two three after : List Placed} {place : Place} →
     Next (terminal.Symbol Symbol.Dot) before → TakesNext before one place → DerivesArgs one two regions → TakesName two three named → DerivesActuals three after (plain_exprs (map plain_expr all)) →

@@ -4,7 +4,7 @@ use Rattle.dpj_terminals.specs.declared.terminal.Placed.{Placed}
 use Rattle.dpj_parse.specs.Expecting.{Part, next_of, choose}
 use Rattle.dpj_parse.specs.Expecting.{Part as p}
 use Rattle.dpj_parse.proofs.Meant.{Meant, AllOf}
-use Rattle.dpj_parse.proofs.MeantPaths.{names_of, more_names_of, region_name_of, second_name_of, path_of, head_of, elems_of, elem_of, index_of, within_of, args_if_of, args_of, more_paths_of, params_if_of, params_of, more_declared_of, kind_of, atomic_if_of, kind_if_of, given_of, constraint_of, more_constraints_of, type_means, base_of, suffixes_of, brackets_behind_of, region_if_of, index_if_of}
+use Rattle.dpj_parse.proofs.MeantPaths.{names_of, more_names_of, region_name_of, second_name_of, path_of, head_of, elems_of, elem_of, index_of, within_of, args_if_of, args_of, more_paths_of, params_if_of, params_of, more_declared_of, kind_of, atomic_if_of, kind_if_of, given_of, constraint_of, more_constraints_of, type_means, base_of, suffixes_of, brackets_after_of, region_if_of, index_if_of}
 use Rattle.dpj_parse.proofs.MeantExprs.{expr_of, climb_of, unary_of, created_of, created_rest_of, array_of, array_open_of, inner_of, literal_of, selected_of, selection_of, element_of, dotted_rest_of, actuals_if_of, actuals_of, actuals_rest_of, listed_of, more_listed_of}
 use Rattle.dpj_parse.proofs.MeantStmts.{stmt_means, block_of, stmts_of, condition_of, else_if_of, range_of, return_rest_of, value_of, shown_of, after_name_of, after_bracket_of, declared_name_of, selected_then_of, selection_then_of, dotted_then_of, dotted_rest_then_of, performed_of}
 use Rattle.dpj_parse.proofs.MeantClasses.{member_of, after_member_name_of, field_or_method_of, in_if_of, result_of, method_rest_of, formals_of, formal_list_of, formal_of, more_formals_of, summary_of, reads_if_of, writes_if_of, items_of, item_of, more_items_of, class_means, parent_if_of, members_of, member_list_of, program_of, more_classes_of}
@@ -35,7 +35,7 @@ meant p.more_constraints before after h = more_constraints_of {before = before} 
 meant p.type before after h = type_means {before = before} {after = after} h
 meant p.base before after h = base_of {before = before} {after = after} h
 meant p.suffixes before after h = suffixes_of {before = before} {after = after} h
-meant p.brackets_behind before after h = brackets_behind_of {before = before} {after = after} h
+meant p.brackets_after before after h = brackets_after_of {before = before} {after = after} h
 meant p.region_if before after h = region_if_of {before = before} {after = after} h
 meant p.index_if before after h = index_if_of {before = before} {after = after} h
 meant (p.expr level) before after h = expr_of level {before = before} {after = after} h

@@ -29,10 +29,10 @@ use Rattle.dpj_tree.specs.Plain.{PlainExpr, PlainExprs, PlainStmt, StmtForm, Pla
 use Rattle.dpj_parse.specs.Taking.{Takes, TakesSymbol, TakesKeyword, TakesName, NoNext, Listed, last, more, Many}
 use Rattle.dpj_parse.specs.Words.{is_name, is_number, is_text, is_any, sign, word}
 use Rattle.dpj_parse.specs.Paths.{DerivesRName, DerivesHead, DerivesWithin, DerivesElem, DerivesNext, DerivesRpl, DerivesArgs}
-use Rattle.dpj_parse.specs.Types.{DerivesBase, DerivesRegion, DerivesIndex, DerivesBehind, DerivesSuffix, DerivesType}
+use Rattle.dpj_parse.specs.Types.{DerivesBase, DerivesRegion, DerivesIndex, DerivesAfter, DerivesSuffix, DerivesType}
 use Rattle.dpj_parse.specs.Expressions.{Ending, as_value, as_name, as_field, as_element, as_call, as_creation, DerivesLevel, DerivesUnary, DerivesPostfix, DerivesPrimary, DerivesActuals, DerivesFurther}
 use Rattle.dpj_parse.specs.Statements.{DerivesFinal, DerivesCondition, DerivesValue, DerivesRange, DerivesBlock, DerivesStmts, DerivesStmt, DerivesForm}
-use Rattle.dpj_parse.specs.Classes.{DerivesAtomic, DerivesKind, DerivesKindOr, DerivesParamsBehind, DerivesConstr, DerivesGiven, DerivesParams, DerivesFormal, DerivesFormalList, DerivesFormals, DerivesItem, DerivesItems, DerivesSummary, DerivesIn, DerivesResult, DerivesMethod, DerivesMember, DerivesParent, DerivesMembers, DerivesClass, DerivesProgram}
+use Rattle.dpj_parse.specs.Classes.{DerivesAtomic, DerivesKind, DerivesKindOr, DerivesParamsAfter, DerivesConstr, DerivesGiven, DerivesParams, DerivesFormal, DerivesFormalList, DerivesFormals, DerivesItem, DerivesItems, DerivesSummary, DerivesIn, DerivesResult, DerivesMethod, DerivesMember, DerivesParent, DerivesMembers, DerivesClass, DerivesProgram}
 use Rattle.dpj_parse.specs.Expecting.{Part, Expected, one, part, next_of, next_is}
 use Rattle.dpj_parse.specs.Expecting.{Part as p}
 use Rattle.dpj_parse.proofs.Tested.{sign_own, word_own, sign_or_not, word_or_not}
@@ -101,7 +101,7 @@ Meant p.args before after = (t : List RplTree) × DerivesArgs before after t
 Meant p.more_paths before after = MoreOf DerivesRpl before after
 Meant p.params_if before after = (t : Params) × DerivesParams before after t
 Meant p.params before after = (t : Params) × DerivesParams before after t
-Meant p.more_declared before after = (earlier : Bool) → (t : List ParamTree) × DerivesParamsBehind earlier before after t
+Meant p.more_declared before after = (earlier : Bool) → (t : List ParamTree) × DerivesParamsAfter earlier before after t
 Meant p.kind before after = (k : Bool) × DerivesKind before after k
 Meant p.atomic_if before after = (k : Bool) × DerivesAtomic before after k
 Meant p.kind_if before after = (earlier : Bool) → (k : Bool) × DerivesKindOr earlier before after k
@@ -111,7 +111,7 @@ Meant p.more_constraints before after = MoreOf DerivesConstr before after
 Meant p.type before after = (t : TypeTree) × DerivesType before after t
 Meant p.base before after = (t : BaseTree) × DerivesBase before after t
 Meant p.suffixes before after = (t : List Suffix) × Many DerivesSuffix before after t
-Meant p.brackets_behind before after = (t : Suffix) × DerivesBehind before after t
+Meant p.brackets_after before after = (t : Suffix) × DerivesAfter before after t
 Meant p.region_if before after = (t : Option RplTree) × DerivesRegion before after t
 Meant p.index_if before after = (t : Option Named) × DerivesIndex before after t
 Meant (p.expr level) before after = (e : PlainExpr) × DerivesLevel level before after e
@@ -219,14 +219,14 @@ joined x (y ∷ xs) before m after f o = record { mid = m; first = f; others = o
 abbrev put_at : Place → List Placed → Terminal → List Placed
 put_at place after t = record { terminal = t; place = place } ∷ after
 
-told : {test : Terminal → Bool} {before after : List Placed} (o : One test before after) (wanted : Terminal) → o.next.terminal ≡ wanted → Takes wanted before after o.next.place
-told {after = after} o wanted e = record { first = o.is ∙ ap (put_at o.next.place after) e }
+reported : {test : Terminal → Bool} {before after : List Placed} (o : One test before after) (wanted : Terminal) → o.next.terminal ≡ wanted → Takes wanted before after o.next.place
+reported {after = after} o wanted e = record { first = o.is ∙ ap (put_at o.next.place after) e }
 
 pub signed : (s : Symbol) {before after : List Placed} (o : One (sign s) before after) → TakesSymbol s before after o.next.place
-signed s o = told o (terminal.Symbol s) (elim (sign_or_not s o.next.terminal) [ inl e ↦ e | inr n ↦ let y = o.passes in cc ])
+signed s o = reported o (terminal.Symbol s) (elim (sign_or_not s o.next.terminal) [ inl e ↦ e | inr n ↦ let y = o.passes in cc ])
 
 pub worded : (k : Keyword) {before after : List Placed} (o : One (word k) before after) → TakesKeyword k before after o.next.place
-worded k o = told o (terminal.Keyword k) (elim (word_or_not k o.next.terminal) [ inl e ↦ e | inr n ↦ let y = o.passes in cc ])
+worded k o = reported o (terminal.Keyword k) (elim (word_or_not k o.next.terminal) [ inl e ↦ e | inr n ↦ let y = o.passes in cc ])
 
 name_is : (t : Terminal) → is_name t ≡ true → (n : ℕ) × (t ≡ terminal.Name n)
 name_is (terminal.Name n) e = (n, refl)
@@ -241,13 +241,13 @@ text_is (terminal.Text n) e = (n, refl)
 text_is _ e = cc
 
 pub named : {before after : List Placed} → One is_name before after → (name : Named) × TakesName before after name
-named o = let n = name_is o.next.terminal o.passes in (record { name = n.0; place = o.next.place }, told o (terminal.Name n.0) n.1)
+named o = let n = name_is o.next.terminal o.passes in (record { name = n.0; place = o.next.place }, reported o (terminal.Name n.0) n.1)
 
 pub numbered : {before after : List Placed} (o : One is_number before after) → (n : ℤ) × Takes (terminal.Int n) before after o.next.place
-numbered o = let n = number_is o.next.terminal o.passes in (n.0, told o (terminal.Int n.0) n.1)
+numbered o = let n = number_is o.next.terminal o.passes in (n.0, reported o (terminal.Int n.0) n.1)
 
 pub texted : {before after : List Placed} (o : One is_text before after) → (n : List ℕ) × Takes (terminal.Text n) before after o.next.place
-texted o = let n = text_is o.next.terminal o.passes in (n.0, told o (terminal.Text n.0) n.1)
+texted o = let n = text_is o.next.terminal o.passes in (n.0, reported o (terminal.Text n.0) n.1)
 
 pub anyhow : (next : Placed) (rest : List Placed) {after : List Placed} (wanted : Terminal) → next.terminal ≡ wanted → One is_any (next ∷ rest) after → Takes wanted (next ∷ rest) after next.place
 anyhow next rest {after} wanted e o =
@@ -266,9 +266,9 @@ either true xs ys before after P h f g = f h
 either false xs ys before after P h f g = g refl h
 
 -- items of a list
-pub item_behind : {A : Type 0} (Derives : List Placed → List Placed → A → Type 0) (before i j after : List Placed) {comma : Place} (item : A) →
+pub item_after : {A : Type 0} (Derives : List Placed → List Placed → A → Type 0) (before i j after : List Placed) {comma : Place} (item : A) →
     TakesSymbol Symbol.Comma before i comma → Derives i j item → MoreOf Derives j after → MoreOf Derives before after
-item_behind Derives before i j after item comma d rest = λ s first e. let r = rest i item d in (first ∷ r.0, more e comma r.1)
+item_after Derives before i j after item comma d rest = λ s first e. let r = rest i item d in (first ∷ r.0, more e comma r.1)
 
 pub no_item : {A : Type 0} (Derives : List Placed → List Placed → A → Type 0) (before after : List Placed) → before ≡ after → MoreOf Derives before after
 no_item Derives before after is = λ s item d. (item ∷ [], last (subst (λ (l : List Placed). Derives s l item) is d))

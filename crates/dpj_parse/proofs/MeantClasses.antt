@@ -15,7 +15,7 @@ use Rattle.dpj_parse.specs.Statements.{DerivesBlock}
 use Rattle.dpj_parse.specs.Classes.{DerivesParams, DerivesFormal, DerivesFormalList, DerivesFormals, DerivesItem, DerivesItems, DerivesSummary, DerivesIn, DerivesResult, DerivesFront, DerivesField, DerivesMethod, DerivesNamed, DerivesMember, DerivesParent, DerivesMembers, DerivesClass, DerivesProgram}
 use Rattle.dpj_parse.specs.Expecting.{one, part, next_of, next_is, choose, member_parts}
 use Rattle.dpj_parse.specs.Expecting.{Part as p}
-use Rattle.dpj_parse.proofs.Meant.{Meant, All, AllOf, Declared, signed, worded, named, either, item_behind, no_item}
+use Rattle.dpj_parse.proofs.Meant.{Meant, All, AllOf, Declared, signed, worded, named, either, item_after, no_item}
 use Rattle.dpj_parse.proofs.MeantPaths.{stands, nowhere}
 use Rattle.dpj_parse.proofs.Rebuilt.{stmts_tree}
 
@@ -92,7 +92,7 @@ formal_of h = let n = named h.others in (_, DerivesFormal.formal h.first.1 n.1)
 pub more_formals_of : {before after : List Placed} → AllOf (choose p.more_formals (next_of before)) before after → Meant p.more_formals before after
 more_formals_of {before} {after} h =
     either (next_is is_comma (next_of before)) (one is_comma ∷ part p.formal ∷ part p.more_formals ∷ []) [] before after (Meant p.more_formals before after) h
-    (λ h. item_behind DerivesFormal before h.mid h.others.mid after h.others.first.0 (signed Symbol.Comma h.first) h.others.first.1 h.others.others)
+    (λ h. item_after DerivesFormal before h.mid h.others.mid after h.others.first.0 (signed Symbol.Comma h.first) h.others.first.1 h.others.others)
     (λ f is. no_item DerivesFormal before after is)
 
 summary_by : {before m after : List Placed} → Meant p.reads_if before m → Meant p.writes_if m after → Meant p.summary before after
@@ -132,7 +132,7 @@ item_of h = (_, DerivesItem.item h.first.1 h.others.1)
 pub more_items_of : {before after : List Placed} → AllOf (choose p.more_items (next_of before)) before after → Meant p.more_items before after
 more_items_of {before} {after} h =
     either (next_is is_comma (next_of before)) (one is_comma ∷ part p.item ∷ part p.more_items ∷ []) [] before after (Meant p.more_items before after) h
-    (λ h. item_behind DerivesItem before h.mid h.others.mid after h.others.first.0 (signed Symbol.Comma h.first) h.others.first.1 h.others.others)
+    (λ h. item_after DerivesItem before h.mid h.others.mid after h.others.first.0 (signed Symbol.Comma h.first) h.others.first.1 h.others.others)
     (λ f is. no_item DerivesItem before after is)
 
 pub class_means : {before after : List Placed} → AllOf (choose p.class (next_of before)) before after → Meant p.class before after

@@ -15,7 +15,7 @@ use Rattle.dpj_parse.specs.Taking.{Takes, TakesName, Next, Many}
 use Rattle.dpj_parse.specs.Words.{op_at, is_any, is_name, is_dot, is_open_bracket, is_close_bracket, is_less, is_comma, is_open_paren, is_close_paren}
 use Rattle.dpj_parse.specs.Paths.{no_args}
 use Rattle.dpj_parse.specs.Types.{DerivesBase, suffix}
-use Rattle.dpj_parse.specs.Expressions.{symbol_of, level_of, left_level, as_value, as_field, as_element, as_call, as_creation, DerivesLevel, operand, operation, operator, postfix, new_array, DerivesPostfix, primary, behind_dot, called, indexed, DerivesPrimary, array, no_actuals, actuals, DerivesFurther, end, further}
+use Rattle.dpj_parse.specs.Expressions.{symbol_of, level_of, left_level, as_value, as_field, as_element, as_call, as_creation, DerivesLevel, operand, operation, operator, postfix, new_array, DerivesPostfix, primary, after_dot, called, indexed, DerivesPrimary, array, no_actuals, actuals, DerivesFurther, end, further}
 use Rattle.dpj_parse.specs.Expecting.{one, part, next_of, next_is, op_of, choose, climb_parts, unary_parts, created_parts, literal_parts}
 use Rattle.dpj_parse.specs.Expecting.{Part as p}
 use Rattle.dpj_parse.proofs.Lists.{many_more}
@@ -116,7 +116,7 @@ array_of {before} h s i j place start suffixes t d ss = h.others s i j before pl
 
 pub array_open_of : {before after : List Placed} → AllOf (choose p.array_open (next_of before)) before after → Meant p.array_open before after
 array_open_of {before} {after} h =
-    either (next_is is_close_bracket (next_of before)) (one is_close_bracket ∷ part p.brackets_behind ∷ part p.array ∷ []) (part (p.expr 0) ∷ one is_close_bracket ∷ part p.brackets_behind ∷ []) before after (Meant p.array_open before after) h
+    either (next_is is_close_bracket (next_of before)) (one is_close_bracket ∷ part p.brackets_after ∷ part p.array ∷ []) (part (p.expr 0) ∷ one is_close_bracket ∷ part p.brackets_after ∷ []) before after (Meant p.array_open before after) h
     (λ h s i j k place at start suffixes t d ss o. h.others.others s i j place start _ t d (many_more ss (suffix o (signed Symbol.CloseBracket h.first) h.others.first.1)))
     (λ f h s i j k place at start suffixes t d ss o. (_, new_array (array t d ss o h.first.1 (signed Symbol.CloseBracket h.others.first) h.others.others.1)))
 
@@ -161,7 +161,7 @@ pub actuals_if_of : {before after : List Placed} → AllOf (choose p.actuals_if 
 actuals_if_of {before} {after} h =
     either (next_is is_open_paren (next_of before)) (part p.actuals ∷ []) [] before after (Meant p.actuals_if before after) h
     (λ h s i j ending e dot name d t n. (as_call, _, called d t no_args n h.1))
-    (λ f is s i j ending e dot name d t n. (as_field, _, behind_dot d t (subst (λ (l : List Placed). TakesName j l name) is n)))
+    (λ f is s i j ending e dot name d t n. (as_field, _, after_dot d t (subst (λ (l : List Placed). TakesName j l name) is n)))
 
 pub actuals_of : {before after : List Placed} → AllOf (choose p.actuals (next_of before)) before after → Meant p.actuals before after
 actuals_of {before} h = h.others before _ (signed Symbol.OpenParen h.first)

@@ -9,11 +9,11 @@ use Rattle.dpj_terminals.specs.declared.terminal.Terminal.TheVariants as termina
 use Rattle.dpj_parse.specs.Taking.{TakesName, StandsAt, place_of, Many, none, some}
 use Rattle.dpj_parse.specs.Words.{is_name, is_number, is_dot, is_colon, is_star, is_open_bracket, is_close_bracket, is_less, is_greater, is_hash, is_question, is_bar, is_comma, is_region, is_atomic, is_root}
 use Rattle.dpj_parse.specs.Paths.{one_name, two_names, DerivesHead, DerivesWithin, DerivesElem, star, within, DerivesNext, next, DerivesRpl, path, DerivesArgs, no_args, args}
-use Rattle.dpj_parse.specs.Types.{DerivesBase, DerivesRegion, no_region, region, DerivesIndex, no_index, index, behind, DerivesSuffix, suffix, type_of}
-use Rattle.dpj_parse.specs.Classes.{DerivesAtomic, DerivesKind, DerivesKindOr, DerivesParam, DerivesParamsBehind, DerivesDeclared, DerivesConstr, DerivesGiven, DerivesParams}
+use Rattle.dpj_parse.specs.Types.{DerivesBase, DerivesRegion, no_region, region, DerivesIndex, no_index, index, following, DerivesSuffix, suffix, type_of}
+use Rattle.dpj_parse.specs.Classes.{DerivesAtomic, DerivesKind, DerivesKindOr, DerivesParam, DerivesParamsAfter, DerivesDeclared, DerivesConstr, DerivesGiven, DerivesParams}
 use Rattle.dpj_parse.specs.Expecting.{one, part, next_of, next_is, choose, base_parts}
 use Rattle.dpj_parse.specs.Expecting.{Part as p}
-use Rattle.dpj_parse.proofs.Meant.{Meant, All, AllOf, signed, worded, named, numbered, no_sign, either, item_behind, no_item}
+use Rattle.dpj_parse.proofs.Meant.{Meant, All, AllOf, signed, worded, named, numbered, no_sign, either, item_after, no_item}
 
 -- the place of the next terminal
 pub stands : (end : Place) (before : List Placed) → StandsAt before (place_of before end)
@@ -29,7 +29,7 @@ names_of {before} h = let n = named h.first in h.others before n.0 n.1
 pub more_names_of : {before after : List Placed} → AllOf (choose p.more_names (next_of before)) before after → Meant p.more_names before after
 more_names_of {before} {after} h =
     either (next_is is_comma (next_of before)) (one is_comma ∷ one is_name ∷ part p.more_names ∷ []) [] before after (Meant p.more_names before after) h
-    (λ h. let n = named h.others.first in item_behind TakesName before h.mid h.others.mid after n.0 (signed Symbol.Comma h.first) n.1 h.others.others)
+    (λ h. let n = named h.others.first in item_after TakesName before h.mid h.others.mid after n.0 (signed Symbol.Comma h.first) n.1 h.others.others)
     (λ f is. no_item TakesName before after is)
 
 pub region_name_of : {before after : List Placed} → AllOf (choose p.region_name (next_of before)) before after → Meant p.region_name before after
@@ -90,7 +90,7 @@ args_of h =
 pub more_paths_of : {before after : List Placed} → AllOf (choose p.more_paths (next_of before)) before after → Meant p.more_paths before after
 more_paths_of {before} {after} h =
     either (next_is is_comma (next_of before)) (one is_comma ∷ part p.path ∷ part p.more_paths ∷ []) [] before after (Meant p.more_paths before after) h
-    (λ h. item_behind DerivesRpl before h.mid h.others.mid after h.others.first.0 (signed Symbol.Comma h.first) h.others.first.1 h.others.others)
+    (λ h. item_after DerivesRpl before h.mid h.others.mid after h.others.first.0 (signed Symbol.Comma h.first) h.others.first.1 h.others.others)
     (λ f is. no_item DerivesRpl before after is)
 
 pub params_if_of : {before after : List Placed} → AllOf (choose p.params_if (next_of before)) before after → Meant p.params_if before after
@@ -114,8 +114,8 @@ more_declared_of {before} {after} h =
     let kind = h.others.first earlier in
     let name = named h.others.others.first in
     let others = h.others.others.others kind.0 in
-    (_, DerivesParamsBehind.behind (signed Symbol.Comma h.first) kind.1 (DerivesParam.param name.1) others.1))
-    (λ f is earlier. ([], subst (λ (l : List Placed). DerivesParamsBehind earlier before l []) is DerivesParamsBehind.no_more))
+    (_, DerivesParamsAfter.following (signed Symbol.Comma h.first) kind.1 (DerivesParam.param name.1) others.1))
+    (λ f is earlier. ([], subst (λ (l : List Placed). DerivesParamsAfter earlier before l []) is DerivesParamsAfter.no_more))
 
 pub kind_of : {before after : List Placed} → AllOf (choose p.kind (next_of before)) before after → Meant p.kind before after
 kind_of h = (h.first.0, DerivesKind.kind h.first.1 (worded Keyword.Region h.others))
@@ -144,7 +144,7 @@ constraint_of h = (_, DerivesConstr.constraint h.first.1 (signed Symbol.Hash h.o
 pub more_constraints_of : {before after : List Placed} → AllOf (choose p.more_constraints (next_of before)) before after → Meant p.more_constraints before after
 more_constraints_of {before} {after} h =
     either (next_is is_comma (next_of before)) (one is_comma ∷ part p.constraint ∷ part p.more_constraints ∷ []) [] before after (Meant p.more_constraints before after) h
-    (λ h. item_behind DerivesConstr before h.mid h.others.mid after h.others.first.0 (signed Symbol.Comma h.first) h.others.first.1 h.others.others)
+    (λ h. item_after DerivesConstr before h.mid h.others.mid after h.others.first.0 (signed Symbol.Comma h.first) h.others.first.1 h.others.others)
     (λ f is. no_item DerivesConstr before after is)
 
 pub type_means : {before after : List Placed} → AllOf (choose p.type (next_of before)) before after → Meant p.type before after
@@ -164,12 +164,12 @@ base_of {before = first ∷ rest} h = base_by first.terminal h
 
 pub suffixes_of : {before after : List Placed} → AllOf (choose p.suffixes (next_of before)) before after → Meant p.suffixes before after
 suffixes_of {before} {after} h =
-    either (next_is is_open_bracket (next_of before)) (one is_open_bracket ∷ one is_close_bracket ∷ part p.brackets_behind ∷ part p.suffixes ∷ []) [] before after (Meant p.suffixes before after) h
+    either (next_is is_open_bracket (next_of before)) (one is_open_bracket ∷ one is_close_bracket ∷ part p.brackets_after ∷ part p.suffixes ∷ []) [] before after (Meant p.suffixes before after) h
     (λ h. (_, some (suffix (signed Symbol.OpenBracket h.first) (signed Symbol.CloseBracket h.others.first) h.others.others.first.1) h.others.others.others.1))
     (λ f is. ([], subst (λ (l : List Placed). Many DerivesSuffix before l []) is none))
 
-pub brackets_behind_of : {before after : List Placed} → AllOf (choose p.brackets_behind (next_of before)) before after → Meant p.brackets_behind before after
-brackets_behind_of h = (_, behind h.first.1 h.others.1)
+pub brackets_after_of : {before after : List Placed} → AllOf (choose p.brackets_after (next_of before)) before after → Meant p.brackets_after before after
+brackets_after_of h = (_, following h.first.1 h.others.1)
 
 pub region_if_of : {before after : List Placed} → AllOf (choose p.region_if (next_of before)) before after → Meant p.region_if before after
 region_if_of {before} {after} h =

@@ -11,7 +11,7 @@ use Rattle.dpj_parse.specs.Taking.{TakesName, none, some}
 use Rattle.dpj_parse.specs.Words.{is_name, is_text, is_dot, is_close_bracket, is_less, is_semicolon, is_assign, is_open_paren, is_close_brace, is_else, is_final}
 use Rattle.dpj_parse.specs.Paths.{no_args}
 use Rattle.dpj_parse.specs.Types.{DerivesBase, suffix, type_of}
-use Rattle.dpj_parse.specs.Expressions.{Ending, as_value, as_name, as_field, as_element, as_call, as_creation, DerivesPostfix, primary, behind_dot, called, indexed, DerivesPrimary}
+use Rattle.dpj_parse.specs.Expressions.{Ending, as_value, as_name, as_field, as_element, as_call, as_creation, DerivesPostfix, primary, after_dot, called, indexed, DerivesPrimary}
 use Rattle.dpj_parse.specs.Statements.{not_final, final, condition, value, range, braces, DerivesStmts, at_first, declaration, local_assignment, field_assignment, element_assignment, performed, blocked, if_alone, if_else, turning, bare_return, return_with, printed, printed_text, branching, spreading, parting, in_one, new_regions}
 use Rattle.dpj_parse.specs.Expecting.{Expected, one, part, next_of, next_is, choose, stmt_parts, after_name_parts, ending_parts, selection_parts, performed_parts}
 use Rattle.dpj_parse.specs.Expecting.{Part as p}
@@ -119,7 +119,7 @@ after_name_of {before = first ∷ rest} h = after_name_by first.terminal h
 
 pub after_bracket_of : {before after : List Placed} → AllOf (choose p.after_bracket (next_of before)) before after → Meant p.after_bracket before after
 after_bracket_of {before} {after} h =
-    either (next_is is_close_bracket (next_of before)) (one is_close_bracket ∷ part p.brackets_behind ∷ part p.suffixes ∷ part p.declared_name ∷ []) (part (p.expr 0) ∷ one is_close_bracket ∷ part (p.selected_then as_element) ∷ []) before after (Meant p.after_bracket before after) h
+    either (next_is is_close_bracket (next_of before)) (one is_close_bracket ∷ part p.brackets_after ∷ part p.suffixes ∷ part p.declared_name ∷ []) (part (p.expr 0) ∷ one is_close_bracket ∷ part (p.selected_then as_element) ∷ []) before after (Meant p.after_bracket before after) h
     (λ h s i name at n o.
     h.others.others.others s s false _ not_final
     (type_of (stands nowhere s) (DerivesBase.class n no_args) (some (suffix o (signed Symbol.CloseBracket h.first) h.others.first.1) h.others.others.first.1)))
@@ -135,11 +135,11 @@ goes_on others (terminal.Symbol Symbol.Dot) f g k h = f h
 goes_on others (terminal.Symbol Symbol.OpenBracket) f g k h = g h
 goes_on others _ f g k h = k h
 
-dot_behind : {s before after : List Placed} {ending : Ending} {e : PlainExpr} → DerivesPostfix ending s before e → All (one is_dot ∷ part p.dotted_then ∷ []) before after → Stated s after
-dot_behind {s} {before} {ending = ending} {e = e} d h = h.others s before ending e _ d (signed Symbol.Dot h.first)
+dot_after : {s before after : List Placed} {ending : Ending} {e : PlainExpr} → DerivesPostfix ending s before e → All (one is_dot ∷ part p.dotted_then ∷ []) before after → Stated s after
+dot_after {s} {before} {ending = ending} {e = e} d h = h.others s before ending e _ d (signed Symbol.Dot h.first)
 
-element_behind : {s before after : List Placed} {ending : Ending} {e : PlainExpr} → DerivesPostfix ending s before e → All (part p.element ∷ part (p.selected_then as_element) ∷ []) before after → Stated s after
-element_behind {s} {ending = ending} {e = e} d h = let r = h.first s ending e d in h.others s r.0 r.1
+element_after : {s before after : List Placed} {ending : Ending} {e : PlainExpr} → DerivesPostfix ending s before e → All (part p.element ∷ part (p.selected_then as_element) ∷ []) before after → Stated s after
+element_after {s} {ending = ending} {e = e} d h = let r = h.first s ending e d in h.others s r.0 r.1
 
 name_target : {s before : List Placed} {e : PlainExpr} → DerivesPostfix as_name s before e → (name : Named) × TakesName s before name
 name_target (primary (DerivesPrimary.name t)) = (_, t)
@@ -154,11 +154,11 @@ ends as_creation (expression place form) d h = (_, performed (inr refl) d (signe
 
 then_at : (ending : Ending) (before : List Placed) {s after : List Placed} (e : PlainExpr) → DerivesPostfix ending s before e → AllOf (choose (p.selected_then ending) (next_of before)) before after → Stated s after
 then_at ending [] e d h = ends ending e d h
-then_at ending (first ∷ rest) {s} {after} e d h = goes_on (ending_parts ending) first.terminal {P = Stated s after} (dot_behind d) (element_behind d) (ends ending e d) h
+then_at ending (first ∷ rest) {s} {after} e d h = goes_on (ending_parts ending) first.terminal {P = Stated s after} (dot_after d) (element_after d) (ends ending e d) h
 
 value_then : (before : List Placed) {s after : List Placed} {ending : Ending} {e : PlainExpr} → DerivesPostfix ending s before e → AllOf (choose p.selection_then (next_of before)) before after → Stated s after
 value_then [] d h = absurd h
-value_then (first ∷ rest) {s} {after} d h = goes_on None first.terminal {P = Stated s after} (dot_behind d) (element_behind d) (λ f. absurd f) h
+value_then (first ∷ rest) {s} {after} d h = goes_on None first.terminal {P = Stated s after} (dot_after d) (element_after d) (λ f. absurd f) h
 
 value_ends : (before after : List Placed) → AllOf (choose (p.selected_then as_value) (next_of before)) before after → AllOf (choose p.selection_then (next_of before)) before after
 value_ends [] after h = h
@@ -185,7 +185,7 @@ pub dotted_rest_then_of : {before after : List Placed} → AllOf (choose p.dotte
 dotted_rest_then_of {before} {after} h =
     either (next_is is_open_paren (next_of before)) (part p.actuals ∷ part (p.selected_then as_call) ∷ []) (part (p.selected_then as_field) ∷ []) before after (Meant p.dotted_rest_then before after) h
     (λ h s i j ending e dot name d t n. h.others s _ (called d t no_args n h.first.1))
-    (λ f h s i j ending e dot name d t n. h s _ (behind_dot d t n))
+    (λ f h s i j ending e dot name d t n. h s _ (after_dot d t n))
 
 begun : {before after : List Placed} → All (part p.literal ∷ part (p.selected_then as_value) ∷ []) before after → Stated before after
 begun {before} h = h.others before h.first.0 h.first.1 (primary h.first.2)

@@ -63,10 +63,10 @@ pub field_of : {ty : TypeTree} {name : Named} {before one after : List Placed} {
     DerivesField ty name before after (member.Field (record { place = name.place; name = name.name; ty = ty; region = region }))
 field_of d s = DerivesField.field d s
 
-pub method_behind : {params : Params} {answer : MethodResult} {name : Named} {before one two after : List Placed} {formals : List Formal} {summary : Option SummaryTree} {body : List Stmt} →
+pub method_after : {params : Params} {answer : MethodResult} {name : Named} {before one two after : List Placed} {formals : List Formal} {summary : Option SummaryTree} {body : List Stmt} →
     DerivesFormals before one formals → DerivesSummary one two summary → DerivesBlock two after (plain_stmts (map plain_stmt body)) →
     DerivesMethod params answer name before after (member.Method (record { place = name.place; name = name.name; params = params; result = answer; formals = formals; summary = summary; body = body }))
-method_behind f s b = DerivesMethod.method f s b
+method_after f s b = DerivesMethod.method f s b
 
 pub formals_of : {before one two after : List Placed} {all : List Formal} {open_at : Place} →
     TakesSymbol symbol.OpenParen before one open_at → DerivesFormalList one two all → TakesOne (terminal.Symbol symbol.CloseParen) two after → DerivesFormals before after all

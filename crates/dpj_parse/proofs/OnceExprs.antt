@@ -19,10 +19,10 @@ use Rattle.dpj_tree.specs.declared.expr.BinaryOp.TheVariants as binary_op
 use Rattle.dpj_tree.specs.Plain.{PlainExpr, expression, int, boolean, null, this, local, field, element, call, create, create_array, unary, binary, PlainExprs, no_exprs, more_exprs}
 use Rattle.dpj_parse.specs.Taking.{Takes, TakesSymbol, TakesKeyword, TakesName, Many}
 use Rattle.dpj_parse.specs.Paths.{DerivesArgs}
-use Rattle.dpj_parse.specs.Types.{DerivesBase, DerivesBehind, DerivesSuffix, suffix}
+use Rattle.dpj_parse.specs.Types.{DerivesBase, DerivesAfter, DerivesSuffix, suffix}
 use Rattle.dpj_parse.specs.Expressions.{symbol_of, unary_symbol, level_of, left_level}
 use Rattle.dpj_parse.proofs.OnceReader.{Out, into, Comes, at_once, then_reads, later, on, off, starts, tail, place_at, named, many, many_first, is_comma}
-use Rattle.dpj_parse.proofs.OncePaths.{is_dot, is_open_bracket, is_close_bracket, args_read, args_once, base_read, base_once, behind_read, behind_once, begins_suffix, suffix_read, suffixes_once, no_less_behind}
+use Rattle.dpj_parse.proofs.OncePaths.{is_dot, is_open_bracket, is_close_bracket, args_read, args_once, base_read, base_once, after_read, after_once, begins_suffix, suffix_read, suffixes_once, no_less_after}
 
 -- the terminals that decide
 abbrev pub is_open_paren : Terminal → Bool
@@ -95,13 +95,13 @@ abbrev climb_by : Readers → ℕ → ℕ → PlainExpr → List Placed → Opti
 climb_by r level top left before None = Some (left, before)
 climb_by r level top left before (Some op) =
     cond (leb level (level_of op) && leb (left_level op) top)
-    (into (r.level (suc (level_of op)) (tail before)) (λ right behind. r.climb level (level_of op) (expression (place_at before) (binary op left right)) behind))
+    (into (r.level (suc (level_of op)) (tail before)) (λ right following. r.climb level (level_of op) (expression (place_at before) (binary op left right)) following))
     (Some (left, before))
 
 abbrev array_by : ℕ → Readers → Place → BaseTree → List Placed → Out PlainExpr
 array_by m r place start one =
     into (many begins_suffix suffix_read m one) (λ suffixes two. into (r.level 0 (tail two)) (λ len three.
-    into (behind_read m (tail three)) (λ own left. Some (expression place (create_array start suffixes len own.rpl own.index), left))))
+    into (after_read m (tail three)) (λ own left. Some (expression place (create_array start suffixes len own.rpl own.index), left))))
 
 abbrev unary_by : ℕ → Readers → List Placed → Out PlainExpr
 unary_by m r before =
@@ -254,13 +254,13 @@ suffix_no_paren before after tree (suffix o c d) = rw o.first refl
 
 pub unary_array : {before one two three four five six after : List Placed} {start : BaseTree} {suffixes : List Suffix} {len : PlainExpr} {own : Suffix} {place open_at close_at : Place} →
     TakesKeyword Keyword.New before one place → DerivesBase one two start → Many DerivesSuffix two three suffixes → TakesSymbol Symbol.OpenBracket three four open_at →
-    starts is_close_bracket four ≡ false → Comes (λ m. (readers m).level 0 four) len five → TakesSymbol Symbol.CloseBracket five six close_at → DerivesBehind six after own →
+    starts is_close_bracket four ≡ false → Comes (λ m. (readers m).level 0 four) len five → TakesSymbol Symbol.CloseBracket five six close_at → DerivesAfter six after own →
     Comes (λ m. (readers m).unary before) (expression place (create_array start suffixes len own.rpl own.index)) after
 unfolding readers
 unary_array {before} t b ss o closed l c d =
-    later (λ m. (readers m).unary before) (rw t.first (then_reads _ (base_once b (no_less_behind ss (rw o.first refl)))
+    later (λ m. (readers m).unary before) (rw t.first (then_reads _ (base_once b (no_less_after ss (rw o.first refl)))
     (off _ (many_first (λ here. starts is_open_paren here ≡ false) suffix_no_paren ss (rw o.first refl))
-    (then_reads _ (suffixes_once ss (rw o.first closed)) (rw o.first (then_reads _ l (rw c.first (then_reads _ (behind_once d) (at_once refl)))))))))
+    (then_reads _ (suffixes_once ss (rw o.first closed)) (rw o.first (then_reads _ l (rw c.first (then_reads _ (after_once d) (at_once refl)))))))))
 
 pub postfix_from : (before : List Placed) {one rest : List Placed} {e tree : PlainExpr} →
     Comes (λ m. primary_by m (readers m) before) e one → Comes (λ m. (readers m).selectors e one) tree rest → Comes (λ m. (readers m).postfix before) tree rest

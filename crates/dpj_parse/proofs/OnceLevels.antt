@@ -12,7 +12,7 @@ use Rattle.dpj_tree.specs.declared.expr.BinaryOp.{BinaryOp}
 use Rattle.dpj_tree.specs.declared.expr.BinaryOp.TheVariants as binary_op
 use Rattle.dpj_tree.specs.Plain.{PlainExpr, PlainExprs}
 use Rattle.dpj_parse.specs.Types.{DerivesBase}
-use Rattle.dpj_parse.specs.Expressions.{unary_symbol, level_of, left_level, Ending, DerivesLevel, operand, operation, DerivesUnary, operator, postfix, new_array, DerivesPostfix, primary, behind_dot, called, indexed, DerivesPrimary, number, yes, no, nothing, receiver, name, parenthesised, creation, DerivesNewArray, array, DerivesActuals, no_actuals, actuals, DerivesFurther, end, further}
+use Rattle.dpj_parse.specs.Expressions.{unary_symbol, level_of, left_level, Ending, DerivesLevel, operand, operation, DerivesUnary, operator, postfix, new_array, DerivesPostfix, primary, after_dot, called, indexed, DerivesPrimary, number, yes, no, nothing, receiver, name, parenthesised, creation, DerivesNewArray, array, DerivesActuals, no_actuals, actuals, DerivesFurther, end, further}
 use Rattle.dpj_parse.proofs.OnceReader.{Comes, at_once, then_reads, starts, is_comma}
 use Rattle.dpj_parse.proofs.OncePaths.{is_less, is_close_bracket, args_once, base_once}
 use Rattle.dpj_parse.proofs.OnceExprs.{is_open_paren, is_close_paren, is_selector, primary_by, readers, Ends, ends_at, ends_at_op, ends_looser, no_selector, stops, climbs, level_from, unary_operated, BeginsPostfix, unary_postfix, unary_array, postfix_from, selects_field, selects_call, selects_element, selects_no_more, actuals_none, actuals_some, further_none, further_some}
@@ -47,7 +47,7 @@ mutual
 
   pub postfix_begins : {ending : Ending} {before after : List Placed} {e : PlainExpr} → DerivesPostfix ending before after e → starts begins_expr before ≡ true
   postfix_begins (primary d) = primary_begins d
-  postfix_begins (behind_dot d dot n) = postfix_begins d
+  postfix_begins (after_dot d dot n) = postfix_begins d
   postfix_begins (called d dot r n a) = postfix_begins d
   postfix_begins (indexed d o l c) = postfix_begins d
 
@@ -85,7 +85,7 @@ actuals_start (actuals o l f c) test = rw o.first refl
 mutual
   pub postfix_kind : {ending : Ending} {before after : List Placed} {e : PlainExpr} → DerivesPostfix ending before after e → BeginsPostfix before
   postfix_kind (primary d) = primary_kind d
-  postfix_kind (behind_dot d dot n) = postfix_kind d
+  postfix_kind (after_dot d dot n) = postfix_kind d
   postfix_kind (called d dot r n a) = postfix_kind d
   postfix_kind (indexed d o l c) = postfix_kind d
 
@@ -148,7 +148,7 @@ mutual
   pub postfix_once : {ending : Ending} {before after : List Placed} {e : PlainExpr} → DerivesPostfix ending before after e → {tree : PlainExpr} {rest : List Placed} →
       starts is_open_paren after ≡ false → Comes (λ m. (readers m).selectors e after) tree rest → Comes (λ m. (readers m).postfix before) tree rest
   postfix_once {before = before} (primary d) closed c = postfix_from before (primary_once d) c
-  postfix_once (behind_dot {of = of} d dot n) closed c = postfix_once d (rw dot.first refl) (selects_field of dot n closed c)
+  postfix_once (after_dot {of = of} d dot n) closed c = postfix_once d (rw dot.first refl) (selects_field of dot n closed c)
   postfix_once (called {of = of} d dot r n a) closed c = postfix_once d (rw dot.first refl) (selects_call of dot r n (actuals_start a is_open_paren) (actuals_once a) c)
   postfix_once (indexed {array = whole} {at = at} d o l e) closed c =
       postfix_once d (rw o.first refl) (selects_element whole o (level_once l 0 (omega arith) (omega arith) (ends_at e refl refl) (stops 0 (top_of l) at (ends_at e refl refl))) e c)

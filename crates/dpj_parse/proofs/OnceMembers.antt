@@ -17,7 +17,7 @@ use Rattle.dpj_tree.specs.declared.region.TypeTree.{TypeTree}
 use Rattle.dpj_parse.specs.Taking.{TakesSymbol}
 use Rattle.dpj_parse.specs.Paths.{DerivesRpl, DerivesHead, one_name, two_names}
 use Rattle.dpj_parse.specs.Types.{DerivesBase, DerivesType, type_of}
-use Rattle.dpj_parse.specs.Classes.{DerivesAtomic, DerivesKind, DerivesParam, DerivesKindOr, DerivesParamsBehind, DerivesDeclared, DerivesConstr, DerivesGiven, DerivesParams, DerivesFormal, DerivesFormalList, DerivesFormals, DerivesItem, DerivesItems, DerivesSummary, DerivesIn}
+use Rattle.dpj_parse.specs.Classes.{DerivesAtomic, DerivesKind, DerivesParam, DerivesKindOr, DerivesParamsAfter, DerivesDeclared, DerivesConstr, DerivesGiven, DerivesParams, DerivesFormal, DerivesFormalList, DerivesFormals, DerivesItem, DerivesItems, DerivesSummary, DerivesIn}
 use Rattle.dpj_parse.proofs.OnceReader.{Out, into, Comes, at_once, then_reads, later, on, off, starts, tail, named, is_comma, listed, listed_read, listed_first}
 use Rattle.dpj_parse.proofs.OncePaths.{is_dot, is_colon, is_less, rpl_read, rpl_once, goes_on_path, nothing_goes_on, type_read, type_once}
 use Rattle.dpj_parse.proofs.OnceExprs.{is_close_paren}
@@ -94,26 +94,26 @@ kind_or_once : {earlier found : Bool} {before after three : List Placed} {tree :
 kind_or_once DerivesKindOr.same (DerivesParam.param t) = rw t.first refl
 kind_or_once (DerivesKindOr.other k) d = rw (kind_starts k, kind_once k) refl
 
-params_behind_read : ℕ → Bool → List Placed → Out (List ParamTree)
-params_behind_read zero earlier before = None
-params_behind_read (suc m) earlier before =
+params_after_read : ℕ → Bool → List Placed → Out (List ParamTree)
+params_after_read zero earlier before = None
+params_after_read (suc m) earlier before =
     cond (starts is_comma before)
-    (into (kind_or_read earlier (tail before)) (λ found two. into (param_read found two) (λ tree three. into (params_behind_read m found three) (λ others left. Some (tree ∷ others, left)))))
+    (into (kind_or_read earlier (tail before)) (λ found two. into (param_read found two) (λ tree three. into (params_after_read m found three) (λ others left. Some (tree ∷ others, left)))))
     (Some ([], before))
 
-params_behind_once : {earlier : Bool} {before after : List Placed} {trees : List ParamTree} → DerivesParamsBehind earlier before after trees → starts is_comma after ≡ false →
-    Comes (λ m. params_behind_read m earlier before) trees after
-unfolding params_behind_read
-params_behind_once {earlier} {before} DerivesParamsBehind.no_more closed = later (λ m. params_behind_read m earlier before) (off _ closed (at_once refl))
-params_behind_once {earlier} {before} (DerivesParamsBehind.behind t k p ds) closed =
-    later (λ m. params_behind_read m earlier before) (rw t.first (then_reads _ (at_once (kind_or_once k p)) (then_reads _ (at_once (param_once p)) (then_reads _ (params_behind_once ds closed) (at_once refl)))))
+params_after_once : {earlier : Bool} {before after : List Placed} {trees : List ParamTree} → DerivesParamsAfter earlier before after trees → starts is_comma after ≡ false →
+    Comes (λ m. params_after_read m earlier before) trees after
+unfolding params_after_read
+params_after_once {earlier} {before} DerivesParamsAfter.no_more closed = later (λ m. params_after_read m earlier before) (off _ closed (at_once refl))
+params_after_once {earlier} {before} (DerivesParamsAfter.following t k p ds) closed =
+    later (λ m. params_after_read m earlier before) (rw t.first (then_reads _ (at_once (kind_or_once k p)) (then_reads _ (at_once (param_once p)) (then_reads _ (params_after_once ds closed) (at_once refl)))))
 
 declared_read : ℕ → List Placed → Out (List ParamTree)
-declared_read m before = into (kind_read before) (λ found one. into (param_read found one) (λ tree two. into (params_behind_read m found two) (λ others left. Some (tree ∷ others, left))))
+declared_read m before = into (kind_read before) (λ found one. into (param_read found one) (λ tree two. into (params_after_read m found two) (λ others left. Some (tree ∷ others, left))))
 
 declared_once : {before after : List Placed} {trees : List ParamTree} → DerivesDeclared before after trees → starts is_comma after ≡ false → Comes (λ m. declared_read m before) trees after
 unfolding declared_read
-declared_once (DerivesDeclared.declared k p ds) closed = then_reads _ (at_once (kind_once k)) (then_reads _ (at_once (param_once p)) (then_reads _ (params_behind_once ds closed) (at_once refl)))
+declared_once (DerivesDeclared.declared k p ds) closed = then_reads _ (at_once (kind_once k)) (then_reads _ (at_once (param_once p)) (then_reads _ (params_after_once ds closed) (at_once refl)))
 
 -- [ "|" Constr { "," Constr } ], where Constr = Rpl "#" Rpl
 constr_read : ℕ → List Placed → Out ConstrTree

@@ -19,7 +19,7 @@ use Rattle.dpj_tree.specs.declared.region.Suffix.{Suffix}
 use Rattle.dpj_tree.specs.declared.region.TypeTree.{TypeTree}
 use Rattle.dpj_parse.specs.Taking.{Many}
 use Rattle.dpj_parse.specs.Paths.{DerivesRName, one_name, two_names, DerivesHead, DerivesWithin, DerivesElem, star, within, DerivesNext, next, DerivesRpl, path, DerivesArgs, no_args, args}
-use Rattle.dpj_parse.specs.Types.{DerivesBase, DerivesRegion, no_region, region, DerivesIndex, no_index, index, DerivesBehind, behind, DerivesSuffix, suffix, DerivesType, type_of}
+use Rattle.dpj_parse.specs.Types.{DerivesBase, DerivesRegion, no_region, region, DerivesIndex, no_index, index, DerivesAfter, following, DerivesSuffix, suffix, DerivesType, type_of}
 use Rattle.dpj_parse.proofs.OnceReader.{or_left, or_right, not_next, Out, into, Comes, at_once, then_reads, off, starts, tail, place_at, stands, named, many, many_read, many_first, listed, listed_read}
 
 -- the terminals that decide
@@ -195,25 +195,25 @@ index_once : {before after : List Placed} {tree : Option Named} → DerivesIndex
 index_once {before} (no_index n) = rw (not_next before is_hash n hash_or_not) refl
 index_once (index h t) = rw (h.first, t.first) refl
 
-pub behind_read : ℕ → List Placed → Out Suffix
-behind_read m before = into (region_read m before) (λ region one. into (index_read one) (λ index left. Some (record { rpl = region; index = index }, left)))
+pub after_read : ℕ → List Placed → Out Suffix
+after_read m before = into (region_read m before) (λ region one. into (index_read one) (λ index left. Some (record { rpl = region; index = index }, left)))
 
-pub behind_once : {before after : List Placed} {tree : Suffix} → DerivesBehind before after tree → Comes (λ m. behind_read m before) tree after
-unfolding behind_read
-behind_once (behind r i) = then_reads _ (region_once r) (then_reads _ (at_once (index_once i)) (at_once refl))
+pub after_once : {before after : List Placed} {tree : Suffix} → DerivesAfter before after tree → Comes (λ m. after_read m before) tree after
+unfolding after_read
+after_once (following r i) = then_reads _ (region_once r) (then_reads _ (at_once (index_once i)) (at_once refl))
 
 -- "[" "]" [ "<" Rpl ">" ] [ "#" Name ]
 abbrev pub begins_suffix : List Placed → Bool
 begins_suffix before = starts is_open_bracket before && starts is_close_bracket (tail before)
 
 abbrev pub suffix_read : ℕ → List Placed → Out Suffix
-suffix_read m before = behind_read m (tail (tail before))
+suffix_read m before = after_read m (tail (tail before))
 
 abbrev pub nothing_goes_on : List Placed → Bool
 nothing_goes_on after = false
 
 pub suffix_once : (before after : List Placed) (tree : Suffix) → DerivesSuffix before after tree → nothing_goes_on after ≡ false → Comes (λ m. suffix_read m before) tree after
-suffix_once before after tree (suffix o c d) closed = rw (o.first, c.first) (behind_once d)
+suffix_once before after tree (suffix o c d) closed = rw (o.first, c.first) (after_once d)
 
 pub suffix_starts : (before after : List Placed) (tree : Suffix) → DerivesSuffix before after tree → (begins_suffix before ≡ true) × (nothing_goes_on before ≡ false)
 suffix_starts before after tree (suffix o c d) = rw (o.first, c.first) (refl, refl)
@@ -226,8 +226,8 @@ pub suffixes_once : {before after : List Placed} {trees : List Suffix} → Many 
 suffixes_once ds closed = many_read nothing_goes_on begins_suffix suffix_read suffix_once suffix_starts ds closed refl
 
 -- after a base stand suffixes, or what doesn't go on
-pub no_less_behind : {before after : List Placed} {trees : List Suffix} → Many DerivesSuffix before after trees → starts is_less after ≡ false → starts is_less before ≡ false
-no_less_behind ds closed = many_first (λ here. starts is_less here ≡ false) suffix_no_less ds closed
+pub no_less_after : {before after : List Placed} {trees : List Suffix} → Many DerivesSuffix before after trees → starts is_less after ≡ false → starts is_less before ≡ false
+no_less_after ds closed = many_first (λ here. starts is_less here ≡ false) suffix_no_less ds closed
 
 -- Type = Base { "[" "]" [ "<" Rpl ">" ] [ "#" Name ] }
 pub type_read : ℕ → List Placed → Out TypeTree
@@ -237,4 +237,4 @@ type_read m before =
 pub type_once : {before after : List Placed} {tree : TypeTree} → DerivesType before after tree → starts is_less after ≡ false → begins_suffix after ≡ false → Comes (λ m. type_read m before) tree after
 unfolding type_read
 type_once {before} (type_of s b ss) less closed =
-    then_reads _ (base_once b (no_less_behind ss less)) (rw (stands before (base_here b) s) (then_reads _ (suffixes_once ss closed) (at_once refl)))
+    then_reads _ (base_once b (no_less_after ss less)) (rw (stands before (base_here b) s) (then_reads _ (suffixes_once ss closed) (at_once refl)))

@@ -104,7 +104,7 @@ named (next ∷ after) = named_at next.terminal next.place after
 pub many : {A : Type 0} → (List Placed → Bool) → (ℕ → List Placed → Out A) → ℕ → List Placed → Out (List A)
 many begins one zero before = None
 many begins one (suc m) before =
-    cond (begins before) (into (one m before) (λ item behind. into (many begins one m behind) (λ items left. Some (item ∷ items, left)))) (Some ([], before))
+    cond (begins before) (into (one m before) (λ item following. into (many begins one m following) (λ items left. Some (item ∷ items, left)))) (Some ([], before))
 
 -- what holds where an item begins, and after the last, holds where several begin
 pub many_first : {A : Type 0} {Derives : List Placed → List Placed → A → Type 0} (P : List Placed → Type 0) → ((before after : List Placed) (item : A) → Derives before after item → P before) →
@@ -131,7 +131,7 @@ is_comma _ = false
 pub listed : {A : Type 0} → (ℕ → List Placed → Out A) → ℕ → List Placed → Out (List A)
 listed one zero before = None
 listed one (suc m) before =
-    into (one m before) (λ item behind. cond (starts is_comma behind) (into (listed one m (tail behind)) (λ items left. Some (item ∷ items, left))) (Some (item ∷ [], behind)))
+    into (one m before) (λ item following. cond (starts is_comma following) (into (listed one m (tail following)) (λ items left. Some (item ∷ items, left))) (Some (item ∷ [], following)))
 
 pub listed_first : {A : Type 0} {Derives : List Placed → List Placed → A → Type 0} (P : List Placed → Type 0) → ((before after : List Placed) (item : A) → Derives before after item → P before) →
     {before after : List Placed} {items : List A} → Listed Derives before after items → P before

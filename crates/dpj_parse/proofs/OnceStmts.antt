@@ -13,7 +13,7 @@ use Rattle.dpj_tree.specs.Plain.{PlainExpr, expression, ExprForm, local, field, 
 use Rattle.dpj_parse.specs.Taking.{Takes, TakesName, Listed, Many, none, some}
 use Rattle.dpj_parse.specs.Paths.{no_args, args}
 use Rattle.dpj_parse.specs.Types.{DerivesBase, DerivesSuffix, suffix, DerivesType, type_of}
-use Rattle.dpj_parse.specs.Expressions.{Ending, as_field, as_element, DerivesPostfix, primary, behind_dot, called, indexed, DerivesPrimary, number, yes, no, nothing, receiver, name, parenthesised, creation}
+use Rattle.dpj_parse.specs.Expressions.{Ending, as_field, as_element, DerivesPostfix, primary, after_dot, called, indexed, DerivesPrimary, number, yes, no, nothing, receiver, name, parenthesised, creation}
 use Rattle.dpj_parse.specs.Statements.{DerivesFinal, not_final, final, DerivesCondition, condition, DerivesValue, value, DerivesRange, range, DerivesBlock, braces, DerivesStmts, DerivesStmt, at_first, declaration, local_assignment, field_assignment, element_assignment, performed, DerivesForm, blocked, if_alone, if_else, turning, bare_return, return_with, printed, printed_text, branching, spreading, parting, in_one, new_regions}
 use Rattle.dpj_parse.proofs.OnceReader.{Out, into, Comes, at_once, then_reads, later, on, off, starts, tail, not_next, place_at, stands, named, is_comma, listed, listed_read}
 use Rattle.dpj_parse.proofs.OncePaths.{is_less, is_close_bracket, begins_suffix, nothing_goes_on, type_read, type_once}
@@ -72,11 +72,11 @@ is_form (terminal.Keyword Keyword.Region) = true
 is_form _ = false
 
 -- a declaration stands here
-abbrev names_behind : List Placed → Bool
-names_behind after = starts is_name after || (starts is_less after || begins_suffix after)
+abbrev names_after : List Placed → Bool
+names_after after = starts is_name after || (starts is_less after || begins_suffix after)
 
 abbrev declares : List Placed → Bool
-declares before = starts is_type_word before || (starts is_name before && names_behind (tail before))
+declares before = starts is_type_word before || (starts is_name before && names_after (tail before))
 
 -- what stands in more than one statement
 condition_read : ℕ → List Placed → Out PlainExpr
@@ -201,7 +201,7 @@ form_starts (parting t o v c r s) = rw t.first refl
 form_starts (in_one t b) = rw t.first refl
 form_starts (new_regions t n c) = rw t.first refl
 
-suffix_or_name : {before two three : List Placed} {named : Named} {suffixes : List Suffix} → Many DerivesSuffix before two suffixes → TakesName two three named → names_behind before ≡ true
+suffix_or_name : {before two three : List Placed} {named : Named} {suffixes : List Suffix} → Many DerivesSuffix before two suffixes → TakesName two three named → names_after before ≡ true
 suffix_or_name none n = rw n.first refl
 suffix_or_name (some (suffix o c d) ds) n = rw (o.first, c.first) refl
 
@@ -216,7 +216,7 @@ declaration_starts : {before one two three : List Placed} {is_final : Bool} {ty 
 declaration_starts not_final d n = type_declares d n
 declaration_starts (final t) d n = rw t.first (refl, refl)
 
-primary_declares : {ending : Ending} {before after : List Placed} {e : PlainExpr} → DerivesPrimary ending before after e → names_behind after ≡ false → declares before ≡ false
+primary_declares : {ending : Ending} {before after : List Placed} {e : PlainExpr} → DerivesPrimary ending before after e → names_after after ≡ false → declares before ≡ false
 primary_declares (number t) h = rw t.first refl
 primary_declares (yes t) h = rw t.first refl
 primary_declares (no t) h = rw t.first refl
@@ -226,9 +226,9 @@ primary_declares (name t) h = rw t.first h
 primary_declares (parenthesised o l c) h = rw o.first refl
 primary_declares (creation t n r a) h = rw t.first refl
 
-postfix_declares : {ending : Ending} {before after : List Placed} {e : PlainExpr} → DerivesPostfix ending before after e → names_behind after ≡ false → declares before ≡ false
+postfix_declares : {ending : Ending} {before after : List Placed} {e : PlainExpr} → DerivesPostfix ending before after e → names_after after ≡ false → declares before ≡ false
 postfix_declares (primary d) h = primary_declares d h
-postfix_declares (behind_dot d dot n) h = postfix_declares d (rw dot.first refl)
+postfix_declares (after_dot d dot n) h = postfix_declares d (rw dot.first refl)
 postfix_declares (called d dot r n a) h = postfix_declares d (rw dot.first refl)
 postfix_declares (indexed {two = two} d o l c) h = postfix_declares d (rw o.first (expr_begins_not is_close_bracket no_close_bracket two (level_begins l)))
 
@@ -253,7 +253,7 @@ form_no_brace : (t : Terminal) → is_form t ≡ true → is_close_brace t ≡ f
 form_no_brace (terminal.Symbol Symbol.CloseBrace) e = cc
 form_no_brace _ e = refl
 
-declared_no_brace : (t : Terminal) (after : List Placed) → (is_type_word t || (is_name t && names_behind after)) ≡ true → is_close_brace t ≡ false
+declared_no_brace : (t : Terminal) (after : List Placed) → (is_type_word t || (is_name t && names_after after)) ≡ true → is_close_brace t ≡ false
 declared_no_brace (terminal.Symbol Symbol.CloseBrace) after e = cc
 declared_no_brace _ after e = refl
 
@@ -313,14 +313,14 @@ primary_no_target (creation t n r a) = elim [ inl e ↦ cc | inr e ↦ cc ]
 field_target : {ending : Ending} {before after : List Placed} {e : PlainExpr} (place : Place) (given : PlainExpr) → DerivesPostfix ending before after e → ending ≡ as_field →
     assigned place e given ≡ statement place (assign_field e given)
 field_target place given (primary d) e = absurd (primary_no_target d (inl e))
-field_target place given (behind_dot d dot n) e = refl
+field_target place given (after_dot d dot n) e = refl
 field_target place given (called d dot r n a) e = cc
 field_target place given (indexed d o l c) e = cc
 
 element_target : {ending : Ending} {before after : List Placed} {e : PlainExpr} (place : Place) (given : PlainExpr) → DerivesPostfix ending before after e → ending ≡ as_element →
     assigned place e given ≡ statement place (assign_element e given)
 element_target place given (primary d) e = absurd (primary_no_target d (inr e))
-element_target place given (behind_dot d dot n) e = cc
+element_target place given (after_dot d dot n) e = cc
 element_target place given (called d dot r n a) e = cc
 element_target place given (indexed d o l c) e = refl
 

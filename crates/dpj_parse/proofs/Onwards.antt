@@ -14,8 +14,8 @@ pub stay : {c : Counts} {xs : List Expected} {here : List Placed} → Onward c x
 stay = record { reads = λ e after w. w; stops = λ k here s. s }
 
 -- one place after another
-pub over : {c d e : Counts} {xs ys zs : List Expected} {before between behind : List Placed} →
-    Onward c xs before d ys between → Onward d ys between e zs behind → Onward c xs before e zs behind
+pub over : {c d e : Counts} {xs ys zs : List Expected} {before between following : List Placed} →
+    Onward c xs before d ys between → Onward d ys between e zs following → Onward c xs before e zs following
 over a b = record { reads = λ f after w. a.reads f after (b.reads f after w); stops = λ k here s. a.stops k here (b.stops k here s) }
 
 -- after the first of what is expected

@@ -27,11 +27,11 @@ left_level_is binary_op.Mul = inl refl
 left_level_is binary_op.Div = inl refl
 left_level_is binary_op.Rem = inl refl
 
-pub left_behind_comparison : (op : BinaryOp) → level_of op ≤ 2 → left_level op ≤ 3
-left_behind_comparison op h = elim (left_level_is op) [ inl e ↦ omega arith | inr e ↦ omega arith ]
+pub left_after_comparison : (op : BinaryOp) → level_of op ≤ 2 → left_level op ≤ 3
+left_after_comparison op h = elim (left_level_is op) [ inl e ↦ omega arith | inr e ↦ omega arith ]
 
-pub left_behind : (op : BinaryOp) (level : ℕ) → level_of op ≤ level → level ≢ 3 → left_level op ≤ level
-left_behind op level h ne = elim (left_level_is op) [ inl e ↦ omega arith | inr e ↦ omega arith ]
+pub left_after : (op : BinaryOp) (level : ℕ) → level_of op ≤ level → level ≢ 3 → left_level op ≤ level
+left_after op level h ne = elim (left_level_is op) [ inl e ↦ omega arith | inr e ↦ omega arith ]
 
 -- nothing binds as tightly as a comparison on both its sides
 own_below : (op : BinaryOp) → left_level op ≡ level_of op → left_level op ≤ 3 → level_of op ≤ 2
@@ -42,11 +42,11 @@ own_below binary_op.Gt e h = absurd (omega (arith, e))
 own_below binary_op.Ge e h = absurd (omega (arith, e))
 own_below _ e h = omega (arith, h)
 
-pub own_behind_comparison : (op : BinaryOp) → left_level op ≤ 3 → level_of op ≤ 2
-own_behind_comparison op h = elim (left_level_is op) [ inl e ↦ own_below op e h | inr e ↦ omega arith ]
+pub own_after_comparison : (op : BinaryOp) → left_level op ≤ 3 → level_of op ≤ 2
+own_after_comparison op h = elim (left_level_is op) [ inl e ↦ own_below op e h | inr e ↦ omega arith ]
 
-pub own_behind : (op : BinaryOp) (level : ℕ) → left_level op ≤ level → level_of op ≤ level
-own_behind op level h = elim (left_level_is op) [ inl e ↦ omega arith | inr e ↦ omega arith ]
+pub own_after : (op : BinaryOp) (level : ℕ) → left_level op ≤ level → level_of op ≤ level
+own_after op level h = elim (left_level_is op) [ inl e ↦ omega arith | inr e ↦ omega arith ]
 
 -- an expression that may stand on the left of the operators that bind at most so tightly
 pub record Grouped (least most : ℕ) (before after : List Placed) (e : PlainExpr) : Type 0 where
@@ -56,11 +56,11 @@ pub record Grouped (least most : ℕ) (before after : List Placed) (e : PlainExp
 pub grouped_unary : {before after : List Placed} {e : PlainExpr} (least most : ℕ) → DerivesUnary before after e → Grouped least most before after e
 grouped_unary least most d = record { whole = operand d; left = λ op h. operand d }
 
-pub grouped_operation : {least most behind bound : ℕ} {op : BinaryOp} {before one two after : List Placed} {left right e : PlainExpr} {place : Place} →
+pub grouped_operation : {least most following bound : ℕ} {op : BinaryOp} {before one two after : List Placed} {left right e : PlainExpr} {place : Place} →
     Grouped least most before one left → least ≤ level_of op → level_of op ≤ most →
     TakesSymbol (symbol_of op) one two place → bound ≡ level_of op → DerivesLevel (bound + 1) two after right →
-    ((next : BinaryOp) → level_of next ≤ behind → left_level next ≤ level_of op) →
-    e ≡ expression place (binary op left right) → Grouped least behind before after e
+    ((next : BinaryOp) → level_of next ≤ following → left_level next ≤ level_of op) →
+    e ≡ expression place (binary op left right) → Grouped least following before after e
 grouped_operation {bound = bound} {op = op} {two = two} {after = after} {right = right} grouped low high takes binds d tight is =
     let higher : suc (level_of op) ≡ bound + 1 = sym (add-one bound ∙ ap suc binds) in
     let r : DerivesLevel (suc (level_of op)) two after right = rw higher d in

@@ -129,7 +129,7 @@ primary_name (DerivesPrimary.creation t n r a) is = cc
 
 name_read : {ending : Ending} {before after : List Placed} {e : PlainExpr} → DerivesPostfix ending before after e → ending ≡ as_name → NameRead before after
 name_read (DerivesPostfix.primary d) is = primary_name d is
-name_read (DerivesPostfix.behind_dot d dot n) is = cc
+name_read (DerivesPostfix.after_dot d dot n) is = cc
 name_read (DerivesPostfix.called d dot r n a) is = cc
 name_read (DerivesPostfix.indexed d o l c) is = cc
 

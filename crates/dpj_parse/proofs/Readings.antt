@@ -197,10 +197,10 @@ Closing [] = ⊥
 Closing (x ∷ []) = IsLast x
 Closing (x ∷ y ∷ xs) = Closing (y ∷ xs)
 
-closing_behind : (xs : List Expected) (y : Expected) (ys : List Expected) → Closing (y ∷ ys) → Closing (xs ++ y ∷ ys)
-closing_behind [] y ys h = h
-closing_behind (x ∷ []) y ys h = h
-closing_behind (x ∷ z ∷ xs) y ys h = closing_behind (z ∷ xs) y ys h
+closing_after : (xs : List Expected) (y : Expected) (ys : List Expected) → Closing (y ∷ ys) → Closing (xs ++ y ∷ ys)
+closing_after [] y ys h = h
+closing_after (x ∷ []) y ys h = h
+closing_after (x ∷ z ∷ xs) y ys h = closing_after (z ∷ xs) y ys h
 
 -- what closes, or is at its end
 abbrev Closes : List Expected → List Placed → Type 0
@@ -216,7 +216,7 @@ to_end : {left : List Placed} {xs : List Expected} {before : List Placed} → Cl
 to_end (inl c) stay = absurd c
 to_end (inr e) stay = e.1
 to_end (inl c) (pick {n = n} {xs = xs} {others = []} {here = here} e s) = to_end (last_begins n here c xs e) s
-to_end (inl c) (pick {xs = xs} {others = y ∷ ys} e s) = to_end (inl (closing_behind xs y ys c)) s
+to_end (inl c) (pick {xs = xs} {others = y ∷ ys} e s) = to_end (inl (closing_after xs y ys c)) s
 to_end (inr e) (pick f s) = absurd (let k = e.0 in cc)
 to_end (inl c) (pass {others = []} e s) = absurd c
 to_end (inl c) (pass {others = y ∷ ys} e s) = to_end (inl c) s

@@ -62,16 +62,16 @@ syntax_fault list end place r = syntax_of (stopped_steps [] r.stops) r.place
 pub nest_fault : (list : List Placed) (end place : Place) → IsRefusedIn list end (record { kind = kind.Nest; place = place }) → CanGoOn list place
 nest_fault list end place r = nest_of end (stopped_steps [] r.stops) r.place
 
-pub told_once : (bytes : List ℕ) (tokens : List Token) (end : Place) (left right : Refusal) → IsGrammarFault bytes tokens end left → IsGrammarFault bytes tokens end right → left ≡ right
-told_once bytes tokens end left right l r =
+pub reported_once : (bytes : List ℕ) (tokens : List Token) (end : Place) (left right : Refusal) → IsGrammarFault bytes tokens end left → IsGrammarFault bytes tokens end right → left ≡ right
+reported_once bytes tokens end left right l r =
     let same : l.list ≡ r.list = terminals_once bytes tokens l.list r.list l.said r.said in
-    refused_once r.list end left right (subst (λ (list : List Placed). IsRefusedIn list end left) same l.told) r.told
+    refused_once r.list end left right (subst (λ (list : List Placed). IsRefusedIn list end left) same l.reported) r.reported
 
 pub no_program : (bytes : List ℕ) (tokens : List Token) (end : Place) (refusal : Refusal) (program : Program) → IsGrammarFault bytes tokens end refusal → IsProgram bytes tokens program → ⊥
 no_program bytes tokens end refusal program f d =
     let said : MeanAll (distinct_names bytes tokens) bytes tokens d.list = subst (λ (names : List (List ℕ)). MeanAll names bytes tokens d.list) d.names d.said in
     let same : d.list ≡ f.list = terminals_once bytes tokens d.list f.list said f.said in
-    not_refused f.list end refusal f.told (subst IsWithin same d.within)
+    not_refused f.list end refusal f.reported (subst IsWithin same d.within)
 
 pub read_or_refused : (list : List Placed) (end : Place) → (((classes : List Class) × DerivesProgram list classes) × IsWithin list) ⊎ ((refusal : Refusal) × IsRefusedIn list end refusal)
 read_or_refused list end = by (ended at_start (part p.program ∷ []) list (settled_end s.ends) s.steps)

@@ -14,7 +14,7 @@ use Rattle.dpj_tree.specs.declared.region.RName.{RName}
 use Rattle.dpj_tree.specs.declared.region.RplHead.TheVariants as head
 use Rattle.dpj_parse.specs.Taking.{TakesOne, TakesIf, TakesNext, TakesName, TakesSymbol, TakesKeyword, Next, Listed}
 use Rattle.dpj_parse.specs.Paths.{DerivesRName, two_names, DerivesHead, DerivesWithin, number, any, DerivesElem, within, DerivesNext, next}
-use Rattle.dpj_parse.specs.Classes.{DerivesAtomic, DerivesKind, kind, DerivesKindOr, same, DerivesParam, DerivesParamsBehind, no_more, behind, DerivesDeclared, declared, DerivesConstr, DerivesGiven, given}
+use Rattle.dpj_parse.specs.Classes.{DerivesAtomic, DerivesKind, kind, DerivesKindOr, same, DerivesParam, DerivesParamsAfter, no_more, following, DerivesDeclared, declared, DerivesConstr, DerivesGiven, given}
 use Rattle.dpj_parse.proofs.Taken.{next-takes}
 
 pub second_name : {before one two after : List Placed} {first second : Named} →
@@ -58,7 +58,7 @@ kind_of t r = kind (atomic_if t) r
 
 -- the parameters that were read so far, the last of which is of a kind
 pub record Declares (before here : List Placed) (is_atomic : Bool) (list : List ParamTree) : Type 0 where
-  pub goes_on : (after : List Placed) (others : List ParamTree) → DerivesParamsBehind is_atomic here after others → DerivesDeclared before after (list ++ others)
+  pub goes_on : (after : List Placed) (others : List ParamTree) → DerivesParamsAfter is_atomic here after others → DerivesDeclared before after (list ++ others)
 
 pub declares_first : {before one here : List Placed} {is_atomic : Bool} {tree : ParamTree} →
     DerivesKind before one is_atomic → DerivesParam is_atomic one here tree → Declares before here is_atomic (tree ∷ [])
@@ -68,7 +68,7 @@ pub declares_more : {before here one two after : List Placed} {earlier is_atomic
     Declares before here earlier list → TakesOne (terminal.Symbol symbol.Comma) here one → DerivesKindOr earlier one two is_atomic → DerivesParam is_atomic two after tree →
     Declares before after is_atomic (list ++ tree ∷ [])
 declares_more {list} {tree} so_far comma k p = record {
-  goes_on = λ behind_it others d. rw append_assoc (so_far.goes_on behind_it (tree ∷ others) (behind comma.takes k p d));
+  goes_on = λ after_it others d. rw append_assoc (so_far.goes_on after_it (tree ∷ others) (following comma.takes k p d));
 }
 
 pub declares_done : {before after : List Placed} {is_atomic : Bool} {list : List ParamTree} → Declares before after is_atomic list → DerivesDeclared before after list
@@ -77,6 +77,6 @@ declares_done {before} {after} {list} so_far = rw append-nil at (so_far.goes_on 
 pub kind_same : {here : List Placed} {earlier : Bool} → DerivesKindOr earlier here here earlier
 kind_same = same
 
-pub given_behind : {before one after : List Placed} {all : List ConstrTree} →
+pub given_after : {before one after : List Placed} {all : List ConstrTree} →
     TakesOne (terminal.Symbol symbol.Bar) before one → Listed DerivesConstr one after all → DerivesGiven before after all
-given_behind bar l = given bar.takes l
+given_after bar l = given bar.takes l

@@ -24,11 +24,11 @@ pub data GoodOf : Option (List Expected) → Type 0 where
 pub of_some : {xs : List Expected} → GoodOf (Some xs) → Good xs
 of_some (some_next g) = g
 
-pub behind_part : {n : Part} {xs : List Expected} → Good (part n ∷ xs) → Good xs
-behind_part (part_next g) = g
+pub after_part : {n : Part} {xs : List Expected} → Good (part n ∷ xs) → Good xs
+after_part (part_next g) = g
 
-pub behind_one : {test : Terminal → Bool} {xs : List Expected} → Good (one test ∷ xs) → Good xs
-behind_one (passed t e g) = g
+pub after_one : {test : Terminal → Bool} {xs : List Expected} → Good (one test ∷ xs) → Good xs
+after_one (passed t e g) = g
 
 pub good_append : {xs : List Expected} (ys : List Expected) → Good xs → Good ys → Good (xs ++ ys)
 good_append ys nothing_next h = h
@@ -155,7 +155,7 @@ good p.more_constraints next = some_next (decided (next_is is_comma next) (passe
 good p.type next = some_next (part_next (part_next nothing_next))
 good p.base next = some_next (by_next next (one is_name ∷ part p.args_if ∷ []) base_parts (passed (terminal.Name 0) refl (part_next nothing_next)) good_base_parts)
 good p.suffixes next = some_next (decided (next_is is_open_bracket next) (passed (terminal.Symbol Symbol.OpenBracket) refl (passed (terminal.Symbol Symbol.CloseBracket) refl (part_next (part_next nothing_next)))) (nothing_next))
-good p.brackets_behind next = some_next (part_next (part_next nothing_next))
+good p.brackets_after next = some_next (part_next (part_next nothing_next))
 good p.region_if next = some_next (decided (next_is is_less next) (passed (terminal.Symbol Symbol.Less) refl (part_next (passed (terminal.Symbol Symbol.Greater) refl nothing_next))) (nothing_next))
 good p.index_if next = some_next (decided (next_is is_hash next) (passed (terminal.Symbol Symbol.Hash) refl (passed (terminal.Name 0) refl nothing_next)) (nothing_next))
 good (p.expr level) next = some_next (part_next (part_next nothing_next))

@@ -7,7 +7,7 @@ use Rattle.dpj_parse.specs.Reading.{DerivesSelection, DerivesSelections, ending_
 
 pub selection_postfix : {ending : Ending} {before one after : List Placed} {of found : PlainExpr} →
     DerivesPostfix ending before one of → DerivesSelection of one after found → DerivesPostfix (ending_of found) before after found
-selection_postfix d (DerivesSelection.behind_dot dot name) = DerivesPostfix.behind_dot d dot name
+selection_postfix d (DerivesSelection.after_dot dot name) = DerivesPostfix.after_dot d dot name
 selection_postfix d (DerivesSelection.called dot paths name all) = DerivesPostfix.called d dot paths name all
 selection_postfix d (DerivesSelection.indexed start at end) = DerivesPostfix.indexed d start at end
 

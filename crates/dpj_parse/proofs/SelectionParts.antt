@@ -22,13 +22,13 @@ use Rattle.dpj_parse.proofs.OperatorParts.{joined_reads}
 pub dot_selects : {here : List Placed} → Next (terminal.Symbol Symbol.Dot) here → true ≡ (next_is is_dot (next_of here) || next_is is_open_bracket (next_of here))
 dot_selects {here} n = rw (next_comes Symbol.Dot here n) refl
 
-told : (b : Bool) {here : List Placed} → (IsTrue b ↔ Next (terminal.Symbol Symbol.OpenBracket) here) → b ≡ next_is is_open_bracket (next_of here)
-told true {here} tells = sym (next_comes Symbol.OpenBracket here (tells.0 refl))
-told false {here} tells = sym (symbol_comes_not Symbol.OpenBracket here (λ n. let t : false ≡ true = tells.1 n in cc))
+reported : (b : Bool) {here : List Placed} → (IsTrue b ↔ Next (terminal.Symbol Symbol.OpenBracket) here) → b ≡ next_is is_open_bracket (next_of here)
+reported true {here} tells = sym (next_comes Symbol.OpenBracket here (tells.0 refl))
+reported false {here} tells = sym (symbol_comes_not Symbol.OpenBracket here (λ n. let t : false ≡ true = tells.1 n in cc))
 
 pub bracket_selects : {here : List Placed} {b : Bool} → (Next (terminal.Symbol Symbol.Dot) here → ⊥) → (IsTrue b ↔ Next (terminal.Symbol Symbol.OpenBracket) here) →
     b ≡ (next_is is_dot (next_of here) || next_is is_open_bracket (next_of here))
-bracket_selects {here} {b} away tells = rw (symbol_comes_not Symbol.Dot here away) (told b tells)
+bracket_selects {here} {b} away tells = rw (symbol_comes_not Symbol.Dot here away) (reported b tells)
 
 -- any number of them
 selected_enter : {c : Counts} {here : List Placed} → (next_is is_dot (next_of here) || next_is is_open_bracket (next_of here)) ≡ true →

@@ -27,10 +27,10 @@ use Rattle.dpj_tree.specs.Plain.{PlainExpr, PlainExprs, PlainStmt, StmtForm, Pla
 use Rattle.dpj_tree.specs.Size.{rpl_size, optional_rpl_size, base_size, suffix_size, type_size, expr_size, exprs_size, stmt_size, stmt_form_size, stmts_size, params_size, parent_size, result_size, items_size, summary_size, member_size, class_size}
 use Rattle.dpj_parse.specs.Taking.{Takes, TakesName, Listed, last, more, Many, none, some}
 use Rattle.dpj_parse.specs.Paths.{DerivesRName, one_name, two_names, DerivesHead, root, DerivesWithin, DerivesElem, star, within, DerivesNext, next, DerivesRpl, path, DerivesArgs, no_args, args}
-use Rattle.dpj_parse.specs.Types.{DerivesBase, DerivesRegion, no_region, region, DerivesIndex, no_index, index, behind, DerivesSuffix, suffix, DerivesType, type_of}
-use Rattle.dpj_parse.specs.Expressions.{Ending, DerivesLevel, operand, operation, DerivesUnary, operator, postfix, new_array, DerivesPostfix, primary, behind_dot, called, indexed, DerivesPrimary, number, yes, no, nothing, receiver, parenthesised, creation, DerivesNewArray, array, DerivesActuals, no_actuals, actuals, DerivesFurther, end, further}
+use Rattle.dpj_parse.specs.Types.{DerivesBase, DerivesRegion, no_region, region, DerivesIndex, no_index, index, following, DerivesSuffix, suffix, DerivesType, type_of}
+use Rattle.dpj_parse.specs.Expressions.{Ending, DerivesLevel, operand, operation, DerivesUnary, operator, postfix, new_array, DerivesPostfix, primary, after_dot, called, indexed, DerivesPrimary, number, yes, no, nothing, receiver, parenthesised, creation, DerivesNewArray, array, DerivesActuals, no_actuals, actuals, DerivesFurther, end, further}
 use Rattle.dpj_parse.specs.Statements.{DerivesCondition, condition, DerivesValue, value, DerivesRange, range, DerivesBlock, braces, DerivesStmts, DerivesFinal, not_final, final, DerivesStmt, at_first, declaration, local_assignment, field_assignment, element_assignment, performed, DerivesForm, blocked, if_alone, if_else, turning, bare_return, return_with, printed, printed_text, branching, spreading, parting, in_one, new_regions}
-use Rattle.dpj_parse.specs.Classes.{DerivesAtomic, plain, atomic, DerivesKind, kind, DerivesParam, param, DerivesKindOr, same, other, DerivesParamsBehind, no_more, DerivesDeclared, declared, DerivesConstr, constraint, DerivesGiven, nothing_given, given, DerivesParams, no_params, params, DerivesFormal, formal, DerivesFormalList, no_formals, formals, DerivesFormals, DerivesItem, item, DerivesItems, DerivesSummary, no_summary, pure, reads, reads_and_writes, writes, DerivesIn, nowhere, in_region, DerivesResult, void, DerivesFront, constructs, answers, DerivesField, DerivesMethod, DerivesNamed, named, DerivesMember, DerivesParent, no_parent, extends, DerivesMembers, members, DerivesClass, class, DerivesProgram, program}
+use Rattle.dpj_parse.specs.Classes.{DerivesAtomic, plain, atomic, DerivesKind, kind, DerivesParam, param, DerivesKindOr, same, other, DerivesParamsAfter, no_more, DerivesDeclared, declared, DerivesConstr, constraint, DerivesGiven, nothing_given, given, DerivesParams, no_params, params, DerivesFormal, formal, DerivesFormalList, no_formals, formals, DerivesFormals, DerivesItem, item, DerivesItems, DerivesSummary, no_summary, pure, reads, reads_and_writes, writes, DerivesIn, nowhere, in_region, DerivesResult, void, DerivesFront, constructs, answers, DerivesField, DerivesMethod, DerivesNamed, named, DerivesMember, DerivesParent, no_parent, extends, DerivesMembers, members, DerivesClass, class, DerivesProgram, program}
 
 -- a part of the text takes so many terminals at least
 pub record Pays (n : ℕ) (before after : List Placed) : Type 0 where
@@ -114,7 +114,7 @@ index_paid (no_index absent) = here
 index_paid (index hash t) = less _ (omega arith) (join (takes hash) (takes t))
 
 suffix_paid : (before after : List Placed) (tree : Suffix) → DerivesSuffix before after tree → Pays (suffix_size tree) before after
-suffix_paid before after tree (suffix open_at close_at (behind d i)) =
+suffix_paid before after tree (suffix open_at close_at (following d i)) =
     less _ (omega arith) (join (takes open_at) (join (takes close_at) (join (optional_rpl_paid d) (index_paid i))))
 
 type_paid : {before after : List Placed} {tree : TypeTree} → DerivesType before after tree → Pays (type_size tree) before after
@@ -132,7 +132,7 @@ mutual
 
   postfix_paid : {ending : Ending} {before after : List Placed} {e : PlainExpr} → DerivesPostfix ending before after e → Pays (expr_size e) before after
   postfix_paid (primary d) = primary_paid d
-  postfix_paid (behind_dot d dot t) = less _ (omega arith) (join (postfix_paid d) (join (takes dot) (takes t)))
+  postfix_paid (after_dot d dot t) = less _ (omega arith) (join (postfix_paid d) (join (takes dot) (takes t)))
   postfix_paid (called d dot regions t all) = less _ (omega arith) (join (postfix_paid d) (join (takes dot) (join (args_paid regions) (join (takes t) (actuals_paid all)))))
   postfix_paid (indexed d open_at at close_at) = less _ (omega arith) (join (postfix_paid d) (join (takes open_at) (join (level_paid at) (takes close_at))))
 
@@ -147,7 +147,7 @@ mutual
   primary_paid (creation at t regions all) = less _ (omega arith) (join (takes at) (join (takes t) (join (args_paid regions) (actuals_paid all))))
 
   array_paid : {before after : List Placed} {e : PlainExpr} → DerivesNewArray before after e → Pays (expr_size e) before after
-  array_paid (array at start suffixes open_at len close_at (behind d i)) =
+  array_paid (array at start suffixes open_at len close_at (following d i)) =
       less _ (omega arith) (join (takes at) (join (base_paid start) (join (many DerivesSuffix suffix_size suffix_paid suffixes)
       (join (takes open_at) (join (level_paid len) (join (takes close_at) (join (optional_rpl_paid d) (index_paid i))))))))
 
@@ -219,12 +219,12 @@ kind_or_paid (other d) = less _ (omega arith) (kind_paid d)
 param_paid : {is_atomic : Bool} {before after : List Placed} {tree : ParamTree} → DerivesParam is_atomic before after tree → Pays 1 before after
 param_paid (param t) = takes t
 
-params_behind_paid : {earlier : Bool} {before after : List Placed} {trees : List ParamTree} → DerivesParamsBehind earlier before after trees → Pays (length trees) before after
-params_behind_paid no_more = here
-params_behind_paid (DerivesParamsBehind.behind comma d one others) = less _ (omega arith) (join (takes comma) (join (kind_or_paid d) (join (param_paid one) (params_behind_paid others))))
+params_after_paid : {earlier : Bool} {before after : List Placed} {trees : List ParamTree} → DerivesParamsAfter earlier before after trees → Pays (length trees) before after
+params_after_paid no_more = here
+params_after_paid (DerivesParamsAfter.following comma d one others) = less _ (omega arith) (join (takes comma) (join (kind_or_paid d) (join (param_paid one) (params_after_paid others))))
 
 declared_paid : {before after : List Placed} {trees : List ParamTree} → DerivesDeclared before after trees → Pays (length trees) before after
-declared_paid (declared d one others) = less _ (omega arith) (join (kind_paid d) (join (param_paid one) (params_behind_paid others)))
+declared_paid (declared d one others) = less _ (omega arith) (join (kind_paid d) (join (param_paid one) (params_after_paid others)))
 
 abbrev constr_size : ConstrTree → ℕ
 constr_size tree = rpl_size tree.left + rpl_size tree.right

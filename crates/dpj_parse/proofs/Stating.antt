@@ -14,7 +14,6 @@ use Rattle.dpj_tree.specs.declared.expr.ExprKind.TheVariants as expr_kind
 use Rattle.dpj_tree.specs.declared.stmt.Stmt.{Stmt}
 use Rattle.dpj_tree.specs.declared.stmt.StmtKind.TheVariants as kind
 use Rattle.dpj_tree.specs.Plain.{PlainExpr, expression, PlainStmt, statement, StmtForm, perform, plain_expr, plain_stmt, plain_stmts}
-use Rattle.dpj_parse.specs.declared.cursor.Cursor.{Cursor}
 use Rattle.dpj_parse.specs.Taking.{Takes, TakesSymbol, TakesKeyword, TakesName, TakesOne, TakesNext, TakesIf, Next, NoNext, StandsAt, Many, Listed}
 use Rattle.dpj_parse.specs.Types.{DerivesType}
 use Rattle.dpj_parse.specs.Expressions.{DerivesExpr, DerivesPostfix, as_field, as_element, as_call, as_creation}
@@ -36,57 +35,51 @@ takes_none false takes is = takes
 stands : {wanted : Terminal} {before after : List Placed} {place : Place} → Takes wanted before after place → StandsAt before place
 stands takes = record { first = λ next after is. cc (takes.first, is) }
 
-pub stmt_form : {before after : List Placed} {form : StmtForm} {s : PlainStmt} {place : Place} →
-    StandsAt before place → DerivesForm before after form → s ≡ statement place form → DerivesStmt before after s
-stmt_form at d is = rw is (DerivesStmt.at_first at d)
+pub made_block : (all : List Stmt) {before after : List Placed} {s : PlainStmt} {place : Place} →
+    StandsAt before place → DerivesBlock before after (plain_stmts (map plain_stmt all)) → s ≡ statement place (plain_stmt_kind (kind.Block all)) → DerivesStmt before after s
+made_block all at d is = rw (is, kind_Block all) (DerivesStmt.at_first at (DerivesForm.blocked d))
 
-pub stmt_stays : (old new : Cursor) {after : List Placed} {s : PlainStmt} → new ≡ old → DerivesStmt new.rest.now after s → DerivesStmt old.rest.now after s
-stmt_stays old new is d = rw is at d
-
-pub block_form : (all : List Stmt) {before after : List Placed} → DerivesBlock before after (plain_stmts (map plain_stmt all)) → DerivesForm before after (plain_stmt_kind (kind.Block all))
-block_form all d = rw (kind_Block all) (DerivesForm.blocked d)
-
-pub if_form : (test : Expr) (body : Stmt) {found : Bool} {before one two three after : List Placed} {place : Place} →
+pub made_if : (test : Expr) (body : Stmt) {found : Bool} {before one two three after : List Placed} {s : PlainStmt} {place : Place} →
     TakesKeyword Keyword.If before one place → DerivesCondition one two (plain_expr test) → DerivesStmt two three (plain_stmt body) →
-    TakesIf (terminal.Keyword Keyword.Else) found three after → found ≡ false → DerivesForm before after (plain_stmt_kind (kind.If test body None))
-if_form test body {found = found} takes tested d alone is =
-    let none = takes_none found alone is in
-    rw (kind_If_alone test body, none.1) (DerivesForm.if_alone takes tested d none.0)
+    TakesIf (terminal.Keyword Keyword.Else) found three after → found ≡ false → s ≡ statement place (plain_stmt_kind (kind.If test body None)) → DerivesStmt before after s
+made_if test body {found = found} takes tested d alone none is =
+    let left = takes_none found alone none in
+    rw (is, kind_If_alone test body, left.1) (DerivesStmt.at_first (stands takes) (DerivesForm.if_alone takes tested d left.0))
 
-pub else_form : (test : Expr) (body other : Stmt) {found : Bool} {before one two three four after : List Placed} {place : Place} →
+pub made_else : (test : Expr) (body other : Stmt) {found : Bool} {before one two three four after : List Placed} {s : PlainStmt} {place : Place} →
     TakesKeyword Keyword.If before one place → DerivesCondition one two (plain_expr test) → DerivesStmt two three (plain_stmt body) →
     TakesIf (terminal.Keyword Keyword.Else) found three four → found ≡ true → DerivesStmt four after (plain_stmt other) →
-    DerivesForm before after (plain_stmt_kind (kind.If test body (Some other)))
-else_form test body other {found = found} takes tested d others is behind =
-    rw (kind_If_else test body other) (DerivesForm.if_else takes tested d (takes_found found others is).takes behind)
+    s ≡ statement place (plain_stmt_kind (kind.If test body (Some other))) → DerivesStmt before after s
+made_else test body other {found = found} takes tested d others there following is =
+    rw (is, kind_If_else test body other) (DerivesStmt.at_first (stands takes) (DerivesForm.if_else takes tested d (takes_found found others there).takes following))
 
-pub while_form : (test : Expr) (body : Stmt) {before one two after : List Placed} {place : Place} →
+pub made_while : (test : Expr) (body : Stmt) {before one two after : List Placed} {s : PlainStmt} {place : Place} →
     TakesKeyword Keyword.While before one place → DerivesCondition one two (plain_expr test) → DerivesStmt two after (plain_stmt body) →
-    DerivesForm before after (plain_stmt_kind (kind.While test body))
-while_form test body takes tested d = rw (kind_While test body) (DerivesForm.turning takes tested d)
+    s ≡ statement place (plain_stmt_kind (kind.While test body)) → DerivesStmt before after s
+made_while test body takes tested d is = rw (is, kind_While test body) (DerivesStmt.at_first (stands takes) (DerivesForm.turning takes tested d))
 
-pub cobegin_form : (nd : Bool) (all : List Stmt) {before one after : List Placed} {place : Place} →
-    Next (terminal.Keyword (cobegin_word nd)) before → TakesNext before one place → DerivesBlock one after (plain_stmts (map plain_stmt all)) →
-    DerivesForm before after (plain_stmt_kind (kind.Cobegin nd all))
-cobegin_form nd all next takes d = rw (kind_Cobegin nd all) (DerivesForm.branching {nd = nd} (next-takes takes next) d)
+pub made_cobegin : (nd : Bool) (all : List Stmt) {before one after : List Placed} {s : PlainStmt} {place taken : Place} →
+    StandsAt before place → Next (terminal.Keyword (cobegin_word nd)) before → TakesNext before one taken → DerivesBlock one after (plain_stmts (map plain_stmt all)) →
+    s ≡ statement place (plain_stmt_kind (kind.Cobegin nd all)) → DerivesStmt before after s
+made_cobegin nd all at next takes d is = rw (is, kind_Cobegin nd all) (DerivesStmt.at_first at (DerivesForm.branching {nd = nd} (next-takes takes next) d))
 
-pub atomic_form : (all : List Stmt) {before one after : List Placed} {place : Place} →
-    TakesKeyword Keyword.Atomic before one place → DerivesBlock one after (plain_stmts (map plain_stmt all)) → DerivesForm before after (plain_stmt_kind (kind.Atomic all))
-atomic_form all takes d = rw (kind_Atomic all) (DerivesForm.in_one takes d)
+pub made_atomic : (all : List Stmt) {before one after : List Placed} {s : PlainStmt} {place : Place} →
+    TakesKeyword Keyword.Atomic before one place → DerivesBlock one after (plain_stmts (map plain_stmt all)) → s ≡ statement place (plain_stmt_kind (kind.Atomic all)) → DerivesStmt before after s
+made_atomic all takes d is = rw (is, kind_Atomic all) (DerivesStmt.at_first (stands takes) (DerivesForm.in_one takes d))
 
-pub foreach_form : (nd : Bool) (var : Named) (first second : Expr) (body : Stmt) {before one two three after : List Placed} {place open_at : Place} →
-    Next (terminal.Keyword (foreach_word nd)) before → TakesNext before one place → TakesSymbol Symbol.OpenParen one two open_at →
+pub made_foreach : (nd : Bool) (var : Named) (first second : Expr) (body : Stmt) {before one two three after : List Placed} {s : PlainStmt} {place taken open_at : Place} →
+    StandsAt before place → Next (terminal.Keyword (foreach_word nd)) before → TakesNext before one taken → TakesSymbol Symbol.OpenParen one two open_at →
     DerivesRange two three var (plain_expr first) (plain_expr second) → DerivesStmt three after (plain_stmt body) →
-    DerivesForm before after (plain_stmt_kind (kind.Foreach nd var first second body))
-foreach_form nd var first second body next takes start span d =
-    rw (kind_Foreach nd var first second body) (DerivesForm.spreading {nd = nd} (next-takes takes next) start span d)
+    s ≡ statement place (plain_stmt_kind (kind.Foreach nd var first second body)) → DerivesStmt before after s
+made_foreach nd var first second body at next takes start span d is =
+    rw (is, kind_Foreach nd var first second body) (DerivesStmt.at_first at (DerivesForm.spreading {nd = nd} (next-takes takes next) start span d))
 
-pub parts_form : (view var : Named) (first second : Expr) (body : Stmt) {before one two three four five after : List Placed} {place open_at comma : Place} →
+pub made_parts : (view var : Named) (first second : Expr) (body : Stmt) {before one two three four five after : List Placed} {s : PlainStmt} {place open_at comma : Place} →
     TakesKeyword Keyword.ForeachParts before one place → TakesSymbol Symbol.OpenParen one two open_at → TakesName two three view → TakesSymbol Symbol.Comma three four comma →
     DerivesRange four five var (plain_expr first) (plain_expr second) → DerivesStmt five after (plain_stmt body) →
-    DerivesForm before after (plain_stmt_kind (kind.ForeachParts view var first second body))
-parts_form view var first second body takes start name comma span d =
-    rw (kind_ForeachParts view var first second body) (DerivesForm.parting takes start name comma span d)
+    s ≡ statement place (plain_stmt_kind (kind.ForeachParts view var first second body)) → DerivesStmt before after s
+made_parts view var first second body takes start name comma span d is =
+    rw (is, kind_ForeachParts view var first second body) (DerivesStmt.at_first (stands takes) (DerivesForm.parting takes start name comma span d))
 
 stmts_all : {before after : List Placed} {all : List Stmt} → Many DerivesStmtTree before after all → DerivesStmts before after (plain_stmts (map plain_stmt all))
 stmts_all Many.none = DerivesStmts.none

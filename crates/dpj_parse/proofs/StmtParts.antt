@@ -1,5 +1,5 @@
 -- The parts of the grammar's Stmt productions, by what they begin with.
-use Rattle.std.proofs.Common.{◌≡◌, ◌+◌, ◌-◌, ◌∙◌, arith, ℕ, List, [], ◌∷◌, Bool, true, false, cond, Some, refl, ap, subst, sym}
+use Rattle.std.proofs.Common.{◌≡◌, ◌+◌, ◌-◌, arith, ℕ, List, [], ◌∷◌, Bool, true, false, cond, Some, Result, Ok, Err, OnOk, refl, ap, subst, sym}
 use Rattle.dpj_base.specs.Refused.{IfRefused}
 use Rattle.dpj_base.specs.declared.place.Place.{Place}
 use Rattle.dpj_base.specs.declared.refusal.Kind.{Kind}
@@ -13,7 +13,7 @@ use Rattle.dpj_parse.specs.declared.cursor.Cursor.{Cursor}
 use Rattle.dpj_parse.specs.Expecting.{expr, Expected, one, part, choose, next_of, condition, value, range, return_rest, shown, stmt, stmts, body, block, else_if, stmt_parts}
 use Rattle.dpj_parse.specs.Limits.{Counts, Fits, deeper, inside, Within, nothing, begins, Stops, in_part}
 use Rattle.dpj_parse.specs.Counted.{counts, Completed, Halts, MayCome, Took}
-use Rattle.dpj_parse.specs.Progress.{ReadsIf}
+use Rattle.dpj_parse.specs.Progress.{Reads, ReadsIf}
 use Rattle.dpj_parse.specs.Taking.{Next, TakesIf}
 use Rattle.dpj_parse.specs.Targets.{stmt_begins}
 use Rattle.dpj_parse.specs.Words.{is_any, is_close_brace, is_close_paren, is_else, is_open_brace, is_comma, is_in, is_int, is_name, is_open_paren, is_return, is_semicolon, is_text}
@@ -316,26 +316,13 @@ onward_refused old now Stop.NoMemory o none end r = r
 pub ruleset of_stmts = (onward_here, onward_more, reads_onward, onward_refused)
 
 -- a statement counts anew
-pub reads_stmt : {level joined new_level : ℕ} {d : Counts} {before after : List Placed} → new_level ≡ level → Within (record { level = level; joined = 0 }) (stmt_begins before) before d after →
-    Within (record { level = level; joined = joined }) (part stmt ∷ []) before (record { level = new_level; joined = joined }) after
-reads_stmt {level} {joined} {d = d} {before = before} {after = after} same w = rw same (read_part (record { level = level; joined = joined }) d stmt _ before after refl w)
-
 pub stmt_refused : (level joined : ℕ) (before : List Placed) (end : Place) (stop : Stop) → Refused (record { level = level; joined = 0 }) (stmt_begins before) before end stop →
     Refused (record { level = level; joined = joined }) (part stmt ∷ []) before end stop
 stmt_refused level joined before end stop r = refused_part (record { level = level; joined = joined }) stmt _ before end stop refl r
 
-pub reads_simple : {joined : ℕ} (old new last : Cursor) → new ≡ old → old.joined ≡ 0 → Completed (stmt_begins new.rest.now) new last → last.level ≡ new.level →
-    Within (record { level = old.level; joined = joined }) (part stmt ∷ []) old.rest.now (record { level = last.level; joined = joined }) last.rest.now
-reads_simple {joined} old new last same anew done level =
+pub reads_anew : {A : Type 0} (r : Result A Stop) (joined : ℕ) (old new : Cursor) → OnOk r (Reads old new) → old.joined ≡ 0 → OnOk r (Completed (stmt_begins old.rest.now) old new) →
+    OnOk r (Within (record { level = old.level; joined = joined }) (part stmt ∷ []) old.rest.now (record { level = new.level; joined = joined }) new.rest.now)
+reads_anew (Ok s) joined old new moves anew done =
     let start : counts old ≡ record { level = old.level; joined = 0 } = rw anew refl in
-    let w : Within (counts old) (stmt_begins old.rest.now) old.rest.now done.last last.rest.now = rw same at done.reads in
-    reads_stmt (level ∙ ap (λ (c : Cursor). c.level) same) (rw start at w)
-
-pub simple_refused : (joined : ℕ) (old new : Cursor) (stop : Stop) → new ≡ old → old.joined ≡ 0 → Refused (counts new) (stmt_begins new.rest.now) new.rest.now new.end stop →
-    Refused (record { level = old.level; joined = joined }) (part stmt ∷ []) old.rest.now old.end stop
-simple_refused joined old new stop same anew r =
-    let start : counts old ≡ record { level = old.level; joined = 0 } = rw anew refl in
-    let w : Refused (counts old) (stmt_begins old.rest.now) old.rest.now old.end stop = rw same at r in
-    stmt_refused old.level joined old.rest.now old.end stop (rw start at w)
-
-pub ruleset of_stmt = (reads_stmt, stmt_refused, reads_simple, simple_refused)
+    rw moves.level (read_part (record { level = old.level; joined = joined }) done.last stmt _ old.rest.now new.rest.now refl (rw start at done.reads))
+reads_anew (Err stop) joined old new moves anew done = tt

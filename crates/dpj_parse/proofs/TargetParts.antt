@@ -13,7 +13,7 @@ use Rattle.dpj_tree.specs.declared.region.Named.{Named}
 use Rattle.dpj_tree.specs.declared.region.RplTree.{RplTree}
 use Rattle.dpj_tree.specs.Plain.{PlainExpr, PlainExprs, expression, create}
 use Rattle.dpj_parse.specs.Paths.{DerivesArgs, no_args, args}
-use Rattle.dpj_parse.specs.Reading.{DerivesSelection, behind_dot, called, indexed, ending_of}
+use Rattle.dpj_parse.specs.Reading.{DerivesSelection, after_dot, called, indexed, ending_of}
 use Rattle.dpj_parse.specs.Words.{is_any, is_assign, is_close_bracket, is_dot, is_less, is_name, is_new, is_open_bracket, is_open_paren}
 use Rattle.dpj_parse.specs.Taking.{Takes, Next}
 use Rattle.dpj_parse.specs.Expressions.{DerivesActuals, DerivesPrimary, Ending, as_value, as_name, as_field, as_element, as_call, as_creation}
@@ -273,7 +273,7 @@ name_call_goes (args start paths close) name all w = args_call_goes (rw (start.f
 
 pub selection_goes : {of found : PlainExpr} {c d : Counts} {before after : List Placed} → DerivesSelection of before after found → Within c (part Part.selection ∷ []) before d after →
     Onward c (part Part.selection_then ∷ []) before d (part (Part.selected_then (ending_of found)) ∷ []) after
-selection_goes {c = c} {d} {after = after} (behind_dot dot name) w =
+selection_goes {c = c} {d} {after = after} (after_dot dot name) w =
     rw (dot.first) (dot_goes (λ e v. rw (name.first) (field_goes (subst (λ b. Within e (part Part.dotted_rest ∷ []) b d after) name.first v)))
     (subst (λ b. Within c (part Part.selection ∷ []) b d after) dot.first w))
 selection_goes {c = c} {d} {after = after} (called dot paths name all) w =

@@ -10,7 +10,7 @@ use Rattle.dpj_tree.specs.Targets.{IsField, IsElement, HasTargets, FormHasTarget
 use Rattle.dpj_tree.specs.Targets.{IsPerformed as IsDone}
 use Rattle.dpj_tree.specs.Shaped.{MemberHasTargets}
 use Rattle.dpj_parse.specs.Taking.{Many, none, some}
-use Rattle.dpj_parse.specs.Expressions.{Ending, as_value, as_name, as_field, as_element, as_call, as_creation, DerivesPostfix, primary, behind_dot, called, indexed, DerivesPrimary, number, yes, no, nothing, receiver, parenthesised, creation}
+use Rattle.dpj_parse.specs.Expressions.{Ending, as_value, as_name, as_field, as_element, as_call, as_creation, DerivesPostfix, primary, after_dot, called, indexed, DerivesPrimary, number, yes, no, nothing, receiver, parenthesised, creation}
 use Rattle.dpj_parse.specs.Statements.{IsPerformed, DerivesBlock, braces, DerivesStmts, DerivesStmt, at_first, declaration, local_assignment, field_assignment, element_assignment, performed, DerivesForm, blocked, if_alone, if_else, turning, bare_return, return_with, printed, printed_text, branching, spreading, parting, in_one, new_regions}
 use Rattle.dpj_parse.specs.Classes.{DerivesMethod, named, DerivesField, DerivesMember, members, DerivesClass, class, DerivesProgram, program}
 
@@ -35,7 +35,7 @@ primary_ends (creation at t regions all) = tt
 
 postfix_ends : {ending : Ending} {before after : List Placed} {e : PlainExpr} → DerivesPostfix ending before after e → EndsAs ending e
 postfix_ends (primary d) = primary_ends d
-postfix_ends (behind_dot d dot t) = tt
+postfix_ends (after_dot d dot t) = tt
 postfix_ends (called d dot regions t all) = tt
 postfix_ends (indexed d open_at at close_at) = tt
 

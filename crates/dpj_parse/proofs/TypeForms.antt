@@ -11,7 +11,7 @@ use Rattle.dpj_tree.specs.declared.region.RplTree.{RplTree}
 use Rattle.dpj_tree.specs.declared.region.Suffix.{Suffix}
 use Rattle.dpj_parse.specs.Taking.{TakesOne, TakesName, TakesNext, TakesSymbol, Next, NoNext}
 use Rattle.dpj_parse.specs.Paths.{DerivesRpl}
-use Rattle.dpj_parse.specs.Types.{DerivesBase, DerivesRegion, no_region, region, DerivesIndex, no_index, index, DerivesBehind, DerivesSuffix, suffix}
+use Rattle.dpj_parse.specs.Types.{DerivesBase, DerivesRegion, no_region, region, DerivesIndex, no_index, index, DerivesAfter, DerivesSuffix, suffix}
 use Rattle.dpj_parse.proofs.Taken.{next-takes}
 
 pub base_int : {before after : List Placed} {place : Place} → Next (terminal.Keyword keyword.Int) before → TakesNext before after place → DerivesBase before after base.Int
@@ -21,7 +21,7 @@ pub base_boolean : {before after : List Placed} {place : Place} → Next (termin
 base_boolean n t = DerivesBase.boolean (next-takes t n)
 
 pub suffix_of : {before one two after : List Placed} {tree : Suffix} {open_at : Place} →
-    TakesSymbol symbol.OpenBracket before one open_at → TakesOne (terminal.Symbol symbol.CloseBracket) one two → DerivesBehind two after tree →
+    TakesSymbol symbol.OpenBracket before one open_at → TakesOne (terminal.Symbol symbol.CloseBracket) one two → DerivesAfter two after tree →
     DerivesSuffix before after tree
 suffix_of o c d = suffix o c.takes d
 

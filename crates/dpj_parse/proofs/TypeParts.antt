@@ -87,10 +87,10 @@ pub suffixes_begin : {c : Counts} {a : List Placed} → Onward c (part Part.suff
 suffixes_begin = record { reads = λ e after w. w; stops = λ k here s. s }
 
 pub suffixes_on : {c d e f h : Counts} {a b g i j : List Placed} → Onward c (part Part.suffixes ∷ []) a d (part Part.suffixes ∷ []) b →
-    Within (more d) (one is_open_bracket ∷ []) b e g → Within e (one is_close_bracket ∷ []) g f i → Within f (part Part.brackets_behind ∷ []) i h j →
+    Within (more d) (one is_open_bracket ∷ []) b e g → Within e (one is_close_bracket ∷ []) g f i → Within f (part Part.brackets_after ∷ []) i h j →
     Onward c (part Part.suffixes ∷ []) a h (part Part.suffixes ∷ []) j
 suffixes_on {d = d} {b = b} so_far first_bracket second_bracket w =
-    onward_more (one is_open_bracket ∷ one is_close_bracket ∷ part Part.brackets_behind ∷ []) Part.suffixes so_far (this_one _ _ (next_read first_bracket))
+    onward_more (one is_open_bracket ∷ one is_close_bracket ∷ part Part.brackets_after ∷ []) Part.suffixes so_far (this_one _ _ (next_read first_bracket))
     (rw (more_inside d b (next_read first_bracket)) (seq first_bracket (seq second_bracket w))) (λ f. refl)
 
 pub suffixes_end : {c d : Counts} {a b : List Placed} → Onward c (part Part.suffixes ∷ []) a d (part Part.suffixes ∷ []) b → (Next (terminal.Symbol Symbol.OpenBracket) b → ⊥) →
@@ -115,7 +115,7 @@ suffixes_at_close c d e a b g end first later stop so_far same first_bracket at 
 
 pub suffixes_at_rest : (c d e f : Counts) (a b g i : List Placed) (end first middle later : Place) (stop : Stop) →
     Onward c (part Part.suffixes ∷ []) a d (part Part.suffixes ∷ []) b → first ≡ end → Within (more d) (one is_open_bracket ∷ []) b e g → middle ≡ first →
-    Within e (one is_close_bracket ∷ []) g f i → later ≡ middle → IfRefused stop (Refuses f (part Part.brackets_behind ∷ []) i later) →
+    Within e (one is_close_bracket ∷ []) g f i → later ≡ middle → IfRefused stop (Refuses f (part Part.brackets_after ∷ []) i later) →
     IfRefused stop (Refuses c (part Part.suffixes ∷ []) a end)
 suffixes_at_rest c d e f a b g i end first middle later stop so_far same first_bracket at second_bracket is r =
     onward_refused c d _ _ a b end first stop so_far same
@@ -123,16 +123,16 @@ suffixes_at_rest c d e f a b g i end first middle later stop so_far same first_b
 
 -- [ "<" path ">" ] [ "#" name ]
 pub after_brackets_reads : {c d e : Counts} {a b g : List Placed} → Within c (part Part.region_if ∷ []) a d b → Within d (part Part.index_if ∷ []) b e g →
-    Within c (part Part.brackets_behind ∷ []) a e g
-after_brackets_reads v w = read_two _ _ _ _ Part.brackets_behind _ _ _ _ _ refl v w refl
+    Within c (part Part.brackets_after ∷ []) a e g
+after_brackets_reads v w = read_two _ _ _ _ Part.brackets_after _ _ _ _ _ refl v w refl
 
 pub after_brackets_at_region : (c : Counts) (a : List Placed) (end : Place) (stop : Stop) → IfRefused stop (Refuses c (part Part.region_if ∷ []) a end) →
-    IfRefused stop (Refuses c (part Part.brackets_behind ∷ []) a end)
-after_brackets_at_region c a end stop r = refused_at_first c Part.brackets_behind _ _ a end stop refl r
+    IfRefused stop (Refuses c (part Part.brackets_after ∷ []) a end)
+after_brackets_at_region c a end stop r = refused_at_first c Part.brackets_after _ _ a end stop refl r
 
 pub after_brackets_at_index : (c d : Counts) (a b : List Placed) (end later : Place) (stop : Stop) → Within c (part Part.region_if ∷ []) a d b → later ≡ end →
-    IfRefused stop (Refuses d (part Part.index_if ∷ []) b later) → IfRefused stop (Refuses c (part Part.brackets_behind ∷ []) a end)
-after_brackets_at_index c d a b end later stop w is r = refused_at_second c d Part.brackets_behind _ _ _ a b end later stop refl w is r
+    IfRefused stop (Refuses d (part Part.index_if ∷ []) b later) → IfRefused stop (Refuses c (part Part.brackets_after ∷ []) a end)
+after_brackets_at_index c d a b end later stop w is r = refused_at_second c d Part.brackets_after _ _ _ a b end later stop refl w is r
 
 pub region_if_none : {c d : Counts} {a b : List Placed} → (Next (terminal.Symbol Symbol.Less) a → ⊥) → d ≡ c → b ≡ a → Within c (part Part.region_if ∷ []) a d b
 region_if_none {c = c} {a = a} none same at = rw (same, at) (read_part c c Part.region_if [] a a (that_one _ _ (symbol_comes_not Symbol.Less a none)) nothing)
@@ -175,7 +175,7 @@ pub ruleset base_reading = (base_reads_int, base_reads_boolean, base_reads_class
 
 pub ruleset suffixes_reading = (suffixes_begin, suffixes_on, suffixes_end, suffixes_at_open, suffixes_at_close, suffixes_at_rest, few_read)
 
-pub ruleset behind_brackets_reading = (after_brackets_reads, after_brackets_at_region, after_brackets_at_index)
+pub ruleset after_brackets_reading = (after_brackets_reads, after_brackets_at_region, after_brackets_at_index)
 
 pub ruleset region_if_reading = (region_if_none, region_if_some, region_if_at_open, region_if_at_path, region_if_at_close, joined_read)
 

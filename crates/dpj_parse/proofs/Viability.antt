@@ -9,7 +9,7 @@ use Rattle.dpj_parse.specs.Viable.{IsViable}
 use Rattle.dpj_parse.specs.Expecting.{Part as p}
 use Rattle.dpj_parse.proofs.Meant.{All, AllOf, split, joined}
 use Rattle.dpj_parse.proofs.Meaning.{meant}
-use Rattle.dpj_parse.proofs.Satisfied.{Good, nothing_next, part_next, GoodOf, of_some, behind_part, behind_one, good, good_append}
+use Rattle.dpj_parse.proofs.Satisfied.{Good, nothing_next, part_next, GoodOf, of_some, after_part, after_one, good, good_append}
 use Rattle.dpj_parse.proofs.Completing.{completed}
 
 -- a part that is replaced by what it begins with
@@ -47,9 +47,9 @@ goes_on : {to : List Expected} {here : List Placed} {expected : List Expected} {
 goes_on {expected = expected} g stay = let c = completed g [] in record { read = []; is = refl; others = c.before; derives = c.holds }
 goes_on {expected = expected} {before = before} g (pick {n = n} {xs = xs} {others = others} e s) =
     let chosen : GoodOf (Some xs) = subst GoodOf e (good n (next_of before)) in
-    picked n xs others before g e (goes_on (good_append others (of_some chosen) (behind_part g)) s)
+    picked n xs others before g e (goes_on (good_append others (of_some chosen) (after_part g)) s)
 goes_on g (pass {test = test} {others = others} {next = next} e s) =
-    let r = goes_on (behind_one g) s in
+    let r = goes_on (after_one g) s in
     record {
       read = next ∷ r.read;
       is = ap (λ (l : List Placed). next ∷ l) r.is;

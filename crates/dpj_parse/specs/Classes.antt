@@ -49,16 +49,16 @@ pub data DerivesKindOr : Bool → List Placed → List Placed → Bool → Type 
   other : {earlier is_atomic : Bool} {before after : List Placed} → DerivesKind before after is_atomic → DerivesKindOr earlier before after is_atomic
 
 -- { "," [ Kind ] Name }, after a parameter of a kind
-pub data DerivesParamsBehind : Bool → List Placed → List Placed → List ParamTree → Type 0 where
-  no_more : {earlier : Bool} {here : List Placed} → DerivesParamsBehind earlier here here []
-  behind : {earlier is_atomic : Bool} {before one two three after : List Placed} {tree : ParamTree} {others : List ParamTree} {comma : Place} →
-      TakesSymbol Symbol.Comma before one comma → DerivesKindOr earlier one two is_atomic → DerivesParam is_atomic two three tree → DerivesParamsBehind is_atomic three after others →
-      DerivesParamsBehind earlier before after (tree ∷ others)
+pub data DerivesParamsAfter : Bool → List Placed → List Placed → List ParamTree → Type 0 where
+  no_more : {earlier : Bool} {here : List Placed} → DerivesParamsAfter earlier here here []
+  following : {earlier is_atomic : Bool} {before one two three after : List Placed} {tree : ParamTree} {others : List ParamTree} {comma : Place} →
+      TakesSymbol Symbol.Comma before one comma → DerivesKindOr earlier one two is_atomic → DerivesParam is_atomic two three tree → DerivesParamsAfter is_atomic three after others →
+      DerivesParamsAfter earlier before after (tree ∷ others)
 
 -- Kind Name { "," [ Kind ] Name }
 pub data DerivesDeclared : List Placed → List Placed → List ParamTree → Type 0 where
   declared : {before one two after : List Placed} {is_atomic : Bool} {tree : ParamTree} {others : List ParamTree} →
-      DerivesKind before one is_atomic → DerivesParam is_atomic one two tree → DerivesParamsBehind is_atomic two after others →
+      DerivesKind before one is_atomic → DerivesParam is_atomic one two tree → DerivesParamsAfter is_atomic two after others →
       DerivesDeclared before after (tree ∷ others)
 
 -- Constr = Rpl "#" Rpl

@@ -41,7 +41,7 @@ pub data Part : Type 0 where
   type : Part
   base : Part
   suffixes : Part
-  brackets_behind : Part
+  brackets_after : Part
   region_if : Part
   index_if : Part
   -- expressions
@@ -240,8 +240,8 @@ choose constraint next = Some (part path ∷ one is_hash ∷ part path ∷ [])
 choose more_constraints next = if_next is_comma next (one is_comma ∷ part constraint ∷ part more_constraints ∷ []) []
 choose type next = Some (part base ∷ part suffixes ∷ [])
 choose base next = Some (with_next (one is_name ∷ part args_if ∷ []) base_parts next)
-choose suffixes next = if_next is_open_bracket next (one is_open_bracket ∷ one is_close_bracket ∷ part brackets_behind ∷ part suffixes ∷ []) []
-choose brackets_behind next = Some (part region_if ∷ part index_if ∷ [])
+choose suffixes next = if_next is_open_bracket next (one is_open_bracket ∷ one is_close_bracket ∷ part brackets_after ∷ part suffixes ∷ []) []
+choose brackets_after next = Some (part region_if ∷ part index_if ∷ [])
 choose region_if next = if_next is_less next (one is_less ∷ part path ∷ one is_greater ∷ []) []
 choose index_if next = if_next is_hash next (one is_hash ∷ one is_name ∷ []) []
 choose (expr level) next = Some (part unary ∷ part (climb level 6) ∷ [])
@@ -251,8 +251,8 @@ choose created next = Some (with_next (one is_name ∷ part args_if ∷ part cre
 choose created_rest next = if_next is_open_paren next (part actuals ∷ part selected ∷ []) (part array ∷ [])
 choose array next = Some (one is_open_bracket ∷ part array_open ∷ [])
 choose array_open next =
-    if_next is_close_bracket next (one is_close_bracket ∷ part brackets_behind ∷ part array ∷ []) (part
-    (expr 0) ∷ one is_close_bracket ∷ part brackets_behind ∷ [])
+    if_next is_close_bracket next (one is_close_bracket ∷ part brackets_after ∷ part array ∷ []) (part
+    (expr 0) ∷ one is_close_bracket ∷ part brackets_after ∷ [])
 choose inner next = Some (one is_open_paren ∷ part (expr 0) ∷ one is_close_paren ∷ [])
 choose literal next = with_next None literal_parts next
 choose selected next = Some (cond (next_is is_dot next || next_is is_open_bracket next) (part selection ∷ part selected ∷ []) [])
@@ -277,7 +277,7 @@ choose value next = Some (part (expr 0) ∷ one is_semicolon ∷ [])
 choose shown next = if_next is_text next (one is_text ∷ []) (part (expr 0) ∷ [])
 choose after_name next = with_next (Some (one is_assign ∷ part value ∷ [])) after_name_parts next
 choose after_bracket next =
-    if_next is_close_bracket next (one is_close_bracket ∷ part brackets_behind ∷ part suffixes ∷ part declared_name ∷ [])
+    if_next is_close_bracket next (one is_close_bracket ∷ part brackets_after ∷ part suffixes ∷ part declared_name ∷ [])
     (part (expr 0) ∷ one is_close_bracket ∷ part (selected_then as_element) ∷ [])
 choose declared_name next = Some (one is_name ∷ one is_assign ∷ part value ∷ [])
 choose (selected_then ending) next = with_next (ending_parts ending) (selection_parts (ending_parts ending)) next

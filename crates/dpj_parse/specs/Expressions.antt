@@ -16,7 +16,7 @@ use Rattle.dpj_tree.specs.declared.expr.BinaryOp.TheVariants as binary_op
 use Rattle.dpj_tree.specs.Plain.{PlainExpr, expression, int, boolean, null, this, local, field, element, call, create, create_array, unary, binary, PlainExprs, no_exprs, more_exprs}
 use Rattle.dpj_parse.specs.Taking.{Takes, TakesSymbol, TakesKeyword, TakesName, Many}
 use Rattle.dpj_parse.specs.Paths.{DerivesArgs}
-use Rattle.dpj_parse.specs.Types.{DerivesBase, DerivesBehind, DerivesSuffix}
+use Rattle.dpj_parse.specs.Types.{DerivesBase, DerivesAfter, DerivesSuffix}
 
 -- the symbol of an operator
 abbrev pub symbol_of : BinaryOp → Symbol
@@ -98,7 +98,7 @@ mutual
   -- Postfix = Primary { "." Name | "." [ Args ] Name "(" [ Actuals ] ")" | "[" Expr "]" }
   pub data DerivesPostfix : Ending → List Placed → List Placed → PlainExpr → Type 0 where
     primary : {ending : Ending} {before after : List Placed} {e : PlainExpr} → DerivesPrimary ending before after e → DerivesPostfix ending before after e
-    behind_dot : {ending : Ending} {before one two after : List Placed} {of : PlainExpr} {named : Named} {dot : Place} →
+    after_dot : {ending : Ending} {before one two after : List Placed} {of : PlainExpr} {named : Named} {dot : Place} →
         DerivesPostfix ending before one of → TakesSymbol Symbol.Dot one two dot → TakesName two after named →
         DerivesPostfix as_field before after (expression named.place (field of named.name))
     called : {ending : Ending} {before one two three four after : List Placed} {of : PlainExpr} {regions : List RplTree} {named : Named} {actuals : PlainExprs} {dot : Place} →
@@ -134,7 +134,7 @@ mutual
   pub data DerivesNewArray : List Placed → List Placed → PlainExpr → Type 0 where
     array : {before one two three four five six after : List Placed} {start : BaseTree} {suffixes : List Suffix} {len : PlainExpr} {own : Suffix} {place open_at close_at : Place} →
         TakesKeyword Keyword.New before one place → DerivesBase one two start → Many DerivesSuffix two three suffixes →
-        TakesSymbol Symbol.OpenBracket three four open_at → DerivesLevel 0 four five len → TakesSymbol Symbol.CloseBracket five six close_at → DerivesBehind six after own →
+        TakesSymbol Symbol.OpenBracket three four open_at → DerivesLevel 0 four five len → TakesSymbol Symbol.CloseBracket five six close_at → DerivesAfter six after own →
         DerivesNewArray before after (expression place (create_array start suffixes len own.rpl own.index))
 
   -- "(" [ Actuals ] ")", where Actuals = Expr { "," Expr }

@@ -20,5 +20,5 @@ pub record OneRefusal : Type 0 where
   -- for its nesting only where the terminal at which it is refused could still come
   pub nest : (list : List Placed) (end place : Place) → IsRefusedIn list end (record { kind = kind.Nest; place = place }) → CanGoOn list place
   -- and so it is of the tokens of a text
-  pub told_once : (bytes : List ℕ) (tokens : List Token) (end : Place) (left right : Refusal) → IsGrammarFault bytes tokens end left → IsGrammarFault bytes tokens end right → left ≡ right
+  pub reported_once : (bytes : List ℕ) (tokens : List Token) (end : Place) (left right : Refusal) → IsGrammarFault bytes tokens end left → IsGrammarFault bytes tokens end right → left ≡ right
   pub no_program : (bytes : List ℕ) (tokens : List Token) (end : Place) (refusal : Refusal) (program : Program) → IsGrammarFault bytes tokens end refusal → IsProgram bytes tokens program → ⊥

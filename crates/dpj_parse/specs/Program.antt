@@ -21,4 +21,4 @@ pub record IsProgram (bytes : List ℕ) (tokens : List Token) (program : Program
 pub record IsGrammarFault (bytes : List ℕ) (tokens : List Token) (end : Place) (refusal : Refusal) : Type 0 where
   pub list : List Placed
   pub said : MeanAll (distinct_names bytes tokens) bytes tokens list
-  pub told : IsRefusedIn list end refusal
+  pub reported : IsRefusedIn list end refusal

@@ -17,7 +17,7 @@ use Rattle.dpj_tree.specs.declared.stmt.StmtKind.{StmtKind, fold-StmtKind}
 use Rattle.dpj_tree.specs.Plain.{PlainExpr, expression, ExprForm, int, boolean, null, this, local, field, element, call, create, create_array, unary, binary, PlainExprs, expr_form, expr_node, PlainStmt, StmtForm, print, print_text, stmt_form, stmt_node, plain_expr, plain_stmt}
 use Rattle.dpj_parse.specs.Taking.{Takes, TakesSymbol, TakesName, Next, Many}
 use Rattle.dpj_parse.specs.Paths.{DerivesArgs}
-use Rattle.dpj_parse.specs.Types.{DerivesBehind, DerivesSuffix}
+use Rattle.dpj_parse.specs.Types.{DerivesAfter, DerivesSuffix}
 use Rattle.dpj_parse.specs.Expressions.{DerivesExpr, DerivesActuals, Ending, as_value, as_name, as_field, as_element, as_call, as_creation}
 use Rattle.dpj_parse.specs.Statements.{DerivesStmt}
 
@@ -70,7 +70,7 @@ pub record NextSpells (before : List Placed) (form : ExprForm) : Type 0 where
 
 -- "." Name | "." [ Args ] Name "(" [ Actuals ] ")" | "[" Expr "]", after an expression
 pub data DerivesSelection : PlainExpr → List Placed → List Placed → PlainExpr → Type 0 where
-  behind_dot : {of : PlainExpr} {before one after : List Placed} {named : Named} {dot : Place} →
+  after_dot : {of : PlainExpr} {before one after : List Placed} {named : Named} {dot : Place} →
       TakesSymbol Symbol.Dot before one dot → TakesName one after named →
       DerivesSelection of before after (expression named.place (field of named.name))
   called : {of : PlainExpr} {before one two three after : List Placed} {regions : List RplTree} {named : Named} {actuals : PlainExprs} {dot : Place} →
@@ -100,7 +100,7 @@ pub data DerivesOpenSuffixes : List Placed → List Placed → List Suffix → T
 -- what stands after the base of a new array
 pub data DerivesLengths : BaseTree → Place → List Placed → List Placed → PlainExpr → Type 0 where
   lengths : {base : BaseTree} {before one two three after : List Placed} {suffixes : List Suffix} {len : PlainExpr} {own : Suffix} {place close_at : Place} →
-      DerivesOpenSuffixes before one suffixes → DerivesExpr one two len → TakesSymbol Symbol.CloseBracket two three close_at → DerivesBehind three after own →
+      DerivesOpenSuffixes before one suffixes → DerivesExpr one two len → TakesSymbol Symbol.CloseBracket two three close_at → DerivesAfter three after own →
       DerivesLengths base place before after (expression place (create_array base suffixes len own.rpl own.index))
 
 -- Expr | Text, as what is printed

@@ -35,14 +35,14 @@ pub data DerivesIndex : List Placed → List Placed → Option Named → Type 0 
       TakesSymbol Symbol.Hash before one hash → TakesName one after named → DerivesIndex before after (Some named)
 
 -- [ "<" Rpl ">" ] [ "#" Name ]
-pub data DerivesBehind : List Placed → List Placed → Suffix → Type 0 where
-  behind : {before one after : List Placed} {region : Option RplTree} {index : Option Named} →
-      DerivesRegion before one region → DerivesIndex one after index → DerivesBehind before after (record { rpl = region; index = index })
+pub data DerivesAfter : List Placed → List Placed → Suffix → Type 0 where
+  following : {before one after : List Placed} {region : Option RplTree} {index : Option Named} →
+      DerivesRegion before one region → DerivesIndex one after index → DerivesAfter before after (record { rpl = region; index = index })
 
 -- "[" "]" [ "<" Rpl ">" ] [ "#" Name ]
 pub data DerivesSuffix : List Placed → List Placed → Suffix → Type 0 where
   suffix : {before one two after : List Placed} {tree : Suffix} {open_at close_at : Place} →
-      TakesSymbol Symbol.OpenBracket before one open_at → TakesSymbol Symbol.CloseBracket one two close_at → DerivesBehind two after tree →
+      TakesSymbol Symbol.OpenBracket before one open_at → TakesSymbol Symbol.CloseBracket one two close_at → DerivesAfter two after tree →
       DerivesSuffix before after tree
 
 -- Type = Base { "[" "]" [ "<" Rpl ">" ] [ "#" Name ] }, at its first terminal

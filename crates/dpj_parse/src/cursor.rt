@@ -133,11 +133,11 @@ impl<'a> Cursor<'a> {
     {
         match self.rest {
             [] => Err(self.unexpected()),
-            [_, behind @ ..] => {
+            [_, following @ ..] => {
                 if !self.fits() {
                     return Err(self.too_many());
                 }
-                self.rest = behind;
+                self.rest = following;
                 Ok(())
             }
         }

@@ -14,9 +14,9 @@ ghost use Rattle.dpj_tree.specs.declared.expr.UnaryOp.{UnaryOp};
 ghost use Rattle.dpj_tree.specs.Plain.{binary, create, expression, plain_expr, plain_exprs};
 
 use crate::cursor::Cursor;
-use crate::operator::{LOOSEST, TIGHTEST, binary_of, binding, tightest_behind, unary_of};
+use crate::operator::{LOOSEST, TIGHTEST, binary_of, binding, tightest_after, unary_of};
 use crate::region::args_if;
-use crate::types::{base, behind_brackets};
+use crate::types::{after_brackets, base};
 use dpj_base::{Boxed, Items, NoMemory, Place, Stop};
 use dpj_terminals::Terminal;
 use dpj_tokens::{Keyword, Symbol};
@@ -62,7 +62,7 @@ fn operators(alloc: Global, cursor: &mut Cursor, least: u32) -> Result<Expr, Sto
         let place = cursor.join()?;
         let right = operators(alloc, cursor, binding(op) + 1)?;
         left = joined(alloc, place, op, left, right)?;
-        most = tightest_behind(op);
+        most = tightest_after(op);
     }
     Ok(left)
 }
@@ -198,7 +198,7 @@ fn array(alloc: Global, cursor: &mut Cursor, place: Place, base: BaseTree) -> Re
     let suffixes = open_suffixes(alloc, cursor)?;
     let length = Boxed::new(alloc, expr(alloc, cursor)?)?;
     cursor.close(Symbol::CloseBracket)?;
-    let own = behind_brackets(alloc, cursor)?;
+    let own = after_brackets(alloc, cursor)?;
     let kind = ExprKind::NewArray {
         base,
         suffixes,
@@ -214,7 +214,7 @@ fn array(alloc: Global, cursor: &mut Cursor, place: Place, base: BaseTree) -> Re
 fn open_suffixes(alloc: Global, cursor: &mut Cursor) -> Result<Items<Suffix>, Stop>
     requires { cursor.old.joined ≤ 32 }
     ensures moves { OnOk result (Opens cursor.old cursor.new) }
-    ensures reads { OnOk result (ReadsOn (part Part.array ∷ []) cursor.old (part (Part.expr 0) ∷ one is_close_bracket ∷ part Part.brackets_behind ∷ []) cursor.new) }
+    ensures reads { OnOk result (ReadsOn (part Part.array ∷ []) cursor.old (part (Part.expr 0) ∷ one is_close_bracket ∷ part Part.brackets_after ∷ []) cursor.new) }
     ensures stops { IfErr result (λ stop. StopsAt (part Part.array ∷ []) cursor.old stop) }
     ensures derives { IfOk result (λ suffixes. DerivesOpenSuffixes cursor.old.rest.now cursor.new.rest.now suffixes) }
 {
@@ -222,7 +222,7 @@ fn open_suffixes(alloc: Global, cursor: &mut Cursor) -> Result<Items<Suffix>, St
     cursor.join_open()?;
     while cursor.is_symbol(Symbol::CloseBracket) {
         cursor.close(Symbol::CloseBracket)?;
-        suffixes.push(behind_brackets(alloc, cursor)?)?;
+        suffixes.push(after_brackets(alloc, cursor)?)?;
         cursor.join_open()?;
     }
     Ok(suffixes)

@@ -130,7 +130,7 @@ fn typed(alloc: Global, cursor: &mut Cursor) -> Result<Member, Stop>
     let ty = member_type(alloc, cursor)?;
     let named = cursor.name()?;
     if cursor.is_symbol(Symbol::OpenParen) {
-        return behind_name(
+        return after_name(
             alloc,
             cursor,
             no_params(alloc),
@@ -201,12 +201,12 @@ fn method(
     ensures derives { IfOk result (λ tree. DerivesNamed params returns cursor.old.rest.now cursor.new.rest.now tree) }
 {
     let named = cursor.name()?;
-    behind_name(alloc, cursor, params, returns, named)
+    after_name(alloc, cursor, params, returns, named)
 }
 
 /// `"(" [ Formals ] ")" Summary Block`
-#[tactic(auto, using(crate::proofs::MemberForms::method_behind, crate::proofs::MemberParts::method_rest_reads, crate::proofs::MemberParts::method_rest_refused, crate::proofs::Composed::refused_first, crate::proofs::MemberParts::refused_second, crate::proofs::MemberParts::refused_third))]
-fn behind_name(
+#[tactic(auto, using(crate::proofs::MemberForms::method_after, crate::proofs::MemberParts::method_rest_reads, crate::proofs::MemberParts::method_rest_refused, crate::proofs::Composed::refused_first, crate::proofs::MemberParts::refused_second, crate::proofs::MemberParts::refused_third))]
+fn after_name(
     alloc: Global,
     cursor: &mut Cursor,
     params: Params,

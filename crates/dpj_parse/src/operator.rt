@@ -70,8 +70,8 @@ pub fn binding(op: BinaryOp) -> u32
 
 /// The tightest binding that an operator after this one may have: those of one binding group to the left, and a
 /// comparison has no other one after it.
-#[tactic(auto, using(crate::proofs::Ops::left_behind, crate::proofs::Ops::left_behind_comparison, crate::proofs::Ops::own_behind, crate::proofs::Ops::own_behind_comparison))]
-pub fn tightest_behind(op: BinaryOp) -> u32
+#[tactic(auto, using(crate::proofs::Ops::left_after, crate::proofs::Ops::left_after_comparison, crate::proofs::Ops::own_after, crate::proofs::Ops::own_after_comparison))]
+pub fn tightest_after(op: BinaryOp) -> u32
     ensures left { (next : BinaryOp) → level_of next ≤ result → left_level next ≤ level_of op }
     ensures own { (next : BinaryOp) → left_level next ≤ level_of op → level_of next ≤ result }
     ensures within { result ≤ TIGHTEST }

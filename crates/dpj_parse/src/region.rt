@@ -308,7 +308,7 @@ fn kind_or(cursor: &mut Cursor, earlier: bool) -> Result<bool, Stop>
 }
 
 /// `[ "|" Constr { "," Constr } ]`
-#[tactic(auto, using(crate::specs::Classes::nothing_given, crate::proofs::Regions::given_behind, crate::proofs::PathParts::given_reading))]
+#[tactic(auto, using(crate::specs::Classes::nothing_given, crate::proofs::Regions::given_after, crate::proofs::PathParts::given_reading))]
 fn given(alloc: Global, cursor: &mut Cursor) -> Result<Items<ConstrTree>, Stop>
     ensures moves { OnOk result (Keeps cursor.old cursor.new) }
     ensures reads { OnOk result (Reading (part Part.given ∷ []) cursor.old cursor.new) }

@@ -1,11 +1,11 @@
-ghost use Rattle.std.specs.Prelude.{◌≡◌, true, false, ◌≤◌, ◌+◌, ◌<◌, length, map, OnOk, IfOk, IfSome, MatchOption, IfErr, [], ◌∷◌};
+ghost use Rattle.std.specs.Prelude.{◌≡◌, true, false, ◌≤◌, ◌+◌, ◌<◌, length, map, OnOk, IfOk, IfErr, [], ◌∷◌};
 ghost use Rattle.dpj_parse.specs.Counted.{Completed, Reading, StopsAt};
 ghost use Rattle.dpj_parse.specs.Expecting.{Part, next_is, next_of, one, part};
 ghost use Rattle.dpj_parse.specs.Targets.{IsTarget, begins_assignment, begins_declaration, holds_others, rest_of, stmt_begins};
 ghost use Rattle.dpj_parse.specs.Words.{is_any, is_assign, is_atomic, is_close_bracket, is_close_paren, is_comma, is_foreach_parts, is_if, is_name, is_open_paren, is_print, is_region, is_return, is_semicolon, is_while};
 ghost use Rattle.dpj_parse.specs.Progress.{Closes, Keeps, Reads};
 ghost use Rattle.dpj_parse.specs.Taking.{Many, Next};
-ghost use Rattle.dpj_parse.specs.Statements.{DerivesBlock, DerivesCondition, DerivesForm, DerivesRange, DerivesStmt, DerivesValue, cobegin_word, foreach_word};
+ghost use Rattle.dpj_parse.specs.Statements.{DerivesBlock, DerivesCondition, DerivesRange, DerivesStmt, DerivesValue, cobegin_word, foreach_word};
 ghost use Rattle.dpj_parse.specs.Reading.{DerivesPrinted, DerivesStmtTree, plain_stmt_kind};
 ghost use Rattle.dpj_tree.specs.Plain.{plain_expr, plain_stmt, plain_stmts, statement};
 
@@ -27,7 +27,7 @@ fn made(place: Place, kind: StmtKind) -> Stmt
 }
 
 /// `Stmt`
-#[tactic(auto, using(crate::proofs::Stating::stmt_form, crate::proofs::Stating::stmt_stays, crate::proofs::StmtParts::of_stmt))]
+#[tactic(auto, using(crate::proofs::StmtParts::stmt_refused))]
 #[cycle(stmts)]
 fn stmt(alloc: Global, cursor: &mut Cursor) -> Result<Stmt, Stop>
     ensures moves { OnOk result (Reads cursor.old cursor.new) }
@@ -37,39 +37,48 @@ fn stmt(alloc: Global, cursor: &mut Cursor) -> Result<Stmt, Stop>
 {
     let outer = cursor.joined;
     cursor.joined = 0;
-    let place = cursor.place();
-    let stmt = match form(alloc, cursor)? {
-        Some(kind) => made(place, kind),
-        None => simple(alloc, cursor)?,
-    };
+    let stmt = begun(alloc, cursor);
     cursor.joined = outer;
-    Ok(stmt)
+    stmt
 }
 
-/// A statement that holds other ones, but for its place; None where one begins that holds none.
-#[tactic(auto, using(crate::proofs::Stating::block_form, crate::proofs::StmtParts::of_begin))]
+/// A statement by what it begins with, where nothing is joined yet.
+///
+/// A function fills the room of all its arms at each call, so each form of a statement has a function of its own.
 #[cycle(stmts)]
-fn form(alloc: Global, cursor: &mut Cursor) -> Result<Option<StmtKind>, Stop>
-    ensures moves { IfOk result (λ found. MatchOption found (cursor.new ≡ cursor.old) (λ kind. Reads cursor.old cursor.new)) }
-    ensures reads { IfOk result (λ found. IfSome found (λ kind. Reading (stmt_begins cursor.old.rest.now) cursor.old cursor.new)) }
-    ensures alone { IfOk result (λ found. found ≡ None → next_is holds_others (next_of cursor.old.rest.now) ≡ false) }
+fn begun(alloc: Global, cursor: &mut Cursor) -> Result<Stmt, Stop>
+    requires { cursor.old.joined ≡ 0 }
+    ensures moves { OnOk result (Reads cursor.old cursor.new) }
+    ensures reads { OnOk result (Completed (stmt_begins cursor.old.rest.now) cursor.old cursor.new) }
     ensures stops { IfErr result (λ stop. StopsAt (stmt_begins cursor.old.rest.now) cursor.old stop) }
-    ensures derives { IfOk result (λ found. IfSome found (λ kind. DerivesForm cursor.old.rest.now cursor.new.rest.now (plain_stmt_kind kind))) }
+    ensures derives { IfOk result (λ s. DerivesStmt cursor.old.rest.now cursor.new.rest.now (plain_stmt s)) }
 {
     match cursor.next() {
-        Some(Terminal::Symbol(Symbol::OpenBrace)) => {
-            Ok(Some(StmtKind::Block(block(alloc, cursor)?)))
-        }
-        Some(Terminal::Keyword(Keyword::If)) => Ok(Some(choice(alloc, cursor)?)),
-        Some(Terminal::Keyword(Keyword::While)) => Ok(Some(while_loop(alloc, cursor)?)),
-        Some(Terminal::Keyword(Keyword::Cobegin)) => Ok(Some(cobegin(alloc, cursor, false)?)),
-        Some(Terminal::Keyword(Keyword::CobeginNd)) => Ok(Some(cobegin(alloc, cursor, true)?)),
-        Some(Terminal::Keyword(Keyword::Foreach)) => Ok(Some(foreach(alloc, cursor, false)?)),
-        Some(Terminal::Keyword(Keyword::ForeachNd)) => Ok(Some(foreach(alloc, cursor, true)?)),
-        Some(Terminal::Keyword(Keyword::ForeachParts)) => Ok(Some(foreach_parts(alloc, cursor)?)),
-        Some(Terminal::Keyword(Keyword::Atomic)) => Ok(Some(atomic(alloc, cursor)?)),
-        _ => Ok(None),
+        Some(Terminal::Symbol(Symbol::OpenBrace)) => braced(alloc, cursor),
+        Some(Terminal::Keyword(Keyword::If)) => choice(alloc, cursor),
+        Some(Terminal::Keyword(Keyword::While)) => while_loop(alloc, cursor),
+        Some(Terminal::Keyword(Keyword::Cobegin)) => cobegin(alloc, cursor, false),
+        Some(Terminal::Keyword(Keyword::CobeginNd)) => cobegin(alloc, cursor, true),
+        Some(Terminal::Keyword(Keyword::Foreach)) => foreach(alloc, cursor, false),
+        Some(Terminal::Keyword(Keyword::ForeachNd)) => foreach(alloc, cursor, true),
+        Some(Terminal::Keyword(Keyword::ForeachParts)) => foreach_parts(alloc, cursor),
+        Some(Terminal::Keyword(Keyword::Atomic)) => atomic(alloc, cursor),
+        _ => simple(alloc, cursor),
     }
+}
+
+/// `Block`, as a statement.
+#[tactic(auto, using(crate::proofs::Stating::made_block))]
+#[cycle(stmts)]
+fn braced(alloc: Global, cursor: &mut Cursor) -> Result<Stmt, Stop>
+    ensures moves { OnOk result (Reads cursor.old cursor.new) }
+    ensures reads { OnOk result (Reading (part Part.block ∷ []) cursor.old cursor.new) }
+    ensures stops { IfErr result (λ stop. StopsAt (part Part.block ∷ []) cursor.old stop) }
+    ensures derives { IfOk result (λ s. DerivesStmt cursor.old.rest.now cursor.new.rest.now (plain_stmt s)) }
+{
+    let place = cursor.place();
+    let all = block(alloc, cursor)?;
+    Ok(made(place, StmtKind::Block(all)))
 }
 
 /// `Block = "{" { Stmt } "}"`
@@ -123,41 +132,38 @@ fn body(alloc: Global, cursor: &mut Cursor) -> Result<Boxed<Stmt>, Stop>
 }
 
 /// `"if" "(" Expr ")" Stmt [ "else" Stmt ]`
-#[tactic(auto, using(crate::proofs::Stating::if_form, crate::proofs::Stating::else_form, crate::proofs::StmtParts::of_choice))]
+#[tactic(auto, using(crate::proofs::Stating::made_if, crate::proofs::Stating::made_else, crate::proofs::StmtParts::of_choice))]
 #[cycle(stmts)]
-fn choice(alloc: Global, cursor: &mut Cursor) -> Result<StmtKind, Stop>
+fn choice(alloc: Global, cursor: &mut Cursor) -> Result<Stmt, Stop>
     ensures moves { OnOk result (Reads cursor.old cursor.new) }
     ensures reads { OnOk result (Reading (one is_if ∷ part Part.condition ∷ part Part.body ∷ part Part.else_if ∷ []) cursor.old cursor.new) }
     ensures stops { IfErr result (λ stop. StopsAt (one is_if ∷ part Part.condition ∷ part Part.body ∷ part Part.else_if ∷ []) cursor.old stop) }
-    ensures derives { IfOk result (λ kind. DerivesForm cursor.old.rest.now cursor.new.rest.now (plain_stmt_kind kind)) }
+    ensures derives { IfOk result (λ s. DerivesStmt cursor.old.rest.now cursor.new.rest.now (plain_stmt s)) }
 {
-    cursor.keyword(Keyword::If)?;
+    let place = cursor.keyword(Keyword::If)?;
     let test = condition(alloc, cursor)?;
     let then = body(alloc, cursor)?;
     if !cursor.keyword_if(Keyword::Else)? {
-        return Ok(StmtKind::If {
-            test,
-            then,
-            other: None,
-        });
+        let other = None;
+        return Ok(made(place, StmtKind::If { test, then, other }));
     }
     let other = Some(body(alloc, cursor)?);
-    Ok(StmtKind::If { test, then, other })
+    Ok(made(place, StmtKind::If { test, then, other }))
 }
 
 /// `"while" "(" Expr ")" Stmt`
-#[tactic(auto, using(crate::proofs::Stating::while_form, crate::proofs::StmtParts::in_order))]
+#[tactic(auto, using(crate::proofs::Stating::made_while, crate::proofs::StmtParts::in_order))]
 #[cycle(stmts)]
-fn while_loop(alloc: Global, cursor: &mut Cursor) -> Result<StmtKind, Stop>
+fn while_loop(alloc: Global, cursor: &mut Cursor) -> Result<Stmt, Stop>
     ensures moves { OnOk result (Reads cursor.old cursor.new) }
     ensures reads { OnOk result (Reading (one is_while ∷ part Part.condition ∷ part Part.body ∷ []) cursor.old cursor.new) }
     ensures stops { IfErr result (λ stop. StopsAt (one is_while ∷ part Part.condition ∷ part Part.body ∷ []) cursor.old stop) }
-    ensures derives { IfOk result (λ kind. DerivesForm cursor.old.rest.now cursor.new.rest.now (plain_stmt_kind kind)) }
+    ensures derives { IfOk result (λ s. DerivesStmt cursor.old.rest.now cursor.new.rest.now (plain_stmt s)) }
 {
-    cursor.keyword(Keyword::While)?;
+    let place = cursor.keyword(Keyword::While)?;
     let test = condition(alloc, cursor)?;
     let body = body(alloc, cursor)?;
-    Ok(StmtKind::While { test, body })
+    Ok(made(place, StmtKind::While { test, body }))
 }
 
 /// `"(" Expr ")"`
@@ -175,78 +181,83 @@ fn condition(alloc: Global, cursor: &mut Cursor) -> Result<Expr, Stop>
 }
 
 /// `( "cobegin" | "cobegin_nd" ) Block`
-#[tactic(auto, using(crate::proofs::Stating::cobegin_form, crate::proofs::StmtParts::of_seen))]
+#[tactic(auto, using(crate::proofs::StmtParts::of_seen))]
 #[cycle(stmts)]
-fn cobegin(alloc: Global, cursor: &mut Cursor, nd: bool) -> Result<StmtKind, Stop>
+fn cobegin(alloc: Global, cursor: &mut Cursor, nd: bool) -> Result<Stmt, Stop>
     requires { Next (Terminal.Keyword (cobegin_word nd)) cursor.old.rest.now }
     ensures moves { OnOk result (Reads cursor.old cursor.new) }
     ensures reads { OnOk result (Reading (one is_any ∷ part Part.block ∷ []) cursor.old cursor.new) }
     ensures stops { IfErr result (λ stop. StopsAt (one is_any ∷ part Part.block ∷ []) cursor.old stop) }
-    ensures derives { IfOk result (λ kind. DerivesForm cursor.old.rest.now cursor.new.rest.now (plain_stmt_kind kind)) }
+    ensures derives { IfOk result (λ s. DerivesStmt cursor.old.rest.now cursor.new.rest.now (plain_stmt s)) }
 {
+    let place = cursor.place();
     cursor.accept()?;
     let branches = block(alloc, cursor)?;
-    Ok(StmtKind::Cobegin { nd, branches })
+    Ok(made(place, StmtKind::Cobegin { nd, branches }))
 }
 
 /// `"atomic" Block`
-#[tactic(auto, using(crate::proofs::Stating::atomic_form, crate::proofs::StmtParts::in_order))]
+#[tactic(auto, using(crate::proofs::Stating::made_atomic, crate::proofs::StmtParts::in_order))]
 #[cycle(stmts)]
-fn atomic(alloc: Global, cursor: &mut Cursor) -> Result<StmtKind, Stop>
+fn atomic(alloc: Global, cursor: &mut Cursor) -> Result<Stmt, Stop>
     ensures moves { OnOk result (Reads cursor.old cursor.new) }
     ensures reads { OnOk result (Reading (one is_atomic ∷ part Part.block ∷ []) cursor.old cursor.new) }
     ensures stops { IfErr result (λ stop. StopsAt (one is_atomic ∷ part Part.block ∷ []) cursor.old stop) }
-    ensures derives { IfOk result (λ kind. DerivesForm cursor.old.rest.now cursor.new.rest.now (plain_stmt_kind kind)) }
+    ensures derives { IfOk result (λ s. DerivesStmt cursor.old.rest.now cursor.new.rest.now (plain_stmt s)) }
 {
-    cursor.keyword(Keyword::Atomic)?;
-    Ok(StmtKind::Atomic(block(alloc, cursor)?))
+    let place = cursor.keyword(Keyword::Atomic)?;
+    let body = block(alloc, cursor)?;
+    Ok(made(place, StmtKind::Atomic(body)))
 }
 
 /// `( "foreach" | "foreach_nd" ) "(" "int" Name "in" Expr "," Expr ")" Stmt`
 #[tactic(auto, using(crate::proofs::StmtParts::of_seen))]
 #[cycle(stmts)]
-fn foreach(alloc: Global, cursor: &mut Cursor, nd: bool) -> Result<StmtKind, Stop>
+fn foreach(alloc: Global, cursor: &mut Cursor, nd: bool) -> Result<Stmt, Stop>
     requires { Next (Terminal.Keyword (foreach_word nd)) cursor.old.rest.now }
     ensures moves { OnOk result (Reads cursor.old cursor.new) }
     ensures reads { OnOk result (Reading (one is_any ∷ one is_open_paren ∷ part Part.range ∷ part Part.body ∷ []) cursor.old cursor.new) }
     ensures stops { IfErr result (λ stop. StopsAt (one is_any ∷ one is_open_paren ∷ part Part.range ∷ part Part.body ∷ []) cursor.old stop) }
-    ensures derives { IfOk result (λ kind. DerivesForm cursor.old.rest.now cursor.new.rest.now (plain_stmt_kind kind)) }
+    ensures derives { IfOk result (λ s. DerivesStmt cursor.old.rest.now cursor.new.rest.now (plain_stmt s)) }
 {
+    let place = cursor.place();
     cursor.accept()?;
     cursor.open(Symbol::OpenParen)?;
     let range = range(alloc, cursor)?;
     let body = body(alloc, cursor)?;
-    Ok(StmtKind::Foreach {
+    let kind = StmtKind::Foreach {
         nd,
         var: range.var,
         start: range.first,
         count: range.second,
         body,
-    })
+    };
+    Ok(made(place, kind))
 }
 
 /// `"foreach_parts" "(" Name "," "int" Name "in" Expr "," Expr ")" Stmt`
 #[tactic(auto, using(crate::proofs::StmtParts::in_order))]
 #[cycle(stmts)]
-fn foreach_parts(alloc: Global, cursor: &mut Cursor) -> Result<StmtKind, Stop>
+fn foreach_parts(alloc: Global, cursor: &mut Cursor) -> Result<Stmt, Stop>
     ensures moves { OnOk result (Reads cursor.old cursor.new) }
     ensures reads { OnOk result (Reading (one is_foreach_parts ∷ one is_open_paren ∷ one is_name ∷ one is_comma ∷ part Part.range ∷ part Part.body ∷ []) cursor.old cursor.new) }
     ensures stops { IfErr result (λ stop. StopsAt (one is_foreach_parts ∷ one is_open_paren ∷ one is_name ∷ one is_comma ∷ part Part.range ∷ part Part.body ∷ []) cursor.old stop) }
-    ensures derives { IfOk result (λ kind. DerivesForm cursor.old.rest.now cursor.new.rest.now (plain_stmt_kind kind)) }
+    ensures derives { IfOk result (λ s. DerivesStmt cursor.old.rest.now cursor.new.rest.now (plain_stmt s)) }
 {
-    cursor.keyword(Keyword::ForeachParts)?;
+    let place = cursor.keyword(Keyword::ForeachParts)?;
     cursor.open(Symbol::OpenParen)?;
     let view = cursor.name()?;
     cursor.symbol(Symbol::Comma)?;
     let range = range(alloc, cursor)?;
     let body = body(alloc, cursor)?;
-    Ok(StmtKind::ForeachParts {
+    let kind = StmtKind::ForeachParts {
         view,
         var: range.var,
         array: range.first,
         count: range.second,
         body,
-    })
+    };
+    Ok(made(place, kind))
 }
 
 /// What a foreach goes over.

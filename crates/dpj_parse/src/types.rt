@@ -4,7 +4,7 @@ ghost use Rattle.dpj_parse.specs.Expecting.{Part, one, part};
 ghost use Rattle.dpj_parse.specs.Progress.{Keeps, Reads};
 ghost use Rattle.dpj_parse.specs.Taking.{Many};
 ghost use Rattle.dpj_parse.specs.Words.{is_name};
-ghost use Rattle.dpj_parse.specs.Types.{DerivesBase, DerivesBehind, DerivesIndex, DerivesRegion, DerivesSuffix, DerivesType};
+ghost use Rattle.dpj_parse.specs.Types.{DerivesBase, DerivesAfter, DerivesIndex, DerivesRegion, DerivesSuffix, DerivesType};
 
 use crate::cursor::Cursor;
 use crate::region::{args_if, rpl};
@@ -74,19 +74,19 @@ fn suffixes(alloc: Global, cursor: &mut Cursor) -> Result<Items<Suffix>, Stop>
     while cursor.is_symbol(Symbol::OpenBracket) {
         cursor.join_open()?;
         cursor.close(Symbol::CloseBracket)?;
-        suffixes.push(behind_brackets(alloc, cursor)?)?;
+        suffixes.push(after_brackets(alloc, cursor)?)?;
     }
     Ok(suffixes)
 }
 
 /// `[ "<" Rpl ">" ] [ "#" Name ]`
-#[tactic(auto, using(crate::specs::Types::behind, crate::proofs::TypeParts::behind_brackets_reading))]
-pub fn behind_brackets(alloc: Global, cursor: &mut Cursor) -> Result<Suffix, Stop>
+#[tactic(auto, using(crate::specs::Types::following, crate::proofs::TypeParts::after_brackets_reading))]
+pub fn after_brackets(alloc: Global, cursor: &mut Cursor) -> Result<Suffix, Stop>
     ensures same { OnOk result (cursor.new.joined ≡ cursor.old.joined) }
     ensures moves { OnOk result (Keeps cursor.old cursor.new) }
-    ensures reads { OnOk result (Reading (part Part.brackets_behind ∷ []) cursor.old cursor.new) }
-    ensures stops { IfErr result (λ stop. StopsAt (part Part.brackets_behind ∷ []) cursor.old stop) }
-    ensures derives { IfOk result (λ tree. DerivesBehind cursor.old.rest.now cursor.new.rest.now tree) }
+    ensures reads { OnOk result (Reading (part Part.brackets_after ∷ []) cursor.old cursor.new) }
+    ensures stops { IfErr result (λ stop. StopsAt (part Part.brackets_after ∷ []) cursor.old stop) }
+    ensures derives { IfOk result (λ tree. DerivesAfter cursor.old.rest.now cursor.new.rest.now tree) }
 {
     let rpl = region_if(alloc, cursor)?;
     let index = index_if(cursor)?;

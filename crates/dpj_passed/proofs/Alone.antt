@@ -36,7 +36,7 @@ one_verdict some cutting programs refusals judgement = record { some = some; one
 
     -- two faults of one program, or of one grammar
     later : (text : List ℕ) (tokens : List Token) (end : Place) (first second : Refusal) → IsTokenFault text tokens end first → IsTokenFault text tokens end second → first ≡ second
-    later text tokens end first second (of_grammar f) (of_grammar g) = refusals.told_once text tokens end first second f g
+    later text tokens end first second (of_grammar f) (of_grammar g) = refusals.reported_once text tokens end first second f g
     later text tokens end first second (of_grammar f) (of_program program d faulty) = absurd (refusals.no_program text tokens end first program f d)
     later text tokens end first second (of_program program d faulty) (of_grammar g) = absurd (refusals.no_program text tokens end second program g d)
     later text tokens end first second (of_program program d faulty) (of_program other e broken) =

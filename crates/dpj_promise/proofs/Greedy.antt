@@ -28,12 +28,12 @@ use Rattle.dpj_machine.specs.Premise.{GoesOnAble}
 use Rattle.dpj_machine.specs.Replay.{LeadsTo, Moment, Moves}
 use Rattle.dpj_machine.specs.Replay.{made as made_so, over as over_so}
 use Rattle.dpj_going.specs.Going.{CompiledGoesOn, HasMain}
-use Rattle.dpj_recorded.specs.Laws.{MachinesRecord, Records, limits, told}
+use Rattle.dpj_recorded.specs.Laws.{MachinesRecord, Records, limits, reported}
 use Rattle.dpj_recorded.proofs.Ready.{ready_there}
 use Rattle.dpj_recorded.proofs.Recorded.{LedTo, led_to, right}
 use Rattle.dpj_recorded.proofs.Waiting.{all_rest}
 use Rattle.dpj_promise.specs.Promise.{GreedyMachinesElide, outcome_of_elision}
-use Rattle.dpj_promise.proofs.Joined.{told_renamed}
+use Rattle.dpj_promise.proofs.Joined.{reported_renamed}
 
 unfinished_before : {code : Code} {L : DeclaredLimits} {m n : Moment} {k : ℕ} → Moves code L m k n → m.outcome ≡ None
 unfinished_before (made_so e x can within is) = x.unfinished
@@ -114,20 +114,20 @@ module _ (keeps : EachKeeps) (going : CompiledGoesOn) (P : PlainProgram) (resolv
 
 -- and it comes out as the elision, however its last step came
 module _ (keeps : EachKeeps) (greedy : GreedyIsElided) (beyond_too : GreedyOverIsLimited) (P : PlainProgram) (arg : ℤ) (L : Limits) where
-  limited_so : elided P arg L ≡ LimitedIn L.steps L.cells → told (Limited L.steps L.cells) ≡ outcome_of_elision (elided P arg L)
+  limited_so : elided P arg L ≡ LimitedIn L.steps L.cells → reported (Limited L.steps L.cells) ≡ outcome_of_elision (elided P arg L)
   limited_so e = ap outcome_of_elision (sym e)
 
   comes_out : {ks : List ℕ} {q : Outcome} → RecordsGreedy (stepped P arg) L ks → Finished (stepped P arg) L ks q
-      → told q ≡ outcome_of_elision (elided P arg L)
+      → reported q ≡ outcome_of_elision (elided P arg L)
   comes_out {ks} {q} h (ended R ran comes) =
       by_run (greedy P arg L R comes.end legal (greedy_run (stepped P arg) L ks R h ran) comes.ended)
     where
       legal : Legal (stepped P arg) R
       legal = ran_legal (stepped P arg) L ks R ran
 
-      by_run : ComesOutAsElided P arg L R → told q ≡ outcome_of_elision (elided P arg L)
+      by_run : ComesOutAsElided P arg L R → reported q ≡ outcome_of_elision (elided P arg L)
       by_run (in_limits o c within is) =
-          ap told (comes_one_way (stepped P arg) (keeps P arg).disciplined R q o legal comes c ∙ is.is) ∙ told_renamed is.names (elided P arg L)
+          ap reported (comes_one_way (stepped P arg) (keeps P arg).disciplined R q o legal comes c ∙ is.is) ∙ reported_renamed is.names (elided P arg L)
       by_run (over_limits beyond e) = absurd (beyond (ran_within (stepped P arg) L ks R ran))
   comes_out h (over k ks R e ran ready beyond) =
       limited_so (beyond_too P arg L (e ∷ R) (ready.allowed, ran_legal (stepped P arg) L ks R ran) (h R e ran ready) beyond)

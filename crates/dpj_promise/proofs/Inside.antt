@@ -4,7 +4,7 @@ use Rattle.dpj_base.specs.declared.outcome.Ending.TheVariants as came
 use Rattle.dpj_base.specs.declared.outcome.Outcome.{Outcome as Declared}
 use Rattle.dpj_typed.specs.Plain.{PlainProgram}
 use Rattle.dpj_determined.specs.Laws.{RunsAreMoved, stepped_inside}
-use Rattle.dpj_recorded.specs.Laws.{MachinesRecord, Records, limits, told}
+use Rattle.dpj_recorded.specs.Laws.{MachinesRecord, Records, limits, reported}
 use Rattle.dpj_runs.specs.Order.{Comes, Outcome}
 use Rattle.dpj_runs.specs.Runs.{Run}
 use Rattle.dpj_runs.specs.Schedules.{Finished, Ran, ended, over, no_room}
@@ -23,7 +23,7 @@ machines_elide_inside records runs P p o wt resolved main code_is small fits rep
     finished = subst (λ z. Records (stepped P p.argument) (limits p.limits) (reverse p.schedule) z) (sym replayed.outcome ∙ came_out)
         (records p.code P p.limits p.argument code_is resolved main small (reverse p.schedule) replayed.moment replayed.leads)
 
-    go : (q : Outcome) (ks : List ℕ) → ks ≡ reverse p.schedule → Finished (stepped P p.argument) (limits p.limits) ks q → o ≡ told q → (o.ending ≡ came.Limited) ⊎ ElidedInside P p o
+    go : (q : Outcome) (ks : List ℕ) → ks ≡ reverse p.schedule → Finished (stepped P p.argument) (limits p.limits) ks q → o ≡ reported q → (o.ending ≡ came.Limited) ⊎ ElidedInside P p o
     go q ks e (ended R ran c) t =
         let m = runs P wt p.argument fits R c.end (ran_legal (stepped P p.argument) (limits p.limits) ks R ran) c.ended in
         inr (record {
@@ -31,7 +31,7 @@ machines_elide_inside records runs P p o wt resolved main code_is small fits rep
           ran = subst (λ z. Ran (stepped P p.argument) (limits p.limits) z R) e ran;
           outcome = q;
           comes = c;
-          is_told = t;
+          is_reported = t;
           moved = m;
           comes_moved = m.rearranges.outcome q (comes_inside P p.argument R q c);
         })

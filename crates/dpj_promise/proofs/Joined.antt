@@ -10,7 +10,7 @@ use Rattle.dpj_elided.specs.Renamed.{object_named, renamed, renamed_value}
 use Rattle.dpj_runs.specs.Objects.{Name}
 use Rattle.dpj_steps.specs.Steps.{stepped}
 use Rattle.dpj_determined.specs.Laws.{SchedulesComeOutAsElided}
-use Rattle.dpj_recorded.specs.Laws.{MachinesRecord, Records, limits, told}
+use Rattle.dpj_recorded.specs.Laws.{MachinesRecord, Records, limits, reported}
 use Rattle.dpj_promise.specs.Promise.{MachinesComeOutAsElided, outcome_of_elision}
 
 -- the names of objects don't show in an outcome
@@ -24,11 +24,11 @@ number_renamed names (Int k) = refl
 number_renamed names (Boolean b) = refl
 number_renamed names Null = refl
 
-pub told_renamed : (names : List Name) (o : ElidedOutcome ℕ) → told (renamed names o) ≡ outcome_of_elision o
-told_renamed names (came_out (Returned v) output steps cells) = search (rules, number_renamed names v)
-told_renamed names (came_out (Assigned locals) output steps cells) = refl
-told_renamed names (came_out (Trapped trap place) output steps cells) = refl
-told_renamed names (Limited steps cells) = refl
+pub reported_renamed : (names : List Name) (o : ElidedOutcome ℕ) → reported (renamed names o) ≡ outcome_of_elision o
+reported_renamed names (came_out (Returned v) output steps cells) = search (rules, number_renamed names v)
+reported_renamed names (came_out (Assigned locals) output steps cells) = refl
+reported_renamed names (came_out (Trapped trap place) output steps cells) = refl
+reported_renamed names (Limited steps cells) = refl
 
 -- a machine's schedule records a run of the source, which comes out as the elision
 pub machines_come_out : MachinesRecord → SchedulesComeOutAsElided → MachinesComeOutAsElided
@@ -37,4 +37,4 @@ machines_come_out records schedules P p o wt none resolved main code_is small fi
     let finished = subst (λ z. Records (stepped P p.argument) (limits p.limits) ks z) (sym replayed.outcome ∙ came)
     (records p.code P p.limits p.argument code_is resolved main small ks replayed.moment replayed.leads) in
     let is : IsElided P p.argument (limits p.limits) finished.0 = schedules P wt none p.argument fits (limits p.limits) ks finished.0 finished.1 in
-    finished.2 ∙ ap told is.is ∙ told_renamed is.names (elided P p.argument (limits p.limits))
+    finished.2 ∙ ap reported is.is ∙ reported_renamed is.names (elided P p.argument (limits p.limits))

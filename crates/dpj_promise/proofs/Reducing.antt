@@ -16,7 +16,7 @@ machines_are_reduced records sound gathered P wt p o resolved main code_is small
     record {
       outcome = finished.0;
       finished = finished.1;
-      is_told = finished.2;
+      is_reported = finished.2;
       runs = λ ls R ran.
           let legal = ran_legal (stepped P p.argument) (limits p.limits) ls R ran in
           record { legal = legal; sound = sound P wt p.argument fits lets R legal; gathered = gathered P wt p.argument fits R legal };

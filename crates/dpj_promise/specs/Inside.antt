@@ -13,7 +13,7 @@ use Rattle.dpj_going.specs.Going.{HasMain}
 use Rattle.dpj_machine.specs.Keeping.{Played, IsReplayed}
 use Rattle.dpj_moving.specs.Laws.{IsMoved}
 use Rattle.dpj_moving.specs.Moved.{move}
-use Rattle.dpj_recorded.specs.Laws.{limits, told}
+use Rattle.dpj_recorded.specs.Laws.{limits, reported}
 use Rattle.dpj_runs.specs.Order.{Comes, Outcome}
 use Rattle.dpj_runs.specs.Runs.{Run}
 use Rattle.dpj_runs.specs.Schedules.{Ran}
@@ -27,7 +27,7 @@ pub record ElidedInside (P : PlainProgram) (p : Played) (o : Declared) : Type 0 
   pub ran : Ran (stepped P p.argument) (limits p.limits) (reverse p.schedule) run
   pub outcome : Outcome
   pub comes : Comes (stepped P p.argument) run outcome
-  pub is_told : o ≡ told outcome
+  pub is_reported : o ≡ reported outcome
   pub moved : IsMoved (stepped_inside P p.argument) run
   pub comes_moved : Comes (stepped_inside P p.argument) (move run) outcome
 

@@ -10,7 +10,7 @@ use Rattle.dpj_gen.specs.Whole.{compiled}
 use Rattle.dpj_going.specs.Going.{HasMain}
 use Rattle.dpj_machine.specs.Keeping.{Played, IsReplayed}
 use Rattle.dpj_moving.specs.Laws.{IsGathered}
-use Rattle.dpj_recorded.specs.Laws.{limits, told}
+use Rattle.dpj_recorded.specs.Laws.{limits, reported}
 use Rattle.dpj_runs.specs.Blocks.{Legal}
 use Rattle.dpj_runs.specs.Order.{Outcome}
 use Rattle.dpj_runs.specs.Runs.{Run}
@@ -32,7 +32,7 @@ pub record IsReduced (P : PlainProgram) (wt : WellTyped P) (argument : ℤ) (R :
 pub record ComesOutReduced (P : PlainProgram) (wt : WellTyped P) (p : Played) (o : Declared) : Type 0 where
   pub outcome : Outcome
   pub finished : Finished (stepped P p.argument) (limits p.limits) (reverse p.schedule) outcome
-  pub is_told : o ≡ told outcome
+  pub is_reported : o ≡ reported outcome
   pub runs : (ks : List ℕ) (R : Run) → Ran (stepped P p.argument) (limits p.limits) ks R → IsReduced P wt p.argument R
 
 abbrev pub MachinesAreReduced : Type 0

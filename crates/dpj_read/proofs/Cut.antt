@@ -11,7 +11,7 @@ use Rattle.dpj_tokens.specs.declared.token.Token.{Token}
 use Rattle.dpj_tokens.specs.Cutting.{Cuts, FaultsAt, token_at}
 use Rattle.dpj_tokens.specs.Place.{next_place, first_place}
 use Rattle.dpj_tokens.specs.Reading.{Reads}
-use Rattle.dpj_tokens.proofs.Steps.{ReadsTo, read-found, cut-all, fault-behind}
+use Rattle.dpj_tokens.proofs.Steps.{ReadsTo, read-found, cut-all, fault-following}
 use Rattle.dpj_read.specs.Laws.{EachText}
 use Rattle.dpj_read.proofs.Parts.{Answers}
 use Rattle.dpj_read.proofs.Fronts.{front}
@@ -30,14 +30,14 @@ cut_on (suc n) bytes at tokens place within enough read = elim (cases_lt at (len
   | inr all ↦ inl (tokens, place, cut-all bytes at tokens place all read)
   | inl more ↦
       let next = front_of (drop at bytes) (omega (arith, length-drop at bytes)) in
-      by next.answer next.reads (λ further others behind. cut_on n bytes further others behind)
+      by next.answer next.reads (λ further others following. cut_on n bytes further others following)
 ]
   where
     by : (answer : Result Found Fault) → Reads (drop at bytes) answer
-        → ((further : ℕ) (others : List Token) (behind : Place) → further ≤ length bytes → length bytes ≤ further + n → ReadsTo bytes further others behind → HasCut bytes) → HasCut bytes
+        → ((further : ℕ) (others : List Token) (following : Place) → further ≤ length bytes → length bytes ≤ further + n → ReadsTo bytes further others following → HasCut bytes) → HasCut bytes
     by (Err fault) is on =
         let refusal : Refusal = record { kind = fault.kind; place = fold next_place place (take fault.at (drop at bytes)) } in
-        inr (refusal, fault-behind bytes (drop at bytes) at tokens place fault refusal refl read is refl refl)
+        inr (refusal, fault-following bytes (drop at bytes) at tokens place fault refusal refl read is refl refl)
     by (Ok found) is on =
         let next = fold next_place place (take found.len (drop at bytes)) in
         on (at + found.len) (tokens ++ token_at at found.len place found.token) next
@@ -47,4 +47,4 @@ cut_on (suc n) bytes at tokens place within enough read = elim (cases_lt at (len
 pub each_text : EachText
 each_text bytes =
     cut_on (length bytes) bytes 0 [] first_place (omega arith) (omega arith)
-    (record { pieces = []; front = refl; each = tt; told = refl; placed = refl })
+    (record { pieces = []; front = refl; each = tt; reported = refl; placed = refl })

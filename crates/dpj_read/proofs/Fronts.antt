@@ -21,8 +21,8 @@ otherwise b bs no_comment = elim (cases_eq b 34) [
   ]
 ]
 
-behind_slash : (c : ℕ) (bs : List ℕ) → Answers (47 ∷ c ∷ bs)
-behind_slash c bs = elim (cases_eq c 47) [
+after_slash : (c : ℕ) (bs : List ℕ) → Answers (47 ∷ c ∷ bs)
+after_slash c bs = elim (cases_eq c 47) [
   | inl line ↦ subst (λ n. Answers (47 ∷ n ∷ bs)) (sym line) (line_comment bs)
   | inr no_line ↦ elim (cases_eq c 42) [
     | inl block ↦ subst (λ n. Answers (47 ∷ n ∷ bs)) (sym block) (block_comment bs)
@@ -33,6 +33,6 @@ behind_slash c bs = elim (cases_eq c 47) [
 pub front : (b : ℕ) (bs : List ℕ) → Answers (b ∷ bs)
 front b [] = otherwise b [] (λ begins. begins)
 front b (c ∷ bs) = elim (cases_eq b 47) [
-  | inl slash ↦ subst (λ n. Answers (n ∷ c ∷ bs)) (sym slash) (behind_slash c bs)
+  | inl slash ↦ subst (λ n. Answers (n ∷ c ∷ bs)) (sym slash) (after_slash c bs)
   | inr no_slash ↦ otherwise b (c ∷ bs) (λ begins. no_slash begins.0)
 ]

@@ -53,11 +53,11 @@ comment bytes len some within is = elim (utf8_or_not (take len bytes)) [
       record { answer = Err (record { kind = reason.Syntax; at = at }); reads = fault-comment reason.Syntax bytes len at refl refl is bad }
 ]
 
-pub line_comment : (behind : List ℕ) → Answers (47 ∷ 47 ∷ behind)
-line_comment behind =
-    let bytes : List ℕ = 47 ∷ 47 ∷ behind in
-    let len = 2 + prefix_len is_no_line_feed behind in
-    comment bytes len (omega arith) (omega (arith, prefix_len-le-length is_no_line_feed behind)) (comment-line bytes behind len refl refl)
+pub line_comment : (following : List ℕ) → Answers (47 ∷ 47 ∷ following)
+line_comment following =
+    let bytes : List ℕ = 47 ∷ 47 ∷ following in
+    let len = 2 + prefix_len is_no_line_feed following in
+    comment bytes len (omega arith) (omega (arith, prefix_len-le-length is_no_line_feed following)) (comment-line bytes following len refl refl)
 
 -- where the first `*/` stands
 record Closing (bytes : List ℕ) : Type 0 where
@@ -96,31 +96,31 @@ closes_back b bs k closes =
     (closes.0, ap (λ n. get_or (b ∷ bs) n 0) e ∙ closes.1)
 
 never_before : (b : ℕ) (bs : List ℕ) (at : ℕ) → ¬ (ClosesAt (b ∷ bs) 0) → ((k : ℕ) → k < at → ¬ (ClosesAt bs k)) → (k : ℕ) → k < suc at → ¬ (ClosesAt (b ∷ bs) k)
-never_before b bs at here behind zero below closes = here closes
-never_before b bs at here behind (suc k) below closes = behind k (omega arith) (closes_back b bs k closes)
+never_before b bs at here following zero below closes = here closes
+never_before b bs at here following (suc k) below closes = following k (omega arith) (closes_back b bs k closes)
 
 never_at_all : (b : ℕ) (bs : List ℕ) → ¬ (ClosesAt (b ∷ bs) 0) → ((k : ℕ) → ¬ (ClosesAt bs k)) → (k : ℕ) → ¬ (ClosesAt (b ∷ bs) k)
-never_at_all b bs here behind zero closes = here closes
-never_at_all b bs here behind (suc k) closes = behind k (closes_back b bs k closes)
+never_at_all b bs here following zero closes = here closes
+never_at_all b bs here following (suc k) closes = following k (closes_back b bs k closes)
 
 closing : (bytes : List ℕ) → Closing bytes ⊎ ((k : ℕ) → ¬ (ClosesAt bytes k))
 closing [] = inr (λ k closes. zero_star closes.0)
 closing (b ∷ bs) = elim (closes_here (b ∷ bs)) [
   | inl here ↦ inl (record { at = 0; within = closes_within (b ∷ bs) 0 here; closes = here; first = λ k below. absurd (omega arith) })
   | inr not_here ↦ elim (closing bs) [
-    | inl behind ↦
-        let closes = closes_on b bs behind.at behind.closes in
-        inl (record { at = suc behind.at; within = closes_within (b ∷ bs) (suc behind.at) closes; closes = closes; first = never_before b bs behind.at not_here behind.first })
+    | inl following ↦
+        let closes = closes_on b bs following.at following.closes in
+        inl (record { at = suc following.at; within = closes_within (b ∷ bs) (suc following.at) closes; closes = closes; first = never_before b bs following.at not_here following.first })
     | inr never ↦ inr (never_at_all b bs not_here never)
   ]
 ]
 
-pub block_comment : (behind : List ℕ) → Answers (47 ∷ 42 ∷ behind)
-block_comment behind =
-    let bytes : List ℕ = 47 ∷ 42 ∷ behind in
-    elim (closing behind) [
-      | inl c ↦ comment bytes (c.at + 4) (omega arith) (omega (arith, c.within)) (comment-block bytes behind c.at refl (c.within, c.closes, c.first))
-      | inr never ↦ record { answer = Err (record { kind = reason.Syntax; at = 0 }); reads = fault-open_comment reason.Syntax bytes behind 0 refl refl refl never }
+pub block_comment : (following : List ℕ) → Answers (47 ∷ 42 ∷ following)
+block_comment following =
+    let bytes : List ℕ = 47 ∷ 42 ∷ following in
+    elim (closing following) [
+      | inl c ↦ comment bytes (c.at + 4) (omega arith) (omega (arith, c.within)) (comment-block bytes following c.at refl (c.within, c.closes, c.first))
+      | inr never ↦ record { answer = Err (record { kind = reason.Syntax; at = 0 }); reads = fault-open_comment reason.Syntax bytes following 0 refl refl refl never }
     ]
 
 -- the inside of a text, up to where it goes no further
@@ -179,27 +179,27 @@ split (b ∷ c ∷ bs) = elim (cases_Bool (is_plain b)) [
 ]
 
 -- what stops a text after its inside
-text_stops : (behind inside rest : List ℕ) → behind ≡ inside ++ rest → IsInside inside → EndsInside rest → IsUtf8 inside → Answers (34 ∷ behind)
-text_stops behind inside [] whole is ends utf8 = record {
+text_stops : (following inside rest : List ℕ) → following ≡ inside ++ rest → IsInside inside → EndsInside rest → IsUtf8 inside → Answers (34 ∷ following)
+text_stops following inside [] whole is ends utf8 = record {
   answer = Err (record { kind = reason.Syntax; at = 0 });
-  reads = fault-open_text reason.Syntax behind inside 0 refl refl (whole ∙ append-nil inside) is utf8;
+  reads = fault-open_text reason.Syntax following inside 0 refl refl (whole ∙ append-nil inside) is utf8;
 }
-text_stops behind inside (b ∷ rest) whole is ends utf8 = elim (cases_eq b 34) [
-  | inl quote ↦ finds (34 ∷ behind) (record { token = Some kind.Text; len = length inside + 2 }) (found-text behind inside (b ∷ rest) b whole refl quote is utf8)
+text_stops following inside (b ∷ rest) whole is ends utf8 = elim (cases_eq b 34) [
+  | inl quote ↦ finds (34 ∷ following) (record { token = Some kind.Text; len = length inside + 2 }) (found-text following inside (b ∷ rest) b whole refl quote is utf8)
   | inr other ↦ record {
     answer = Err (record { kind = reason.Syntax; at = 1 + length inside });
-    reads = fault-bad_in_text reason.Syntax behind inside (b ∷ rest) (1 + length inside) refl refl whole is (bad-no_quote (b ∷ rest) b ends refl other) utf8;
+    reads = fault-bad_in_text reason.Syntax following inside (b ∷ rest) (1 + length inside) refl refl whole is (bad-no_quote (b ∷ rest) b ends refl other) utf8;
   }
 ]
 
-pub text : (behind : List ℕ) → Answers (34 ∷ behind)
-text behind =
-    let s = split behind in
+pub text : (following : List ℕ) → Answers (34 ∷ following)
+text following =
+    let s = split following in
     elim (utf8_or_not s.inside) [
-      | inl utf8 ↦ text_stops behind s.inside s.rest s.whole s.is_inside s.ends utf8
+      | inl utf8 ↦ text_stops following s.inside s.rest s.whole s.is_inside s.ends utf8
       | inr bad ↦
           let at = 1 + utf8_valid_len s.inside in
-          record { answer = Err (record { kind = reason.Syntax; at = at }); reads = fault-byte_in_text reason.Syntax behind s.inside s.rest at refl refl s.whole s.is_inside s.ends bad }
+          record { answer = Err (record { kind = reason.Syntax; at = at }); reads = fault-byte_in_text reason.Syntax following s.inside s.rest at refl refl s.whole s.is_inside s.ends bad }
     ]
 
 pub blank : (b : ℕ) (bs : List ℕ) → is_blank b ≡ true → Answers (b ∷ bs)

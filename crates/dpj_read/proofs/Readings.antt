@@ -13,5 +13,5 @@ each_reading one bytes tokens end =
       | inl derived ↦
           let program : Program = record { classes = derived.0.0; names = distinct_names bytes tokens } in
           inl (program, record { list = said.list; names = refl; said = said.means; derived = derived.0.1; within = derived.1 })
-      | inr refused ↦ inr (refused.0, record { list = said.list; said = said.means; told = refused.1 })
+      | inr refused ↦ inr (refused.0, record { list = said.list; said = said.means; reported = refused.1 })
     ]

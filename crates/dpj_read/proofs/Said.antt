@@ -23,8 +23,8 @@ name_there [] text found = absurd (false≢true found)
 name_there (name ∷ names) text found = elim (cases_Bool (bytes_eq text name)) [
   | inl here ↦ (0, ap (λ one. Some one) (sym ((bytes_eq-Decides text name).0 here)))
   | inr other ↦
-      let behind = name_there names text (ap (λ b. b || list_any (bytes_eq text) names) (sym other) ∙ found) in
-      (suc behind.0, behind.1)
+      let following = name_there names text (ap (λ b. b || list_any (bytes_eq text) names) (sym other) ∙ found) in
+      (suc following.0, following.1)
 ]
 
 -- and so has one that goes last

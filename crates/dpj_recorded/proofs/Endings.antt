@@ -145,7 +145,7 @@ module _ (code : Code) (P : PlainProgram) (arg : ℤ) (rule : Rule) (L : Limits)
   C = plain_code code
 
   -- an end, with what the task has printed and its trap
-  pub record EndTold (w : Sight) (R : Run) (k : ℕ) (n : Moment) (c : DeclaredEnding) (out : List ℕ) : Type 0 where
+  pub record EndReported (w : Sight) (R : Run) (k : ℕ) (n : Moment) (c : DeclaredEnding) (out : List ℕ) : Type 0 where
     pub stepped : Stepped code P arg rule L right w R k n
     pub ending : Ending
     pub act : stepped.event.act ≡ End ending
@@ -466,8 +466,8 @@ module _ (code : Code) (P : PlainProgram) (arg : ℤ) (rule : Rule) (L : Limits)
         branch_gone o (subst (λ u. OriginTied P arg rule C w R m.world.tree.tasks V.path u) e V.origin)
         (not_itself P arg rule C L w R m.world.tree.tasks k V.there y.origin V.origin o e)
 
-    pub end_told : EndTold w R k n c (out_of (task_at m.world.tree k))
-    end_told = record {
+    pub end_reported : EndReported w R k n c (out_of (task_at m.world.tree k))
+    end_reported = record {
       stepped = record {
         event = event;
         follows = follows;
@@ -491,4 +491,4 @@ module _ (code : Code) (P : PlainProgram) (arg : ℤ) (rule : Rule) (L : Limits)
     }
 
     pub ends_next : Stepped code P arg rule L right w R k n
-    ends_next = end_told.stepped
+    ends_next = end_reported.stepped

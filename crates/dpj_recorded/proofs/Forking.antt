@@ -132,13 +132,13 @@ module _ (C : PlainCode) (FJ : ForksAreJoined C) (firsts : FirstNumbers) (nexts 
   Lines = (body_at C g.body).lines
 
   -- the site of the line in front of the next one
-  site_behind : (x : Instr) (at : Place) (s : ℕ) (o : Option Site) → branch_site x ≡ Some s → slice_get Lines g.at ≡ Some (record { instr = x; place = at })
+  site_after : (x : Instr) (at : Place) (s : ℕ) (o : Option Site) → branch_site x ≡ Some s → slice_get Lines g.at ≡ Some (record { instr = x; place = at })
       → slice_get C.sites s ≡ o → site_at C (site_of (line_before Lines (suc g.at))) ≡ o
-  site_behind x at s o b e f = ap (λ l. site_at C (site_of l)) e ∙ ap (λ q. site_at C q) b ∙ f
+  site_after x at s o b e f = ap (λ l. site_at C (site_of l)) e ∙ ap (λ q. site_at C q) b ∙ f
 
-  join_behind : (x : Instr) (at : Place) (s : ℕ) → branch_site x ≡ Some s → slice_get Lines g.at ≡ Some (record { instr = x; place = at })
+  join_after : (x : Instr) (at : Place) (s : ℕ) → branch_site x ≡ Some s → slice_get Lines g.at ≡ Some (record { instr = x; place = at })
       → IsJoin (slice_get Lines (suc g.at))
-  join_behind x at s b e = (let j = FJ g.body g.at s (record { instr = x; place = at }) e b in subst (λ o. IsJoin o) (sym j.1) j.2)
+  join_after x at s b e = (let j = FJ g.body g.at s (record { instr = x; place = at }) e b in subst (λ o. IsJoin o) (sym j.1) j.2)
 
   fork_keeps : (at : Place) (s : ℕ) (o : Option Site) → slice_get Lines g.at ≡ Some (record { instr = i.Fork s; place = at }) → slice_get C.sites s ≡ o
       → Kept C Here (forked at o g fs)
@@ -151,8 +151,8 @@ module _ (C : PlainCode) (FJ : ForksAreJoined C) (firsts : FirstNumbers) (nexts 
   fork_keeps at s (Some (fork_site forking js copies)) e f =
       keeps_deeper C Here g.frame.left at _ (record {
         is = λ x. (
-          (join_behind (i.Fork s) at s refl e, subst (λ o. LeftIn o (Int (pos (length js)) ∷ g.stack)) (sym (site_behind (i.Fork s) at s _ refl e f)) tt),
-          ap (λ o. starts_of o (record g { at = suc g.at; stack = Int (pos (length js)) ∷ g.stack })) (site_behind (i.Fork s) at s _ refl e f),
+          (join_after (i.Fork s) at s refl e, subst (λ o. LeftIn o (Int (pos (length js)) ∷ g.stack)) (sym (site_after (i.Fork s) at s _ refl e f)) tt),
+          ap (λ o. starts_of o (record g { at = suc g.at; stack = Int (pos (length js)) ∷ g.stack })) (site_after (i.Fork s) at s _ refl e f),
         );
       })
 
@@ -168,10 +168,10 @@ module _ (C : PlainCode) (FJ : ForksAreJoined C) (firsts : FirstNumbers) (nexts 
       keeps_two C Here g.stack _ (λ start count st. keeps_deeper C Here g.frame.left at _ (record {
         is = λ a. (
           (
-            join_behind (i.Spread s) at s refl e,
-            subst (λ o. LeftIn o (waiting (how_many (number count)) (number start) (how_many (number count)) st)) (sym (site_behind (i.Spread s) at s _ refl e f)) (omega arith),
+            join_after (i.Spread s) at s refl e,
+            subst (λ o. LeftIn o (waiting (how_many (number count)) (number start) (how_many (number count)) st)) (sym (site_after (i.Spread s) at s _ refl e f)) (omega arith),
           ),
-          ap (λ o. starts_of o (record g { at = suc g.at; stack = waiting (how_many (number count)) (number start) (how_many (number count)) st })) (site_behind (i.Spread s) at s _ refl e f)
+          ap (λ o. starts_of o (record g { at = suc g.at; stack = waiting (how_many (number count)) (number start) (how_many (number count)) st })) (site_after (i.Spread s) at s _ refl e f)
               ∙ same_starts j x g.frame (int_wrapping_sub w32 (number start) (pos (how_many (number count) - how_many (number count)))) (number start) (λ m. firsts (number start) (how_many (number count)) m) 0 (how_many (number count)),
         );
       }))

@@ -75,14 +75,14 @@ module _ (code : Code) (P : PlainProgram) (arg : ℤ) (rule : Rule) (L : Limits)
     abbrev n : Moment
     n = after code m (event_of k turns wants (action.Fork forking many)) x.stands.state x.stands.made
 
-    told : (ts : List (Start ℕ (ℕ × ℕ))) × ActsAt (at code P arg rule L right T k turns wants (action.Fork forking many) x) (Fork (record { kind = forking; tasks = ts })) × (length ts ≡ many)
-    told = fork_acts C forking many (at code P arg rule L right T k turns wants (action.Fork forking many) x) x.stands.tells
+    reported : (ts : List (Start ℕ (ℕ × ℕ))) × ActsAt (at code P arg rule L right T k turns wants (action.Fork forking many) x) (Fork (record { kind = forking; tasks = ts })) × (length ts ≡ many)
+    reported = fork_acts C forking many (at code P arg rule L right T k turns wants (action.Fork forking many) x) x.stands.tells
 
     abbrev forks : ActionIn
-    forks = Fork (record { kind = forking; tasks = told.0 })
+    forks = Fork (record { kind = forking; tasks = reported.0 })
 
     A : AskedAt code P arg rule L right T k turns wants (action.Fork forking many) x forks
-    A = asked_at code P arg rule L right T k turns wants (action.Fork forking many) x forks told.1
+    A = asked_at code P arg rule L right T k turns wants (action.Fork forking many) x forks reported.1
 
     abbrev V : LiveTied P arg rule C w R m.world.tree.tasks m.tasks k (found code P arg rule L right T k turns wants (action.Fork forking many) x).0
     V = live code P arg rule L right T k turns wants (action.Fork forking many) x
@@ -93,7 +93,7 @@ module _ (code : Code) (P : PlainProgram) (arg : ℤ) (rule : Rule) (L : Limits)
     y_is : get m.world.tree.tasks k ≡ Some y
     y_is = (found code P arg rule L right T k turns wants (action.Fork forking many) x).1
 
-    like : (cs : List (Start Name LocalRegion)) × (A.both.act ≡ Fork (record { kind = forking; tasks = cs })) × StartsLike w told.0 cs
+    like : (cs : List (Start Name LocalRegion)) × (A.both.act ≡ Fork (record { kind = forking; tasks = cs })) × StartsLike w reported.0 cs
     like = forking_like A.both.like
 
     source : (ts : Branches) × (A.act ≡ Fork ts) × AllCompiled C P like.0 ts.tasks
@@ -114,11 +114,11 @@ module _ (code : Code) (P : PlainProgram) (arg : ℤ) (rule : Rule) (L : Limits)
     steps_there : step (names_of k) C x.stands.state ≡ Waits forks A.both.then_in
     steps_there = front_step C k turns x.stands.made x.stands.state A.both.turns A.both.made forks A.both.then_in A.both.is_in (λ i. (cc))
 
-    keeps : AtJoin C (A.both.then_in (plain_answer answer.Went)) × (starts_at C (A.both.then_in (plain_answer answer.Went)) ≡ told.0)
+    keeps : AtJoin C (A.both.then_in (plain_answer answer.Went)) × (starts_at C (A.both.then_in (plain_answer answer.Went)) ≡ reported.0)
     keeps = kept_fork (subst (λ o. Kept C x.stands.state o) steps_there (step_keeps C FJ first_numbers next_numbers k x.stands.state))
       where
         kept_fork : Kept C x.stands.state (Waits forks A.both.then_in)
-            → AtJoin C (A.both.then_in (plain_answer answer.Went)) × (starts_at C (A.both.then_in (plain_answer answer.Went)) ≡ told.0)
+            → AtJoin C (A.both.then_in (plain_answer answer.Went)) × (starts_at C (A.both.then_in (plain_answer answer.Went)) ≡ reported.0)
         kept_fork h = h.is (plain_answer answer.Went)
 
     fork : ForkTied P arg rule C w (event ∷ R) V.path (A.both.then_in (plain_answer answer.Went)) (no_branch_yet many)
@@ -131,7 +131,7 @@ module _ (code : Code) (P : PlainProgram) (arg : ℤ) (rule : Rule) (L : Limits)
       last = mine_same event R V.path refl;
       tasks = source.0;
       act = refl;
-      many = sym told.2 ∙ each_length like.2 ∙ AllLength C P like.0 source.0.tasks source.2;
+      many = sym reported.2 ∙ each_length like.2 ∙ AllLength C P like.0 source.0.tasks source.2;
       begun = refl;
       within = omega arith;
       few = omega arith;

@@ -48,7 +48,7 @@ use Rattle.dpj_world.specs.declared.event.Event.{Event as DeclaredEvent}
 use Rattle.dpj_world.specs.declared.world.World.{World}
 use Rattle.dpj_machine.specs.Replay.{Moment, NextOf, CanBeMade, Opens, LeadsTo, after, came_to, limited, number_given, opened, outcome_after}
 use Rattle.dpj_machine.specs.Replay.{made as made_so, over as over_so, no_room as no_room_so}
-use Rattle.dpj_recorded.specs.Laws.{AllRecord, MachinesRecord, Records, limits, told, told_ending}
+use Rattle.dpj_recorded.specs.Laws.{AllRecord, MachinesRecord, Records, limits, reported, reported_ending}
 use Rattle.dpj_recorded.proofs.Sights.{Sight}
 use Rattle.dpj_recorded.proofs.Joins.{ForksAreJoined, forks_are_joined}
 use Rattle.dpj_recorded.proofs.Ties.{Q, Tied}
@@ -59,7 +59,7 @@ use Rattle.dpj_recorded.proofs.Owns.{FieldsFor, rests, reads_cell, writes_cell, 
 use Rattle.dpj_recorded.proofs.Forks.{forks_next}
 use Rattle.dpj_recorded.proofs.Begins.{begins_branch}
 use Rattle.dpj_recorded.proofs.Joinings.{joins_next}
-use Rattle.dpj_recorded.proofs.Endings.{EndTold, end_told, ends_next}
+use Rattle.dpj_recorded.proofs.Endings.{EndReported, end_reported, ends_next}
 use Rattle.dpj_recorded.proofs.Segments.{Seg, seg_in_order}
 use Rattle.dpj_recorded.proofs.Sorted.{seg_whole}
 use Rattle.dpj_runs.specs.Order.{Came as CameOut}
@@ -113,9 +113,9 @@ charged code w k turns wants (action.Write n j v) = record { steps = refl; cells
         go true = refl
         go false = refl
 
-if_told : {A : Type 0} (b : Bool) (x o : A) → (if b then Some x else None) ≡ Some o → b ≡ true
-if_told true x o e = refl
-if_told false x o e = absurd (cc)
+if_reported : {A : Type 0} (b : Bool) (x o : A) → (if b then Some x else None) ≡ Some o → b ≡ true
+if_reported true x o e = refl
+if_reported false x o e = absurd (cc)
 
 -- only the end of the root ends a run
 record RootEnds (k : ℕ) (a : DeclaredAction) : Type 0 where
@@ -136,10 +136,10 @@ root_ends before after k action.Exit o e = absurd (cc)
 root_ends before after k (action.Fork forking many) o e = absurd (cc)
 root_ends before after k (action.Begin b) o e = absurd (cc)
 root_ends before after k action.Join o e = absurd (cc)
-root_ends before after k (action.End c) o e = record { ending = c; ends = refl; root = zero_told (if_told (k == 0) _ o e) }
+root_ends before after k (action.End c) o e = record { ending = c; ends = refl; root = zero_reported (if_reported (k == 0) _ o e) }
   where
-    zero_told : (k == 0) ≡ true → k ≡ 0
-    zero_told t = elim (eqb_tells k 0) [
+    zero_reported : (k == 0) ≡ true → k ≡ 0
+    zero_reported t = elim (eqb_tells k 0) [
       | inl s ↦ s.1
       | inr s ↦ absurd (let no : false ≡ true = sym s.0 ∙ t in cc)
     ]
@@ -161,7 +161,7 @@ number_like (constant.Obj n) (object_like m x h) = refl
 
 -- the ending of the root, after a trap below it or not
 came_like : {ns : Names} (c : DeclaredEnding) (x : Ending) → EndingLike ns (plain_ending c) x → (t : Option (Trap × Place)) → machine_trap c ≡ t
-    → came_to c ≡ told_ending (ending_of t x)
+    → came_to c ≡ reported_ending (ending_of t x)
 came_like (ending.Returned v) x (returned_like l) None e = ap (λ n. came.Done n) (number_like v l)
 came_like (ending.Returned v) x (returned_like l) (Some f) e = absurd (let both : None ≡ Some f = e in cc)
 came_like (ending.Assigned ls) x (assigned_like l) None e = refl
@@ -350,13 +350,13 @@ module _ (code : Code) (P : PlainProgram) (arg : ℤ) (L : DeclaredLimits) (righ
         (x : NextOf C m k (event_of k turns wants (action.End c))) (can : CanBeMade C m.world (event_of k turns wants (action.End c)) x.stands.state)
         → MachineWithin code m.world (event_of k turns wants (action.End c)) → (o : DeclaredOutcome) → k ≡ 0
         → (after code m (event_of k turns wants (action.End c)) x.stands.state x.stands.made).outcome ≡ Some o → Records QR (limits L) (k ∷ ks) (Some o)
-    at_end {ks} {m} {k} leads A turns wants c x can within o is_root is = (come, ended (S.event ∷ A.run) ran comes, told_so)
+    at_end {ks} {m} {k} leads A turns wants c x can within o is_root is = (come, ended (S.event ∷ A.run) ran comes, reported_so)
       where
         n : Moment
         n = after code m (event_of k turns wants (action.End c)) x.stands.state x.stands.made
 
-        B : EndTold code P arg rule L right A.sight A.run k (after code m (event_of k turns wants (action.End c)) x.stands.state x.stands.made) c (out_of (task_at m.world.tree k))
-        B = end_told code P arg rule L right A.tied k turns wants c x
+        B : EndReported code P arg rule L right A.sight A.run k (after code m (event_of k turns wants (action.End c)) x.stands.state x.stands.made) c (out_of (task_at m.world.tree k))
+        B = end_reported code P arg rule L right A.tied k turns wants c x
 
         S : Next_of A.sight A.run k (after code m (event_of k turns wants (action.End c)) x.stands.state x.stands.made)
         S = B.stepped
@@ -386,10 +386,10 @@ module _ (code : Code) (P : PlainProgram) (arg : ℤ) (L : DeclaredLimits) (righ
         entered : entry_step (mine (S.event ∷ A.run) []) ≡ 1
         entered = entered_next {P = QR} S.event S.follows A.tied.numbers.entered
 
-        told_so : o ≡ told come
-        told_so = sym (end_outcome m.world (world_after code m.world (event_of k turns wants (action.End c))) k c o is) ∙ (λ z. record { ending = ending_so z; out = out_so z; steps = steps_so z; cells = cells_so z })
+        reported_so : o ≡ reported come
+        reported_so = sym (end_outcome m.world (world_after code m.world (event_of k turns wants (action.End c))) k c o is) ∙ (λ z. record { ending = ending_so z; out = out_so z; steps = steps_so z; cells = cells_so z })
           where
-            ending_so : came_to c ≡ told_ending (ending_of (trapped B.segment) B.ending)
+            ending_so : came_to c ≡ reported_ending (ending_of (trapped B.segment) B.ending)
             ending_so = came_like c B.ending B.like (trapped B.segment) B.trap
 
             out_so : out_of (task_at m.world.tree 0) ≡ printed B.segment

@@ -47,25 +47,25 @@ abbrev NoEntry : PlainCode → ThenIn → Type 0
 NoEntry C f = (x : Answer ℕ (ℕ × ℕ)) → entry_next C (f x) ≡ None
 
 -- what follows an action
-abbrev pub Behind : PlainCode → StateIn → ActionIn → ThenIn → Type 0
-Behind C z (Do Rest) f = (x : Answer ℕ (ℕ × ℕ)) → entry_next C (f x) ≡ wants_at C z
-Behind C z (Do (Enter E)) f = (entry_next C z ≡ Some E) × NoEntry C f
-Behind C z (Do (Read n j)) f = NoEntry C f
-Behind C z (Do (Write n j v)) f = NoEntry C f
-Behind C z (Do (Look n)) f = NoEntry C f
-Behind C z (Do (New t c)) f = NoEntry C f
-Behind C z (Do (Print bytes)) f = NoEntry C f
-Behind C z (Do Exit) f = NoEntry C f
-Behind C z (Fork bs) f = NoEntry C f
-Behind C z (Begin b) f = NoEntry C f
-Behind C z Join f = NoEntry C f
-Behind C z (End e) f = Unit {0}
+abbrev pub Following : PlainCode → StateIn → ActionIn → ThenIn → Type 0
+Following C z (Do Rest) f = (x : Answer ℕ (ℕ × ℕ)) → entry_next C (f x) ≡ wants_at C z
+Following C z (Do (Enter E)) f = (entry_next C z ≡ Some E) × NoEntry C f
+Following C z (Do (Read n j)) f = NoEntry C f
+Following C z (Do (Write n j v)) f = NoEntry C f
+Following C z (Do (Look n)) f = NoEntry C f
+Following C z (Do (New t c)) f = NoEntry C f
+Following C z (Do (Print bytes)) f = NoEntry C f
+Following C z (Do Exit) f = NoEntry C f
+Following C z (Fork bs) f = NoEntry C f
+Following C z (Begin b) f = NoEntry C f
+Following C z Join f = NoEntry C f
+Following C z (End e) f = Unit {0}
 
 abbrev Leads : PlainCode → StateIn → StandIn → Type 0
 Leads C z (Goes s) = entry_next C s ≡ None
 Leads C z (Turns s) = entry_next C s ≡ None
 Leads C z (Makes f) = (l : ℕ × ℕ) → entry_next C (f l) ≡ None
-Leads C z (Waits a f) = Behind C z a f
+Leads C z (Waits a f) = Following C z a f
 Leads C z (Ends e) = Unit {0}
 Leads C z Stuck = Unit {0}
 
@@ -334,23 +334,23 @@ ends_before C s t (Asks n m a f) none e = (λ E i. absurd (let x = e.0 E i in le
 ends_before C s t (Finished n x) none e = tt
 ends_before C s t Dead none e = tt
 
-behind_entry : (C : PlainCode) (z : StateIn) (a : ActionIn) (f : ThenIn) → Behind C z a f → (E : List (Effect (ℕ × ℕ))) → a ≡ Do (Enter E) → entry_next C z ≡ Some E
-behind_entry C z a f h E e = (subst (λ b. Behind C z b f) e h).0
+after_entry : (C : PlainCode) (z : StateIn) (a : ActionIn) (f : ThenIn) → Following C z a f → (E : List (Effect (ℕ × ℕ))) → a ≡ Do (Enter E) → entry_next C z ≡ Some E
+after_entry C z a f h E e = (subst (λ b. Following C z b f) e h).0
 
 -- but after a rest
-pub behind_others : (C : PlainCode) (z : StateIn) (a : ActionIn) (f : ThenIn) → Behind C z a f → (a ≡ Do Rest → ⊥) → ((e : _) → a ≡ End e → ⊥) → NoEntry C f
-behind_others C z (Do Rest) f h n m = absurd (n refl)
-behind_others C z (Do (Enter E)) f h n m = h.1
-behind_others C z (Do (Read k j)) f h n m = h
-behind_others C z (Do (Write k j v)) f h n m = h
-behind_others C z (Do (Look k)) f h n m = h
-behind_others C z (Do (New t c)) f h n m = h
-behind_others C z (Do (Print bytes)) f h n m = h
-behind_others C z (Do Exit) f h n m = h
-behind_others C z (Fork bs) f h n m = h
-behind_others C z (Begin b) f h n m = h
-behind_others C z Join f h n m = h
-behind_others C z (End e) f h n m = absurd (m e refl)
+pub after_others : (C : PlainCode) (z : StateIn) (a : ActionIn) (f : ThenIn) → Following C z a f → (a ≡ Do Rest → ⊥) → ((e : _) → a ≡ End e → ⊥) → NoEntry C f
+after_others C z (Do Rest) f h n m = absurd (n refl)
+after_others C z (Do (Enter E)) f h n m = h.1
+after_others C z (Do (Read k j)) f h n m = h
+after_others C z (Do (Write k j v)) f h n m = h
+after_others C z (Do (Look k)) f h n m = h
+after_others C z (Do (New t c)) f h n m = h
+after_others C z (Do (Print bytes)) f h n m = h
+after_others C z (Do Exit) f h n m = h
+after_others C z (Fork bs) f h n m = h
+after_others C z (Begin b) f h n m = h
+after_others C z Join f h n m = h
+after_others C z (End e) f h n m = absurd (m e refl)
 
 module _ (C : PlainCode) (k : ℕ) where
   LegsEnd : (ℕ → ℕ → StateIn → Option (Halt ℕ (ℕ × ℕ))) → Type 0
@@ -373,7 +373,7 @@ module _ (C : PlainCode) (k : ℕ) where
   stand_ends more rec turns made s (Makes f) h l n e = turn_ends more rec turns (suc made) s (f ((names_of k).made made)) h (l.is ((names_of k).made made)) e
   stand_ends more rec turns made s (Waits a f) h l n e =
       let same : Asks turns made a f ≡ h = cc in
-      subst (λ h. EndsAt C s h) same (λ E i. behind_entry C s a f l.is E i, λ i. absurd (let both : false ≡ true = sym n ∙ i in cc))
+      subst (λ h. EndsAt C s h) same (λ E i. after_entry C s a f l.is E i, λ i. absurd (let both : false ≡ true = sym n ∙ i in cc))
   stand_ends more rec turns made s (Ends x) h l n e = (let same : Finished turns x ≡ h = cc in subst (λ h. EndsAt C s h) same tt)
   stand_ends more rec turns made s Stuck h l n e = (let same : Dead ≡ h = cc in subst (λ h. EndsAt C s h) same tt)
 

@@ -32,7 +32,7 @@ use Rattle.dpj_machine.specs.Running.{Running, answered, at_start, front}
 use Rattle.dpj_machine.specs.Wants.{WantsRightly, noted, wants_at}
 use Rattle.dpj_recorded.proofs.Acting.{event_of}
 use Rattle.dpj_recorded.proofs.Asked.{ActionIn, ThenIn}
-use Rattle.dpj_recorded.proofs.Resting.{Behind, Leading, behind_others, entry_next, leg_entry, leg_rested, leg_spent, step_leads}
+use Rattle.dpj_recorded.proofs.Resting.{Following, Leading, after_others, entry_next, leg_entry, leg_rested, leg_spent, step_leads}
 use Rattle.dpj_recorded.proofs.Trees.{beside, placed}
 
 abbrev EffectsIn : Type 0
@@ -107,7 +107,7 @@ module _ (C : PlainCode) where
     then_in : ThenIn
     is : h ≡ Asks turns made act then_in
     state : t.state ≡ then_in x
-    behind : (turns == most_turns) ≡ false → Behind C z act then_in
+    following : (turns == most_turns) ≡ false → Following C z act then_in
     spent : (turns == most_turns) ≡ true → act ≡ Do Rest
 
   at_answer : (k turns made : ℕ) (z : State ℕ (ℕ × ℕ)) (y : DeclaredAnswer) (t : Running) → answered (front C k turns made z) y ≡ Some t
@@ -124,7 +124,7 @@ module _ (C : PlainCode) where
         then_in = f;
         is = refl;
         state = (let same : record { state = f (plain_answer y); made = made } ≡ t = cc in sym (ap (λ (t : Running). t.state) same));
-        behind = λ n. l.is;
+        following = λ n. l.is;
         spent = λ n. absurd (let both : false ≡ true = sym i ∙ n in cc);
       }
       stood i (Goes s) l e = absurd (cc)
@@ -140,13 +140,13 @@ module _ (C : PlainCode) where
         then_in = λ x. z;
         is = refl;
         state = (let same : record { state = z; made = made } ≡ t = cc in sym (ap (λ (t : Running). t.state) same));
-        behind = λ n. absurd (let both : true ≡ false = sym i ∙ n in cc);
+        following = λ n. absurd (let both : true ≡ false = sym i ∙ n in cc);
         spent = λ n. refl;
       }
       go false i e = stood i (step (names_of k) C z) (step_leads C k z) e
 
-  told : (a : DeclaredAction) (h : Halt ℕ (ℕ × ℕ)) (n m : ℕ) (b : ActionIn) (f : ThenIn) → Tells C a h → h ≡ Asks n m b f → Says C a b
-  told a h n m b f t e = subst (λ h. Tells C a h) e t
+  reported : (a : DeclaredAction) (h : Halt ℕ (ℕ × ℕ)) (n m : ℕ) (b : ActionIn) (f : ThenIn) → Tells C a h → h ≡ Asks n m b f → Says C a b
+  reported a h n m b f t e = subst (λ h. Tells C a h) e t
 
   -- another action than a rest, and no end
   abbrev Passes : ActionIn → Type 0
@@ -165,12 +165,12 @@ module _ (C : PlainCode) where
         A = at_answer k turns made z y t e
 
         p : Passes A.act
-        p = passed A.act (told a (front C k turns made z) turns A.made A.act A.then_in tells A.is)
+        p = passed A.act (reported a (front C k turns made z) turns A.made A.act A.then_in tells A.is)
 
         go : (b : Bool) → (turns == most_turns) ≡ b → ⊥
         go true s = p.0 (A.spent s)
         go false s =
-            let none : entry_next C (A.then_in (plain_answer y)) ≡ None = behind_others C z A.act A.then_in (A.behind s) p.0 p.1 (plain_answer y) in
+            let none : entry_next C (A.then_in (plain_answer y)) ≡ None = after_others C z A.act A.then_in (A.following s) p.0 p.1 (plain_answer y) in
             let both : None ≡ Some E = sym none ∙ ap (λ s. entry_next C s) (sym A.state) ∙ i in cc
 
     -- after a rest the entry in front of which the task rests
@@ -182,7 +182,7 @@ module _ (C : PlainCode) where
         A = at_answer k turns made z y t e
 
         is_rest : A.act ≡ Do Rest
-        is_rest = told action.Rest (front C k turns made z) turns A.made A.act A.then_in tells A.is
+        is_rest = reported action.Rest (front C k turns made z) turns A.made A.act A.then_in tells A.is
 
         entry : entry_next C (A.then_in (plain_answer y)) ≡ Some E
         entry = ap (λ s. entry_next C s) (sym A.state) ∙ i
@@ -193,11 +193,11 @@ module _ (C : PlainCode) where
             let both : None ≡ Some E = sym none ∙ entry in cc)
         go false b = subst (λ o. get (rested waits k o) k ≡ Some (map noted E)) (sym so) (inserted_own waits k (map noted E))
           where
-            behind : entry_next C (A.then_in (plain_answer y)) ≡ wants_at C z
-            behind = (subst (λ c. Behind C z c A.then_in) is_rest (A.behind b)) (plain_answer y)
+            following : entry_next C (A.then_in (plain_answer y)) ≡ wants_at C z
+            following = (subst (λ c. Following C z c A.then_in) is_rest (A.following b)) (plain_answer y)
 
             so : wants ≡ Some (map noted E)
-            so = right ∙ ap (λ c. option_map (map noted) (if c then None else wants_at C z)) b ∙ ap (option_map (map noted)) (sym behind ∙ entry)
+            so = right ∙ ap (λ c. option_map (map noted) (if c then None else wants_at C z)) b ∙ ap (option_map (map noted)) (sym following ∙ entry)
 
 -- over an event
 module _ (code : Code) (m : Moment) (k turns : ℕ) (wants : Option (List PathEffect)) where
@@ -315,7 +315,7 @@ module _ (code : Code) (m : Moment) (k turns : ℕ) (wants : Option (List PathEf
       at = leg_rested CA k x.task.made x.task.state (front CA k turns x.stands.made x.stands.state) r.entry (ap (λ (t : Running). entry_next CA t.state) same ∙ r.next) x.stands.leg
 
       says : Says CA a (Do (Enter r.entry))
-      says = told CA a (front CA k turns x.stands.made x.stands.state) 0 x.task.made (Do (Enter r.entry)) at.0 x.stands.tells at.1
+      says = reported CA a (front CA k turns x.stands.made x.stands.state) 0 x.task.made (Do (Enter r.entry)) at.0 x.stands.tells at.1
 
   -- another task that has begun goes on as it was
   other_task : (a : DeclaredAction) (x : NextOf CA m k (event_of k turns wants a)) (j : ℕ) (t : Running) → j ≢ k → m.tasks j ≡ Some t
@@ -375,7 +375,7 @@ module _ (code : Code) (m : Moment) (k turns : ℕ) (wants : Option (List PathEf
       A = at_answer CA k turns x.stands.made z (answer_at m.world k action.Rest) G.task G.goes
 
       is_rest : A.act ≡ Do Rest
-      is_rest = told CA action.Rest h turns A.made A.act A.then_in x.stands.tells A.is
+      is_rest = reported CA action.Rest h turns A.made A.act A.then_in x.stands.tells A.is
 
       rests_with : (V : List PathEffect) → wants ≡ Some V → V ≡ W → (b : Bool) → (turns == most_turns) ≡ b → Rests CA n k W
       rests_with V i s true b =
@@ -386,7 +386,7 @@ module _ (code : Code) (m : Moment) (k turns : ℕ) (wants : Option (List PathEf
           wanted_so = sym i ∙ x.stands.wants ∙ ap (λ c. option_map (map noted) (if c then None else wants_at CA z)) b
 
           next_so : entry_next CA G.task.state ≡ wants_at CA z
-          next_so = ap (λ s. entry_next CA s) A.state ∙ (subst (λ c. Behind CA z c A.then_in) is_rest (A.behind b)) (plain_answer (answer_at m.world k action.Rest))
+          next_so = ap (λ s. entry_next CA s) A.state ∙ (subst (λ c. Following CA z c A.then_in) is_rest (A.following b)) (plain_answer (answer_at m.world k action.Rest))
 
           by_wants : (o : Option EffectsIn) → wants_at CA z ≡ o → Rests CA n k W
           by_wants None o = absurd (let both : Some V ≡ None = wanted_so ∙ ap (option_map (map noted)) o in cc)

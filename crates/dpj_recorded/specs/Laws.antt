@@ -28,19 +28,19 @@ abbrev pub limits : DeclaredLimits → Limits
 limits L = record { steps = L.steps; cells = L.cells }
 
 -- how a run comes out, as a machine tells it: `main` gives an int
-abbrev pub told_ending : Ending → Came
-told_ending (Returned v) = came.Done (number v)
-told_ending (Assigned locals) = came.Done (pos 0)
-told_ending (Trapped trap place) = came.Trapped trap place
+abbrev pub reported_ending : Ending → Came
+reported_ending (Returned v) = came.Done (number v)
+reported_ending (Assigned locals) = came.Done (pos 0)
+reported_ending (Trapped trap place) = came.Trapped trap place
 
-abbrev pub told : Outcome → DeclaredOutcome
-told (came_out x output steps cells) = record { ending = told_ending x; out = output; steps = steps; cells = cells }
-told (Limited steps cells) = record { ending = came.Limited; out = []; steps = steps; cells = cells }
+abbrev pub reported : Outcome → DeclaredOutcome
+reported (came_out x output steps cells) = record { ending = reported_ending x; out = output; steps = steps; cells = cells }
+reported (Limited steps cells) = record { ending = came.Limited; out = []; steps = steps; cells = cells }
 
 -- a schedule records a run; or it has finished, and comes out so
 abbrev pub Records : Program → Limits → List ℕ → Option DeclaredOutcome → Type 0
 Records Q L ks None = (R : Run) × Ran Q L ks R
-Records Q L ks (Some o) = (q : Outcome) × Finished Q L ks q × (o ≡ told q)
+Records Q L ks (Some o) = (q : Outcome) × Finished Q L ks q × (o ≡ reported q)
 
 -- wherever a schedule leads a machine, it records a run, with the outcome of the machine
 abbrev pub AllRecord : Program → Code → DeclaredLimits → ℤ → Type 0

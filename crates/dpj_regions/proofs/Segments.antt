@@ -8,7 +8,7 @@ use Rattle.std.proofs.lemmas.List.{get_or-drop, drop-drop}
 use Rattle.dpj_base.specs.declared.elems.Elem.{Elem}
 use Rattle.dpj_base.specs.declared.elems.Elem.TheVariants.{Star, Local}
 use Rattle.dpj_base.specs.Regions.{is_star, is_local, elem_within, covers_elems}
-use Rattle.dpj_regions.specs.Segments.{NoStar, begins_within, behind, behind_first, ends_within}
+use Rattle.dpj_regions.specs.Segments.{NoStar, begins_within, following, after_first, ends_within}
 
 pub and_assoc : (a b c : Bool) → (a && (b && c)) ≡ ((a && b) && c)
 and_assoc true b c = refl
@@ -141,8 +141,8 @@ continues-cond : (t : List Elem) (b : Bool) (r : List Elem) → (b && covers_ele
 continues-cond t true r = refl
 continues-cond t false r = refl
 
-pub covers_behind : (s t l : List Elem) → NoStar s → covers_elems (s ++ Star ∷ t) l ≡ continues t (behind s l)
-covers_behind s t l n = covers_segment s t l n ∙ continues-cond t (begins_within s l) (drop (length s) l)
+pub covers_after : (s t l : List Elem) → NoStar s → covers_elems (s ++ Star ∷ t) l ≡ continues t (following s l)
+covers_after s t l n = covers_segment s t l n ∙ continues-cond t (begins_within s l) (drop (length s) l)
 
 first_step : (t : List Elem) (b c w : Bool) (r : List Elem) (o : Option (List Elem)) → w ≡ continues t o →
     (b ≡ true → c ≡ false → w ≡ true → covers_elems (Star ∷ t) r ≡ true) →
@@ -151,11 +151,11 @@ first_step t true c w r o e h = or_absorb _ _ (λ k. let p = and_parts (not c) w
 first_step t false true w r o e h = refl
 first_step t false false w r o e h = e
 
-pub covers_star : (s t l : List Elem) → NoStar s → covers_elems (Star ∷ (s ++ Star ∷ t)) l ≡ continues t (behind_first s l)
-covers_star s t [] n = covers_behind s t [] n
+pub covers_star : (s t l : List Elem) → NoStar s → covers_elems (Star ∷ (s ++ Star ∷ t)) l ≡ continues t (after_first s l)
+covers_star s t [] n = covers_after s t [] n
 covers_star s t (x ∷ l) n =
     ap (λ z. z || (not (is_local x) && covers_elems (Star ∷ (s ++ Star ∷ t)) l)) (covers_segment s t (x ∷ l) n)
-    ∙ first_step t (begins_within s (x ∷ l)) (is_local x) _ (drop (length s) (x ∷ l)) (behind_first s l) (covers_star s t l n) (λ b c w. greedy s t x l n b c w)
+    ∙ first_step t (begins_within s (x ∷ l)) (is_local x) _ (drop (length s) (x ∷ l)) (after_first s l) (covers_star s t l n) (λ b c w. greedy s t x l n b c w)
 
 ends_within-fits : (s l : List Elem) → ends_within s l ≡ true → length s ≤ length l
 ends_within-fits s [] h = grind (arith, nat_tests)
@@ -185,16 +185,16 @@ covers-alone o i b n e h = h ∙ sym (ap (λ z. z && begins_within o i) (eq-eqb 
 pub covers-longer : (o i : List Elem) → NoStar o → (length o ≡ length i → ⊥) → eqb (length o) (length i) ≡ covers_elems o i
 covers-longer o i n e = ne_eqb _ _ e ∙ sym (covers_solid o i n ∙ and_left _ _ (ne_eqb _ _ e))
 
-pub covers-front : (o f p i l : List Elem) → NoStar f → o ≡ f ++ Star ∷ p → Some l ≡ behind f i → covers_elems (Star ∷ p) l ≡ covers_elems o i
-covers-front o f p i l n e h = ap (continues p) h ∙ sym (covers_behind f p i n) ∙ ap (λ z. covers_elems z i) (sym e)
+pub covers-front : (o f p i l : List Elem) → NoStar f → o ≡ f ++ Star ∷ p → Some l ≡ following f i → covers_elems (Star ∷ p) l ≡ covers_elems o i
+covers-front o f p i l n e h = ap (continues p) h ∙ sym (covers_after f p i n) ∙ ap (λ z. covers_elems z i) (sym e)
 
-pub covers-no_front : (o f p i : List Elem) → NoStar f → o ≡ f ++ Star ∷ p → None ≡ behind f i → false ≡ covers_elems o i
-covers-no_front o f p i n e h = ap (continues p) h ∙ sym (covers_behind f p i n) ∙ ap (λ z. covers_elems z i) (sym e)
+pub covers-no_front : (o f p i : List Elem) → NoStar f → o ≡ f ++ Star ∷ p → None ≡ following f i → false ≡ covers_elems o i
+covers-no_front o f p i n e h = ap (continues p) h ∙ sym (covers_after f p i n) ∙ ap (λ z. covers_elems z i) (sym e)
 
-pub covers-next : (p s a l r : List Elem) → NoStar s → p ≡ s ++ Star ∷ a → Some r ≡ behind_first s l → covers_elems (Star ∷ a) r ≡ covers_elems (Star ∷ p) l
+pub covers-next : (p s a l r : List Elem) → NoStar s → p ≡ s ++ Star ∷ a → Some r ≡ after_first s l → covers_elems (Star ∷ a) r ≡ covers_elems (Star ∷ p) l
 covers-next p s a l r n e h = ap (continues a) h ∙ sym (covers_star s a l n) ∙ ap (λ z. covers_elems (Star ∷ z) l) (sym e)
 
-pub covers-no_next : (p s a l : List Elem) → NoStar s → p ≡ s ++ Star ∷ a → None ≡ behind_first s l → false ≡ covers_elems (Star ∷ p) l
+pub covers-no_next : (p s a l : List Elem) → NoStar s → p ≡ s ++ Star ∷ a → None ≡ after_first s l → false ≡ covers_elems (Star ∷ p) l
 covers-no_next p s a l n e h = ap (continues a) h ∙ sym (covers_star s a l n) ∙ ap (λ z. covers_elems (Star ∷ z) l) (sym e)
 
 pub NoStar-push : (xs : List Elem) (i : ℕ) (d : Elem) → i < length xs → NoStar (take i xs) → is_star (get_or xs i d) ≡ false → NoStar (take (i + 1) xs)

@@ -14,13 +14,13 @@ begins_within (y ∷ s) [] = false
 begins_within (y ∷ s) (x ∷ l) = elem_within x y && begins_within s l
 
 -- what is left after those elements
-abbrev pub behind : List Elem → List Elem → Option (List Elem)
-behind s l = cond (begins_within s l) (Some (drop (length s) l)) None
+abbrev pub following : List Elem → List Elem → Option (List Elem)
+following s l = cond (begins_within s l) (Some (drop (length s) l)) None
 
 -- what is left after the first place where the segment fits, with no local region before that place
-abbrev pub behind_first : List Elem → List Elem → Option (List Elem)
-behind_first s [] = behind s []
-behind_first s (x ∷ l) = cond (begins_within s (x ∷ l)) (Some (drop (length s) (x ∷ l))) (cond (is_local x) None (behind_first s l))
+abbrev pub after_first : List Elem → List Elem → Option (List Elem)
+after_first s [] = following s []
+after_first s (x ∷ l) = cond (begins_within s (x ∷ l)) (Some (drop (length s) (x ∷ l))) (cond (is_local x) None (after_first s l))
 
 -- the segment fits at the end of the list, with no local region before
 abbrev pub ends_within : List Elem → List Elem → Bool

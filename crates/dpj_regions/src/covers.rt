@@ -1,6 +1,6 @@
 ghost use Rattle.std.specs.Prelude.{◌≡◌, ◌++◌, ◌∷◌, option_map, MatchOption};
 ghost use Rattle.dpj_base.specs.Regions.{is_star, is_local, elem_within, covers_elems};
-ghost use Rattle.dpj_regions.specs.Segments.{NoStar, begins_within, behind, behind_first, ends_within};
+ghost use Rattle.dpj_regions.specs.Segments.{NoStar, begins_within, following, after_first, ends_within};
 
 use dpj_base::Elem;
 
@@ -50,8 +50,8 @@ fn begins(segment: &[Elem], list: &[Elem]) -> bool
 }
 
 /// What is left of the list after the segment, where it begins with it.
-fn behind<'a>(segment: &[Elem], list: &'a [Elem]) -> Option<&'a [Elem]>
-    ensures { option_map (λ rest. rest.now) result ≡ behind segment.now list.now }
+fn following<'a>(segment: &[Elem], list: &'a [Elem]) -> Option<&'a [Elem]>
+    ensures { option_map (λ rest. rest.now) result ≡ following segment.now list.now }
 {
     if begins(segment, list) {
         Some(&list[segment.len()..])
@@ -62,17 +62,17 @@ fn behind<'a>(segment: &[Elem], list: &'a [Elem]) -> Option<&'a [Elem]>
 
 /// What is left after the first place of the list where the segment fits, if a `*` reaches it.
 fn skip_to<'a>(segment: &[Elem], list: &'a [Elem]) -> Option<&'a [Elem]>
-    ensures { option_map (λ rest. rest.now) result ≡ behind_first segment.now list.now }
+    ensures { option_map (λ rest. rest.now) result ≡ after_first segment.now list.now }
 {
     for at in 0..list.len() {
-        if let Some(rest) = behind(segment, &list[at..]) {
+        if let Some(rest) = following(segment, &list[at..]) {
             return Some(rest);
         }
         if is_local(list[at]) {
             return None;
         }
     }
-    behind(segment, &list[list.len()..])
+    following(segment, &list[list.len()..])
 }
 
 /// Whether the segment fits at the end of the list, and a `*` reaches its place.
@@ -98,7 +98,7 @@ pub fn covers(outer: &[Elem], inner: &[Elem]) -> bool
     let Some((first, mut pattern)) = at_star(outer) else {
         return outer.len() == inner.len() && begins(outer, inner);
     };
-    let Some(mut list) = behind(first, inner) else {
+    let Some(mut list) = following(first, inner) else {
         return false;
     };
     while let Some((segment, after)) = at_star(pattern) {

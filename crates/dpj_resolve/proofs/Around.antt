@@ -7,12 +7,12 @@ use Rattle.dpj_tree.specs.declared.region.Suffix.{Suffix}
 use Rattle.dpj_resolve.specs.Index.{PlainIndex, is_named, names_around}
 
 -- the first suffix of that index name, counted on from a number; else the array outside all of them
-named_behind : (name : ℕ) (made : Option Named) (suffixes : List Suffix) (at : ℕ) → position_from (is_named name) at (map (λ s. s.index) suffixes ++ made ∷ [])
+named_after : (name : ℕ) (made : Option Named) (suffixes : List Suffix) (at : ℕ) → position_from (is_named name) at (map (λ s. s.index) suffixes ++ made ∷ [])
     ≡ option_or (position_from (λ s. is_named name s.index) at suffixes) (cond (is_named name made) (Some (at + length suffixes)) None)
-named_behind name made [] at = ap (λ n. cond (is_named name made) (Some n) None) (let e : at ≡ at + 0 = omega arith in e)
-named_behind name made (s ∷ suffixes) at =
+named_after name made [] at = ap (λ n. cond (is_named name made) (Some n) None) (let e : at ≡ at + 0 = omega arith in e)
+named_after name made (s ∷ suffixes) at =
     ap (λ o. cond (is_named name s.index) (Some at) o)
-    (named_behind name made suffixes (at + 1) ∙ ap (λ n. option_or (position_from (λ s. is_named name s.index) (at + 1) suffixes) (cond (is_named name made) (Some n) None)) (let e : at + 1 + length suffixes ≡ at + length (s ∷ suffixes) = omega arith in e))
+    (named_after name made suffixes (at + 1) ∙ ap (λ n. option_or (position_from (λ s. is_named name s.index) (at + 1) suffixes) (cond (is_named name made) (Some n) None)) (let e : at + 1 + length suffixes ≡ at + length (s ∷ suffixes) = omega arith in e))
     ∙ or_inside (is_named name s.index) (position_from (λ s. is_named name s.index) (at + 1) suffixes) (cond (is_named name made) (Some (at + length (s ∷ suffixes))) None)
   where
     or_inside : (b : Bool) (o other : Option ℕ) → cond b (Some at) (option_or o other) ≡ option_or (cond b (Some at) o) other
@@ -23,7 +23,7 @@ named_behind name made (s ∷ suffixes) at =
 pub depth_found : (around : PlainIndex) (name : ℕ) → position_from (is_named name) 0 (names_around around)
     ≡ option_or (position_from (λ s. is_named name s.index) 0 (drop around.inside around.suffixes)) (cond (is_named name around.made) (Some (length around.suffixes - around.inside)) None)
 depth_found around name =
-    named_behind name around.made (drop around.inside around.suffixes) 0
+    named_after name around.made (drop around.inside around.suffixes) 0
     ∙ ap (λ n. option_or (position_from (λ s. is_named name s.index) 0 (drop around.inside around.suffixes)) (cond (is_named name around.made) (Some n) None))
     (let e : 0 + length (drop around.inside around.suffixes) ≡ length around.suffixes - around.inside = omega (arith, length-drop around.inside around.suffixes) in e)
 

@@ -1,5 +1,5 @@
 pub mod Around
 mod Roots
 pub mod Naming
-pub mod Told
+pub mod Reported
 pub mod Whole

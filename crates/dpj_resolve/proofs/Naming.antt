@@ -12,25 +12,25 @@ use Rattle.dpj_resolve.specs.Names.{last_from, last_place, plain_names, KnowHidd
 abbrev Spots : Type 0
 Spots = BTreeMap ℕ ℕ Global
 
-last_from-behind : (at : ℕ) (found : Option ℕ) (names : List ℕ) (last name : ℕ)
+last_from-following : (at : ℕ) (found : Option ℕ) (names : List ℕ) (last name : ℕ)
     → last_from at found (names ++ last ∷ []) name ≡ cond (last == name) (Some (at + length names)) (last_from at found names name)
-last_from-behind at found [] last name =
+last_from-following at found [] last name =
     let here : at ≡ at + 0 = omega arith in
     ap (λ place. cond (last == name) (Some place) found) here
-last_from-behind at found (other ∷ names) last name =
+last_from-following at found (other ∷ names) last name =
     let further : suc at + length names ≡ at + suc (length names) = omega arith in
-    last_from-behind (suc at) (cond (other == name) (Some at) found) names last name
+    last_from-following (suc at) (cond (other == name) (Some at) found) names last name
     ∙ ap (λ place. cond (last == name) (Some place) (last_from (suc at) (cond (other == name) (Some at) found) names name)) further
 
 -- one name more: its place is after the others
-pub last-behind : (names : List ℕ) (last name : ℕ) → last_place (names ++ last ∷ []) name ≡ cond (last == name) (Some (length names)) (last_place names name)
-last-behind names last name =
+pub last-following : (names : List ℕ) (last name : ℕ) → last_place (names ++ last ∷ []) name ≡ cond (last == name) (Some (length names)) (last_place names name)
+last-following names last name =
     let whole : 0 + length names ≡ length names = omega arith in
-    last_from-behind 0 None names last name ∙ ap (λ place. cond (last == name) (Some place) (last_place names name)) whole
+    last_from-following 0 None names last name ∙ ap (λ place. cond (last == name) (Some place) (last_place names name)) whole
 
-pub plain-behind : (names : List Named) (last : Named) → plain_names (names ++ last ∷ []) ≡ plain_names names ++ last.name ∷ []
-plain-behind [] last = refl
-plain-behind (named ∷ names) last = ap (λ rest. named.name ∷ rest) (plain-behind names last)
+pub plain-following : (names : List Named) (last : Named) → plain_names (names ++ last ∷ []) ≡ plain_names names ++ last.name ∷ []
+plain-following [] last = refl
+plain-following (named ∷ names) last = ap (λ rest. named.name ∷ rest) (plain-following names last)
 
 pub plain-length : (names : List Named) → length (plain_names names) ≡ length names
 plain-length [] = refl
@@ -42,23 +42,23 @@ shown-entered names last old new count is shown moved name =
     moved name
     ∙ ap (λ found. cond (last.name == name) (Some count) found) (shown name)
     ∙ ap (λ place. cond (last.name == name) (Some place) (last_place (plain_names names) name)) (is ∙ sym (plain-length names))
-    ∙ sym (last-behind (plain_names names) last.name name)
-    ∙ ap (λ all. last_place all name) (sym (plain-behind names last))
+    ∙ sym (last-following (plain_names names) last.name name)
+    ∙ ap (λ all. last_place all name) (sym (plain-following names last))
 
 -- what stands at a place with one more: what stood there, or the last
-at-behind : (names : List Named) (last named : Named) (k : ℕ) → slice_get (names ++ last ∷ []) k ≡ Some named
+at-following : (names : List Named) (last named : Named) (k : ℕ) → slice_get (names ++ last ∷ []) k ≡ Some named
     → ((k < length names) × (slice_get names k ≡ Some named)) ⊎ ((k ≡ length names) × (last ≡ named))
-at-behind [] last named zero is = inr (refl, some-is is)
+at-following [] last named zero is = inr (refl, some-is is)
   where
     some-is : {x y : Named} → Some x ≡ Some y → x ≡ y
     some-is e = cc
-at-behind [] last named (suc k) is = cc
-at-behind (first ∷ names) last named zero is = inl (omega arith, is)
-at-behind (first ∷ names) last named (suc k) is =
+at-following [] last named (suc k) is = cc
+at-following (first ∷ names) last named zero is = inl (omega arith, is)
+at-following (first ∷ names) last named (suc k) is =
     ⊎_elim
     (λ found. inl (omega (arith, found.0), found.1))
     (λ found. inr (ap suc found.0, found.1))
-    (at-behind names last named k is)
+    (at-following names last named k is)
 
 stays-at : (names : List Named) (last named : Named) (k : ℕ) → slice_get names k ≡ Some named → slice_get (names ++ last ∷ []) k ≡ Some named
 stays-at [] last named k is = cc
@@ -75,10 +75,10 @@ last-at [] last = refl
 last-at (first ∷ names) last = last-at names last
 
 -- the front of the names is the same with one more
-front-behind : (names : List ℕ) (last k : ℕ) → k ≤ length names → take k (names ++ last ∷ []) ≡ take k names
-front-behind names last zero within = refl
-front-behind [] last (suc k) within = absurd (omega (arith, within))
-front-behind (name ∷ names) last (suc k) within = ap (λ rest. name ∷ rest) (front-behind names last k (omega (arith, within)))
+front-following : (names : List ℕ) (last k : ℕ) → k ≤ length names → take k (names ++ last ∷ []) ≡ take k names
+front-following names last zero within = refl
+front-following [] last (suc k) within = absurd (omega (arith, within))
+front-following (name ∷ names) last (suc k) within = ap (λ rest. name ∷ rest) (front-following names last k (omega (arith, within)))
 
 take-all : (names : List ℕ) → take (length names) names ≡ names
 take-all [] = refl
@@ -86,7 +86,7 @@ take-all (name ∷ names) = ap (λ rest. name ∷ rest) (take-all names)
 
 front-plain : (names : List Named) (last : Named) (k : ℕ) → k ≤ length names → take k (plain_names (names ++ last ∷ [])) ≡ take k (plain_names names)
 front-plain names last k within =
-    ap (take k) (plain-behind names last) ∙ front-behind (plain_names names) last.name k (omega (arith, within, plain-length names))
+    ap (take k) (plain-following names last) ∙ front-following (plain_names names) last.name k (omega (arith, within, plain-length names))
 
 front-all : (names : List Named) (last : Named) → take (length names) (plain_names (names ++ last ∷ [])) ≡ plain_names names
 front-all names last =
@@ -100,7 +100,7 @@ hidden-entered names last know is k named at =
     let Hides : Named → Type 0 = λ other. other.hidden ≡ last_place (take k (plain_names (names ++ last ∷ []))) other.name in
     let front : take k (plain_names (names ++ last ∷ [])) ≡ plain_names names = ap (λ n. take n (plain_names (names ++ last ∷ []))) found.0 ∙ front-all names last in
     subst Hides found.1 (is ∙ ap (λ all. last_place all last.name) (sym front)))
-    (at-behind names last named k at)
+    (at-following names last named k at)
 
 pub hidden-left : (names : List Named) (last : Named) → KnowHidden (names ++ last ∷ []) → KnowHidden names
 hidden-left names last know k named at =
@@ -109,15 +109,15 @@ hidden-left names last know k named at =
 hidden-last : (names : List Named) (last : Named) → KnowHidden (names ++ last ∷ []) → last.hidden ≡ last_place (plain_names names) last.name
 hidden-last names last know = know (length names) last (last-at names last) ∙ ap (λ all. last_place all last.name) (front-all names last)
 
-shown-behind : (names : List Named) (last : Named) (spots : Spots) → ShowsLast (names ++ last ∷ []) spots → (name : ℕ) → get nat_cmp spots name ≡ cond (last.name == name) (Some (length (plain_names names))) (last_place (plain_names names) name)
-shown-behind names last spots shown name = shown name ∙ ap (λ all. last_place all name) (plain-behind names last) ∙ last-behind (plain_names names) last.name name
+shown-following : (names : List Named) (last : Named) (spots : Spots) → ShowsLast (names ++ last ∷ []) spots → (name : ℕ) → get nat_cmp spots name ≡ cond (last.name == name) (Some (length (plain_names names))) (last_place (plain_names names) name)
+shown-following names last spots shown name = shown name ∙ ap (λ all. last_place all name) (plain-following names last) ∙ last-following (plain_names names) last.name name
 
 -- the last name has a place
 pub last-shown : (names : List Named) (last : Named) (spots : Spots) → ShowsLast (names ++ last ∷ []) spots → IsSome (get nat_cmp spots last.name)
 last-shown names last spots shown =
     let same : (last.name == last.name) ≡ true = eq-eqb last.name last.name refl in
     let found : get nat_cmp spots last.name ≡ Some (length (plain_names names)) =
-    shown-behind names last spots shown last.name ∙ ap (λ b. cond b (Some (length (plain_names names))) (last_place (plain_names names) last.name)) same in
+    shown-following names last spots shown last.name ∙ ap (λ b. cond b (Some (length (plain_names names))) (last_place (plain_names names) last.name)) same in
     subst (λ place. IsSome place) (sym found) refl
 
 left-at : (names : List ℕ) (last name : ℕ) (hidden : Option ℕ) (b : Bool) → (last == name) ≡ b → hidden ≡ last_place names last
@@ -129,7 +129,7 @@ left-at names last name hidden false same is = refl
 pub shown-left : (names : List Named) (last : Named) (old new : Spots) → KnowHidden (names ++ last ∷ []) → ShowsLast (names ++ last ∷ []) old → HasMoved old last.name last.hidden new → ShowsLast names new
 shown-left names last old new know shown moved name =
     moved name
-    ∙ ap (λ found. cond (last.name == name) last.hidden found) (shown-behind names last old shown name)
+    ∙ ap (λ found. cond (last.name == name) last.hidden found) (shown-following names last old shown name)
     ∙ left-at (plain_names names) last.name name last.hidden (last.name == name) refl (hidden-last names last know)
 
 take-less : {A : Type 0} (m n : ℕ) (xs : List A) → n ≤ m → take n (take m xs) ≡ take n xs

@@ -49,13 +49,13 @@ abbrev pub class_param : List ParamRow → ℕ → ParamFound
 class_param params number = record { number = number; atomic = is_atomic_at params number }
 
 -- the region parameter of a method at a position, numbered after those of the class
-abbrev pub behind_class : List ParamRow → List Bool → ℕ → Option ParamFound
-behind_class params own place =
+abbrev pub after_class : List ParamRow → List Bool → ℕ → Option ParamFound
+after_class params own place =
     option_map (λ atomic. record { number = as_number (length params + place); atomic = atomic }) (slice_get own place)
 
 abbrev pub method_param : PlainScope → ℕ → Option ParamFound
 method_param scope name =
-    option_and_then (λ place. behind_class (params_in scope.headers scope.class) (values_in scope.params) place) (place_in scope.params name)
+    option_and_then (λ place. after_class (params_in scope.headers scope.class) (values_in scope.params) place) (place_in scope.params name)
 
 -- the region parameter that a name means: that of the class, else that of the method
 abbrev pub param_meant : PlainScope → ℕ → Option ParamFound

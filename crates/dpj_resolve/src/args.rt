@@ -7,7 +7,7 @@ ghost use Rattle.dpj_resolve.specs.Args.{root_path, roots, args_given, begins_lo
 ghost use Rattle.dpj_resolve.specs.Index.{plain_index};
 ghost use Rattle.dpj_resolve.specs.Reading.{path_meant, path_faults, arg_need, arg_faults, local_with, args_read};
 ghost use Rattle.dpj_resolve.specs.Scopes.{plain_scope};
-ghost use Rattle.dpj_resolve.specs.Telling.{told_at, parts_noted, parts_told};
+ghost use Rattle.dpj_resolve.specs.Telling.{reported_at, parts_noted, parts_reported};
 
 use crate::index::IndexNames;
 use crate::paths::{Need, path};
@@ -100,8 +100,8 @@ impl ReadPaths {
         ensures paths { OnOk result (self.new.paths ≡ self.old.paths ++ option_to_list (path_meant (plain_scope scope.now) (plain_index around.now) tree.now)) }
         ensures local { OnOk result (self.new.local ≡ local_with (plain_scope scope.now) (plain_index around.now) self.old.local tree.now) }
         ensures noted { OnOk result (faults.new ≡ all_noted faults.old (path_faults (plain_scope scope.now) (plain_index around.now) need tree.now)) }
-        ensures untold { OnOk result (told_at scope.now.site (all_noted faults.old (path_faults (plain_scope scope.now) (plain_index around.now) need tree.now)) ≡ None) }
-        ensures told { IfErr result (λ stop. IfRefused stop (λ refusal. told_at scope.now.site (all_noted faults.old (path_faults (plain_scope scope.now) (plain_index around.now) need tree.now)) ≡ Some refusal)) }
+        ensures unreported { OnOk result (reported_at scope.now.site (all_noted faults.old (path_faults (plain_scope scope.now) (plain_index around.now) need tree.now)) ≡ None) }
+        ensures reported { IfErr result (λ stop. IfRefused stop (λ refusal. reported_at scope.now.site (all_noted faults.old (path_faults (plain_scope scope.now) (plain_index around.now) need tree.now)) ≡ Some refusal)) }
     {
         if let Some(rpl) = path(alloc, scope, faults, tree, need, around)? {
             self.local = first_local(self.local, &rpl, tree.place);
@@ -124,8 +124,8 @@ pub fn read_args(
 ) -> Result<ReadArgs, Stop>
     ensures meant { IfOk result (λ args. args ≡ args_read (plain_scope scope.now) (plain_index around.now) trees.now) }
     ensures noted { OnOk result (faults.new ≡ parts_noted faults.old (arg_faults (plain_scope scope.now) (plain_index around.now) params.now full trees.now)) }
-    ensures untold { OnOk result (parts_told scope.now.site faults.old (arg_faults (plain_scope scope.now) (plain_index around.now) params.now full trees.now) ≡ None) }
-    ensures told { IfErr result (λ stop. IfRefused stop (λ refusal. parts_told scope.now.site faults.old (arg_faults (plain_scope scope.now) (plain_index around.now) params.now full trees.now) ≡ Some refusal)) }
+    ensures unreported { OnOk result (parts_reported scope.now.site faults.old (arg_faults (plain_scope scope.now) (plain_index around.now) params.now full trees.now) ≡ None) }
+    ensures reported { IfErr result (λ stop. IfRefused stop (λ refusal. parts_reported scope.now.site faults.old (arg_faults (plain_scope scope.now) (plain_index around.now) params.now full trees.now) ≡ Some refusal)) }
 {
     let mut read = ReadPaths::new(alloc);
     for (at, tree) in trees.iter().enumerate() {

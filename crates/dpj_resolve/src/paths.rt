@@ -8,7 +8,7 @@ ghost use Rattle.dpj_resolve.specs.Begun.{meant};
 ghost use Rattle.dpj_resolve.specs.Reading.{head_param, head_local, head_meant, head_faults, head_atomic, path_meant, path_faults};
 ghost use Rattle.dpj_resolve.specs.Index.{plain_index};
 ghost use Rattle.dpj_resolve.specs.Scopes.{plain_scope};
-ghost use Rattle.dpj_resolve.specs.Telling.{told_at};
+ghost use Rattle.dpj_resolve.specs.Telling.{reported_at};
 
 use crate::index::IndexNames;
 use crate::scope::{ParamFound, Scope};
@@ -49,8 +49,8 @@ pub fn path(
 ) -> Result<Option<Rpl>, Stop>
     ensures meant { IfOk result (λ rpl. rpl ≡ path_meant (plain_scope scope.now) (plain_index around.now) tree.now) }
     ensures noted { OnOk result (faults.new ≡ all_noted faults.old (path_faults (plain_scope scope.now) (plain_index around.now) need tree.now)) }
-    ensures untold { OnOk result (told_at scope.now.site (all_noted faults.old (path_faults (plain_scope scope.now) (plain_index around.now) need tree.now)) ≡ None) }
-    ensures told { IfErr result (λ stop. IfRefused stop (λ refusal. told_at scope.now.site (all_noted faults.old (path_faults (plain_scope scope.now) (plain_index around.now) need tree.now)) ≡ Some refusal)) }
+    ensures unreported { OnOk result (reported_at scope.now.site (all_noted faults.old (path_faults (plain_scope scope.now) (plain_index around.now) need tree.now)) ≡ None) }
+    ensures reported { IfErr result (λ stop. IfRefused stop (λ refusal. reported_at scope.now.site (all_noted faults.old (path_faults (plain_scope scope.now) (plain_index around.now) need tree.now)) ≡ Some refusal)) }
 {
     let mut reading = begin(alloc, scope, faults, tree.head)?;
     reading.read_all(scope, faults, tree.elems.as_slice(), around)?;

@@ -47,12 +47,12 @@ impl Scope<'_> {
     ghost use Rattle.dpj_resolve.specs.Classes.{params_in, constraints_in};
     ghost use Rattle.dpj_resolve.specs.Paths.{region_meant, region_faults, is_atomic_region};
     ghost use Rattle.dpj_resolve.specs.Scopes.{plain_scope, method_param, param_meant};
-    ghost use Rattle.dpj_resolve.specs.Telling.{told_at};
+    ghost use Rattle.dpj_resolve.specs.Telling.{reported_at};
 
     /// Tells a noted fault where the place is in a body.
-    #[tactic(auto, using(crate::proofs::Told::settling))]
+    #[tactic(auto, using(crate::proofs::Reported::settling))]
     pub fn settle(&self, faults: &mut Faults) -> Result<(), Stop>
-        ensures result { result ≡ settled (told_at self.now.site faults.old) }
+        ensures result { result ≡ settled (reported_at self.now.site faults.old) }
         ensures same { OnOk result (faults.new ≡ faults.old) }
     {
         match self.site {

@@ -5,7 +5,7 @@ ghost use Rattle.dpj_base.specs.Types.{plain_type};
 ghost use Rattle.dpj_headers.specs.Faults.{all_noted};
 ghost use Rattle.dpj_resolve.specs.Index.{plain_index};
 ghost use Rattle.dpj_resolve.specs.Scopes.{plain_scope};
-ghost use Rattle.dpj_resolve.specs.Telling.{told_at, parts_noted, parts_told};
+ghost use Rattle.dpj_resolve.specs.Telling.{reported_at, parts_noted, parts_reported};
 ghost use Rattle.dpj_resolve.specs.Written.{base_read, base_parts, suffix_meant, suffix_parts, suffix_local, paths_from, local_from, parts_from, type_read, type_parts, is_flat, own_fault, is_indexed, with_suffixes, arrays_from, judged_type, judged_faults, type_meant, type_faults, array_meant, array_faults};
 
 use crate::args::{ReadPaths, begins_local, note_local, read_args, root};
@@ -27,8 +27,8 @@ pub fn ty(
 ) -> Result<Option<Ty>, Stop>
     ensures meant { IfOk result (λ made. option_map plain_type made ≡ type_meant (plain_scope scope.now) tree.now) }
     ensures noted { OnOk result (faults.new ≡ parts_noted faults.old (type_faults (plain_scope scope.now) tree.now)) }
-    ensures untold { OnOk result (parts_told scope.now.site faults.old (type_faults (plain_scope scope.now) tree.now) ≡ None) }
-    ensures told { IfErr result (λ stop. IfRefused stop (λ refusal. parts_told scope.now.site faults.old (type_faults (plain_scope scope.now) tree.now) ≡ Some refusal)) }
+    ensures unreported { OnOk result (parts_reported scope.now.site faults.old (type_faults (plain_scope scope.now) tree.now) ≡ None) }
+    ensures reported { IfErr result (λ stop. IfRefused stop (λ refusal. parts_reported scope.now.site faults.old (type_faults (plain_scope scope.now) tree.now) ≡ Some refusal)) }
 {
     let around = IndexNames {
         suffixes: tree.suffixes.as_slice(),
@@ -52,8 +52,8 @@ pub fn read_type(
 ) -> Result<ReadType, Stop>
     ensures meant { IfOk result (λ read. read ≡ type_read (plain_scope scope.now) (plain_index around.entry) base.now) }
     ensures noted { OnOk result (faults.new ≡ parts_noted faults.old (type_parts (plain_scope scope.now) (plain_index around.entry) base.now)) }
-    ensures untold { OnOk result (parts_told scope.now.site faults.old (type_parts (plain_scope scope.now) (plain_index around.entry) base.now) ≡ None) }
-    ensures told { IfErr result (λ stop. IfRefused stop (λ refusal. parts_told scope.now.site faults.old (type_parts (plain_scope scope.now) (plain_index around.entry) base.now) ≡ Some refusal)) }
+    ensures unreported { OnOk result (parts_reported scope.now.site faults.old (type_parts (plain_scope scope.now) (plain_index around.entry) base.now) ≡ None) }
+    ensures reported { IfErr result (λ stop. IfRefused stop (λ refusal. parts_reported scope.now.site faults.old (type_parts (plain_scope scope.now) (plain_index around.entry) base.now) ≡ Some refusal)) }
 {
     let base = read_base(alloc, scope, faults, base, &around)?;
     let read = read_suffixes(alloc, scope, faults, &around)?;
@@ -74,8 +74,8 @@ fn read_base(
 ) -> Result<ReadBase, Stop>
     ensures meant { IfOk result (λ read. read ≡ base_read (plain_scope scope.now) (plain_index around.now) base.now) }
     ensures noted { OnOk result (faults.new ≡ parts_noted faults.old (base_parts (plain_scope scope.now) (plain_index around.now) base.now)) }
-    ensures untold { OnOk result (parts_told scope.now.site faults.old (base_parts (plain_scope scope.now) (plain_index around.now) base.now) ≡ None) }
-    ensures told { IfErr result (λ stop. IfRefused stop (λ refusal. parts_told scope.now.site faults.old (base_parts (plain_scope scope.now) (plain_index around.now) base.now) ≡ Some refusal)) }
+    ensures unreported { OnOk result (parts_reported scope.now.site faults.old (base_parts (plain_scope scope.now) (plain_index around.now) base.now) ≡ None) }
+    ensures reported { IfErr result (λ stop. IfRefused stop (λ refusal. parts_reported scope.now.site faults.old (base_parts (plain_scope scope.now) (plain_index around.now) base.now) ≡ Some refusal)) }
 {
     match base {
         BaseTree::Int => Ok(ReadBase::Int),
@@ -97,8 +97,8 @@ fn read_class(
 ) -> Result<ReadBase, Stop>
     ensures meant { IfOk result (λ read. read ≡ base_read (plain_scope scope.now) (plain_index around.now) (BaseTree.Class name trees.now)) }
     ensures noted { OnOk result (faults.new ≡ parts_noted faults.old (base_parts (plain_scope scope.now) (plain_index around.now) (BaseTree.Class name trees.now))) }
-    ensures untold { OnOk result (parts_told scope.now.site faults.old (base_parts (plain_scope scope.now) (plain_index around.now) (BaseTree.Class name trees.now)) ≡ None) }
-    ensures told { IfErr result (λ stop. IfRefused stop (λ refusal. parts_told scope.now.site faults.old (base_parts (plain_scope scope.now) (plain_index around.now) (BaseTree.Class name trees.now)) ≡ Some refusal)) }
+    ensures unreported { OnOk result (parts_reported scope.now.site faults.old (base_parts (plain_scope scope.now) (plain_index around.now) (BaseTree.Class name trees.now)) ≡ None) }
+    ensures reported { IfErr result (λ stop. IfRefused stop (λ refusal. parts_reported scope.now.site faults.old (base_parts (plain_scope scope.now) (plain_index around.now) (BaseTree.Class name trees.now)) ≡ Some refusal)) }
 {
     let class = scope.headers.class(name.name);
     let params = scope.known_params(class);
@@ -116,8 +116,8 @@ fn read_suffixes(
     ensures paths { IfOk result (λ read. read.paths ≡ paths_from (plain_scope scope.now) (plain_index around.now) 0 around.now.suffixes.now) }
     ensures local { IfOk result (λ read. read.local ≡ local_from (plain_scope scope.now) (plain_index around.now) 0 None around.now.suffixes.now) }
     ensures noted { OnOk result (faults.new ≡ parts_noted faults.old (parts_from (plain_scope scope.now) (plain_index around.now) 0 around.now.suffixes.now)) }
-    ensures untold { OnOk result (parts_told scope.now.site faults.old (parts_from (plain_scope scope.now) (plain_index around.now) 0 around.now.suffixes.now) ≡ None) }
-    ensures told { IfErr result (λ stop. IfRefused stop (λ refusal. parts_told scope.now.site faults.old (parts_from (plain_scope scope.now) (plain_index around.now) 0 around.now.suffixes.now) ≡ Some refusal)) }
+    ensures unreported { OnOk result (parts_reported scope.now.site faults.old (parts_from (plain_scope scope.now) (plain_index around.now) 0 around.now.suffixes.now) ≡ None) }
+    ensures reported { IfErr result (λ stop. IfRefused stop (λ refusal. parts_reported scope.now.site faults.old (parts_from (plain_scope scope.now) (plain_index around.now) 0 around.now.suffixes.now) ≡ Some refusal)) }
 {
     let mut read = ReadPaths::new(alloc);
     for (at, suffix) in around.suffixes.iter().enumerate() {
@@ -145,8 +145,8 @@ fn read_suffix(
     ensures paths { OnOk result (read.new.paths ≡ read.old.paths ++ option_to_list (suffix_meant (plain_scope scope.now) (plain_index around.now) suffix.now)) }
     ensures local { OnOk result (read.new.local ≡ suffix_local (plain_scope scope.now) (plain_index around.now) read.old.local suffix.now) }
     ensures noted { OnOk result (faults.new ≡ parts_noted faults.old (suffix_parts (plain_scope scope.now) (plain_index around.now) suffix.now)) }
-    ensures untold { OnOk result (parts_told scope.now.site faults.old (suffix_parts (plain_scope scope.now) (plain_index around.now) suffix.now) ≡ None) }
-    ensures told { IfErr result (λ stop. IfRefused stop (λ refusal. parts_told scope.now.site faults.old (suffix_parts (plain_scope scope.now) (plain_index around.now) suffix.now) ≡ Some refusal)) }
+    ensures unreported { OnOk result (parts_reported scope.now.site faults.old (suffix_parts (plain_scope scope.now) (plain_index around.now) suffix.now) ≡ None) }
+    ensures reported { IfErr result (λ stop. IfRefused stop (λ refusal. parts_reported scope.now.site faults.old (suffix_parts (plain_scope scope.now) (plain_index around.now) suffix.now) ≡ Some refusal)) }
 {
     let Some(tree) = &suffix.rpl else {
         read.paths.push(root(alloc))?;

@@ -39,7 +39,7 @@ use Rattle.dpj_rows.proofs.Numbers.{owner_of}
 use Rattle.dpj_rows.proofs.Stand.{methods_stand, rows_kept}
 use Rattle.dpj_resolved.specs.Accepted.{IsAccepted}
 use Rattle.dpj_resolved.proofs.Expressions.{Signs, and_split}
-use Rattle.dpj_resolved.proofs.Free.{none_told, append_none}
+use Rattle.dpj_resolved.proofs.Free.{none_reported, append_none}
 use Rattle.dpj_resolved.proofs.Lists.{some_same, and_then_there, map_there, there, made_there, made_is}
 use Rattle.dpj_resolved.proofs.Numbering.{AreBodies, bodies_made}
 use Rattle.dpj_resolved.proofs.Signatures.{all_methods, Signed, row_signed, rows_many, field_valued}
@@ -280,7 +280,7 @@ module _ (program : Program) (table : Table) (bodies : List PlainBody) (accepted
 
     -- rows of the superclass are kept, each of the same kind
     faults_free : override_faults table (methods_of table) ≡ []
-    faults_free = (append_none (override_faults table (methods_of table)) (main_faults table program.names) (none_told (none_by order.Place) (table_faults table program.names) accepted.whole)).0
+    faults_free = (append_none (override_faults table (methods_of table)) (main_faults table program.names) (none_reported (none_by order.Place) (table_faults table program.names) accepted.whole)).0
 
     kept_kind : (other id : ℕ) (row above : MethodRow) → overridden_by table other ≡ Some id → slice_get (methods_of table) other ≡ Some row → slice_get (methods_of table) id ≡ Some above → is_void (plain_type row.result) ≡ is_void (plain_type above.result)
     kept_kind other id row above over row_is_there above_there =

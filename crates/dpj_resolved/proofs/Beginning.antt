@@ -29,7 +29,7 @@ use Rattle.dpj_classes.specs.Main.{begins_runs, is_main, main_class, main_faults
 use Rattle.dpj_classes.specs.Table.{headers_of, methods_of, constructor_of}
 use Rattle.dpj_resolved.specs.Accepted.{IsAccepted, AcceptedBegins, SmallHasRows}
 use Rattle.dpj_resolved.proofs.Assembled.{facts, has_member}
-use Rattle.dpj_resolved.proofs.Free.{append_none, fault_none, none_told, not_false}
+use Rattle.dpj_resolved.proofs.Free.{append_none, fault_none, none_reported, not_false}
 use Rattle.dpj_resolved.proofs.Lists.{some_same, and_then_there, map_there, there}
 use Rattle.dpj_resolved.proofs.Signatures.{methods_in, own_in, all_methods, rows_many}
 
@@ -67,7 +67,7 @@ module _ (program : Program) (table : Table) (bodies : List PlainBody) (accepted
   no_main_faults : main_faults table program.names ≡ []
   no_main_faults =
       (append_none (override_faults table (methods_of table)) (main_faults table program.names)
-      (none_told (none_by order.Place) (table_faults table program.names) accepted.whole)).1
+      (none_reported (none_by order.Place) (table_faults table program.names) accepted.whole)).1
 
   -- the header of the class of a name
   header_there : (name at : ℕ) → class_of (headers_of table) name ≡ Some at → (header : Header) × (header_of (headers_of table) at ≡ Some header)

@@ -22,7 +22,7 @@ use Rattle.dpj_check.specs.Checking.{variable_declared, parts_declared, parts_no
 use Rattle.dpj_check.specs.Noting.{with_fault, with_found, with_fault_if, node_at, without_faults, fault_of}
 use Rattle.dpj_check.specs.Simple.{has_room, local_declared, part_declared, region_declared, with_room, declaration_noted, is_region_name, region_noted, regions_noted, with_regions}
 use Rattle.dpj_resolved.proofs.Expressions.{Signs, Local, Around}
-use Rattle.dpj_resolved.proofs.Free.{noted_told}
+use Rattle.dpj_resolved.proofs.Free.{noted_reported}
 use Rattle.dpj_resolved.proofs.Lists.{and_then_there, got_taken, got_last}
 use Rattle.dpj_resolved.proofs.Valued.{valued, holds_values, valued_holds}
 
@@ -97,8 +97,8 @@ module _ {P : PlainProgram} {gives : Bool}
 -- a node of which no fault is reported had none before, and none was found later
 pub not_faulty : (node : Node) (reason : Kind) (place : Place) → fault_of (with_fault node reason place) ≡ None → ⊥
 not_faulty node reason place h =
-    let told = noted_told node.faults (record { kind = reason; place = place }) in
-    let both : Some _ ≡ None = sym told ∙ h in cc
+    let reported = noted_reported node.faults (record { kind = reason; place = place }) in
+    let both : Some _ ≡ None = sym reported ∙ h in cc
 
 pub free_if : (node : Node) (reason : Kind) (b : Bool) → fault_of (with_fault_if node reason b) ≡ None → (fault_of node ≡ None) × (b ≡ false)
 free_if node reason true h = absurd (not_faulty node reason node.place h)

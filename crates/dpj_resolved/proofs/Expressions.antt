@@ -37,7 +37,7 @@ use Rattle.dpj_exprs.specs.declared.env.Env.{Env}
 use Rattle.dpj_exprs.specs.declared.env.LocalRow.{LocalRow}
 use Rattle.dpj_exprs.specs.declared.found.Found.{Found}
 use Rattle.dpj_exprs.specs.Answer.{Answer, gives, refused, read}
-use Rattle.dpj_exprs.specs.Arrays.{array_told, array_with, type_told, own_path, own_place, created_array, front_of}
+use Rattle.dpj_exprs.specs.Arrays.{array_reported, array_with, type_reported, own_path, own_place, created_array, front_of}
 use Rattle.dpj_exprs.specs.Elements.{array_element, element_through, element_read, index_of, element_in_part, part_element, part_read}
 use Rattle.dpj_exprs.specs.Env.{table_of, supers_of, scope_of, local_of, part_of, as_part, is_length_name}
 use Rattle.dpj_exprs.specs.Fields.{owned_field, named_field, field_through, field_read, read_field}
@@ -46,10 +46,10 @@ use Rattle.dpj_exprs.specs.Locals.{local_typed}
 use Rattle.dpj_exprs.specs.Operations.{unary_takes, unary_gives, unary_op, unary_typed, both, comparable, binary_takes, binary_gives, binary_form, binary_typed, node_if}
 use Rattle.dpj_exprs.specs.Typed.{type_in, node_at, nodes_at, may_be, is_int, is_boolean, is_reference, is_value, is_array, FitsAs, AllFit}
 use Rattle.dpj_exprs.specs.Typing.{answer, created, leaf_typed, AllAnswer, all_give, one_refused, Typing, TypingArray, TypingAll}
-use Rattle.dpj_exprs.specs.Uses.{args_of, owned_method, named_method, method_through, called, formals_of, UseTold, use_faults, CallOf, CallOn, Call, CreationOf, Creation}
+use Rattle.dpj_exprs.specs.Uses.{args_of, owned_method, named_method, method_through, called, formals_of, UseReported, use_faults, CallOf, CallOn, Call, CreationOf, Creation}
 use Rattle.dpj_gen.specs.Resolved.{RowGives, ExprFits, ExprsFit, VoidCall}
 use Rattle.dpj_gen.specs.Scheme.{is_void}
-use Rattle.dpj_resolved.proofs.Free.{none_told, append_none, fault_none, not_false}
+use Rattle.dpj_resolved.proofs.Free.{none_reported, append_none, fault_none, not_false}
 use Rattle.dpj_resolved.proofs.Known.{judged_valued}
 use Rattle.dpj_resolved.proofs.Lists.{some_same, ok_same}
 use Rattle.dpj_resolved.proofs.Signatures.{AllValued}
@@ -419,31 +419,31 @@ module _ (P : PlainProgram)
         array_made place at t index front rpl h = with_path (own_path env index rpl)
           where
             meant : (own : Rpl) (o : Option PlainType) → ExprFits P (node_at place t) → ((elem : PlainType) → o ≡ Some elem → valued elem ≡ true) →
-                Made (created place (node_at place t) (type_told None (option_map (λ elem. ty.array elem own (is_some index.made)) o) at))
+                Made (created place (node_at place t) (type_reported None (option_map (λ elem. ty.array elem own (is_some index.made)) o) at))
             meant own None x v = tt
             meant own (Some elem) x v = value (v elem refl) (x, tt)
 
-            untold : (own : Rpl) (o : Option Refusal) → array_told env index front (may_be is_int (type_in t)) own (own_place rpl at) at ≡ o →
-                Made (created place (node_at place t) (type_told o (array_meant (scope_of env) index front own) at))
-            untold own (Some refusal) is = tt
-            untold own None is =
-                let found = none_told (none_by order.Number) _ is in
+            unreported : (own : Rpl) (o : Option Refusal) → array_reported env index front (may_be is_int (type_in t)) own (own_place rpl at) at ≡ o →
+                Made (created place (node_at place t) (type_reported o (array_meant (scope_of env) index front own) at))
+            unreported own (Some refusal) is = tt
+            unreported own None is =
+                let found = none_reported (none_by order.Number) _ is in
                 let first = append_none (fault_if (not (may_be is_int (type_in t))) kind.Type at) (array_faults (scope_of env) index front own (own_place rpl at) at) found in
                 let is_length = not_false (may_be is_int (type_in t)) (fault_none (not (may_be is_int (type_in t))) kind.Type at first.0) in
                 meant own (judged_type (scope_of env) index front) (used place t h (int_value (type_in t) is_length)) (λ elem e. judged_valued (scope_of env) index front elem e)
 
             with_path : (r : Result Rpl Refusal) → Made (created place (node_at place t) (array_with env index front (may_be is_int (type_in t)) r (own_place rpl at) at))
             with_path (Err refusal) = tt
-            with_path (Ok own) = untold own (array_told env index front (may_be is_int (type_in t)) own (own_place rpl at) at) refl
+            with_path (Ok own) = unreported own (array_reported env index front (may_be is_int (type_in t)) own (own_place rpl at) at) refl
 
         -- actuals of a use that has no fault
         actuals_given : (before : Faults) (args : List Rpl) (ts : List (Option TypedExpr)) (declared : List Ty) (partial hold : Bool) (place : Place) →
-            UseTold env before args (map type_in ts) declared partial hold place None → AllGiven P ts → AllValued declared → ExprsFit P (nodes_at place ts)
-        actuals_given before args ts declared partial hold place untold h v =
-            let f = append_none (fault_if partial kind.PartialWrite place ++ fault_if (not untold.fit) kind.Type place) (fault_if (not hold) kind.Constraint place) (none_told before (use_faults partial untold.fit hold place) untold.tells) in
-            let g = append_none (fault_if partial kind.PartialWrite place) (fault_if (not untold.fit) kind.Type place) f.0 in
-            let fit = not_false untold.fit (fault_none (not untold.fit) kind.Type place g.1) in
-            actuals_fit (supers_of env) args place ts declared h (untold.fits.0 fit) v
+            UseReported env before args (map type_in ts) declared partial hold place None → AllGiven P ts → AllValued declared → ExprsFit P (nodes_at place ts)
+        actuals_given before args ts declared partial hold place unreported h v =
+            let f = append_none (fault_if partial kind.PartialWrite place ++ fault_if (not unreported.fit) kind.Type place) (fault_if (not hold) kind.Constraint place) (none_reported before (use_faults partial unreported.fit hold place) unreported.tells) in
+            let g = append_none (fault_if partial kind.PartialWrite place) (fault_if (not unreported.fit) kind.Type place) f.0 in
+            let fit = not_false unreported.fit (fault_none (not unreported.fit) kind.Type place g.1) in
+            actuals_fit (supers_of env) args place ts declared h (unreported.fits.0 fit) v
 
         -- the method that a call names
         through_is : (e : TypedExpr) (name : ℕ) (place : Place) (class : ℕ) (row : MethodRow) (owned : List Rpl) → Stands P e → method_through (table_of env) (type_of e) name place ≡ Ok (class, row, owned) →
@@ -474,10 +474,10 @@ module _ (P : PlainProgram)
             method_of (table_of env) class name ≡ Some row → ExprFits P e → AllGiven P ts → CallOf env e class row owned args ts place found a → Answered P a
         call_of_answered e name class row owned args ts place found a named x h (CallOf.unknown_args unknown) = tt
         call_of_answered e name class row owned args ts place found a named x h (CallOf.faulty_call given faulty) = tt
-        call_of_answered e name class row owned args ts place found a named x h (CallOf.fitting_call {regions = regions} given untold) = by (around.signs.results class name row named)
+        call_of_answered e name class row owned args ts place found a named x h (CallOf.fitting_call {regions = regions} given unreported) = by (around.signs.results class name row named)
           where
             actuals : ExprsFit P (nodes_at place ts)
-            actuals = actuals_given _ (owned ++ regions) ts row.params _ _ place untold h (around.signs.params class name row named)
+            actuals = actuals_given _ (owned ++ regions) ts row.params _ _ place unreported h (around.signs.params class name row named)
 
             gives_row : (b : Bool) → is_void (plain_type row.result) ≡ b → RowGives P class (row_of (table_of env) row.id) (not b)
             gives_row b is = subst (λ z. RowGives P class (row_of (table_of env) row.id) (not z)) is (around.signs.rows class name row named)
@@ -501,8 +501,8 @@ module _ (P : PlainProgram)
         creation_of_answered : (at : ℕ) (args : ReadArgs) (ts : List (Option TypedExpr)) (place : Place) (found : Found) (a : Answer) → AllGiven P ts → CreationOf env at args ts place found a → Answered P a
         creation_of_answered at args ts place found a h (CreationOf.unknown_args unknown) = tt
         creation_of_answered at args ts place found a h (CreationOf.faulty_creation given faulty) = tt
-        creation_of_answered at args ts place found a h (CreationOf.created {regions = regions} given untold) =
-            value refl (actuals_given _ regions ts (formals_of (table_of env) at) _ _ place untold h (by (constructor_of (table_of env) at) (around.signs.created at)))
+        creation_of_answered at args ts place found a h (CreationOf.created {regions = regions} given unreported) =
+            value refl (actuals_given _ regions ts (formals_of (table_of env) at) _ _ place unreported h (by (constructor_of (table_of env) at) (around.signs.created at)))
           where
             by : (o : Option MethodRow) → ((row : MethodRow) → o ≡ Some row → AllValued row.params) → AllValued (option_map_or (λ row. row.params) o [])
             by None all = tt

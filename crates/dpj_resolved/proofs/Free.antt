@@ -5,23 +5,23 @@ use Rattle.dpj_base.specs.declared.place.Place.{Place}
 use Rattle.dpj_base.specs.declared.refusal.Kind.{Kind}
 use Rattle.dpj_base.specs.declared.refusal.Refusal.{Refusal}
 use Rattle.dpj_headers.specs.declared.faults.Faults.{Faults}
-use Rattle.dpj_headers.specs.Faults.{noted, all_noted, told, told_of}
+use Rattle.dpj_headers.specs.Faults.{noted, all_noted, reported, reported_of}
 use Rattle.dpj_headers.specs.Passes.{fault_if}
 use Rattle.dpj_resolve.specs.declared.scope.Site.TheVariants as site
-use Rattle.dpj_resolve.specs.Telling.{parts_told}
+use Rattle.dpj_resolve.specs.Telling.{parts_reported}
 
-pub noted_told : (faults : Faults) (fault : Refusal) → told (noted faults fault) ≡ Some (told_of faults.order (told faults) fault)
+pub noted_reported : (faults : Faults) (fault : Refusal) → reported (noted faults fault) ≡ Some (reported_of faults.order (reported faults) fault)
 unfolding noted
-noted_told faults fault = refl
+noted_reported faults fault = refl
 
-kept_told : (faults : Faults) (found : List Refusal) (fault : Refusal) → told faults ≡ Some fault → (later : Refusal) × (told (all_noted faults found) ≡ Some later)
-kept_told faults [] fault is = (fault, is)
-kept_told faults (one ∷ found) fault is = kept_told (noted faults one) found (told_of faults.order (told faults) one) (noted_told faults one)
+kept_reported : (faults : Faults) (found : List Refusal) (fault : Refusal) → reported faults ≡ Some fault → (later : Refusal) × (reported (all_noted faults found) ≡ Some later)
+kept_reported faults [] fault is = (fault, is)
+kept_reported faults (one ∷ found) fault is = kept_reported (noted faults one) found (reported_of faults.order (reported faults) one) (noted_reported faults one)
 
-pub none_told : (faults : Faults) (found : List Refusal) → told (all_noted faults found) ≡ None → found ≡ []
-none_told faults [] h = refl
-none_told faults (one ∷ found) h =
-    let w = kept_told (noted faults one) found (told_of faults.order (told faults) one) (noted_told faults one) in
+pub none_reported : (faults : Faults) (found : List Refusal) → reported (all_noted faults found) ≡ None → found ≡ []
+none_reported faults [] h = refl
+none_reported faults (one ∷ found) h =
+    let w = kept_reported (noted faults one) found (reported_of faults.order (reported faults) one) (noted_reported faults one) in
     let e = w.1 in absurd (cc)
 
 pub append_none : {A : Type 0} (xs ys : List A) → xs ++ ys ≡ [] → (xs ≡ []) × (ys ≡ [])
@@ -41,11 +41,11 @@ or_none : (o p : Option Refusal) → option_or o p ≡ None → (o ≡ None) × 
 or_none None p h = (refl, h)
 or_none (Some x) p h = cc
 
-pub parts_free : (faults : Faults) (parts : List (List Refusal)) → parts_told site.Body faults parts ≡ None → NoFaults parts
+pub parts_free : (faults : Faults) (parts : List (List Refusal)) → parts_reported site.Body faults parts ≡ None → NoFaults parts
 parts_free faults [] h = tt
 parts_free faults (part ∷ parts) h =
-    let both = or_none (told (all_noted faults part)) (parts_told site.Body (all_noted faults part) parts) h in
-    (none_told faults part both.0, parts_free (all_noted faults part) parts both.1)
+    let both = or_none (reported (all_noted faults part)) (parts_reported site.Body (all_noted faults part) parts) h in
+    (none_reported faults part both.0, parts_free (all_noted faults part) parts both.1)
 
 pub joined_free : (parts : List (List Refusal)) → flat_map (λ part. part) parts ≡ [] → NoFaults parts
 joined_free [] h = tt

@@ -25,7 +25,7 @@ use Rattle.dpj_exprs.specs.declared.env.Env.{Env}
 use Rattle.dpj_exprs.specs.Env.{table_of, at_members, with_row}
 use Rattle.dpj_check.specs.Completes as tree_completes
 use Rattle.dpj_check.specs.Deciding.{has_value}
-use Rattle.dpj_check.specs.Methods.{MethodChecking, of_method, formals_declared, formal_types, summary_of, body_begun, typed_body, method_told, reported, method_judged}
+use Rattle.dpj_check.specs.Methods.{MethodChecking, of_method, formals_declared, formal_types, summary_of, body_begun, typed_body, method_reported, reported, method_judged}
 use Rattle.dpj_check.specs.Simple.{has_room, local_declared}
 use Rattle.dpj_check.specs.Walks.{Walk, Verdict, passes, refused}
 use Rattle.dpj_gen.specs.Resolved.{gives_value, StmtsFit}
@@ -60,10 +60,10 @@ begun_in p gives env number formals row (Some one) s at is v good =
 
 -- a body that passes is made of statements that pass, and has no fault as a whole
 record Passed (env : Env) (number : ℕ) (method : Method) (body : PlainBody) (ss : List TypedStmt) (w : Walk) : Type 0 where
-  free : method_told env number method w.found.effects ≡ None
+  free : method_reported env number method w.found.effects ≡ None
   is : typed_body ss w.env ≡ body
 
-reported_none : (told : Option Refusal) (made body : PlainBody) → reported told made ≡ Ok body → (told ≡ None) × (made ≡ body)
+reported_none : (stated : Option Refusal) (made body : PlainBody) → reported stated made ≡ Ok body → (stated ≡ None) × (made ≡ body)
 reported_none None made body e = (refl, ok_same e)
 reported_none (Some refusal) made body e = cc
 
@@ -78,7 +78,7 @@ body_fits p env params number method body begun (of_method {u = u} d j) = by u (
     by : (v : Verdict (List TypedStmt)) → If (FineBlock p (has_value method.result) (tree_completes.all_complete (plain_stmts (map plain_stmt method.body)))) v → method_judged env number method v ≡ Ok body →
         StmtsFit p (has_value method.result) body.stmts × ((has_value method.result && all_complete body.stmts) ≡ false)
     by (passes ss w) h is =
-        let r = reported_none (method_told env number method w.found.effects) (typed_body ss w.env) body is in
+        let r = reported_none (method_reported env number method w.found.effects) (typed_body ss w.env) body is in
         let none = no_fault (λ reason. fault reason method.place) (has_value method.result && tree_completes.all_complete (plain_stmts (map plain_stmt method.body)))
         (set_covers (summary_of (numbered (table_of env) number)) w.found.effects) (has_room (body_begun env number method).env) r.0 in (
           subst (λ (b : PlainBody). StmtsFit p (has_value method.result) b.stmts) r.1 h.fits,

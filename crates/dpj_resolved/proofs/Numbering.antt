@@ -12,7 +12,7 @@ use Rattle.dpj_assembly.specs.Assembled.{PlainBody}
 use Rattle.dpj_classes.specs.declared.table.Table.{Table}
 use Rattle.dpj_exprs.specs.declared.env.Env.{Env}
 use Rattle.dpj_exprs.specs.Env.{table_of, at_class}
-use Rattle.dpj_check.specs.Methods.{MethodChecking, is_method, MemberChecking, number_after, bodies_of, PlainBodies, behind_bodies, after_ok, MembersChecking, own_params, ClassesChecking}
+use Rattle.dpj_check.specs.Methods.{MethodChecking, is_method, MemberChecking, number_after, bodies_of, PlainBodies, after_bodies, after_ok, MembersChecking, own_params, ClassesChecking}
 use Rattle.dpj_rows.proofs.Facts.{got_either}
 use Rattle.dpj_resolved.proofs.Lists.{some_same, got_first, got_later}
 use Rattle.dpj_resolved.proofs.Signatures.{own_in, methods_in, all_methods}
@@ -93,7 +93,7 @@ AreMade env count ms (Ok made) = AreBodies (table_of env) count (methods_in ms) 
 AreMade env count ms (Err refusal) = Unit {0}
 
 more_made : (env : Env) (count : ℕ) (m : Member) (ms : List Member) (made : Option PlainBody) (r : Result PlainBodies Refusal) → IsMade env count m (Ok made) → AreMade env (count + length (own_in m)) ms r →
-    AreMade env count (m ∷ ms) (after_ok (behind_bodies (bodies_of made)) r)
+    AreMade env count (m ∷ ms) (after_ok (after_bodies (bodies_of made)) r)
 more_made env count m ms made (Err refusal) h k = tt
 more_made env count m ms made (Ok all) h k =
     let on : count + length (own_in m) + length (methods_in ms) ≡ count + length (own_in m ++ methods_in ms) = omega (arith, length-append (own_in m) (methods_in ms)) in

@@ -33,7 +33,7 @@ use Rattle.dpj_classes.specs.Table.{headers_of, fields_of, methods_of}
 use Rattle.dpj_check.specs.Deciding.{has_value}
 use Rattle.dpj_gen.specs.Scheme.{is_void}
 use Rattle.dpj_rows.proofs.Facts.{got_either}
-use Rattle.dpj_resolved.proofs.Free.{none_told, append_none, joined_free}
+use Rattle.dpj_resolved.proofs.Free.{none_reported, append_none, joined_free}
 use Rattle.dpj_resolved.proofs.Known.{type_known, meant_valued}
 use Rattle.dpj_resolved.proofs.Lists.{some_same, got_first, got_later, got_mapped}
 use Rattle.dpj_resolved.proofs.Valued.{valued}
@@ -181,7 +181,7 @@ module _ (program : Program) (table : Table) (read : IsReadOf program.classes ta
   where
     free : signature_faults (headers_of table) table.given 0 program.classes ≡ []
     free =
-        let all = none_told (none_by order.Place) (text_faults (headers_of table) program.classes) read.free in
+        let all = none_reported (none_by order.Place) (text_faults (headers_of table) program.classes) read.free in
         let w = append_none (all_constraint_faults (headers_of table) 0 program.classes) _ all in
         subst (λ given. signature_faults (headers_of table) given 0 program.classes ≡ []) (sym read.given) w.1
 

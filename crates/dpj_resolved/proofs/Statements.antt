@@ -44,8 +44,8 @@ use Rattle.dpj_check.specs.Checking.{block_left, branch_of, variable_noted, cut_
 use Rattle.dpj_check.specs.Completes as tree_completes
 use Rattle.dpj_check.specs.Deciding.{is_misplaced, local_fault, Returned, whole_fault}
 use Rattle.dpj_check.specs.Noting.{with_found, with_fault_if, node_at as noted_at, fault_of}
-use Rattle.dpj_check.specs.Simple.{place_of, node_of, declared_type, declared_told, declaration_noted, stored, target_fault, may_print, printed_form, Declaring, AssigningLocal, AssigningPlace, Performing, Returning, Printing}
-use Rattle.dpj_check.specs.Walks.{Walk, Verdict, passes, refused, left_scope, judged, behind}
+use Rattle.dpj_check.specs.Simple.{place_of, node_of, declared_type, declared_reported, declaration_noted, stored, target_fault, may_print, printed_form, Declaring, AssigningLocal, AssigningPlace, Performing, Returning, Printing}
+use Rattle.dpj_check.specs.Walks.{Walk, Verdict, passes, refused, left_scope, judged, following}
 use Rattle.dpj_gen.specs.Resolved.{ExprFits, PerformFits, StmtFits, StmtsFit, BranchesFit}
 use Rattle.dpj_gen.specs.Scheme.{is_void}
 use Rattle.dpj_resolved.proofs.Bodies.{InBody, around_of, local_declared_in, regions_declared_in, left_in, variable_in, parts_in, free_if, free_found, declared_free, parts_free, regions_free, follows_none}
@@ -60,14 +60,14 @@ abbrev pub If : {T : Type 0} → (T → Walk → Type 0) → Verdict T → Type 
 If Q (passes made w) = Q made w
 If Q (refused refusal) = Unit {0}
 
-judged_if : {T : Type 0} (Q : T → Walk → Type 0) (told : Option Refusal) (made : T) (w : Walk) → (told ≡ None → Q made w) → If Q (judged told made w)
+judged_if : {T : Type 0} (Q : T → Walk → Type 0) (reported : Option Refusal) (made : T) (w : Walk) → (reported ≡ None → Q made w) → If Q (judged reported made w)
 judged_if Q None made w h = h refl
 judged_if Q (Some refusal) made w h = tt
 
-behind_if : {T U : Type 0} (Q : T → Walk → Type 0) (R : U → Walk → Type 0) (told : Option Refusal) (make : T → U) (v : Verdict T) → If Q v →
-    ((made : T) (w : Walk) → told ≡ None → Q made w → R (make made) w) → If R (behind told make v)
-behind_if Q R told make (passes made w) h to = judged_if R told (make made) w (λ free. to made w free h)
-behind_if Q R told make (refused refusal) h to = tt
+after_if : {T U : Type 0} (Q : T → Walk → Type 0) (R : U → Walk → Type 0) (reported : Option Refusal) (make : T → U) (v : Verdict T) → If Q v →
+    ((made : T) (w : Walk) → reported ≡ None → Q made w → R (make made) w) → If R (following reported make v)
+after_if Q R reported make (passes made w) h to = judged_if R reported (make made) w (λ free. to made w free h)
+after_if Q R reported make (refused refusal) h to = tt
 
 module _ (P : PlainProgram)
   where
@@ -113,20 +113,20 @@ module _ (P : PlainProgram)
     performs place (Some e) (nothing none call) = subst (PerformFits P e) (sym none) call
 
     -- a declaration
-    type_declared : (env : Env) (tree : TypeTree) → declared_told env tree ≡ None → valued (declared_type env tree) ≡ true
-    type_declared env tree untold =
-        let w = type_known (scope_of env) tree (no_part_faults (none_by order.Number) (type_faults (scope_of env) tree) untold) in
+    type_declared : (env : Env) (tree : TypeTree) → declared_reported env tree ≡ None → valued (declared_type env tree) ≡ true
+    type_declared env tree unreported =
+        let w = type_known (scope_of env) tree (no_part_faults (none_by order.Number) (type_faults (scope_of env) tree) unreported) in
         ap (λ o. valued (option_map_or (λ t. t) o ty.void)) w.1 ∙ meant_valued (scope_of env) tree w.0 w.1
 
     declaring_passed : (around : Around) {node : Node} {is_final : Bool} {tree : TypeTree} {name : ℕ} {e : PlainExpr} {w : Walk} {v : Verdict TypedStmt} → InBody P around.has_result w.env →
         Declaring node is_final tree name e w v → If (Done around node true) v
-    declaring_passed around body (Declaring.type_refused told) = tt
-    declaring_passed around body (Declaring.value_refused untold d) = tt
-    declaring_passed around {node} {is_final} {tree} {name} {e} {w} body (Declaring.declared {t = t} {g = g} {fit = fit} made untold same d fits j) =
+    declaring_passed around body (Declaring.type_refused reported) = tt
+    declaring_passed around body (Declaring.value_refused unreported d) = tt
+    declaring_passed around {node} {is_final} {tree} {name} {e} {w} body (Declaring.declared {t = t} {g = g} {fit = fit} made unreported same d fits j) =
         subst (If (Done around node true)) j
         (judged_if (Done around node true) _ _ _ (λ free.
         let f = free_if (declaration_noted w.env name node.place node) kind.Type (not fit) free in
-        let good = type_declared w.env tree untold in
+        let good = type_declared w.env tree unreported in
         let fit_value = fits_value (supers_of w.env) (type_in t) (declared_type w.env tree) (fits.0 (not_false fit f.1)) good in (
           declared_free w.env name node.place node f.0,
           record {
@@ -145,7 +145,7 @@ module _ (P : PlainProgram)
     assigning_passed : (around : Around) {node : Node} {target : Named} {e : PlainExpr} {w : Walk} {v : Verdict TypedStmt} → InBody P around.has_result w.env →
         AssigningLocal node target e w v → If (Done around node true) v
     assigning_passed around body (AssigningLocal.value_refused d) = tt
-    assigning_passed around body (AssigningLocal.no_local d is told) = tt
+    assigning_passed around body (AssigningLocal.no_local d is reported) = tt
     assigning_passed around {node} {target} {e} {w} body (AssigningLocal.assigned {t = t} {row = row} {fit = fit} d is fits j) =
         subst (If (Done around node true)) j
         (judged_if (Done around node true) _ _ _ (λ free.
@@ -378,15 +378,15 @@ module _ (P : PlainProgram)
     then_fine y before complete s ss made others u w before_so first rest = (
       inl before_so,
       record {
-        fits = (first.fits, stands_behind rest.0, rest.1.fits);
+        fits = (first.fits, stands_after rest.0, rest.1.fits);
         complete_so = ap (λ z. z && all_complete (stmts_of others)) first.complete_so ∙ ap (λ z. tree_completes.completes s && z) rest.1.complete_so;
         body = rest.1.body;
       },
     )
       where
-        stands_behind : ((before && tree_completes.completes s) ≡ true) ⊎ (stmts_of others ≡ typed.no_stmts) → IsTrue (completes made) ⊎ (stmts_of others ≡ typed.no_stmts)
-        stands_behind (inl both) = inl (first.complete_so ∙ (and_split before (tree_completes.completes s) both).1)
-        stands_behind (inr none) = inr none
+        stands_after : ((before && tree_completes.completes s) ≡ true) ⊎ (stmts_of others ≡ typed.no_stmts) → IsTrue (completes made) ⊎ (stmts_of others ≡ typed.no_stmts)
+        stands_after (inl both) = inl (first.complete_so ∙ (and_split before (tree_completes.completes s) both).1)
+        stands_after (inr none) = inr none
 
     block_fine : (y complete : Bool) (before : Walk) (u : Verdict (List TypedStmt)) → If (FineOrder y true complete) u → If (FineBlock y complete) (block_left before u)
     block_fine y complete before (passes made w) h = record { fits = h.1.fits; complete_so = h.1.complete_so; body = left_in w.env (mark_of before.env) h.1.body }
@@ -414,7 +414,7 @@ module _ (P : PlainProgram)
           If (Done around node (tree_completes.form_completes f)) v
       checking_fine {around = around} {node = node} body (Checking.of_block {all = all} {u = u} d j) =
           subst (If (Done around node (tree_completes.all_complete all))) j
-          (behind_if (FineBlock around.has_result (tree_completes.all_complete all)) (Done around node (tree_completes.all_complete all)) (fault_of node)
+          (after_if (FineBlock around.has_result (tree_completes.all_complete all)) (Done around node (tree_completes.all_complete all)) (fault_of node)
           (λ ss. typed.statement node.place (typed.block (stmts_of ss))) u (block_passed body d)
           (λ made w free h. (free, record { fits = h.fits; complete_so = h.complete_so; body = h.body })))
       checking_fine {around = around} body (Checking.of_declaration d) = declaring_passed around body d
@@ -439,7 +439,7 @@ module _ (P : PlainProgram)
       checking_fine body (Checking.while_refused d) = tt
       checking_fine {around = around} {node = node} body (Checking.of_while {test = test} {body = inner} {t = t} {u = u} d i j) =
           subst (If (Done around node true)) j
-          (behind_if (Fine around.has_result (tree_completes.completes inner)) (Done around node true) (fault_of (with_fault_if node kind.Type (not (may_be is_boolean (type_in t)))))
+          (after_if (Fine around.has_result (tree_completes.completes inner)) (Done around node true) (fault_of (with_fault_if node kind.Type (not (may_be is_boolean (type_in t)))))
           (λ s. typed.statement node.place (typed.while_loop (node_of test t) s)) u (scope_passed body i)
           (λ made w free h.
           let f = free_if node kind.Type (not (may_be is_boolean (type_in t))) free in
@@ -480,7 +480,7 @@ module _ (P : PlainProgram)
       choosing_passed {around = around} {node = node} {test = test} {first = first} {other = other} body (Choosing.chosen {t = t} {made = made} {u = u} d i n j) =
           let h = scope_passed body i in
           subst (If (Done around node (other_completes other (tree_completes.completes first)))) j
-          (behind_if (FineOther around.has_result other) (Done around node (other_completes other (tree_completes.completes first)))
+          (after_if (FineOther around.has_result other) (Done around node (other_completes other (tree_completes.completes first)))
           (fault_of (with_fault_if node kind.Type (not (may_be is_boolean (type_in t)))))
           (λ part. typed.statement node.place (typed.choice_form (node_of test t) made part)) u (other_passed h.body n)
           (λ part w free o.
@@ -493,7 +493,7 @@ module _ (P : PlainProgram)
       other_passed body InOther.no_other = body
       other_passed {around = around} body (InOther.an_other {s = s} {u = u} d j) =
           subst (If (FineOther around.has_result (Some s))) j
-          (behind_if (Fine around.has_result (tree_completes.completes s)) (FineOther around.has_result (Some s)) None Some u (scope_passed body d) (λ made w free h. h))
+          (after_if (Fine around.has_result (tree_completes.completes s)) (FineOther around.has_result (Some s)) None Some u (scope_passed body d) (λ made w free h. h))
 
       standing_passed : {params : List Bool} {around : Around} {follows : Bool} {s : PlainStmt} {w : Walk} {v : Verdict TypedStmt} → InBody P around.has_result w.env → Standing params around follows s w v →
           If (λ made u. (follows ≡ false) × Fine around.has_result (tree_completes.completes s) made u) v
@@ -520,7 +520,7 @@ module _ (P : PlainProgram)
           let first = standing_passed body d in
           let before_so = before_true before first.0 in
           subst (If (FineOrder around.has_result before (tree_completes.all_complete (tree.more_stmts s ss)))) j
-          (behind_if (FineOrder around.has_result (before && tree_completes.completes s) (tree_completes.all_complete ss))
+          (after_if (FineOrder around.has_result (before && tree_completes.completes s) (tree_completes.all_complete ss))
           (FineOrder around.has_result before (tree_completes.all_complete (tree.more_stmts s ss))) None (λ others. made ∷ others) x (order_passed first.1.body rest)
           (λ others w free h. then_fine around.has_result before true s ss made others u w before_so first.1 h))
 
@@ -535,7 +535,7 @@ module _ (P : PlainProgram)
       forking_passed : {params : List Bool} {around : Around} {node : Node} {nd : Bool} {branches : PlainStmts} {w : Walk} {v : Verdict TypedStmt} → InBody P around.has_result w.env →
           Forking params around node nd branches w v → If (Done around node true) v
       forking_passed body (Forking.some_refused d) = tt
-      forking_passed body (Forking.clashing effects touched clash d c told) = tt
+      forking_passed body (Forking.clashing effects touched clash d c reported) = tt
       forking_passed {around = around} {node = node} body (Forking.forked effects touched clash apart d c free a j) =
           let h = branching_passed body d in
           subst (If (Done around node true)) j
@@ -544,7 +544,7 @@ module _ (P : PlainProgram)
       iterating_passed : {params : List Bool} {around : Around} {node : Node} {nd : Bool} {var : Named} {start count : TypedExpr} {inner : PlainStmt} {w : Walk} {v : Verdict TypedStmt} → InBody P around.has_result w.env →
           (fault_of node ≡ None → ExprFits P start × ExprFits P count) → Iterating params around node nd var start count inner w v → If (Done around node true) v
       iterating_passed body range (Iterating.iteration_refused d) = tt
-      iterating_passed body range (Iterating.iteration_assigning assigns d a told) = tt
+      iterating_passed body range (Iterating.iteration_assigning assigns d a reported) = tt
       iterating_passed {around = around} {node = node} {var = var} {w = w} body range (Iterating.iterated {u = u} assigns d a free j) =
           let h = scope_passed (variable_in w.env var body) d in
           let f = free_if (variable_noted w.env var node) kind.Assign assigns free in
@@ -557,7 +557,7 @@ module _ (P : PlainProgram)
           Parting params around node view var array count inner w v → If (Done around node true) v
       parting_passed body (Parting.range_refused o) = tt
       parting_passed body (Parting.part_refused o d) = tt
-      parting_passed body (Parting.part_assigning assigns o d a told) = tt
+      parting_passed body (Parting.part_assigning assigns o d a reported) = tt
       parting_passed {around = around} {node = node} {w = w} body (Parting.parted {u = u} {made = made} {source = source} {size = size} {noted = noted} assigns o d a free j) =
           let parts = opening_fits body o in
           let h = scope_passed parts.body d in

@@ -76,9 +76,9 @@ module _ (overrides : List (Option ℕ)) (methods : List MethodRow) (base : ℕ 
     later at row rest i h j other there own e = h (suc j) other there own (omega (arith, e))
 
     -- the start after a row, whatever happened there
-    starts_behind : (at : ℕ) (earlier : List MethodRow) (row : MethodRow) (rest : List MethodRow) (seen behind : Numbering) → Starts at earlier (row ∷ rest) seen → length behind.rows ≡ length seen.rows →
-        behind.next ≡ seen.next + one_new overrides class at row → ((i : ℕ) → IsOther at (row ∷ rest) i → get_or behind.rows i 0 ≡ get_or seen.rows i 0) → Starts (at + 1) (earlier ++ row ∷ []) rest behind
-    starts_behind at earlier row rest seen behind s long count kept =
+    starts_after : (at : ℕ) (earlier : List MethodRow) (row : MethodRow) (rest : List MethodRow) (seen following : Numbering) → Starts at earlier (row ∷ rest) seen → length following.rows ≡ length seen.rows →
+        following.next ≡ seen.next + one_new overrides class at row → ((i : ℕ) → IsOther at (row ∷ rest) i → get_or following.rows i 0 ≡ get_or seen.rows i 0) → Starts (at + 1) (earlier ++ row ∷ []) rest following
+    starts_after at earlier row rest seen following s long count kept =
         let grown = new_append overrides class 0 earlier (row ∷ []) in
         let here : 0 + length earlier ≡ at = omega (arith, s.place) in
         let mine = ap (λ k. one_new overrides class k row) here in
@@ -143,9 +143,9 @@ module _ (overrides : List (Option ℕ)) (methods : List MethodRow) (base : ℕ 
         let mine : one_new overrides class at row ≡ 1 =
         ap {A = Bool} {B = ℕ} (λ b. cond b (cond (is_none (entry_at overrides at)) 1 0) 0) is_mine ∙ ap {A = Option ℕ} {B = ℕ} (λ o. cond (is_none o) 1 0) none in
         let counted : as_number (seen.next + 1) ≡ seen.next + one_new overrides class at row = omega (arith, s.few, mine) in
-        let behind : Numbering = record { next = as_number (seen.next + 1); rows = slice_set seen.rows at seen.next } in
-        given at seen.next (as_number (seen.next + 1)) row rest seen (with_all_rows overrides behind (own_from class (at + 1) rest)) is_mine (omega (arith, s.long)) is counted
-        (more behind (starts_behind at earlier row rest seen behind s (length-set seen.rows at seen.next) counted
+        let following : Numbering = record { next = as_number (seen.next + 1); rows = slice_set seen.rows at seen.next } in
+        given at seen.next (as_number (seen.next + 1)) row rest seen (with_all_rows overrides following (own_from class (at + 1) rest)) is_mine (omega (arith, s.long)) is counted
+        (more following (starts_after at earlier row rest seen following s (length-set seen.rows at seen.next) counted
         (λ i h. get_or-set_other seen.rows at i seen.next 0 (λ e. h 0 row refl is_mine (omega (arith, e))))))
       where
         owner : row.owner ≡ class
@@ -173,11 +173,11 @@ module _ (overrides : List (Option ℕ)) (methods : List MethodRow) (base : ℕ 
         ap {A = Bool} {B = ℕ} (λ b. cond b (cond (is_none (entry_at overrides at)) 1 0) 0) is_mine ∙ ap {A = Option ℕ} {B = ℕ} (λ o. cond (is_none o) 1 0) e in
         let counted : seen.next ≡ seen.next + one_new overrides class at row = omega (arith, mine) in
         let value = get_or seen.rows above 0 in
-        let behind : Numbering = record { next = seen.next; rows = slice_set seen.rows at value } in
+        let following : Numbering = record { next = seen.next; rows = slice_set seen.rows at value } in
         let here : at + 0 ≡ at = omega arith in
         let known = s.above 0 above row refl is_mine (ap (entry_at overrides) here ∙ e) in
-        given at value seen.next row rest seen (with_all_rows overrides behind (own_from class (at + 1) rest)) is_mine (omega (arith, s.long)) (as_overridden above e known.0) counted
-        (more behind (starts_behind at earlier row rest seen behind s (length-set seen.rows at value) counted
+        given at value seen.next row rest seen (with_all_rows overrides following (own_from class (at + 1) rest)) is_mine (omega (arith, s.long)) (as_overridden above e known.0) counted
+        (more following (starts_after at earlier row rest seen following s (length-set seen.rows at value) counted
         (λ i h. get_or-set_other seen.rows at i value 0 (λ e. h 0 row refl is_mine (omega (arith, e))))))
 
     -- the rest of the methods get their rows
@@ -198,5 +198,5 @@ module _ (overrides : List (Option ℕ)) (methods : List MethodRow) (base : ℕ 
         by false not_mine more =
             let none = ap {A = Bool} {B = ℕ} (λ b. cond b (cond (is_none (entry_at overrides at)) 1 0) 0) not_mine in
             passed at row rest seen (with_all_rows overrides seen (own_from class (at + 1) rest)) not_mine
-            (more seen (starts_behind at earlier row rest seen seen s refl (omega (arith, none)) (λ i h. refl)))
+            (more seen (starts_after at earlier row rest seen seen s refl (omega (arith, none)) (λ i h. refl)))
         by true is_mine more = over (entry_at overrides at) refl is_mine more

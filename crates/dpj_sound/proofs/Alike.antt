@@ -18,7 +18,7 @@ use Rattle.dpj_meaning.specs.Counts.{number, slot_value}
 use Rattle.dpj_regions.specs.Laws.{AgreeOn}
 use Rattle.dpj_regions.proofs.Reading.{matches_by_what_occurs}
 use Rattle.dpj_runs.specs.Objects.{Value}
-use Rattle.dpj_sound.specs.Settings.{Setting, region_in, env_of, local_code, behind_own, under}
+use Rattle.dpj_sound.specs.Settings.{Setting, region_in, env_of, local_code, after_own, under}
 use Rattle.dpj_sound.specs.Shapes.{Shapes, SameIn, FitsIn}
 use Rattle.dpj_sound.specs.Frames.{LocalFits}
 use Rattle.dpj_sound.specs.Scopes.{InScope, PathInScope, TypeInScope, LocalInScope}
@@ -37,7 +37,7 @@ pub record EnvAlike (L : Scope) (depth : ℕ) (env other : Env) : Type 0 where
 pub alike_back : {L : Scope} {depth : ℕ} {env other : Env} → EnvAlike L depth env other → EnvAlike L depth other env
 alike_back a = record { region = λ p. sym (a.region p); index = λ x e. sym (a.index x e); made = λ r i. sym (a.made r i); own = λ d l. sym (a.own d l) }
 
-own_alike : (depth : ℕ) (k : ℤ) (f g : ℕ → ℤ) → ((d : ℕ) → d < depth → f d ≡ g d) → (d : ℕ) → d < suc depth → behind_own k f d ≡ behind_own k g d
+own_alike : (depth : ℕ) (k : ℤ) (f g : ℕ → ℤ) → ((d : ℕ) → d < depth → f d ≡ g d) → (d : ℕ) → d < suc depth → after_own k f d ≡ after_own k g d
 own_alike depth k f g h zero l = refl
 own_alike depth k f g h (suc d) l = h d (omega (arith, l))
 

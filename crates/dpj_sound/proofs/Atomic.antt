@@ -22,9 +22,9 @@ or_cases : (x y : Bool) → (x || y) ≡ true → (x ≡ true) ⊎ (y ≡ true)
 or_cases true y e = inl refl
 or_cases false y e = inr e
 
-pub ends_behind : (names : List Bool) (xs ys : List Elem) → ends_atomic names ys ≡ true → ends_atomic names (xs ++ ys) ≡ true
-ends_behind names [] ys h = h
-ends_behind names (x ∷ xs) ys h = or_right (is_atomic_name names x && all_index (xs ++ ys)) _ (ends_behind names xs ys h)
+pub ends_after : (names : List Bool) (xs ys : List Elem) → ends_atomic names ys ≡ true → ends_atomic names (xs ++ ys) ≡ true
+ends_after names [] ys h = h
+ends_after names (x ∷ xs) ys h = or_right (is_atomic_name names x && all_index (xs ++ ys)) _ (ends_after names xs ys h)
 
 index_both : (xs ys : List Elem) → all_index xs ≡ true → all_index ys ≡ true → all_index (xs ++ ys) ≡ true
 index_both [] ys h k = k
@@ -73,7 +73,7 @@ fits_ends : (names : List Bool) (env : Env) (a r : List Elem) → ends_atomic na
 fits_ends names env [] r h f = absurd (false≢true h)
 fits_ends names env (x ∷ a) r h f = subst (λ z. ends_atomic names z ≡ true) (sym f.2) (⊎_elim
     (λ e. (let p = and_parts (is_atomic_name names x) _ e in ends_piece names env x f.0 f.1 p.0 f.3 (fits_index env a f.1 p.1 f.4)))
-    (λ e. ends_behind names f.0 f.1 (fits_ends names env a f.1 e f.4)) (or_cases (is_atomic_name names x && all_index a) (ends_atomic names a) h))
+    (λ e. ends_after names f.0 f.1 (fits_ends names env a f.1 e f.4)) (or_cases (is_atomic_name names x && all_index a) (ends_atomic names a) h))
 
 -- atomic parameters stand for regions that end so, in an environment
 abbrev pub EnvAtomic : Atomic → Env → Type 0
@@ -87,7 +87,7 @@ pub matches_ends : (atomic : Atomic) (env : Env) → EnvAtomic atomic env → (a
     ends_atomic atomic.names r ≡ true
 unfolding atomic_path Matches
 matches_ends atomic env i a r h m = subst (λ z. ends_atomic atomic.names z ≡ true) (sym m.1) (⊎_elim
-    (λ e. ends_behind atomic.names (head_region env a.head) m.0 (fits_ends atomic.names env a.elems m.0 e m.2))
+    (λ e. ends_after atomic.names (head_region env a.head) m.0 (fits_ends atomic.names env a.elems m.0 e m.2))
     (λ e. (let p = and_parts (all_index a.elems) _ e in
     ends_before atomic.names (head_region env a.head) m.0 (head_ends atomic env i a.head p.1) (fits_index env a.elems m.0 p.0 m.2)))
     (or_cases (ends_atomic atomic.names a.elems) (all_index a.elems && atomic_head atomic.params a.head) h))
@@ -141,7 +141,7 @@ pub includes_ends : (atomic : Atomic) (env : Env) → EnvAtomic atomic env → (
     ends_atomic atomic.names r ≡ true
 unfolding atomic_path
 includes_ends atomic env i a r h m = ends_covers atomic.names (covers_of env a r m) (⊎_elim
-    (λ e. ends_behind atomic.names (head_region env a.head) (map (put_elem env) a.elems) (ends_put atomic.names env a.elems e))
+    (λ e. ends_after atomic.names (head_region env a.head) (map (put_elem env) a.elems) (ends_put atomic.names env a.elems e))
     (λ e. (let p = and_parts (all_index a.elems) _ e in
     ends_before atomic.names (head_region env a.head) (map (put_elem env) a.elems) (head_ends atomic env i a.head p.1) (index_put env a.elems p.0)))
     (or_cases (ends_atomic atomic.names a.elems) (all_index a.elems && atomic_head atomic.params a.head) h))

@@ -10,7 +10,7 @@ use Rattle.dpj_typed.specs.Plain.{PlainProgram}
 use Rattle.dpj_typed.specs.Scope.{Scope, variable}
 use Rattle.dpj_typed.specs.Statements.{IsVariable}
 use Rattle.dpj_typed.specs.WellTyped.{WellTyped}
-use Rattle.dpj_meaning.specs.Asking.{ask, does, ended, replied, told}
+use Rattle.dpj_meaning.specs.Asking.{ask, does, ended, replied, reported}
 use Rattle.dpj_meaning.specs.Core.{Goes_on, Returns, run}
 use Rattle.dpj_meaning.specs.Counts.{brought, assigned, slot_value}
 use Rattle.dpj_meaning.specs.Outcomes.{first_trap, all_locals, joined_or}
@@ -36,7 +36,7 @@ use Rattle.dpj_sound.specs.Work.{Result, ReturnFits}
 use Rattle.dpj_sound.proofs.Acting.{held_by, Now, now_asked, own_stands, own_step, same_things, same_shaped, old_cells, stand, replies, WroteFits}
 use Rattle.dpj_sound.proofs.Calm.{MustBeCalm, Back, CalmFork, IsCalm, task_calm}
 use Rattle.dpj_sound.proofs.Carried.{end_grows, Agrees, agrees_self, agrees_task, NewTask, Step}
-use Rattle.dpj_sound.proofs.Moments.{Moment, at, forked, state_of, having_left, MayDo, Comes, Goes, goes_same, told_on}
+use Rattle.dpj_sound.proofs.Moments.{Moment, at, forked, state_of, having_left, MayDo, Comes, Goes, goes_same, reported_on}
 use Rattle.dpj_sound.proofs.Joining.{all_returned}
 use Rattle.dpj_sound.proofs.Sound.{Kept, branch_kept, ForkedAt, EventOk, ActOk, AtFork, IsAt, Stands, branches_of, Sound}
 use Rattle.dpj_sound.proofs.Tasks.{branches_in_order}
@@ -103,12 +103,12 @@ stepped_disciplined P arg = record {
 
 -- a task that has made nothing yet, by its work
 pub asks_at_first : (P : PlainProgram) (b : Bounds) (L : Scope) (t : Task) (p : Path) → b.path ≡ p → (st : State) (d : ℕ) →
-    Goes P b L t.work.copies d (at st) (λ xs. replied t.work (run (told (named_by b.path)) (does (named_by b.path) P t) (told_on 0 0 xs))) →
+    Goes P b L t.work.copies d (at st) (λ xs. replied t.work (run (reported (named_by b.path)) (does (named_by b.path) P t) (reported_on 0 0 xs))) →
     Goes P b L t.work.copies d (at st) (λ xs. ask (named_by p) P t (reverse xs ++ []))
 unfolding ask
 asks_at_first P b L t p e st d g = subst (λ q. Goes P b L t.work.copies d (at st) (λ xs. ask (named_by q) P t (reverse xs ++ []))) e
     (goes_same P b L t.work.copies d (at st) _ _
-    (λ xs. ap (λ ys. replied t.work (run (told (named_by b.path)) (does (named_by b.path) P t) (told_on 0 0 ys)))
+    (λ xs. ap (λ ys. replied t.work (run (reported (named_by b.path)) (does (named_by b.path) P t) (reported_on 0 0 ys)))
     (sym (ap (λ ys. reverse ys) (append-nil (reverse xs)) ∙ reverse-reverse xs))) g)
 
 not_itself : (p : Path) (u : ℕ × ℕ) → p ≡ u ∷ p → ⊥

@@ -106,7 +106,7 @@ module _ (P : PlainProgram) (wt : WellTyped P) (b : Bounds) (L : Scope) (g : Set
         subst (λ z. InOrder P b R u (entered_row z (Object o ∷ vs) i.made_with own i.class)) (sym row.row)
         (subst (λ z. InOrder P b R u (entered_member z (Object o ∷ vs) i.made_with own i.class)) (sym row.at.there)
         (subst (λ z. InOrder P b R u (on (deeper row.at.member.body (entered (named_by b.path) row.at.member (Object o ∷ vs) (z ++ own) (f.left - 1))) (back f))) (sym (regions_are P wt b.path row.at.is_one))
-        (order_on P b (Leaves P b (scope P wt row.number row.at.member row.at.there) inner row.at.member.body u) R (back f) behind _ u
+        (order_on P b (Leaves P b (scope P wt row.number row.at.member row.at.there) inner row.at.member.body u) R (back f) following _ u
         (body_order deeper dd row.number row.at.member row.at.there inner u _ frame within'))))
       where
         own : List Region
@@ -200,13 +200,13 @@ module _ (P : PlainProgram) (wt : WellTyped P) (b : Bounds) (L : Scope) (g : Set
             (fits_same P h.shapes (class_env (row.at.regions ++ map (put P wt b L g u f ff) regions)) row.at.member.result
             (class_env (A0.regions ++ map (put P wt b L g u f ff) regions)) m.result row.stands.result v fv)
 
-        behind : (h : State) (y : Result) →
+        following : (h : State) (y : Result) →
             Leaves P b (scope P wt row.number row.at.member row.at.there) (class_setting (row.at.regions ++ map (put P wt b L g u f ff) regions)) row.at.member.body u h y → InOrder P b R h (back f y)
-        behind h (Goes_on v c) y = order_ret P b R h (Goes_on none f) (next none h y.1 (result h none (elim (wt.members row.number row.at.member row.at.there).ends [
+        following h (Goes_on v c) y = order_ret P b R h (Goes_on none f) (next none h y.1 (result h none (elim (wt.members row.number row.at.member row.at.there).ends [
           | inl z ↦ subst (λ t. FitsIn P h.shapes (class_env (row.at.regions ++ map (put P wt b L g u f ff) regions)) t Null) (sym z) tt
           | inr z ↦ absurd (false≢true (sym z ∙ y.0))
         ])))
-        behind h (Returns v) y = order_ret P b R h (Goes_on v f) (next v h y.0 (result h v y.1))
+        following h (Returns v) y = order_ret P b R h (Goes_on v f) (next v h y.0 (result h v y.1))
 
   -- a call of what isn't null
   pub call_order : (dp : Option Deeper) → DeeperInOrder P wt b dp → (R : State → Result → Type 0) (st : State) (at : Place) (f : Frame) →
@@ -281,7 +281,7 @@ module _ (P : PlainProgram) (wt : WellTyped P) (b : Bounds) (L : Scope) (g : Set
       ((u : State) → Since h u → R u (Goes_on (Object o) f)) →
       InOrder P b R h (on (deeper m.body (entered (named_by b.path) m (Object o ∷ vs) (map (put P wt b L g st f ff) args) (f.left - 1))) (λ r. gives (Object o) f))
   constructor_order deeper dd R st f ff c n k m args vs e ga fu kn there h s o i shape gd fits w next =
-      order_on P b (Leaves P b (scope P wt n m there) inner m.body h) R (λ r. gives (Object o) f) behind _ h
+      order_on P b (Leaves P b (scope P wt n m there) inner m.body h) R (λ r. gives (Object o) f) following _ h
       (subst (λ z. InOrder P b (Leaves P b (scope P wt n m there) inner m.body h) h
       (deeper m.body (entered (named_by b.path) m (Object o ∷ vs) z (f.left - 1)))) (append-nil (map (put P wt b L g st f ff) args))
       (body_order deeper dd n m there inner h _ frame within'))
@@ -350,10 +350,10 @@ module _ (P : PlainProgram) (wt : WellTyped P) (b : Bounds) (L : Scope) (g : Set
       within' a gu l = w a gu (lies_up N g (class_setting (map (put P wt b L g st f ff) args ++ [])) args st' a m.summary sig.summary
           (body_lies (class_setting (map (put P wt b L g st f ff) args ++ [])) inner_env a m.summary (wt.members n m there).effects (wt.members n m there).covered l))
 
-      behind : (u : State) (y : Result) → Leaves P b (scope P wt n m there) (class_setting (map (put P wt b L g st f ff) args ++ [])) m.body h u y →
+      following : (u : State) (y : Result) → Leaves P b (scope P wt n m there) (class_setting (map (put P wt b L g st f ff) args ++ [])) m.body h u y →
           InOrder P b R u (gives (Object o) f)
-      behind u (Goes_on v z) y = order_ret P b R u (Goes_on (Object o) f) (next u y.1)
-      behind u (Returns v) y = order_ret P b R u (Goes_on (Object o) f) (next u y.0)
+      following u (Goes_on v z) y = order_ret P b R u (Goes_on (Object o) f) (next u y.1)
+      following u (Returns v) y = order_ret P b R u (Goes_on (Object o) f) (next u y.0)
 
   pub construct_order : (dp : Option Deeper) → DeeperInOrder P wt b dp →
       (R : State → Result → Type 0) (st : State) (at : Place) (f : Frame) (ff : FrameFits P b.path st g L f) (c n : ℕ) (k : PlainClass) (m : PlainMember) (args : List Rpl) (vs : List Value) →

@@ -18,7 +18,7 @@ use Rattle.dpj_typed.specs.Scope.{Scope, constant}
 use Rattle.dpj_typed.specs.Types.{GoodElem, GoodHead, GoodPath, GoodType}
 use Rattle.dpj_regions.specs.Laws.{AgreeOn}
 use Rattle.dpj_regions.proofs.Reading.{matches_by_what_occurs}
-use Rattle.dpj_sound.specs.Settings.{behind_own, under}
+use Rattle.dpj_sound.specs.Settings.{after_own, under}
 
 abbrev pub IsClosed : ℕ → Elem → Type 0
 IsClosed depth (Name n) = Unit {0}
@@ -51,7 +51,7 @@ pub record Agrees (n depth : ℕ) (env other : Env) : Type 0 where
 pub agrees_back : {n depth : ℕ} {env other : Env} → Agrees n depth env other → Agrees n depth other env
 agrees_back a = record { region = λ p l. sym (a.region p l); own = λ d l. sym (a.own d l) }
 
-own_under : (depth : ℕ) (k : ℤ) (f g : ℕ → ℤ) → ((d : ℕ) → d < depth → f d ≡ g d) → (d : ℕ) → d < suc depth → behind_own k f d ≡ behind_own k g d
+own_under : (depth : ℕ) (k : ℤ) (f g : ℕ → ℤ) → ((d : ℕ) → d < depth → f d ≡ g d) → (d : ℕ) → d < suc depth → after_own k f d ≡ after_own k g d
 own_under depth k f g h zero l = refl
 own_under depth k f g h (suc d) l = h d (omega (arith, l))
 

@@ -20,19 +20,19 @@ use Rattle.dpj_typed.specs.Plain.{PlainProgram}
 use Rattle.dpj_regions.specs.Laws.{with_own}
 use Rattle.dpj_regions.proofs.Reading.{matches_by_what_occurs, own_index_matches_more, own_index_puts_in}
 use Rattle.dpj_runs.specs.Objects.{Value}
-use Rattle.dpj_sound.specs.Settings.{Setting, env_of, behind_own, under}
+use Rattle.dpj_sound.specs.Settings.{Setting, env_of, after_own, under}
 use Rattle.dpj_sound.specs.Shapes.{Shapes, Instance, SameIn, ArrayInstance, FitsIn}
 use Rattle.dpj_sound.proofs.Types.{match_onto, match_from, null_or, instance_onto, array_onto, fits_same, same_sym}
 
 -- under one array type more, an own index is one further in
-own_further : (k m : ℤ) (f : ℕ → ℤ) (D d : ℕ) → behind_own k (λ e. cond (D == e) m (f e)) d ≡ cond (suc D == d) m (behind_own k f d)
+own_further : (k m : ℤ) (f : ℕ → ℤ) (D d : ℕ) → after_own k (λ e. cond (D == e) m (f e)) d ≡ cond (suc D == d) m (after_own k f d)
 own_further k m f D zero = sym (cond-false (suc D == zero) m k (eqb-suc-zero D))
 own_further k m f D (suc d) = ap (λ b. cond b m (f d)) (sym (eqb-suc-suc D d))
 
 under_with : (k m : ℤ) (env : Env) (D : ℕ) → under k (with_own env D m) ≡ with_own (under k env) (suc D) m
 under_with k m env D = λ i. record { region = env.region; index = env.index; renamed = env.renamed; own = λ d. own_further k m env.own D d i; made = env.made }
 
-own_top : (k : ℤ) (d : ℕ) → behind_own k (λ e. pos 0) d ≡ cond (zero == d) k (pos 0)
+own_top : (k : ℤ) (d : ℕ) → after_own k (λ e. pos 0) d ≡ cond (zero == d) k (pos 0)
 own_top k zero = refl
 own_top k (suc d) = sym (cond-false (zero == suc d) k (pos 0) (eqb-zero-suc d))
 

@@ -4,7 +4,7 @@ use Rattle.std.proofs.lemmas.Bool.{eqb-false}
 use Rattle.dpj_typed.specs.declared.stmt.Forking.{Forking}
 use Rattle.dpj_typed.specs.Plain.{PlainProgram}
 use Rattle.dpj_typed.specs.Scope.{Scope}
-use Rattle.dpj_meaning.specs.Asking.{most_turns, Told as ToldOf, asked, turned, begins_then, told_join, ending}
+use Rattle.dpj_meaning.specs.Asking.{most_turns, Reported as ReportedOf, asked, turned, begins_then, reported_join, ending}
 use Rattle.dpj_meaning.specs.Core.{Out as OutOf, Done, Trapped as Fallen, Stopped, Lost, bind}
 use Rattle.dpj_meaning.specs.Counts.{brought}
 use Rattle.dpj_meaning.proofs.Turns.{most_pos, turned_if}
@@ -18,17 +18,17 @@ use Rattle.dpj_sound.specs.Work.{Brought, Moves, Answers, After}
 use Rattle.dpj_sound.proofs.Calm.{CalmFork, MayLeave}
 use Rattle.dpj_sound.proofs.Work.{since_now, since_after}
 
-abbrev pub Told : Type 0
-Told = ToldOf Name LocalRegion
+abbrev pub Reported : Type 0
+Reported = ReportedOf Name LocalRegion
 
 abbrev pub Out : Type 0 → Type 0
-Out V = OutOf Name LocalRegion V Told
+Out V = OutOf Name LocalRegion V Reported
 
 abbrev pub Replies : Type 0
 Replies = List Answer → Reply
 
 -- an outcome, and what follows it
-abbrev pub finish : {V : Type 0} → Out V → (V → Told → Reply) → Reply
+abbrev pub finish : {V : Type 0} → Out V → (V → Reported → Reply) → Reply
 finish (Done v w) K = K v w
 finish (Fallen trap p w) K = ending (Trapped trap p) w.since w.to_come
 finish (Stopped n a) K = Next n a
@@ -37,16 +37,16 @@ finish (Lost w) K = Unknown
 room_falls : (n d t : ℕ) → most_turns * suc d + (most_turns - t) < n → most_turns * d + (most_turns - 0) < n
 room_falls n d t l = omega arith
 
-abbrev pub told_on : ℕ → ℕ → List Answer → Told
-told_on t n xs = record { since = t; made = n; to_come = xs }
+abbrev pub reported_on : ℕ → ℕ → List Answer → Reported
+reported_on t n xs = record { since = t; made = n; to_come = xs }
 
-pub bind_bind : {V U T : Type 0} (o : Out V) (j : V → Told → Out U) (k : U → Told → Out T) → bind (bind o j) k ≡ bind o (λ v w. bind (j v w) k)
+pub bind_bind : {V U T : Type 0} (o : Out V) (j : V → Reported → Out U) (k : U → Reported → Out T) → bind (bind o j) k ≡ bind o (λ v w. bind (j v w) k)
 bind_bind (Done v w) j k = refl
 bind_bind (Fallen trap p w) j k = refl
 bind_bind (Stopped n a) j k = refl
 bind_bind (Lost w) j k = refl
 
-pub finish_bind : {V U : Type 0} (o : Out V) (j : V → Told → Out U) (K : U → Told → Reply) → finish (bind o j) K ≡ finish o (λ v w. finish (j v w) K)
+pub finish_bind : {V U : Type 0} (o : Out V) (j : V → Reported → Out U) (K : U → Reported → Reply) → finish (bind o j) K ≡ finish o (λ v w. finish (j v w) K)
 finish_bind (Done v w) j K = refl
 finish_bind (Fallen trap p w) j K = refl
 finish_bind (Stopped n a) j K = refl
@@ -158,13 +158,13 @@ module _ (P : PlainProgram) (b : Bounds) (L : Scope) (copies : List ℕ) where
       go Unknown z = tt
 
   -- it goes in order, however deep, where less than so many turns are possible
-  pub record Good (n : ℕ) (g : Moment P b) (k : Told → Reply) : Type 0 where
-    pub from : (d t : ℕ) → t < most_turns → most_turns * d + (most_turns - t) < n → Goes d g (λ xs. k (told_on t (state_of g).made xs))
+  pub record Good (n : ℕ) (g : Moment P b) (k : Reported → Reply) : Type 0 where
+    pub from : (d t : ℕ) → t < most_turns → most_turns * d + (most_turns - t) < n → Goes d g (λ xs. k (reported_on t (state_of g).made xs))
 
-  pub good_same : {n : ℕ} {g : Moment P b} {h k : Told → Reply} → ((w : Told) → w.since < most_turns → h w ≡ k w) → Good n g h → Good n g k
-  good_same {n} {g} e s = record { from = λ d t l r. goes_same d g _ _ (λ xs. e (told_on t (state_of g).made xs) l) (s.from d t l r) }
+  pub good_same : {n : ℕ} {g : Moment P b} {h k : Reported → Reply} → ((w : Reported) → w.since < most_turns → h w ≡ k w) → Good n g h → Good n g k
+  good_same {n} {g} e s = record { from = λ d t l r. goes_same d g _ _ (λ xs. e (reported_on t (state_of g).made xs) l) (s.from d t l r) }
 
-  pub good_less : {n m : ℕ} {g : Moment P b} {h : Told → Reply} → m ≤ n → Good n g h → Good m g h
+  pub good_less : {n m : ℕ} {g : Moment P b} {h : Reported → Reply} → m ≤ n → Good n g h → Good m g h
   good_less le s = record { from = λ d t l r. s.from d t l (omega arith) }
 
   pub good_end : {n : ℕ} {st : State} (x : Ending) → EndFits P b L copies st.shapes x → Good n (at st) (λ w. ending x w.since w.to_come)
@@ -175,16 +175,16 @@ module _ (P : PlainProgram) (b : Bounds) (L : Scope) (copies : List ℕ) where
       go (suc d) t = record { moment = at st; quietly = still; may = fits; then = λ y h c. goes_over d h }
 
   -- from a state that the next event is answered in, to what follows it
-  stands_in : {n : ℕ} (d t : ℕ) (st : State) {u : State} {h : Moment P b} (k : Told → Reply) → h ≡ at u → u.made ≡ st.made → most_turns * suc d + (most_turns - t) < n → Good n (at u) k →
-      Goes d h (λ xs. k (told_on 0 st.made xs))
+  stands_in : {n : ℕ} (d t : ℕ) (st : State) {u : State} {h : Moment P b} (k : Reported → Reply) → h ≡ at u → u.made ≡ st.made → most_turns * suc d + (most_turns - t) < n → Good n (at u) k →
+      Goes d h (λ xs. k (reported_on 0 st.made xs))
   stands_in {n} d t st {u} k e m r s =
-      subst (λ z. Goes d z (λ xs. k (told_on 0 st.made xs))) (sym e) (subst (λ y. Goes d (at u) (λ xs. k (told_on 0 y xs))) m (s.from d 0 most_pos (room_falls n d t r)))
+      subst (λ z. Goes d z (λ xs. k (reported_on 0 st.made xs))) (sym e) (subst (λ y. Goes d (at u) (λ xs. k (reported_on 0 y xs))) m (s.from d 0 most_pos (room_falls n d t r)))
 
-  pub good_own : {V : Type 0} {n : ℕ} (st : State) (o : Own) (k : Answer → Told → Out V) (K : V → Told → Reply) (m : Moves P b st o) → MayLeave o st.entries →
+  pub good_own : {V : Type 0} {n : ℕ} (st : State) (o : Own) (k : Answer → Reported → Out V) (K : V → Reported → Reply) (m : Moves P b st o) → MayLeave o st.entries →
       ((x : Answer) (u : State) → After o st u → Answers P b st o m x u → Good n (at u) (λ w. finish (k x w) K)) → Good n (at st) (λ w. finish (bind (asked (Do o) w) k) K)
   good_own {V} {n} st o k K m leaves more = record { from = go }
     where
-      go : (d t : ℕ) → t < most_turns → most_turns * d + (most_turns - t) < n → Goes d (at st) (λ xs. finish (bind (asked (Do o) (told_on t st.made xs)) k) K)
+      go : (d t : ℕ) → t < most_turns → most_turns * d + (most_turns - t) < n → Goes d (at st) (λ xs. finish (bind (asked (Do o) (reported_on t st.made xs)) k) K)
       go zero t l r = tt
       go (suc d) t l r = record {
         moment = at st;
@@ -194,18 +194,18 @@ module _ (P : PlainProgram) (b : Bounds) (L : Scope) (copies : List ℕ) where
       }
 
   -- a turn, or the rest of the last that may be made without an event
-  pub good_turn : {V : Type 0} {n : ℕ} (st : State) (k : Told → Out V) (K : V → Told → Reply) → ((u : State) → Since st u → u.made ≡ st.made → Good n (at u) (λ w. finish (k w) K)) →
+  pub good_turn : {V : Type 0} {n : ℕ} (st : State) (k : Reported → Out V) (K : V → Reported → Reply) → ((u : State) → Since st u → u.made ≡ st.made → Good n (at u) (λ w. finish (k w) K)) →
       Good (suc n) (at st) (λ w. finish (bind (turned w) (λ u v. k v)) K)
   good_turn {V} {n} st k K s = record { from = λ d t l r. go d t l r (suc t == most_turns) refl }
     where
       go : (d t : ℕ) → t < most_turns → most_turns * d + (most_turns - t) < suc n → (c : Bool) → (suc t == most_turns) ≡ c →
-          Goes d (at st) (λ xs. finish (bind (turned_if c (told_on t st.made xs)) (λ u v. k v)) K)
+          Goes d (at st) (λ xs. finish (bind (turned_if c (reported_on t st.made xs)) (λ u v. k v)) K)
       go zero t l r true e = tt
       go (suc d) t l r true e = record {
         moment = at st;
         quietly = still;
         may = (tt, tt);
-        then = λ x h c. subst (λ z. Goes d z (λ xs. finish (k (told_on 0 st.made xs)) K)) (sym c.1) (subst (λ y. Goes d (at c.0) (λ xs. finish (k (told_on 0 y xs)) K)) c.2.made
+        then = λ x h c. subst (λ z. Goes d z (λ xs. finish (k (reported_on 0 st.made xs)) K)) (sym c.1) (subst (λ y. Goes d (at c.0) (λ xs. finish (k (reported_on 0 y xs)) K)) c.2.made
             ((s c.0 (since_after Rest refl c.2) c.2.made).from d 0 most_pos (omega arith)));
       }
       go d t l r false e =
@@ -214,14 +214,14 @@ module _ (P : PlainProgram) (b : Bounds) (L : Scope) (copies : List ℕ) where
           (s st (since_now st) refl).from d (suc t) lt (omega arith)
 
   -- begins, and the join
-  pub good_begins : {V : Type 0} {n : ℕ} (st : State) (forking : Forking) (ts : List Task) (forks : Forks P b st forking ts) (i j : ℕ) (k : Brought → Told → Out V) (K : V → Told → Reply) →
+  pub good_begins : {V : Type 0} {n : ℕ} (st : State) (forking : Forking) (ts : List Task) (forks : Forks P b st forking ts) (i j : ℕ) (k : Brought → Reported → Out V) (K : V → Reported → Reply) →
       i + j ≡ length ts → ((x : Brought) (u : State) → Since st u → Brings P b st forking ts forks u x → Good n (at u) (λ w. finish (k x w) K)) →
-      Good n (forked st forking ts forks i) (λ w. finish (bind (begins_then i j told_join w) k) K)
+      Good n (forked st forking ts forks i) (λ w. finish (bind (begins_then i j reported_join w) k) K)
   good_begins {V} {n} st forking ts forks i zero k K e more =
       good_same (λ w l. ap (λ o. finish o K) (sym (bind_bind (asked Join w) (λ a v. Done (brought a) v) k))) (record { from = go })
     where
       go : (d t : ℕ) → t < most_turns → most_turns * d + (most_turns - t) < n →
-          Goes d (forked st forking ts forks i) (λ xs. finish (bind (asked Join (told_on t st.made xs)) (λ a v. k (brought a) v)) K)
+          Goes d (forked st forking ts forks i) (λ xs. finish (bind (asked Join (reported_on t st.made xs)) (λ a v. k (brought a) v)) K)
       go zero t l r = tt
       go (suc d) t l r = record {
         moment = forked st forking ts forks i;
@@ -230,30 +230,30 @@ module _ (P : PlainProgram) (b : Bounds) (L : Scope) (copies : List ℕ) where
         then = λ x h c. stands_in d t st (λ w. finish (k (brought x) w) K) c.1 c.3 r (more (brought x) c.0 c.2 c.4);
       }
   good_begins {V} {n} st forking ts forks i (suc j) k K e more =
-      good_same (λ w l. ap (λ o. finish o K) (sym (bind_bind (asked (Begin i) w) (λ a v. begins_then (suc i) j told_join v) k)))
+      good_same (λ w l. ap (λ o. finish o K) (sym (bind_bind (asked (Begin i) w) (λ a v. begins_then (suc i) j reported_join v) k)))
       (record { from = go (good_begins st forking ts forks (suc i) j k K (omega arith) more) })
     where
-      go : Good n (forked st forking ts forks (suc i)) (λ w. finish (bind (begins_then (suc i) j told_join w) k) K) → (d t : ℕ) → t < most_turns → most_turns * d + (most_turns - t) < n →
-          Goes d (forked st forking ts forks i) (λ xs. finish (bind (asked (Begin i) (told_on t st.made xs)) (λ a v. bind (begins_then (suc i) j told_join v) k)) K)
+      go : Good n (forked st forking ts forks (suc i)) (λ w. finish (bind (begins_then (suc i) j reported_join w) k) K) → (d t : ℕ) → t < most_turns → most_turns * d + (most_turns - t) < n →
+          Goes d (forked st forking ts forks i) (λ xs. finish (bind (asked (Begin i) (reported_on t st.made xs)) (λ a v. bind (begins_then (suc i) j reported_join v) k)) K)
       go s zero t l r = tt
       go s (suc d) t l r = record {
         moment = forked st forking ts forks i;
         quietly = still;
         may = tt;
-        then = λ x h c. subst (λ z. Goes d z (λ xs. finish (bind (begins_then (suc i) j told_join (told_on 0 st.made xs)) k) K)) (sym c) (s.from d 0 most_pos (room_falls n d t r));
+        then = λ x h c. subst (λ z. Goes d z (λ xs. finish (bind (begins_then (suc i) j reported_join (reported_on 0 st.made xs)) k) K)) (sym c) (s.from d 0 most_pos (room_falls n d t r));
       }
 
-  pub good_fork : {V : Type 0} {n : ℕ} (st : State) (forking : Forking) (ts : List Task) (forks : Forks P b st forking ts) → CalmFork P b st.entries forking ts → (k : Brought → Told → Out V) (K : V → Told → Reply) →
+  pub good_fork : {V : Type 0} {n : ℕ} (st : State) (forking : Forking) (ts : List Task) (forks : Forks P b st forking ts) → CalmFork P b st.entries forking ts → (k : Brought → Reported → Out V) (K : V → Reported → Reply) →
       ((x : Brought) (u : State) → Since st u → Brings P b st forking ts forks u x → Good n (at u) (λ w. finish (k x w) K)) →
-      Good n (at st) (λ w. finish (bind (asked (Fork (record { kind = forking; tasks = ts })) w) (λ a v. bind (begins_then 0 (length ts) told_join v) k)) K)
+      Good n (at st) (λ w. finish (bind (asked (Fork (record { kind = forking; tasks = ts })) w) (λ a v. bind (begins_then 0 (length ts) reported_join v) k)) K)
   good_fork {V} {n} st forking ts forks calm k K more = record { from = go (good_begins st forking ts forks 0 (length ts) k K (omega arith) more) }
     where
-      go : Good n (forked st forking ts forks 0) (λ w. finish (bind (begins_then 0 (length ts) told_join w) k) K) → (d t : ℕ) → t < most_turns → most_turns * d + (most_turns - t) < n →
-          Goes d (at st) (λ xs. finish (bind (asked (Fork (record { kind = forking; tasks = ts })) (told_on t st.made xs)) (λ a v. bind (begins_then 0 (length ts) told_join v) k)) K)
+      go : Good n (forked st forking ts forks 0) (λ w. finish (bind (begins_then 0 (length ts) reported_join w) k) K) → (d t : ℕ) → t < most_turns → most_turns * d + (most_turns - t) < n →
+          Goes d (at st) (λ xs. finish (bind (asked (Fork (record { kind = forking; tasks = ts })) (reported_on t st.made xs)) (λ a v. bind (begins_then 0 (length ts) reported_join v) k)) K)
       go s zero t l r = tt
       go s (suc d) t l r = record {
         moment = at st;
         quietly = still;
         may = (forks, calm);
-        then = λ x h c. subst (λ z. Goes d z (λ xs. finish (bind (begins_then 0 (length ts) told_join (told_on 0 st.made xs)) k) K)) (sym c) (s.from d 0 most_pos (room_falls n d t r));
+        then = λ x h c. subst (λ z. Goes d z (λ xs. finish (bind (begins_then 0 (length ts) reported_join (reported_on 0 st.made xs)) k) K)) (sym c) (s.from d 0 most_pos (room_falls n d t r));
       }

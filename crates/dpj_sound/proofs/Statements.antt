@@ -58,12 +58,12 @@ use Rattle.dpj_sound.proofs.Writing.{order_prints, part_write, field_write, elem
 
 module _ (P : PlainProgram) (wt : WellTyped P) (b : Bounds) (dp : Option Deeper) (dd : DeeperInOrder P wt b dp) where
   -- after an expression, which is in order
-  behind : (L : Scope) → GoodScope L → (g : Setting) {e : TypedExpr} {E : List EffectOwn} → Has P L e E →
+  following : (L : Scope) → GoodScope L → (g : Setting) {e : TypedExpr} {E : List EffectOwn} → Has P L e E →
       (R : State → Result → Type 0) (j : Value → Frame → Prog) (st : State) (f : Frame) → FrameFits P b.path st g L f → Within b st.entries g E →
       ((h : State) (v : Value) → Since st h → FitsIn P h.shapes (env_of g) (type_of e) v →
       Fits (env_of g) (index_elem L e) (At (Literal (number v)) ∷ []) → InOrder P b R h (j v f)) →
       InOrder P b R st (and_then (of_expr (named_by b.path) P dp e f) j)
-  behind L good g {e = e} h R j st f ff w i = order_then P b L g e f R j st _ (expr_order P wt b dp dd L good g h (Yields P L g e st f) st f ff w (yields P L g e st f)) i
+  following L good g {e = e} h R j st f ff w i = order_then P b L g e f R j st _ (expr_order P wt b dp dd L good g h (Yields P L g e st f) st f ff w (yields P L g e st f)) i
 
   -- a value of a subtype
   sub_fits : (L : Scope) → GoodScope L → (g : Setting) {e : TypedExpr} {E : List EffectOwn} {t : PlainType} → Has P L e E → Subtype P (type_of e) t →
@@ -179,20 +179,20 @@ module _ (P : PlainProgram) (wt : WellTyped P) (b : Bounds) (dp : Option Deeper)
         (g : Setting) (st : State) (f : Frame) → FrameFits P b.path st g L f → Within b st.entries g E →
         InOrder P b (Left P b L g (completes s) st) st (of_stmt (named_by b.path) P dp s f)
     stmt_order {L} (store {x = x} {t = t} lx h sub) good pl g st f ff w =
-        behind L good g h _ _ st f ff w
+        following L good g h _ _ st f ff w
         (λ h1 v s fv ix. (refl, s, frame_store P b.path h1 g L good f x t v lx (sub_fits L good g h sub ff h1.shapes v fv) (frame_since s ff)))
     stmt_order {L} (store_field {at = at} {o = o} {e = e} {c = c} {k = k} {args = args} {f = fd} {E = E} {F = F} ho ty fe kn he sub) good pl g st f ff w =
-        behind L good g ho _ _ st f ff (within_left b st.entries g E _ w)
-        (λ h1 v s fv ix. behind L good g he _ _ h1 f (frame_since s ff) (within_since b s g _ (within_left b st.entries g F _ (within_right b st.entries g E _ w)))
+        following L good g ho _ _ st f ff (within_left b st.entries g E _ w)
+        (λ h1 v s fv ix. following L good g he _ _ h1 f (frame_since s ff) (within_since b s g _ (within_left b st.entries g F _ (within_right b st.entries g E _ w)))
         (λ h2 u s2 fu iu. field_write P b wt L g (Left P b L g true st) h2 at f c k args fd fe kn (subst (TypeInScope L 0) ty (typed_in P wt L good ho))
         (within_since b (since_since s s2) g (does (writes (substituted args fd.region)) ∷ []) (within_right b st.entries g F _ (within_right b st.entries g E _ w))) u
         (sub_fits L good g he sub ff h2.shapes u fu) v
         (fits_grows P h1.shapes h2.shapes s2.grows (env_of g) (class c args) v (subst (λ z. FitsIn P h1.shapes (env_of g) z v) ty fv))
         (λ h3 s3. (refl, since_since (since_since s s2) s3, frame_since (since_since (since_since s s2) s3) ff))))
     stmt_order {L} (store_element {at = at} {a = a} {i = i} {e = e} {t = t} {rpl = rpl} {named = named} {E = E} {F = F} {G = G} ha ty hi ti rg he sub) good pl g st f ff w =
-        behind L good g ha _ _ st f ff (within_left b st.entries g E _ w)
-        (λ h1 v s fv ix. behind L good g hi _ _ h1 f (frame_since s ff) (within_since b s g _ (within_left b st.entries g F _ (within_right b st.entries g E _ w)))
-        (λ h2 j s2 fj ij. behind L good g he _ _ h2 f (frame_since (since_since s s2) ff)
+        following L good g ha _ _ st f ff (within_left b st.entries g E _ w)
+        (λ h1 v s fv ix. following L good g hi _ _ h1 f (frame_since s ff) (within_since b s g _ (within_left b st.entries g F _ (within_right b st.entries g E _ w)))
+        (λ h2 j s2 fj ij. following L good g he _ _ h2 f (frame_since (since_since s s2) ff)
         (within_since b (since_since s s2) g _ (within_left b st.entries g G _ (within_right b st.entries g F _ (within_right b st.entries g E _ w))))
         (λ h3 u s3 fu iu. element_write P b wt L g (Left P b L g true st) h3 at f t rpl named (index_elem L i) (number j) (index_in L i).0 ij rg
         (within_since b (since_since (since_since s s2) s3) g (does (writes (path_at 0 (index_elem L i) rpl)) ∷ [])
@@ -201,23 +201,23 @@ module _ (P : PlainProgram) (wt : WellTyped P) (b : Bounds) (dp : Option Deeper)
         (fits_grows P h1.shapes h3.shapes (since_since s2 s3).grows (env_of g) (array t rpl named) v (subst (λ z. FitsIn P h1.shapes (env_of g) z v) ty fv))
         (λ h4 s4. (refl, since_since (since_since (since_since s s2) s3) s4, frame_since (since_since (since_since (since_since s s2) s3) s4) ff)))))
     stmt_order {L} (store_part {at = at} {k = k} {t = t} {a = a} {i = i} {e = e} {E = E} {F = F} lk hi ti he sub) good pl g st f ff w =
-        behind L good g hi _ _ st f ff (within_left b st.entries g E _ w)
-        (λ h1 j s fj ij. behind L good g he _ _ h1 f (frame_since s ff) (within_since b s g _ (within_left b st.entries g F _ (within_right b st.entries g E _ w)))
+        following L good g hi _ _ st f ff (within_left b st.entries g E _ w)
+        (λ h1 j s fj ij. following L good g he _ _ h1 f (frame_since s ff) (within_since b s g _ (within_left b st.entries g F _ (within_right b st.entries g E _ w)))
         (λ h2 u s2 fu iu. part_write P b (Left P b L g true st) h2 at f g k t a (number j) u ((frame_since (since_since s s2) ff).each k (part t a) lk)
         (within_since b (since_since s s2) g (uses k (writes a) ∷ []) (within_right b st.entries g F _ (within_right b st.entries g E _ w)))
         (sub_fits L good g he sub ff h2.shapes u fu)
         (λ h3 s3. (refl, since_since (since_since s s2) s3, frame_since (since_since (since_since s s2) s3) ff))))
-    stmt_order {L} (perform ip h) good pl g st f ff w = behind L good g h _ _ st f ff w (λ h1 v s fv ix. (refl, s, frame_since s ff))
+    stmt_order {L} (perform ip h) good pl g st f ff w = following L good g h _ _ st f ff w (λ h1 v s fv ix. (refl, s, frame_since s ff))
     stmt_order (nested p) good pl g st f ff w = stmts_order p good pl g st f ff w
     stmt_order {L} (choice {s = a} {E = E} {F = F} h ty p) good pl g st f ff w =
-        behind L good g h _ _ st f ff (within_left b st.entries g E F w)
+        following L good g h _ _ st f ff (within_left b st.entries g E F w)
         (λ h1 v s fv ix. order_choose P b (Left P b L g true st) h1 (truth v) (gives none f) (of_stmt (named_by b.path) P dp a f)
         (order_ret P b (Left P b L g true st) h1 (Goes_on none f) (refl, s, frame_since s ff))
         (order_post P b (Left P b L g (completes a) h1) (Left P b L g true st)
         (λ u r y. left_since P b L g (completes a) true st h1 u r s (λ e. refl) y) (of_stmt (named_by b.path) P dp a f) h1
         (single_order p good pl g h1 f (frame_since s ff) (within_since b s g F (within_right b st.entries g E F w)))))
     stmt_order {L} (choice_else {s = a} {t = c} {E = E} {F = F} {G = G} h ty p r) good pl g st f ff w =
-        behind L good g h _ _ st f ff (within_left b st.entries g E _ w)
+        following L good g h _ _ st f ff (within_left b st.entries g E _ w)
         (λ h1 v s fv ix. order_choose P b (Left P b L g (completes a || completes c) st) h1 (truth v) (of_stmt (named_by b.path) P dp c f)
         (of_stmt (named_by b.path) P dp a f)
         (order_post P b (Left P b L g (completes c) h1) (Left P b L g (completes a || completes c) st)
@@ -240,12 +240,12 @@ module _ (P : PlainProgram) (wt : WellTyped P) (b : Bounds) (dp : Option Deeper)
     )
     stmt_order {L} (return_nothing e) good pl g st f ff w = (since_now st, subst (λ z. ReturnFits P st.shapes g z none) (sym e) tt)
     stmt_order {L} (return_value {e = e} {t = t} k h sub) good pl g st f ff w =
-        behind L good g h _ _ st f ff w (λ h1 v s fv ix. (s, subst (λ z. ReturnFits P h1.shapes g z v) (sym k) (sub_fits L good g h sub ff h1.shapes v fv)))
+        following L good g h _ _ st f ff w (λ h1 v s fv ix. (s, subst (λ z. ReturnFits P h1.shapes g z v) (sym k) (sub_fits L good g h sub ff h1.shapes v fv)))
     stmt_order {L} (print_int h ty) good pl g st f ff w =
-        behind L good g h _ _ st f ff w (λ h1 v s fv ix. order_prints P b (Left P b L g true st) h1 (text_of v) f
+        following L good g h _ _ st f ff w (λ h1 v s fv ix. order_prints P b (Left P b L g true st) h1 (text_of v) f
         (λ u s2. (refl, since_since s s2, frame_since (since_since s s2) ff)))
     stmt_order {L} (print_boolean h ty) good pl g st f ff w =
-        behind L good g h _ _ st f ff w (λ h1 v s fv ix. order_prints P b (Left P b L g true st) h1 (text_of v) f
+        following L good g h _ _ st f ff w (λ h1 v s fv ix. order_prints P b (Left P b L g true st) h1 (text_of v) f
         (λ u s2. (refl, since_since s s2, frame_since (since_since s s2) ff)))
     stmt_order {L} (print_text {text = text}) good pl g st f ff w = order_prints P b (Left P b L g true st) st text f (λ u s. (refl, s, frame_since s ff))
     stmt_order {L} (atomic {entry = entry} {ss = ss} {E = E} p se) good {outer} pl g st f ff w = (
@@ -270,8 +270,8 @@ module _ (P : PlainProgram) (wt : WellTyped P) (b : Bounds) (dp : Option Deeper)
         scoped = all_own P wt outer L pl (after_block E) (marked_in P wt outer L true E (stmts_effects_in P wt outer p (good_block L good) (placed_block outer L pl)))
     stmt_order {L} (cobegin {at = at} calm p nc) good pl g st f ff w = cobegin_order P b dp L good g st f ff at _ p nc (without_marks L _ (all_use P wt p (λ j d l. absurd (omega (arith, l))) good)) w
     stmt_order {L} (foreach {at = at} {forking = forking} {x = x} {s = s} {E = E} {F = F} {G = G} calm hs ts hc tc free p ic) good {outer} pl g st f ff w =
-        behind L good g hs _ _ st f ff (within_left b st.entries g E _ w)
-        (λ h1 v s1 fv iv. behind L good g hc _ _ h1 f (frame_since s1 ff) (within_since b s1 g F (within_left b st.entries g F _ (within_right b st.entries g E _ w)))
+        following L good g hs _ _ st f ff (within_left b st.entries g E _ w)
+        (λ h1 v s1 fv iv. following L good g hc _ _ h1 f (frame_since s1 ff) (within_since b s1 g F (within_left b st.entries g F _ (within_right b st.entries g E _ w)))
         (λ h2 u s2 fu iu. order_post P b (Left P b L g true h2) (Left P b L g true st) (λ z r y. left_since P b L g true true st h2 z r (since_since s1 s2) (λ e. e) y) _ h2
         (foreach_order P b dp L good g h2 f (frame_since (since_since s1 s2) ff) at forking free p ic
         (all_own P wt outer (with_local x (constant int) (in_loop_branch L)) (placed_declare outer (in_loop_branch L) (placed_loop outer L pl) x true int (free_in_loop L x free) tt) G
@@ -283,10 +283,10 @@ module _ (P : PlainProgram) (wt : WellTyped P) (b : Bounds) (dp : Option Deeper)
         let cu = cuts_array ha ty full in
         let free = free_slots L k fr in
         let scope = cuts_in P wt L good cu in
-        behind L good g ha _ _ st f ff (within_left b st.entries g E _ w)
+        following L good g ha _ _ st f ff (within_left b st.entries g E _ w)
         (λ h1 v s1 fv iv.
         (let f1 : FrameFits P b.path h1 g L (part_begun k v f) = filled P wt b L good g k t a free scope 1 (Int (pos 0)) (omega arith) (filled_first P wt b L good g k t a free scope v (frame_since s1 ff)) in
-        behind L good g hc _ _ h1 (part_begun k v f) f1 (within_since b s1 g F (within_left b st.entries g F _ (within_right b st.entries g E _ w)))
+        following L good g hc _ _ h1 (part_begun k v f) f1 (within_since b s1 g F (within_left b st.entries g F _ (within_right b st.entries g E _ w)))
         (λ h2 u s2 fu iu.
         (let f2 : FrameFits P b.path h2 g L (with_value (part_begun k v f) (k + 3) u) = filled P wt b L good g k t a free scope 3 u (omega arith) (frame_since s2 f1) in
         let is : slot_value (with_value (part_begun k v f) (k + 3) u).values k ≡ v =
@@ -308,7 +308,7 @@ module _ (P : PlainProgram) (wt : WellTyped P) (b : Bounds) (dp : Option Deeper)
         let f1 : FrameFits P b.path st g L (part_taken_over k j f) =
         filled P wt b L good g k t a free scope 1 (slot_value (with_value f k (slot_value f.values j)).values (j + 1)) (omega arith)
         (filled_first P wt b L good g k t a free scope (slot_value f.values j) ff) in
-        behind L good g hc _ _ st (part_taken_over k j f) f1 (within_left b st.entries g F _ (within_right b st.entries g E _ w))
+        following L good g hc _ _ st (part_taken_over k j f) f1 (within_left b st.entries g F _ (within_right b st.entries g E _ w))
         (λ h1 u s1 fu iu.
         (let f2 : FrameFits P b.path h1 g L (with_value (part_taken_over k j f) (k + 3) u) = filled P wt b L good g k t a free scope 3 u (omega arith) (frame_since s1 f1) in
         let slots = taken_slots P wt b L good g k t a free scope f ff j e u in
@@ -329,7 +329,7 @@ module _ (P : PlainProgram) (wt : WellTyped P) (b : Bounds) (dp : Option Deeper)
         InOrder P b (Left P b L g (completes s) st) st (of_stmt (named_by b.path) P dp s f)
     single_order (then' {E = E} {F = F} p c rest) good pl g st f ff w = stmt_order p good pl g st f ff (within_left b st.entries g E F w)
     single_order {L} (declare {x = x} {t = t} {E = E} {F = F} free gt h sub rest) good pl g st f ff w =
-        behind L good g h _ _ st f ff (within_left b st.entries g E _ w)
+        following L good g h _ _ st f ff (within_left b st.entries g E _ w)
         (λ h1 v s fv ix. (refl, s, frame_outside P b.path h1 g L good f x v free.0 (frame_since s ff)))
     single_order {L} (declare_regions {rs = rs} free rest) good pl g st f ff w =
         makes_order P b L good (Left P b L g true st) rs free st g f ff
@@ -363,7 +363,7 @@ module _ (P : PlainProgram) (wt : WellTyped P) (b : Bounds) (dp : Option Deeper)
         (lies_general g x (number v) (with_local x (declared_as is_final t) L) F a
         (all_own P wt outer (with_local x (declared_as is_final t) L) (placed_declare outer L pl x is_final t free (good_placed outer P L 0 t gt)) F
         (stmts_effects_in P wt outer rest (good_declare L good x is_final t free (good_type P L 0 t gt)) (placed_declare outer L pl x is_final t free (good_placed outer P L 0 t gt)))) l)))))
-        _ st (behind L good g h (Declared g t x st f) _ st f ff (within_left b st.entries g E _ w)
+        _ st (following L good g h (Declared g t x st f) _ st f ff (within_left b st.entries g E _ w)
         (λ h1 v s2 fv ix. order_ret P b (Declared g t x st f) h1 (Goes_on none (with_value f x v)) (v, s2, sub_fits L good g h sub ff h1.shapes v fv, refl)))
     stmts_order {L} (declare_regions {rs = rs} {ss = ss} {F = F} free rest) good {outer} pl g st f ff w =
         order_on P b (Renewed L g rs st f) _ (next_of (λ v h. of_stmts (named_by b.path) P dp ss h))

@@ -17,7 +17,7 @@ use Rattle.dpj_base.specs.Types.{PlainType, int, boolean, void, null, class, arr
 use Rattle.dpj_typed.specs.Plain.{PlainProgram}
 use Rattle.dpj_regions.proofs.Reading.{matches_by_what_occurs, known_argument_matches}
 use Rattle.dpj_runs.specs.Objects.{Name, Value, Int, Boolean, Null, Object, Region}
-use Rattle.dpj_sound.specs.Settings.{env_of, elems_of, behind_own, under}
+use Rattle.dpj_sound.specs.Settings.{env_of, elems_of, after_own, under}
 use Rattle.dpj_sound.specs.Shapes.{Shapes, Grows, AllMatch, Instance, SameIn, ArrayInstance, IsNullOr, FitsIn}
 use Rattle.dpj_sound.proofs.Closed.{IsClosed, ClosedPath, ClosedType, Agrees, agrees_back, agrees_under, closed_matches}
 
@@ -243,7 +243,7 @@ alone_under : (k : ℤ) (env : Env) (a : Rpl) → All NoOwn a.elems → (r : Lis
 alone_under k env a h r m =
     (matches_by_what_occurs env (under k env) a (record { head = head_under k env a.head; elems = λ j d l. put_under k env _ (h j d l) }) r).0 m
 
-own_both : (depth : ℕ) (k : ℤ) (f g : ℕ → ℤ) → ((d : ℕ) → d < depth → f d ≡ g d) → (d : ℕ) → d < suc depth → behind_own k f d ≡ behind_own k g d
+own_both : (depth : ℕ) (k : ℤ) (f g : ℕ → ℤ) → ((d : ℕ) → d < depth → f d ≡ g d) → (d : ℕ) → d < suc depth → after_own k f d ≡ after_own k g d
 own_both depth k f g h zero l = refl
 own_both depth k f g h (suc d) l = h d (omega (arith, l))
 

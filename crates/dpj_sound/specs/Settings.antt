@@ -78,12 +78,12 @@ abbrev pub class_env : List Region → Env
 class_env rs = env_of (class_setting rs)
 
 -- inside an array type, at an index of the array
-abbrev pub behind_own : ℤ → (ℕ → ℤ) → ℕ → ℤ
-behind_own k own zero = k
-behind_own k own (suc d) = own d
+abbrev pub after_own : ℤ → (ℕ → ℤ) → ℕ → ℤ
+after_own k own zero = k
+after_own k own (suc d) = own d
 
 abbrev pub under : ℤ → Env → Env
-under k env = record env { own = behind_own k env.own }
+under k env = record env { own = after_own k env.own }
 
 -- the region of the element at an index, of an array in this region
 abbrev pub element_part : ℤ → Part → Part

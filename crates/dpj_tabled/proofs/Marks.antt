@@ -2,14 +2,14 @@
 use Rattle.std.proofs.Common.{◌≡◌, ◌↔◌, ◌⊎◌, ◌≤◌, ◌+◌, ℕ, zero, suc, Bool, true, List, [], ◌∷◌, ◌++◌, length, inl, inr, refl, ap, subst, arith}
 use Rattle.dpj_classes.specs.declared.reach.Edge.{Edge}
 use Rattle.dpj_classes.specs.Marking.{sources, places_from, all_marked, all_added}
-use Rattle.dpj_classes.specs.Reach.{is_marked, IsBehind}
+use Rattle.dpj_classes.specs.Reach.{is_marked, IsAfter}
 use Rattle.dpj_classes.proofs.Marking.{Marking, begun, turn, done, all_taken}
 
 -- marks of all that reaches something that is marked
 pub record Marks (first : List Bool) (edges : List Edge) : Type 0 where
   pub marks : List Bool
   pub as_many : length marks ≡ length first
-  pub each : (at : ℕ) → (is_marked marks at ≡ true) ↔ IsBehind first edges at
+  pub each : (at : ℕ) → (is_marked marks at ≡ true) ↔ IsAfter first edges at
 
 -- nothing, or something with a last one
 pub record HasLast (xs : List ℕ) : Type 0 where

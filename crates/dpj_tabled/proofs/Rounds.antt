@@ -4,8 +4,8 @@ use Rattle.std.specs.Option.{option_and_then}
 use Rattle.dpj_base.specs.declared.refusal.Refusal.{Refusal}
 use Rattle.dpj_tree.specs.declared.class.Class.{Class}
 use Rattle.dpj_headers.specs.declared.faults.Order.TheVariants as order
-use Rattle.dpj_headers.specs.Faults.{told, all_noted, none_by}
-use Rattle.dpj_headers.specs.First.{first_faults, parents_in, IsToldFirst}
+use Rattle.dpj_headers.specs.Faults.{reported, all_noted, none_by}
+use Rattle.dpj_headers.specs.First.{first_faults, parents_in, IsReportedFirst}
 use Rattle.dpj_headers.specs.Rounds.{entry_of, up, TellRounds, all_rounds}
 use Rattle.dpj_headers.proofs.Cycles.{twice_up, rounds_tell}
 
@@ -27,13 +27,13 @@ far_up parents (suc n) =
       lead = twice_up parents less.jumps less.steps less.lead;
     }
 
-rounds_told : (parents : List (Option ℕ)) → (rounds : List Bool) × TellRounds parents rounds
-rounds_told parents =
+rounds_reported : (parents : List (Option ℕ)) → (rounds : List Bool) × TellRounds parents rounds
+rounds_reported parents =
     let far = far_up parents (length parents) in
     (all_rounds (replicate (length parents) false) far.jumps, rounds_tell parents far.jumps far.steps far.many far.lead)
 
-pub first_told : (classes : List Class) → (found : Option Refusal) × IsToldFirst classes found
-first_told classes =
-    let rounds = rounds_told (parents_in classes) in
+pub first_reported : (classes : List Class) → (found : Option Refusal) × IsReportedFirst classes found
+first_reported classes =
+    let rounds = rounds_reported (parents_in classes) in
     let noted = all_noted (none_by order.Place) (first_faults classes rounds.0) in
-    (told noted, (noted, (rounds.0, rounds.1, refl), refl))
+    (reported noted, (noted, (rounds.0, rounds.1, refl), refl))

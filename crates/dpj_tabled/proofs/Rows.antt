@@ -65,4 +65,4 @@ rows_extend headers all at (class ∷ classes) =
     ap classes_in (map-append super_back own more)
     ∙ map-append (λ row. row.class) (map super_back own) (map super_back more)
     ∙ ap (λ here. here ++ classes_in (map super_back more)) (row_extends scope class)
-    ∙ ap (λ behind. extending headers (as_number at) class ++ behind) (rows_extend headers all (at + 1) classes)
+    ∙ ap (λ following. extending headers (as_number at) class ++ following) (rows_extend headers all (at + 1) classes)

@@ -4,15 +4,15 @@ use Rattle.std.specs.List.{flat_map}
 use Rattle.dpj_base.specs.declared.refusal.Refusal.{Refusal}
 use Rattle.dpj_base.specs.Types.{Ordered}
 use Rattle.dpj_tree.specs.declared.class.Program.{Program}
-use Rattle.dpj_headers.specs.First.{IsToldFirst}
+use Rattle.dpj_headers.specs.First.{IsReportedFirst}
 use Rattle.dpj_headers.specs.Gathered.{headers_in}
-use Rattle.dpj_headers.specs.Second.{told_second}
+use Rattle.dpj_headers.specs.Second.{reported_second}
 use Rattle.dpj_headers.specs.Way.{IsCounted}
 use Rattle.dpj_classes.specs.declared.reach.Edge.{Edge}
 use Rattle.dpj_classes.specs.declared.table.Table.{Table}
 use Rattle.dpj_classes.specs.Bodies.{class_marks, override_edges}
-use Rattle.dpj_classes.specs.Build.{AreWellNamed, IsTable, IsTold, first_of, table_faults, text_faults}
-use Rattle.dpj_classes.specs.Build.IsTold.{in_classes, in_members, in_signatures, in_table}
+use Rattle.dpj_classes.specs.Build.{AreWellNamed, IsTable, IsReported, first_of, table_faults, text_faults}
+use Rattle.dpj_classes.specs.Build.IsReported.{in_classes, in_members, in_signatures, in_table}
 use Rattle.dpj_classes.specs.Edges.{call_edges}
 use Rattle.dpj_classes.specs.Overridden.{overridden_in}
 use Rattle.dpj_classes.specs.RowNumbers.{rows_on_way}
@@ -23,7 +23,7 @@ use Rattle.dpj_classes.proofs.Rising.{extending_ordered}
 use Rattle.dpj_front.specs.Judging.{HasTable}
 use Rattle.dpj_tabled.specs.Laws.{EachTable}
 use Rattle.dpj_tabled.proofs.Marks.{Marks, all_reached}
-use Rattle.dpj_tabled.proofs.Rounds.{first_told}
+use Rattle.dpj_tabled.proofs.Rounds.{first_reported}
 use Rattle.dpj_tabled.proofs.Rows.{supers_there, fields_there, methods_there, rows_extend}
 
 -- the rows that the text says
@@ -87,24 +87,24 @@ ordered program counted =
     extending_ordered headers program.classes (supers_of (table_of program)) (rows_extend headers (all_constraints headers 0 program.classes) 0 program.classes) (omega arith)
 
 abbrev HasEither : Program → Type 0
-HasEither program = ((fault : Refusal) × IsTold program fault) ⊎ ((table : Table) × HasTable program table)
+HasEither program = ((fault : Refusal) × IsReported program fault) ⊎ ((table : Table) × HasTable program table)
 
 judged : (program : Program) → IsCounted program.classes → AreWellNamed program.classes → IsTable program (table_of program) → (found : Option Refusal) → first_of (table_faults (table_of program) program.names) ≡ found → HasEither program
-judged program counted named is (Some fault) told = inl (fault, in_table (table_of program) named is told)
-judged program counted named is None told = inr (table_of program, record { named = named; is_table = is; ordered = ordered program counted; whole = told })
+judged program counted named is (Some fault) reported = inl (fault, in_table (table_of program) named is reported)
+judged program counted named is None reported = inr (table_of program, record { named = named; is_table = is; ordered = ordered program counted; whole = reported })
 
 read : (program : Program) → IsCounted program.classes → AreWellNamed program.classes → (found : Option Refusal) → first_of (text_faults (headers_in program) program.classes) ≡ found → HasEither program
-read program counted named (Some fault) told = inl (fault, in_signatures named told)
-read program counted named None told = judged program counted named (is_table program told) (first_of (table_faults (table_of program) program.names)) refl
+read program counted named (Some fault) reported = inl (fault, in_signatures named reported)
+read program counted named None reported = judged program counted named (is_table program reported) (first_of (table_faults (table_of program) program.names)) refl
 
-among_members : (program : Program) → IsCounted program.classes → IsToldFirst program.classes None → (found : Option Refusal) → told_second program.classes ≡ found → HasEither program
-among_members program counted first (Some fault) told = inl (fault, in_members first told)
-among_members program counted first None told =
-    read program counted (record { first = first; second = told }) (first_of (text_faults (headers_in program) program.classes)) refl
+among_members : (program : Program) → IsCounted program.classes → IsReportedFirst program.classes None → (found : Option Refusal) → reported_second program.classes ≡ found → HasEither program
+among_members program counted first (Some fault) reported = inl (fault, in_members first reported)
+among_members program counted first None reported =
+    read program counted (record { first = first; second = reported }) (first_of (text_faults (headers_in program) program.classes)) refl
 
-among_classes : (program : Program) → IsCounted program.classes → (found : Option Refusal) → IsToldFirst program.classes found → HasEither program
-among_classes program counted (Some fault) told = inl (fault, in_classes told)
-among_classes program counted None told = among_members program counted told (told_second program.classes) refl
+among_classes : (program : Program) → IsCounted program.classes → (found : Option Refusal) → IsReportedFirst program.classes found → HasEither program
+among_classes program counted (Some fault) reported = inl (fault, in_classes reported)
+among_classes program counted None reported = among_members program counted reported (reported_second program.classes) refl
 
 pub each_table : EachTable
-each_table program counted = let told = first_told program.classes in among_classes program counted told.0 told.1
+each_table program counted = let reported = first_reported program.classes in among_classes program counted reported.0 reported.1

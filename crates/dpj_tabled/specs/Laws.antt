@@ -4,9 +4,9 @@ use Rattle.dpj_base.specs.declared.refusal.Refusal.{Refusal}
 use Rattle.dpj_tree.specs.declared.class.Program.{Program}
 use Rattle.dpj_headers.specs.Way.{IsCounted}
 use Rattle.dpj_classes.specs.declared.table.Table.{Table}
-use Rattle.dpj_classes.specs.Build.{IsTold}
+use Rattle.dpj_classes.specs.Build.{IsReported}
 use Rattle.dpj_front.specs.Judging.{HasTable}
 
 -- a program of fewer classes than numbers has a first fault of names and signatures, or it has a class table
 abbrev pub EachTable : Type 0
-EachTable = (program : Program) → IsCounted program.classes → ((fault : Refusal) × IsTold program fault) ⊎ ((table : Table) × HasTable program table)
+EachTable = (program : Program) → IsCounted program.classes → ((fault : Refusal) × IsReported program fault) ⊎ ((table : Table) × HasTable program table)

@@ -60,14 +60,14 @@ all-kept added names new bytes (token ∷ tokens) [] all = absurd all
 all-kept added names new bytes (token ∷ tokens) (said ∷ list) (place, means, all) =
     (place, means-kept added token.kind names new _ said.terminal means, all-kept added names new bytes tokens list all)
 
-all-behind : (names : List (List ℕ)) (bytes : List ℕ) (tokens : List Token) (list : List Placed) (token : Token) (said : Placed)
+all-following : (names : List (List ℕ)) (bytes : List ℕ) (tokens : List Token) (list : List Placed) (token : Token) (said : Placed)
     → MeanAll names bytes tokens list → said.place ≡ token.place → Means names token.kind (token_text bytes token) said.terminal
     → MeanAll names bytes (tokens ++ token ∷ []) (list ++ said ∷ [])
-all-behind names bytes [] [] token said all place means = (place, means, tt)
-all-behind names bytes [] (other ∷ list) token said all place means = absurd all
-all-behind names bytes (other ∷ tokens) [] token said all place means = absurd all
-all-behind names bytes (other ∷ tokens) (first ∷ list) token said (at, is, all) place means =
-    (at, is, all-behind names bytes tokens list token said all place means)
+all-following names bytes [] [] token said all place means = (place, means, tt)
+all-following names bytes [] (other ∷ list) token said all place means = absurd all
+all-following names bytes (other ∷ tokens) [] token said all place means = absurd all
+all-following names bytes (other ∷ tokens) (first ∷ list) token said (at, is, all) place means =
+    (at, is, all-following names bytes tokens list token said all place means)
 
 take-next : (tokens : List Token) (i : ℕ) (d : Token) → i < length tokens → take (suc i) tokens ≡ take i tokens ++ get_or tokens i d ∷ []
 take-next [] i d within = absurd (omega (arith, within))
@@ -83,7 +83,7 @@ pub all-next : (names : List (List ℕ)) (bytes : List ℕ) (tokens : List Token
 all-next names bytes tokens list i d said within all place means =
     let Q : List Token → Type 0 = λ read. MeanAll (with_token (get_or tokens i d).kind names (token_text bytes (get_or tokens i d))) bytes read (list ++ said ∷ []) in
     subst Q (sym (take-next tokens i d within))
-    (all-behind _ bytes (take i tokens) list (get_or tokens i d) said (all-kept _ names _ bytes (take i tokens) list all) place means)
+    (all-following _ bytes (take i tokens) list (get_or tokens i d) said (all-kept _ names _ bytes (take i tokens) list all) place means)
 
 -- the names with those of the tokens from here on are those with this token's and with the next ones'
 pub names-next : (names : List (List ℕ)) (bytes : List ℕ) (tokens : List Token) (i : ℕ) (d : Token) → i < length tokens

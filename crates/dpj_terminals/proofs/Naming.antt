@@ -7,9 +7,9 @@ use Rattle.std.proofs.lemmas.Slice.Eq.{bytes_eq-Decides}
 use Rattle.indexmap.specs.IndexSet.{insert_key}
 use Rattle.dpj_terminals.specs.Says.{with_name}
 
-map-behind : {K : Type 0} (f : K → List ℕ) (ks : List K) (k : K) → map f (ks ++ k ∷ []) ≡ map f ks ++ f k ∷ []
-map-behind f [] k = refl
-map-behind f (x ∷ ks) k = ap (λ names. f x ∷ names) (map-behind f ks k)
+map-following : {K : Type 0} (f : K → List ℕ) (ks : List K) (k : K) → map f (ks ++ k ∷ []) ≡ map f ks ++ f k ∷ []
+map-following f [] k = refl
+map-following f (x ∷ ks) k = ap (λ names. f x ∷ names) (map-following f ks k)
 
 any-named : {K : Type 0} (f : K → List ℕ) (ks : List K) (k : K) → list_any (λ other. bytes_eq (f k) (f other)) ks ≡ list_any (bytes_eq (f k)) (map f ks)
 any-named f [] k = refl
@@ -17,7 +17,7 @@ any-named f (x ∷ ks) k = ap (λ found. bytes_eq (f k) (f x) || found) (any-nam
 
 chosen : {K : Type 0} (f : K → List ℕ) (ks : List K) (k : K) (b c : Bool) → b ≡ c → map f (cond b ks (ks ++ k ∷ [])) ≡ cond c (map f ks) (map f ks ++ f k ∷ [])
 chosen f ks k true true e = refl
-chosen f ks k false false e = map-behind f ks k
+chosen f ks k false false e = map-following f ks k
 chosen f ks k true false e = cc
 chosen f ks k false true e = cc
 

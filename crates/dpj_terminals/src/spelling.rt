@@ -23,9 +23,9 @@ pub fn unescaped(alloc: Global, inside: &[u8]) -> Result<Bytes, NoMemory>
 {
     let mut bytes = Bytes::new(alloc);
     let mut rest = inside;
-    while let Some((byte, behind)) = front(rest) {
+    while let Some((byte, following)) = front(rest) {
         bytes.push(byte)?;
-        rest = behind;
+        rest = following;
     }
     Ok(bytes)
 }
@@ -37,8 +37,8 @@ fn front(inside: &[u8]) -> Option<(u8, &[u8])>
 {
     match inside {
         [] => None,
-        [b'\\', letter, behind @ ..] => Some((escaped(*letter), behind)),
-        [first, behind @ ..] => Some((*first, behind)),
+        [b'\\', letter, following @ ..] => Some((escaped(*letter), following)),
+        [first, following @ ..] => Some((*first, following)),
     }
 }
 

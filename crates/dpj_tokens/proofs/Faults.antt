@@ -18,17 +18,17 @@ use Rattle.dpj_tokens.proofs.Runs.{run-prefix_len, prefix_len-some}
 pub fault-comment : (kind : Kind) (bytes : List ℕ) (len at : ℕ) → kind ≡ kinds.Syntax → at ≡ utf8_valid_len (take len bytes) → IsComment (take len bytes) (drop len bytes) → ¬ (IsUtf8 (take len bytes)) → IsFault kind bytes at
 fault-comment k bytes len at e is comment bad = (byte_in_comment, e, (take len bytes, drop len bytes, sym (take-append-drop len bytes), comment, bad, is))
 
-pub fault-open_comment : (kind : Kind) (bytes behind : List ℕ) (at : ℕ) → kind ≡ kinds.Syntax → at ≡ 0 → bytes ≡ 47 ∷ 42 ∷ behind → ((k : ℕ) → ¬ (ClosesAt behind k)) → IsFault kind bytes at
-fault-open_comment k bytes behind at e is begins never = (open_comment, e, (behind, begins, never, is))
+pub fault-open_comment : (kind : Kind) (bytes following : List ℕ) (at : ℕ) → kind ≡ kinds.Syntax → at ≡ 0 → bytes ≡ 47 ∷ 42 ∷ following → ((k : ℕ) → ¬ (ClosesAt following k)) → IsFault kind bytes at
+fault-open_comment k bytes following at e is begins never = (open_comment, e, (following, begins, never, is))
 
-pub fault-byte_in_text : (kind : Kind) (behind inside rest : List ℕ) (at : ℕ) → kind ≡ kinds.Syntax → at ≡ 1 + utf8_valid_len inside → behind ≡ inside ++ rest → IsInside inside → EndsInside rest → ¬ (IsUtf8 inside) → IsFault kind (34 ∷ behind) at
-fault-byte_in_text k behind inside rest at e is whole in_text ends bad = (byte_in_text, e, (inside, rest, ap (λ bs. 34 ∷ bs) whole, in_text, ends, bad, is))
+pub fault-byte_in_text : (kind : Kind) (following inside rest : List ℕ) (at : ℕ) → kind ≡ kinds.Syntax → at ≡ 1 + utf8_valid_len inside → following ≡ inside ++ rest → IsInside inside → EndsInside rest → ¬ (IsUtf8 inside) → IsFault kind (34 ∷ following) at
+fault-byte_in_text k following inside rest at e is whole in_text ends bad = (byte_in_text, e, (inside, rest, ap (λ bs. 34 ∷ bs) whole, in_text, ends, bad, is))
 
-pub fault-bad_in_text : (kind : Kind) (behind inside rest : List ℕ) (at : ℕ) → kind ≡ kinds.Syntax → at ≡ 1 + length inside → behind ≡ inside ++ rest → IsInside inside → IsBadInText rest → IsUtf8 inside → IsFault kind (34 ∷ behind) at
-fault-bad_in_text k behind inside rest at e is whole in_text bad utf8 = (bad_in_text, e, (inside, rest, ap (λ bs. 34 ∷ bs) whole, in_text, bad, utf8, is))
+pub fault-bad_in_text : (kind : Kind) (following inside rest : List ℕ) (at : ℕ) → kind ≡ kinds.Syntax → at ≡ 1 + length inside → following ≡ inside ++ rest → IsInside inside → IsBadInText rest → IsUtf8 inside → IsFault kind (34 ∷ following) at
+fault-bad_in_text k following inside rest at e is whole in_text bad utf8 = (bad_in_text, e, (inside, rest, ap (λ bs. 34 ∷ bs) whole, in_text, bad, utf8, is))
 
-pub fault-open_text : (kind : Kind) (behind inside : List ℕ) (at : ℕ) → kind ≡ kinds.Syntax → at ≡ 0 → behind ≡ inside → IsInside inside → IsUtf8 inside → IsFault kind (34 ∷ behind) at
-fault-open_text k behind inside at e is whole in_text utf8 = (open_text, e, (inside, ap (λ bs. 34 ∷ bs) whole, in_text, utf8, is))
+pub fault-open_text : (kind : Kind) (following inside : List ℕ) (at : ℕ) → kind ≡ kinds.Syntax → at ≡ 0 → following ≡ inside → IsInside inside → IsUtf8 inside → IsFault kind (34 ∷ following) at
+fault-open_text k following inside at e is whole in_text utf8 = (open_text, e, (inside, ap (λ bs. 34 ∷ bs) whole, in_text, utf8, is))
 
 pub digits-prefix_len : (bytes : List ℕ) (len : ℕ) → is_digit (get_or bytes 0 0) ≡ true → len ≡ prefix_len is_digit bytes → AreDigits (take len bytes) (drop len bytes)
 unfolding is_digit

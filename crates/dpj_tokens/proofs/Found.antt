@@ -40,13 +40,13 @@ found-int bytes len e is plain fits =
     let within = prefix_len-le-length is_digit bytes in
     record { some = omega arith; within = omega arith; is = (digits-prefix_len bytes len e is, plain, omega (arith, fits)) }
 
-pub found-text : (behind inside rest : List ℕ) (b : ℕ) → behind ≡ inside ++ rest → Some b ≡ slice_get rest 0 → b ≡ 34 → IsInside inside → IsUtf8 inside → IsFound (34 ∷ behind) (record { token = Some kind.Text; len = length inside + 2 })
-found-text behind inside [] b whole first quote in_text utf8 = absurd cc
-found-text behind inside (c ∷ rest) b whole first quote in_text utf8 =
+pub found-text : (following inside rest : List ℕ) (b : ℕ) → following ≡ inside ++ rest → Some b ≡ slice_get rest 0 → b ≡ 34 → IsInside inside → IsUtf8 inside → IsFound (34 ∷ following) (record { token = Some kind.Text; len = length inside + 2 })
+found-text following inside [] b whole first quote in_text utf8 = absurd cc
+found-text following inside (c ∷ rest) b whole first quote in_text utf8 =
     let is_quote : c ≡ 34 = cc in
     let two : length inside + 2 ≡ suc (length inside + 1) = omega arith in
-    let text : take (length inside + 2) (34 ∷ behind) ≡ 34 ∷ (inside ++ 34 ∷ []) =
-    ap (λ n. take n (34 ∷ behind)) two ∙ ap (λ bs. 34 ∷ take (length inside + 1) bs) whole ∙ ap (λ bs. 34 ∷ bs) (take-append-add inside (c ∷ rest) 1) ∙ ap (λ x. 34 ∷ (inside ++ x ∷ [])) is_quote in
+    let text : take (length inside + 2) (34 ∷ following) ≡ 34 ∷ (inside ++ 34 ∷ []) =
+    ap (λ n. take n (34 ∷ following)) two ∙ ap (λ bs. 34 ∷ take (length inside + 1) bs) whole ∙ ap (λ bs. 34 ∷ bs) (take-append-add inside (c ∷ rest) 1) ∙ ap (λ x. 34 ∷ (inside ++ x ∷ [])) is_quote in
     let long = ap length whole ∙ length-append inside (c ∷ rest) in
     record { some = omega arith; within = omega (arith, long); is = (inside, text, in_text, utf8) }
 

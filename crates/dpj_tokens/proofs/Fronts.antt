@@ -108,16 +108,16 @@ comment-front text rest r (inr (body, spelled, first)) x =
     let P : List ℕ → Type 0 = λ t. CommentAnswer t r → Front (t ++ rest) r in
     let n = length body in
     let ends = body ++ 42 ∷ 47 ∷ [] in
-    let behind = ends ++ rest in
+    let following = ends ++ rest in
     let Q : List ℕ → Type 0 = λ t. CommentAnswer (47 ∷ 42 ∷ t) r in
     let long : length ends ≡ n + 2 = length-append body (42 ∷ 47 ∷ []) in
-    let within : (k : ℕ) → k < n + 2 → get_or behind k 0 ≡ get_or ends k 0 = λ k lt. get_or_append_left ends rest 0 k (omega arith) in
+    let within : (k : ℕ) → k < n + 2 → get_or following k 0 ≡ get_or ends k 0 = λ k lt. get_or_append_left ends rest 0 k (omega arith) in
     let star : get_or ends n 0 ≡ 42 = get_or_at body 42 (47 ∷ []) 0 n refl in
     let slash : get_or ends (n + 1) 0 ≡ 47 = get_or-append-add body (42 ∷ 47 ∷ []) 1 0 in
-    let closes : ClosesAt behind n = (within n (omega arith) ∙ star, within (n + 1) (omega arith) ∙ slash) in
-    let never : (k : ℕ) → k < n → ¬ (ClosesAt behind k) = λ k lt h. first k lt (sym (within k (omega arith)) ∙ h.0, sym (within (k + 1) (omega arith)) ∙ h.1) in
-    let front : take (n + 2) behind ≡ ends = take_at ends rest (n + 2) long in
-    subst P (sym spelled) (λ y. (at_block, class-block behind, (behind, refl, inl (n, (closes, never), subst Q (sym front) y)))) x
+    let closes : ClosesAt following n = (within n (omega arith) ∙ star, within (n + 1) (omega arith) ∙ slash) in
+    let never : (k : ℕ) → k < n → ¬ (ClosesAt following k) = λ k lt h. first k lt (sym (within k (omega arith)) ∙ h.0, sym (within (k + 1) (omega arith)) ∙ h.1) in
+    let front : take (n + 2) following ≡ ends = take_at ends rest (n + 2) long in
+    subst P (sym spelled) (λ y. (at_block, class-block following, (following, refl, inl (n, (closes, never), subst Q (sym front) y)))) x
 
 pub piece-front : (kind : Option TokenKind) (text rest : List ℕ) → IsPiece kind text rest → Front (text ++ rest) (piece kind (length text))
 piece-front None text rest (inl (b, spelled, is)) =

@@ -9,7 +9,7 @@ use Rattle.dpj_tokens.specs.declared.token.TokenKind.{TokenKind}
 use Rattle.dpj_tokens.specs.Cutting.{Pieces, text_of, StandBefore, tokens_of, Cuts, FaultsAt}
 use Rattle.dpj_tokens.specs.Fault.{IsFault}
 use Rattle.dpj_tokens.specs.Piece.{IsPiece}
-use Rattle.dpj_tokens.specs.Place.{place_behind}
+use Rattle.dpj_tokens.specs.Place.{place_after}
 use Rattle.dpj_tokens.proofs.Fronts.{piece-front, cause-front}
 use Rattle.dpj_tokens.proofs.Unique.{Answer, piece, fault, Body, Front, front-unique}
 
@@ -37,13 +37,13 @@ pieces-unique [] ((k, t) ∷ others) left right a b x y e = absurd (piece-ends l
 pieces-unique ((k, t) ∷ some) [] left right a b x y e = absurd (piece-ends right k t (text_of some ++ left) b (sym e ∙ append_assoc t (text_of some) left) x.0)
 pieces-unique ((k, t) ∷ some) ((j, u) ∷ others) left right a b x y e =
     let rest = text_of some ++ left in
-    let behind = text_of others ++ right in
-    let whole : t ++ rest ≡ u ++ behind = sym (append_assoc t (text_of some) left) ∙ e ∙ append_assoc u (text_of others) right in
-    let same : piece k (length t) ≡ piece j (length u) = front-unique (t ++ rest) (piece k (length t)) (piece j (length u)) (piece-front k t rest x.0) (subst (λ bs. Front bs (piece j (length u))) (sym whole) (piece-front j u behind y.0)) in
+    let following = text_of others ++ right in
+    let whole : t ++ rest ≡ u ++ following = sym (append_assoc t (text_of some) left) ∙ e ∙ append_assoc u (text_of others) right in
+    let same : piece k (length t) ≡ piece j (length u) = front-unique (t ++ rest) (piece k (length t)) (piece j (length u)) (piece-front k t rest x.0) (subst (λ bs. Front bs (piece j (length u))) (sym whole) (piece-front j u following y.0)) in
     let kinds : k ≡ j = cc in
     let sizes : length t ≡ length u = cc in
-    let texts : t ≡ u = sym (take_at t rest (length t) refl) ∙ ap (λ n. take n (t ++ rest)) sizes ∙ ap (take (length u)) whole ∙ take_at u behind (length u) refl in
-    let rests : rest ≡ behind = append_cancel_left t rest behind (whole ∙ ap (λ bs. bs ++ behind) (sym texts)) in
+    let texts : t ≡ u = sym (take_at t rest (length t) refl) ∙ ap (λ n. take n (t ++ rest)) sizes ∙ ap (take (length u)) whole ∙ take_at u following (length u) refl in
+    let rests : rest ≡ following = append_cancel_left t rest following (whole ∙ ap (λ bs. bs ++ following) (sym texts)) in
     let more = pieces-unique some others left right a b x.1 y.1 rests in
     let first : ◌≡◌ {A = Option TokenKind × List ℕ} (k, t) (j, u) = ap (λ (k : Option TokenKind). (k, t)) kinds ∙ ap (λ (t : List ℕ). (j, t)) texts in
     (ap (λ (p : Option TokenKind × List ℕ). p ∷ some) first ∙ ap (λ ps. (j, u) ∷ ps) more.0, more.1)
@@ -52,7 +52,7 @@ pub cuts-unique : (bytes : List ℕ) (some others : List Token) (end other : Pla
 cuts-unique bytes some others end other a b =
     let whole : text_of a.pieces ++ [] ≡ text_of b.pieces ++ [] = ap (λ bs. bs ++ []) (sym a.whole ∙ b.whole) in
     let same = pieces-unique a.pieces b.pieces [] [] (inl refl) (inl refl) a.each b.each whole in
-    (a.told ∙ ap (tokens_of []) same.0 ∙ sym b.told, a.ends ∙ sym b.ends)
+    (a.reported ∙ ap (tokens_of []) same.0 ∙ sym b.reported, a.ends ∙ sym b.ends)
 
 pub cuts-faultless : (bytes : List ℕ) (tokens : List Token) (end : Place) (refusal : Refusal) → Cuts bytes tokens end → FaultsAt bytes refusal → ⊥
 cuts-faultless bytes tokens end refusal a b =
@@ -67,5 +67,5 @@ faults-unique bytes one other a b =
     let answer : fault one.kind a.at ≡ fault other.kind b.at = front-unique a.left (fault one.kind a.at) (fault other.kind b.at) (fault-front one.kind a.left a.at a.fault) bad in
     let kinds : one.kind ≡ other.kind = cc in
     let places : a.at ≡ b.at = cc in
-    let placed : one.place ≡ other.place = a.placed ∙ ap (λ ps. place_behind (text_of ps ++ take a.at a.left)) same.0 ∙ ap (λ bs. place_behind (text_of b.pieces ++ take a.at bs)) same.1 ∙ ap (λ n. place_behind (text_of b.pieces ++ take n b.left)) places ∙ sym b.placed in
+    let placed : one.place ≡ other.place = a.placed ∙ ap (λ ps. place_after (text_of ps ++ take a.at a.left)) same.0 ∙ ap (λ bs. place_after (text_of b.pieces ++ take a.at bs)) same.1 ∙ ap (λ n. place_after (text_of b.pieces ++ take n b.left)) places ∙ sym b.placed in
     ap (λ (k : Kind). let r : Refusal = record { kind = k; place = one.place } in r) kinds ∙ ap (λ (p : Place). let r : Refusal = record { kind = other.kind; place = p } in r) placed

@@ -10,7 +10,7 @@ use Rattle.dpj_tokens.specs.declared.token.Keyword.{Keyword}
 use Rattle.dpj_tokens.specs.declared.token.Keyword.TheVariants as keyword
 use Rattle.dpj_tokens.specs.Cutting.{Pieces, text_of, StandBefore, tokens_of, Cuts, Stands, StandInOrder}
 use Rattle.dpj_tokens.specs.Piece.{IsToken}
-use Rattle.dpj_tokens.specs.Place.{place_behind}
+use Rattle.dpj_tokens.specs.Place.{place_after}
 use Rattle.dpj_tokens.specs.Spelling.{keyword_text}
 use Rattle.dpj_tokens.proofs.Tables.{symbol-some}
 
@@ -31,13 +31,13 @@ order-weaken : (bytes : List ℕ) (low high : ℕ) (tokens : List Token) → low
 order-weaken bytes low high [] le order = tt
 order-weaken bytes low high (token ∷ tokens) le order = (omega (arith, order.0), order.1, order.2)
 
-token-stands : (bytes front text rest : List ℕ) (kind : TokenKind) → bytes ≡ front ++ (text ++ rest) → IsToken kind text rest → Stands bytes (record { kind = kind; from = length front; to = length front + length text; place = place_behind front })
+token-stands : (bytes front text rest : List ℕ) (kind : TokenKind) → bytes ≡ front ++ (text ++ rest) → IsToken kind text rest → Stands bytes (record { kind = kind; from = length front; to = length front + length text; place = place_after front })
 token-stands bytes front text rest kind whole is =
     let n = length front in
     let m = length text in
     let together : bytes ≡ (front ++ text) ++ rest = whole ∙ sym (append_assoc front text rest) in
     let size : length (front ++ text) ≡ n + m = length-append front text in
-    let behind : drop (n + m) bytes ≡ rest = ap (drop (n + m)) together ∙ drop_at (front ++ text) rest (n + m) size in
+    let following : drop (n + m) bytes ≡ rest = ap (drop (n + m)) together ∙ drop_at (front ++ text) rest (n + m) size in
     let from : drop n bytes ≡ text ++ rest = ap (drop n) whole ∙ drop_at front (text ++ rest) n refl in
     let slice : slice_range bytes n (n + m) ≡ text = ap (take (n + m - n)) from ∙ take_at text rest (n + m - n) (omega arith) in
     let before : take n bytes ≡ front = ap (take n) whole ∙ take_at front (text ++ rest) n refl in
@@ -47,8 +47,8 @@ token-stands bytes front text rest kind whole is =
     record {
       some = omega arith;
       within = omega (arith, ap length together, length-append (front ++ text) rest);
-      is = subst P (sym slice) (subst Q (sym behind) is);
-      placed = ap place_behind (sym before);
+      is = subst P (sym slice) (subst Q (sym following) is);
+      placed = ap place_after (sym before);
     }
 
 pieces-stand : (bytes front left : List ℕ) (pieces : Pieces) → bytes ≡ front ++ (text_of pieces ++ left) → StandBefore left pieces → StandInOrder bytes (length front) (tokens_of front pieces)
@@ -63,4 +63,4 @@ pieces-stand bytes front left ((Some kind, text) ∷ pieces) whole each =
     (omega arith, token-stands bytes front text (text_of pieces ++ left) kind regrouped each.0, subst P (length-append front text) (pieces-stand bytes (front ++ text) left pieces longer each.1))
 
 pub cuts-stand : (bytes : List ℕ) (tokens : List Token) (end : Place) → Cuts bytes tokens end → StandInOrder bytes 0 tokens
-cuts-stand bytes tokens end cut = subst (λ ts. StandInOrder bytes 0 ts) (sym cut.told) (pieces-stand bytes [] [] cut.pieces (cut.whole ∙ sym (append-nil (text_of cut.pieces))) cut.each)
+cuts-stand bytes tokens end cut = subst (λ ts. StandInOrder bytes 0 ts) (sym cut.reported) (pieces-stand bytes [] [] cut.pieces (cut.whole ∙ sym (append-nil (text_of cut.pieces))) cut.each)

@@ -61,12 +61,12 @@ nothing-left [] e = refl
 nothing-left (b ∷ rest) e = absurd cc
 
 -- the byte after the first
-behind-first : (bytes left : List ℕ) → left ≡ drop 1 bytes → get_or left 0 0 ≡ get_or bytes 1 0
-behind-first [] left is = ap (λ bs. get_or bs 0 0) is
-behind-first (b ∷ bs) left is = ap (λ bs. get_or bs 0 0) is
+following-first : (bytes left : List ℕ) → left ≡ drop 1 bytes → get_or left 0 0 ≡ get_or bytes 1 0
+following-first [] left is = ap (λ bs. get_or bs 0 0) is
+following-first (b ∷ bs) left is = ap (λ bs. get_or bs 0 0) is
 
-pub escape-behind : (bytes : List ℕ) (answer truth : Bool) → answer ≡ is_escape (get_or (take (length bytes - 1) (drop 1 bytes)) 0 0) → answer ≡ truth → is_escape (get_or bytes 1 0) ≡ truth
-escape-behind bytes answer truth e is = ap is_escape (sym (behind-first bytes _ (take_rest bytes 1))) ∙ sym e ∙ is
+pub escape-following : (bytes : List ℕ) (answer truth : Bool) → answer ≡ is_escape (get_or (take (length bytes - 1) (drop 1 bytes)) 0 0) → answer ≡ truth → is_escape (get_or bytes 1 0) ≡ truth
+escape-following bytes answer truth e is = ap is_escape (sym (following-first bytes _ (take_rest bytes 1))) ∙ sym e ∙ is
 
 -- an escape has two bytes
 pub escape-long : (bytes : List ℕ) → is_escape (get_or bytes 1 0) ≡ true → 2 ≤ length bytes

@@ -11,7 +11,6 @@ use Rattle.std.proofs.lemmas.List.{take_at, append_cancel_left}
 use Rattle.dpj_base.specs.Lexical.{is_blank, is_letter, is_digit, is_name_byte, keywords, decimal_value}
 use Rattle.dpj_base.specs.declared.refusal.Kind.{Kind}
 use Rattle.dpj_base.specs.declared.refusal.Kind.TheVariants as kinds
-use Rattle.dpj_tokens.specs.declared.table.TheConstants.{SYMBOLS, KEYWORDS}
 use Rattle.dpj_tokens.specs.declared.token.TokenKind.{TokenKind}
 use Rattle.dpj_tokens.specs.declared.token.TokenKind.TheVariants as tokens
 use Rattle.dpj_tokens.specs.declared.token.Symbol.{Symbol}
@@ -67,7 +66,7 @@ abbrev pub ClosesFirst : List ℕ → ℕ → Type 0
 ClosesFirst bytes at = ClosesAt bytes at × ((k : ℕ) → k < at → ¬ (ClosesAt bytes k))
 
 abbrev pub BlockAnswer : List ℕ → Answer → Type 0
-BlockAnswer behind r = ((at : ℕ) × ClosesFirst behind at × CommentAnswer (47 ∷ 42 ∷ take (at + 2) behind) r) ⊎ (((k : ℕ) → ¬ (ClosesAt behind k)) × (r ≡ fault kinds.Syntax 0))
+BlockAnswer following r = ((at : ℕ) × ClosesFirst following at × CommentAnswer (47 ∷ 42 ∷ take (at + 2) following) r) ⊎ (((k : ℕ) → ¬ (ClosesAt following k)) × (r ≡ fault kinds.Syntax 0))
 
 abbrev pub MarkAnswer : List ℕ → Answer → Type 0
 MarkAnswer bytes r = ((s : Symbol) × (starts_with nat_eq bytes (symbol_text s) ≡ true) × IsLongestSymbol s bytes × (r ≡ piece (Some (tokens.Symbol s)) (length (symbol_text s)))) ⊎ (((s : Symbol) → starts_with nat_eq bytes (symbol_text s) ≡ false) × (r ≡ fault kinds.Syntax 0))
@@ -80,7 +79,7 @@ Body at_word bytes r = (text : List ℕ) × (rest : List ℕ) × (bytes ≡ text
 Body at_digits bytes r = (text : List ℕ) × (rest : List ℕ) × (bytes ≡ text ++ rest) × IsRun is_digit text rest × DigitsAnswer text r
 Body at_text bytes r = (inside : List ℕ) × (stop : List ℕ) × (bytes ≡ 34 ∷ (inside ++ stop)) × IsInside inside × EndsInside stop × TextAnswer inside stop r
 Body at_line bytes r = (body : List ℕ) × (rest : List ℕ) × (bytes ≡ 47 ∷ 47 ∷ (body ++ rest)) × IsRun is_no_line_feed body rest × CommentAnswer (47 ∷ 47 ∷ body) r
-Body at_block bytes r = (behind : List ℕ) × (bytes ≡ 47 ∷ 42 ∷ behind) × BlockAnswer behind r
+Body at_block bytes r = (following : List ℕ) × (bytes ≡ 47 ∷ 42 ∷ following) × BlockAnswer following r
 Body at_mark bytes r = MarkAnswer bytes r
 
 -- two runs at the front of the same bytes
@@ -95,8 +94,8 @@ run-unique is (c ∷ text) rest [] left a b e =
     let stops : is c ≡ false = subst P (sym e) b.1 in
     absurd (false≢true (sym stops ∙ a.0.0))
 run-unique is (c ∷ text) rest (d ∷ other) left a b e =
-    let behind : text ++ rest ≡ other ++ left = cc in
-    let same : text ≡ other = run-unique is text rest other left (a.0.1, a.1) (b.0.1, b.1) behind in
+    let following : text ++ rest ≡ other ++ left = cc in
+    let same : text ≡ other = run-unique is text rest other left (a.0.1, a.1) (b.0.1, b.1) following in
     let first : c ≡ d = cc in
     cc
 
@@ -123,8 +122,8 @@ inside-unique nothing (plain c cs p h) stop left a b e = absurd (plain-goes_on c
 inside-unique nothing (escape c cs p h) stop left a b e = absurd (escape-goes_on c (cs ++ left) p (subst EndsInside e a))
 inside-unique (plain c cs p h) nothing stop left a b e = absurd (plain-goes_on c (cs ++ stop) p (subst EndsInside (sym e) b))
 inside-unique (plain c cs p h) (plain d ds q g) stop left a b e =
-    let behind : cs ++ stop ≡ ds ++ left = cc in
-    let same : cs ≡ ds = inside-unique h g stop left a b behind in
+    let following : cs ++ stop ≡ ds ++ left = cc in
+    let same : cs ≡ ds = inside-unique h g stop left a b following in
     let first : c ≡ d = cc in
     cc
 inside-unique (plain c cs p h) (escape d ds q g) stop left a b e =
@@ -135,8 +134,8 @@ inside-unique (escape c cs p h) (plain d ds q g) stop left a b e =
     let first : d ≡ 92 = cc in
     absurd (plain-no_slash d q first)
 inside-unique (escape c cs p h) (escape d ds q g) stop left a b e =
-    let behind : cs ++ stop ≡ ds ++ left = cc in
-    let same : cs ≡ ds = inside-unique h g stop left a b behind in
+    let following : cs ++ stop ≡ ds ++ left = cc in
+    let same : cs ≡ ds = inside-unique h g stop left a b following in
     let second : c ≡ d = cc in
     cc
 
@@ -148,14 +147,28 @@ closes-unique bytes i j a b = elim (cases_lt i j) [
 ]
 
 -- each symbol and keyword by its spelling
+abbrev pub every_symbol : List Symbol
+every_symbol =
+    symbol.AtMost ∷ symbol.AtLeast ∷ symbol.Equal ∷ symbol.NotEqual ∷ symbol.And ∷ symbol.Or ∷ symbol.OpenBrace ∷ symbol.CloseBrace
+    ∷ symbol.OpenParen ∷ symbol.CloseParen ∷ symbol.OpenBracket ∷ symbol.CloseBracket ∷ symbol.Less ∷ symbol.Greater ∷ symbol.Assign
+    ∷ symbol.Plus ∷ symbol.Minus ∷ symbol.Star ∷ symbol.Slash ∷ symbol.Percent ∷ symbol.Not ∷ symbol.Semicolon ∷ symbol.Comma
+    ∷ symbol.Dot ∷ symbol.Colon ∷ symbol.Hash ∷ symbol.Bar ∷ symbol.Question ∷ []
+
 abbrev pub symbol_spelled : List ℕ → Symbol
-symbol_spelled text = unwrap_or (find (λ s. bytes_eq (symbol_text s) text) SYMBOLS) symbol.AtMost
+symbol_spelled text = unwrap_or (find (λ s. bytes_eq (symbol_text s) text) every_symbol) symbol.AtMost
 
 symbol-back : (s : Symbol) → symbol_spelled (symbol_text s) ≡ s
 symbol-back s = elim s as (λ s. symbol_spelled (symbol_text s) ≡ s) [ symbol.AtMost ↦ refl | _ ↦ refl ]
 
+abbrev pub every_keyword : List Keyword
+every_keyword =
+    keyword.Class ∷ keyword.Extends ∷ keyword.Region ∷ keyword.Atomic ∷ keyword.In ∷ keyword.Reads ∷ keyword.Writes ∷ keyword.Pure
+    ∷ keyword.Int ∷ keyword.Boolean ∷ keyword.Void ∷ keyword.Final ∷ keyword.If ∷ keyword.Else ∷ keyword.While ∷ keyword.Return
+    ∷ keyword.Print ∷ keyword.Cobegin ∷ keyword.CobeginNd ∷ keyword.Foreach ∷ keyword.ForeachNd ∷ keyword.ForeachParts ∷ keyword.New
+    ∷ keyword.This ∷ keyword.True ∷ keyword.False ∷ keyword.Null ∷ keyword.Root ∷ []
+
 abbrev pub keyword_spelled : List ℕ → Keyword
-keyword_spelled text = unwrap_or (find (λ k. bytes_eq (keyword_text k) text) KEYWORDS) keyword.Class
+keyword_spelled text = unwrap_or (find (λ k. bytes_eq (keyword_text k) text) every_keyword) keyword.Class
 
 keyword-back : (k : Keyword) → keyword_spelled (keyword_text k) ≡ k
 keyword-back k = elim k as (λ k. keyword_spelled (keyword_text k) ≡ k) [ keyword.Class ↦ refl | _ ↦ refl ]
@@ -246,13 +259,13 @@ text-answer inside stop r s (inl (bad, e)) (inr (utf8, f)) = absurd (bad utf8)
 text-answer inside stop r s (inr (utf8, e)) (inl (bad, f)) = absurd (bad utf8)
 text-answer inside stop r s (inr (utf8, e)) (inr (_, f)) = stop-answer inside stop r s e f
 
-block-answer : (behind : List ℕ) (r s : Answer) → BlockAnswer behind r → BlockAnswer behind s → r ≡ s
-block-answer behind r s (inl (i, first, e)) (inl (j, other, f)) =
-    let P : ℕ → Type 0 = λ n. CommentAnswer (47 ∷ 42 ∷ take (n + 2) behind) s in
-    comment-answer (47 ∷ 42 ∷ take (i + 2) behind) r s e (subst P (sym (closes-unique behind i j first other)) f)
-block-answer behind r s (inl (i, first, e)) (inr (never, f)) = absurd (never i first.0)
-block-answer behind r s (inr (never, e)) (inl (j, other, f)) = absurd (never j other.0)
-block-answer behind r s (inr (never, e)) (inr (_, f)) = cc
+block-answer : (following : List ℕ) (r s : Answer) → BlockAnswer following r → BlockAnswer following s → r ≡ s
+block-answer following r s (inl (i, first, e)) (inl (j, other, f)) =
+    let P : ℕ → Type 0 = λ n. CommentAnswer (47 ∷ 42 ∷ take (n + 2) following) s in
+    comment-answer (47 ∷ 42 ∷ take (i + 2) following) r s e (subst P (sym (closes-unique following i j first other)) f)
+block-answer following r s (inl (i, first, e)) (inr (never, f)) = absurd (never i first.0)
+block-answer following r s (inr (never, e)) (inl (j, other, f)) = absurd (never j other.0)
+block-answer following r s (inr (never, e)) (inr (_, f)) = cc
 
 mark-answer : (bytes : List ℕ) (r s : Answer) → MarkAnswer bytes r → MarkAnswer bytes s → r ≡ s
 mark-answer bytes r s (inl (t, begins, longest, e)) (inl (u, other, longer, f)) =
@@ -273,17 +286,17 @@ body-unique at_digits bytes r s (text, rest, whole, run, x) (other, left, all, s
     let one : text ≡ other = run-unique is_digit text rest other left run same (sym whole ∙ all) in
     digits-answer text r s x (subst (λ t. DigitsAnswer t s) (sym one) y)
 body-unique at_text bytes r s (inside, stop, whole, in_text, ends, x) (other, left, all, in_other, stops, y) =
-    let behind : inside ++ stop ≡ other ++ left = cc in
-    let one : inside ≡ other = inside-unique in_text in_other stop left ends stops behind in
-    let rest : stop ≡ left = append_cancel_left inside stop left (behind ∙ ap (λ bs. bs ++ left) (sym one)) in
+    let following : inside ++ stop ≡ other ++ left = cc in
+    let one : inside ≡ other = inside-unique in_text in_other stop left ends stops following in
+    let rest : stop ≡ left = append_cancel_left inside stop left (following ∙ ap (λ bs. bs ++ left) (sym one)) in
     text-answer inside stop r s x (subst (λ t. TextAnswer inside t s) (sym rest) (subst (λ t. TextAnswer t left s) (sym one) y))
 body-unique at_line bytes r s (body, rest, whole, run, x) (other, left, all, same, y) =
-    let behind : body ++ rest ≡ other ++ left = cc in
-    let one : body ≡ other = run-unique is_no_line_feed body rest other left run same behind in
+    let following : body ++ rest ≡ other ++ left = cc in
+    let one : body ≡ other = run-unique is_no_line_feed body rest other left run same following in
     comment-answer (47 ∷ 47 ∷ body) r s x (subst (λ t. CommentAnswer (47 ∷ 47 ∷ t) s) (sym one) y)
-body-unique at_block bytes r s (behind, whole, x) (other, all, y) =
-    let one : behind ≡ other = cc in
-    block-answer behind r s x (subst (λ t. BlockAnswer t s) (sym one) y)
+body-unique at_block bytes r s (following, whole, x) (other, all, y) =
+    let one : following ≡ other = cc in
+    block-answer following r s x (subst (λ t. BlockAnswer t s) (sym one) y)
 body-unique at_mark bytes r s x y = mark-answer bytes r s x y
 
 -- what the bytes begin with

@@ -6,7 +6,7 @@ use Rattle.dpj_tokens.specs.declared.token.Token.{Token}
 use Rattle.dpj_tokens.specs.declared.token.TokenKind.{TokenKind}
 use Rattle.dpj_tokens.specs.Fault.{IsFault}
 use Rattle.dpj_tokens.specs.Piece.{IsToken, IsPiece}
-use Rattle.dpj_tokens.specs.Place.{place_behind}
+use Rattle.dpj_tokens.specs.Place.{place_after}
 
 -- pieces in a row, each with its bytes
 abbrev pub Pieces : Type 0
@@ -30,15 +30,15 @@ token_at from len place (Some kind) = record { kind = kind; from = from; to = fr
 -- the tokens among pieces that stand after these bytes
 abbrev pub tokens_of : List ℕ → Pieces → List Token
 tokens_of front [] = []
-tokens_of front ((kind, text) ∷ pieces) = token_at (length front) (length text) (place_behind front) kind ++ tokens_of (front ++ text) pieces
+tokens_of front ((kind, text) ∷ pieces) = token_at (length front) (length text) (place_after front) kind ++ tokens_of (front ++ text) pieces
 
 -- the text is pieces in a row, these are the tokens among them, and this is where it ends
 pub record Cuts (bytes : List ℕ) (tokens : List Token) (end : Place) : Type 0 where
   pub pieces : Pieces
   pub whole : bytes ≡ text_of pieces
   pub each : StandBefore [] pieces
-  pub told : tokens ≡ tokens_of [] pieces
-  pub ends : end ≡ place_behind bytes
+  pub reported : tokens ≡ tokens_of [] pieces
+  pub ends : end ≡ place_after bytes
 
 -- the text is pieces in a row and then a fault
 pub record FaultsAt (bytes : List ℕ) (refusal : Refusal) : Type 0 where
@@ -48,7 +48,7 @@ pub record FaultsAt (bytes : List ℕ) (refusal : Refusal) : Type 0 where
   pub whole : bytes ≡ text_of pieces ++ left
   pub each : StandBefore left pieces
   pub fault : IsFault refusal.kind left at
-  pub placed : refusal.place ≡ place_behind (text_of pieces ++ take at left)
+  pub placed : refusal.place ≡ place_after (text_of pieces ++ take at left)
 
 -- a text is cut in one way, or has one fault, and never both
 pub record OneCutting : Type 0 where
@@ -61,7 +61,7 @@ pub record Stands (bytes : List ℕ) (token : Token) : Type 0 where
   pub some : token.from < token.to
   pub within : token.to ≤ length bytes
   pub is : IsToken token.kind (slice_range bytes token.from token.to) (drop token.to bytes)
-  pub placed : token.place ≡ place_behind (take token.from bytes)
+  pub placed : token.place ≡ place_after (take token.from bytes)
 
 -- each stands in the text, from an offset on, and none before the end of the one in front of it
 abbrev pub StandInOrder : List ℕ → ℕ → List Token → Type 0

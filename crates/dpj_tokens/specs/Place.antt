@@ -12,5 +12,5 @@ abbrev pub next_place : Place → ℕ → Place
 next_place place b = if b == 10 then record { line = place.line + 1; col = 1 } else record { line = place.line; col = place.col + 1 }
 
 -- after all of these bytes
-abbrev pub place_behind : List ℕ → Place
-place_behind bytes = fold next_place first_place bytes
+abbrev pub place_after : List ℕ → Place
+place_after bytes = fold next_place first_place bytes

@@ -28,7 +28,7 @@ pub fn tokens(alloc: Global, bytes: &[u8]) -> Result<Tokens, Stop>
             Err(fault) => return Err(Stop::Refused(refused(place, left, fault))),
         };
         put(&mut list, at, place, found)?;
-        place = behind(place, &left[..found.len]);
+        place = following(place, &left[..found.len]);
         at += found.len;
     }
     Ok(Tokens { list, end: place })
@@ -60,12 +60,12 @@ fn refused(place: Place, left: &[u8], fault: Fault) -> Refusal
 {
     Refusal {
         kind: fault.kind,
-        place: behind(place, &left[..fault.at]),
+        place: following(place, &left[..fault.at]),
     }
 }
 
 /// The place after bytes that begin at a place.
-fn behind(place: Place, bytes: &[u8]) -> Place
+fn following(place: Place, bytes: &[u8]) -> Place
     requires column { 1 ≤ place.col }
     requires room { place.line + place.col + length bytes.now < 2 ^ 32 }
     ensures place { result ≡ fold next_place place bytes.now }

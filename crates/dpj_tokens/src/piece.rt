@@ -35,9 +35,9 @@ pub fn piece(bytes: &[u8]) -> Result<Found, Fault>
     ensures { Reads bytes.now result }
 {
     match bytes {
-        [b'/', b'/', behind @ ..] => line_comment(bytes, behind),
-        [b'/', b'*', behind @ ..] => block_comment(bytes, behind),
-        [b'"', behind @ ..] => text(behind),
+        [b'/', b'/', following @ ..] => line_comment(bytes, following),
+        [b'/', b'*', following @ ..] => block_comment(bytes, following),
+        [b'"', following @ ..] => text(following),
         [first, ..] if is_blank(*first) => Ok(Found {
             token: None,
             len: 1,
@@ -106,19 +106,19 @@ fn comment(bytes: &[u8], len: usize) -> Result<Found, Fault>
 }
 
 /// A comment that begins with `//`.
-fn line_comment(bytes: &[u8], behind: &[u8]) -> Result<Found, Fault>
-    requires { bytes.now ≡ 47 ∷ 47 ∷ behind.now }
+fn line_comment(bytes: &[u8], following: &[u8]) -> Result<Found, Fault>
+    requires { bytes.now ≡ 47 ∷ 47 ∷ following.now }
     ensures { Reads bytes.now result }
 {
-    comment(bytes, 2 + line_len(behind))
+    comment(bytes, 2 + line_len(following))
 }
 
 /// A comment that begins with `/*`.
-fn block_comment(bytes: &[u8], behind: &[u8]) -> Result<Found, Fault>
-    requires { bytes.now ≡ 47 ∷ 42 ∷ behind.now }
+fn block_comment(bytes: &[u8], following: &[u8]) -> Result<Found, Fault>
+    requires { bytes.now ≡ 47 ∷ 42 ∷ following.now }
     ensures { Reads bytes.now result }
 {
-    match closing(behind) {
+    match closing(following) {
         Some(at) => comment(bytes, at + 4),
         None => Err(syntax(0)),
     }
@@ -148,10 +148,10 @@ fn part_len(bytes: &[u8]) -> usize
 {
     match bytes {
         [] => 0,
-        [first, behind @ ..] => {
+        [first, following @ ..] => {
             if is_plain(*first) {
                 1
-            } else if *first == b'\\' && begins_escape(behind) {
+            } else if *first == b'\\' && begins_escape(following) {
                 2
             } else {
                 0
@@ -172,11 +172,11 @@ fn begins_escape(bytes: &[u8]) -> bool
 }
 
 /// A text after its first quote.
-fn text(behind: &[u8]) -> Result<Found, Fault>
-    requires { length behind.now + 1 < 2 ^ 64 }
-    ensures { Reads (34 ∷ behind.now) result }
+fn text(following: &[u8]) -> Result<Found, Fault>
+    requires { length following.now + 1 < 2 ^ 64 }
+    ensures { Reads (34 ∷ following.now) result }
 {
-    let (inside, rest) = split_inside(behind);
+    let (inside, rest) = split_inside(following);
     if let Some(at) = utf8_fault(inside) {
         return Err(syntax(1 + at));
     }

@@ -1,4 +1,4 @@
-ghost use Rattle.std.specs.Prelude.{◌≡◌, ◌≤◌, ◌<◌, ◌+◌, length, true, false, nat_eq, IsTrue, IfSome, IfNone, ◌↔◌};
+ghost use Rattle.std.specs.Prelude.{◌≡◌, ◌==◌, ◌≤◌, ◌<◌, ◌+◌, length, true, false, nat_eq, IsTrue, IfSome, IfNone, ◌↔◌, ◌∷◌, [], map, filter, slice_index};
 ghost use Rattle.std.specs.List.{Contains, starts_with};
 ghost use Rattle.dpj_base.specs.Lexical.{keywords};
 ghost use Rattle.dpj_tokens.specs.Piece.{IsLongestSymbol};
@@ -7,81 +7,66 @@ ghost use Rattle.dpj_tokens.specs.declared.token.Symbol.{Symbol};
 
 use crate::token::{Keyword, Symbol};
 
-/// The longer ones first, so that the first that fits is the longest; then those that programs use most.
-const SYMBOLS: [Symbol; 28] = [
-    Symbol::AtMost,
-    Symbol::AtLeast,
-    Symbol::Equal,
-    Symbol::NotEqual,
-    Symbol::And,
-    Symbol::Or,
-    Symbol::Semicolon,
-    Symbol::Dot,
-    Symbol::OpenParen,
-    Symbol::CloseParen,
-    Symbol::Assign,
-    Symbol::OpenBrace,
-    Symbol::CloseBrace,
-    Symbol::Comma,
-    Symbol::Plus,
-    Symbol::Minus,
-    Symbol::Star,
-    Symbol::Less,
-    Symbol::Greater,
-    Symbol::Not,
-    Symbol::OpenBracket,
-    Symbol::CloseBracket,
-    Symbol::Slash,
-    Symbol::Percent,
-    Symbol::Colon,
-    Symbol::Hash,
-    Symbol::Bar,
-    Symbol::Question,
-];
-
-const KEYWORDS: [Keyword; 28] = [
-    Keyword::Class,
-    Keyword::Extends,
-    Keyword::Region,
-    Keyword::Atomic,
-    Keyword::In,
-    Keyword::Reads,
-    Keyword::Writes,
-    Keyword::Pure,
-    Keyword::Int,
-    Keyword::Boolean,
-    Keyword::Void,
-    Keyword::Final,
-    Keyword::If,
-    Keyword::Else,
-    Keyword::While,
-    Keyword::Return,
-    Keyword::Print,
-    Keyword::Cobegin,
-    Keyword::CobeginNd,
-    Keyword::Foreach,
-    Keyword::ForeachNd,
-    Keyword::ForeachParts,
-    Keyword::New,
-    Keyword::This,
-    Keyword::True,
-    Keyword::False,
-    Keyword::Null,
-    Keyword::Root,
-];
-
 /// The longest symbol that the bytes begin with.
 pub fn symbol_of(bytes: &[u8]) -> Option<Symbol>
     ensures found { IfSome result (λ s. starts_with nat_eq bytes.now (symbol_text s) ≡ true) }
     ensures longest { IfSome result (λ s. IsLongestSymbol s bytes.now) }
     ensures none { IfNone result ((s : Symbol) → starts_with nat_eq bytes.now (symbol_text s) ≡ false) }
 {
-    for symbol in SYMBOLS {
-        if begins(bytes, symbol) {
-            return Some(symbol);
-        }
+    match bytes {
+        [] => None,
+        [first] => single(*first),
+        [first, second, ..] => match double(*first, *second) {
+            Some(symbol) => Some(symbol),
+            None => single(*first),
+        },
     }
-    None
+}
+
+/// The symbol of two bytes.
+fn double(first: u8, second: u8) -> Option<Symbol>
+    ensures { (s : Symbol) → (result ≡ Some s) ↔ (symbol_text s ≡ first ∷ second ∷ []) }
+{
+    match (first, second) {
+        (b'<', b'=') => Some(Symbol::AtMost),
+        (b'>', b'=') => Some(Symbol::AtLeast),
+        (b'=', b'=') => Some(Symbol::Equal),
+        (b'!', b'=') => Some(Symbol::NotEqual),
+        (b'&', b'&') => Some(Symbol::And),
+        (b'|', b'|') => Some(Symbol::Or),
+        _ => None,
+    }
+}
+
+/// The symbol of one byte.
+fn single(byte: u8) -> Option<Symbol>
+    ensures { (s : Symbol) → (result ≡ Some s) ↔ (symbol_text s ≡ byte ∷ []) }
+{
+    match byte {
+        b'{' => Some(Symbol::OpenBrace),
+        b'}' => Some(Symbol::CloseBrace),
+        b'(' => Some(Symbol::OpenParen),
+        b')' => Some(Symbol::CloseParen),
+        b'[' => Some(Symbol::OpenBracket),
+        b']' => Some(Symbol::CloseBracket),
+        b'<' => Some(Symbol::Less),
+        b'>' => Some(Symbol::Greater),
+        b'=' => Some(Symbol::Assign),
+        b'+' => Some(Symbol::Plus),
+        b'-' => Some(Symbol::Minus),
+        b'*' => Some(Symbol::Star),
+        b'/' => Some(Symbol::Slash),
+        b'%' => Some(Symbol::Percent),
+        b'!' => Some(Symbol::Not),
+        b';' => Some(Symbol::Semicolon),
+        b',' => Some(Symbol::Comma),
+        b'.' => Some(Symbol::Dot),
+        b':' => Some(Symbol::Colon),
+        b'#' => Some(Symbol::Hash),
+        b'|' => Some(Symbol::Bar),
+        b'?' => Some(Symbol::Question),
+        _ => None,
+    }
 }
 
 /// The keyword that a word is.
@@ -90,24 +75,42 @@ pub fn keyword_of(word: &[u8]) -> Option<Keyword>
     ensures none { IfNone result (¬ (Contains keywords word.now)) }
 {
     // Most names are short, and no keyword has a single letter.
-    if word.len() < 2 {
+    let [first, _, ..] = word else {
         return None;
-    }
-    for keyword in KEYWORDS {
-        if spells(keyword, word) {
-            return Some(keyword);
+    };
+    for keyword in keywords_from(*first) {
+        if spells(*keyword, word) {
+            return Some(*keyword);
         }
     }
     None
 }
 
-fn begins(bytes: &[u8], symbol: Symbol) -> bool
-    ensures { result ≡ starts_with nat_eq bytes.now (symbol_text symbol) }
+/// The keywords that begin with a byte.
+fn keywords_from(first: u8) -> &'static [Keyword]
+    ensures { map keyword_text result.now ≡ filter (λ text. slice_index text 0 == first) keywords }
 {
-    match (symbol.text().as_bytes(), bytes) {
-        ([only], [first, ..]) => *first == *only,
-        ([one, other], [first, second, ..]) => *first == *one && *second == *other,
-        (text, _) => bytes.starts_with(text),
+    match first {
+        b'R' => &[Keyword::Root],
+        b'a' => &[Keyword::Atomic],
+        b'b' => &[Keyword::Boolean],
+        b'c' => &[Keyword::Class, Keyword::Cobegin, Keyword::CobeginNd],
+        b'e' => &[Keyword::Extends, Keyword::Else],
+        b'f' => &[
+            Keyword::Final,
+            Keyword::Foreach,
+            Keyword::ForeachNd,
+            Keyword::ForeachParts,
+            Keyword::False,
+        ],
+        b'i' => &[Keyword::In, Keyword::Int, Keyword::If],
+        b'n' => &[Keyword::New, Keyword::Null],
+        b'p' => &[Keyword::Pure, Keyword::Print],
+        b'r' => &[Keyword::Region, Keyword::Reads, Keyword::Return],
+        b't' => &[Keyword::This, Keyword::True],
+        b'v' => &[Keyword::Void],
+        b'w' => &[Keyword::Writes, Keyword::While],
+        _ => &[],
     }
 }
 

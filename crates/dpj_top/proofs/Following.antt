@@ -16,7 +16,7 @@ use Rattle.dpj_history.specs.Replaying.{GoesWrong, after_end, not_ready, too_ear
 use Rattle.dpj_machine.specs.Keeping.{IsReplayed, Played}
 use Rattle.dpj_machine.specs.Premise.{GoesOnAble}
 use Rattle.dpj_machine.specs.Replay.{LeadsTo, Moment}
-use Rattle.dpj_recorded.specs.Laws.{Records, limits, told}
+use Rattle.dpj_recorded.specs.Laws.{Records, limits, reported}
 use Rattle.dpj_recorded.proofs.Blocks.{some_there}
 use Rattle.dpj_recorded.proofs.Ready.{ready_there}
 use Rattle.dpj_recorded.proofs.Recorded.{LedTo, led_to, recorded, right}
@@ -112,7 +112,7 @@ module _ (keeps : EachKeeps) (going : CompiledGoesOn) (P : PlainProgram) (L : Li
   come_once code other is same ks m n leads leads_so o q come came =
       let h = finished_run code is ks m leads o come in
       let g = finished_run other same ks n leads_so q came in
-      h.2 ∙ ap told (finished_once Q D (limits L) ks ks h.0 g.0 refl h.1 g.1) ∙ sym g.2
+      h.2 ∙ ap reported (finished_once Q D (limits L) ks ks h.0 g.0 refl h.1 g.1) ∙ sym g.2
 
   module _ (code other : Code) (is : plain_code code ≡ compiled P) (same : plain_code other ≡ compiled P) (ks : List ℕ) (m n : Moment) (leads : LeadsTo code L arg ks m)
       (leads_so : LeadsTo other L arg ks n) (none : m.outcome ≡ None) (o : Outcome) (come : n.outcome ≡ Some o) where

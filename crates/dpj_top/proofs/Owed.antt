@@ -20,7 +20,7 @@ use Rattle.dpj_top.proofs.Ranges.{words_within}
 
 -- a status that tells of a verdict is no want of memory
 pub tells-no-want : (status : Status) → TellsOfVerdict status → status ≡ ended.NoMemory → ⊥
-tells-no-want status told e = subst TellsOfVerdict e told
+tells-no-want status known e = subst TellsOfVerdict e known
 
 -- the answer to a job and a text that are there
 pub given_answer : (words : List (List ℕ)) (held : Option (List ℕ)) (asked : Job) (text : List ℕ) (answered : Answered) → job words ≡ Some asked → text_for asked held ≡ Some text →
@@ -50,8 +50,8 @@ module _ (keeps : KeepsPromise) (verdict : OneVerdict) (one : OnePassing) (words
   within : IsWithin asked
   within = words_within words asked gives.said
 
-  verdict_told : (told : Verdict) → tells.answered.verdict ≡ told → IsReported told before after status
-  verdict_told told is = (tells.status_told ∙ ap status_of is, subst (λ v. Appends before after (report_of v)) is tells.report_told)
+  verdict_reported : (known : Verdict) → tells.answered.verdict ≡ known → IsReported known before after status
+  verdict_reported known is = (tells.status_reported ∙ ap status_of is, subst (λ v. Appends before after (report_of v)) is tells.report_reported)
 
   on_program : (asked.command ≡ command.Replay → ⊥) → IsAnswerOn asked text typed tells.answered
   on_program never = by (asked_of_program asked.command asked text tells.answered never (given_answer words held asked text tells.answered gives.said gives.given tells.is_answered)) refl
@@ -85,28 +85,28 @@ module _ (keeps : KeepsPromise) (verdict : OneVerdict) (one : OnePassing) (words
       by (to_list c is) = absurd (cc (sym elide ∙ c))
       by (to_effects c is) = absurd (cc (sym elide ∙ c))
 
-  told_elided : (c : Command) → c ≡ command.Elide → verdict_by c asked text [] (elision_for asked typed) ≡ Ran (elision_for asked typed)
-  told_elided c e = ap (λ d. verdict_by d asked text [] (elision_for asked typed)) e
+  reported_elided : (c : Command) → c ≡ command.Elide → verdict_by c asked text [] (elision_for asked typed) ≡ Ran (elision_for asked typed)
+  reported_elided c e = ap (λ d. verdict_by d asked text [] (elision_for asked typed)) e
 
   pub owed_elision : AsksElision asked typed → ReportsElision asked text typed before after status
   owed_elision (inl run) =
-      let told = keeps.run asked text gives.place typed tells.answered within gives.accepted run.1 (ran_so run.0) in
-      record { schedule = told.schedule; reported = verdict_told (verdict_of asked text told.schedule (elision_for asked typed)) told.is }
+      let known = keeps.run asked text gives.place typed tells.answered within gives.accepted run.1 (ran_so run.0) in
+      record { schedule = known.schedule; reported = verdict_reported (verdict_of asked text known.schedule (elision_for asked typed)) known.is }
   owed_elision (inr elide) =
-      let told = keeps.elide asked text gives.place typed tells.answered within gives.accepted (elided_so elide) in
+      let known = keeps.elide asked text gives.place typed tells.answered within gives.accepted (elided_so elide) in
       record {
         schedule = [];
-        reported = verdict_told (verdict_of asked text [] (elision_for asked typed)) (ap (λ (a : Answered). a.verdict) told ∙ sym (told_elided asked.command elide));
+        reported = verdict_reported (verdict_of asked text [] (elision_for asked typed)) (ap (λ (a : Answered). a.verdict) known ∙ sym (reported_elided asked.command elide));
       }
 
   pub owed_reduction : asks_run asked.command ≡ true → ReportsReduced asked text typed before after status recorded
   owed_reduction run =
-      let told = keeps.reduce asked text gives.place typed tells.answered within gives.accepted (ran_so run) in
+      let known = keeps.reduce asked text gives.place typed tells.answered within gives.accepted (ran_so run) in
       record {
-        well_typed = told.well_typed;
-        made = told.made;
-        is = tells.run_recorded ∙ ap (λ (a : Answered). a.recorded) told.is;
-        reported = verdict_told (verdict_of asked text told.made.record.machine.schedule told.made.outcome) (ap (λ (a : Answered). a.verdict) told.is);
-        reduced = told.reduced;
-        inside = told.inside;
+        well_typed = known.well_typed;
+        made = known.made;
+        is = tells.run_recorded ∙ ap (λ (a : Answered). a.recorded) known.is;
+        reported = verdict_reported (verdict_of asked text known.made.record.machine.schedule known.made.outcome) (ap (λ (a : Answered). a.verdict) known.is);
+        reduced = known.reduced;
+        inside = known.inside;
       }

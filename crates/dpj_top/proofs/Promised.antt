@@ -49,13 +49,13 @@ module _ (typed : PlainProgram) (keeps : Keeps typed) (L : Limits) (argument : �
   same_elision p is = ap (λ k. elision typed k p.argument) is.limits ∙ ap (λ a. elision typed L a) is.is_argument
 
   -- a machine that has finished a run tells the outcome of the elision
-  pub told_elision : MachinesComeOutAsElided → typed.uses_nd ≡ false → (p : Played) (o : Outcome) → IsRunOf typed L argument p → p.outcome ≡ Some o → o ≡ elision typed L argument
-  told_elision machines none p o is come =
+  pub reported_elision : MachinesComeOutAsElided → typed.uses_nd ≡ false → (p : Played) (o : Outcome) → IsRunOf typed L argument p → p.outcome ≡ Some o → o ≡ elision typed L argument
+  reported_elision machines none p o is come =
       machines typed p o keeps.well_typed none keeps.resolved keeps.has_main is.is_code (few_steps p is) (fits_there p is) is.replayed come ∙ same_elision p is
 
   -- so does one that has made an elision, of any program
-  pub told_greedy : GreedyMachinesElide → (p : Played) (o : Outcome) → IsElision typed L argument p → p.outcome ≡ Some o → o ≡ elision typed L argument
-  told_greedy greedy p o e come =
+  pub reported_greedy : GreedyMachinesElide → (p : Played) (o : Outcome) → IsElision typed L argument p → p.outcome ≡ Some o → o ≡ elision typed L argument
+  reported_greedy greedy p o e come =
       greedy typed e.start p o keeps.resolved keeps.has_main e.is_run.is_code (few_steps p e.is_run) e.nothing e.steps e.is_run.replayed come ∙ same_elision p e.is_run
 
   pub reduced_so : MachinesAreReduced → (p : Played) (o : Outcome) → IsRunOf typed L argument p → p.outcome ≡ Some o → ComesOutReduced typed keeps.well_typed p o
@@ -174,7 +174,7 @@ keeps_promise machines greedy reduce inside never_stuck goes passed = record { t
           by_schedule = same;
           reduced = reduced_so typed keeps limits argument allowed.steps_most fits reduce made.record.machine made.outcome is.is_run is.came;
           inside = inside_so typed keeps limits argument allowed.steps_most fits inside made.record.machine made.outcome is.is_run is.came;
-          elided = λ none. told_elision typed keeps limits argument allowed.steps_most fits machines none made.record.machine made.outcome is.is_run is.came;
+          elided = λ none. reported_elision typed keeps limits argument allowed.steps_most fits machines none made.record.machine made.outcome is.is_run is.came;
         }
 
     run : (job : Job) (text : List ℕ) (place : Place) (typed : PlainProgram) (answered : Answered) → IsWithin job → IsAcceptedAs text place typed
@@ -185,7 +185,7 @@ keeps_promise machines greedy reduce inside never_stuck goes passed = record { t
         record {
           schedule = r.record.machine.schedule;
           is = ap (λ (a : Answered). a.verdict) ran.is ∙ ap (λ o. verdict_of job text r.record.machine.schedule o)
-              (told_elision typed (kept text place typed accepted) (limits_of job) job.arg within.0.steps_most within.1 machines none r.record.machine r.outcome m.0 m.1);
+              (reported_elision typed (kept text place typed accepted) (limits_of job) job.arg within.0.steps_most within.1 machines none r.record.machine r.outcome m.0 m.1);
         }
 
     reduces : (job : Job) (text : List ℕ) (place : Place) (typed : PlainProgram) (answered : Answered) → IsWithin job → IsAcceptedAs text place typed
@@ -208,4 +208,4 @@ keeps_promise machines greedy reduce inside never_stuck goes passed = record { t
     greedily : (job : Job) (text : List ℕ) (place : Place) (typed : PlainProgram) (outcome : Outcome) → IsWithin job → IsAcceptedAs text place typed
         → ComesOut typed (limits_of job) job.arg (Some outcome) → outcome ≡ elision_for job typed
     greedily job text place typed outcome within accepted (finished p o is come) =
-        told_greedy typed (kept text place typed accepted) (limits_of job) job.arg within.0.steps_most within.1 greedy p o is come
+        reported_greedy typed (kept text place typed accepted) (limits_of job) job.arg within.0.steps_most within.1 greedy p o is come

@@ -37,7 +37,7 @@ module _ (keeps : KeepsPromise) (words : List (List ℕ)) (held before after : O
   no_record v same = none_some (sym (ap (λ (a : Answered). a.recorded) same) ∙ is_some)
 
   reported_so : (v : Verdict) → tells.answered.verdict ≡ v → IsReported v before after status
-  reported_so v is = (tells.status_told ∙ ap status_of is, subst (λ v. Appends before after (report_of v)) is tells.report_told)
+  reported_so v is = (tells.status_reported ∙ ap status_of is, subst (λ v. Appends before after (report_of v)) is tells.report_reported)
 
   on_trace : (trace : Trace) → IsTrace bytes trace → IsAnswerOnTrace bytes trace tells.answered → ReportsReplay bytes before after status r
   on_trace trace is (long_program long same) = absurd (no_record _ same)

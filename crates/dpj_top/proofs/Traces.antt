@@ -19,8 +19,8 @@ use Rattle.dpj_top.specs.Answer.{max_text, max_trace, only, refused_at}
 use Rattle.dpj_top.specs.Replaying.{IsReplayed, too_long, no_trace, of_trace, IsAnswerOnTrace, long_program, faulty, followed, IsReplayOf, ran, unfit, program_of}
 use Rattle.dpj_top.proofs.Verdicts.{ending_status-no-usage}
 
-same-status : (answered told : Answered) → answered ≡ told → status_of answered.verdict ≡ ended.Usage → status_of told.verdict ≡ ended.Usage
-same-status answered told is e = ap (λ (a : Answered). status_of a.verdict) (sym is) ∙ e
+same-status : (answered reported : Answered) → answered ≡ reported → status_of answered.verdict ≡ ended.Usage → status_of reported.verdict ≡ ended.Usage
+same-status answered reported is e = ap (λ (a : Answered). status_of a.verdict) (sym is) ∙ e
 
 on-trace-no-usage : (bytes : List ℕ) (trace : Trace) (answered : Answered) → IsAnswerOnTrace bytes trace answered → status_of answered.verdict ≡ ended.Usage → ⊥
 on-trace-no-usage bytes trace answered (long_program long is) e = let s = same-status answered _ is e in cc
@@ -40,9 +40,9 @@ pub trace-answer : (bytes : List ℕ) (trace : Trace) (result : Result Answered 
 trace-answer bytes trace (Ok answered) short is on = of_trace trace short is on
 trace-answer bytes trace (Err none) short is on = tt
 
-pub misfit-answer : (bytes : List ℕ) (found told : ℕ) (answered : Answered) → found ≡ told → answered ≡ only (refused_at trace_kind told) → length bytes ≤ max_trace → IsMisfit bytes found
+pub misfit-answer : (bytes : List ℕ) (found reported : ℕ) (answered : Answered) → found ≡ reported → answered ≡ only (refused_at trace_kind reported) → length bytes ≤ max_trace → IsMisfit bytes found
     → IsReplayed bytes answered
-misfit-answer bytes found told answered same is short misfit = no_trace told short (subst (λ l. IsMisfit bytes l) same misfit) is
+misfit-answer bytes found reported answered same is short misfit = no_trace reported short (subst (λ l. IsMisfit bytes l) same misfit) is
 
 -- the program of a trace, read off the bytes
 pub follow-answer : (bytes text : List ℕ) (trace : Trace) (place : Place) (typed : PlainProgram) (result : Result Answered NoMemory) → text ≡ program_of bytes trace
@@ -51,10 +51,10 @@ follow-answer bytes text trace place typed (Ok answered) same short passed r =
     followed place typed (subst (λ (t : List ℕ). length t ≤ max_text) same short, subst (λ t. IsPassed t place typed) same passed) r
 follow-answer bytes text trace place typed (Err none) same short passed r = tt
 
-pub fault-answer : (bytes text : List ℕ) (trace : Trace) (found told : Refusal) (answered : Answered) → text ≡ program_of bytes trace → found ≡ told → answered ≡ only (Refused told)
+pub fault-answer : (bytes text : List ℕ) (trace : Trace) (found reported : Refusal) (answered : Answered) → text ≡ program_of bytes trace → found ≡ reported → answered ≡ only (Refused reported)
     → length text ≤ max_text → IsFault text found → IsAnswerOnTrace bytes trace answered
-fault-answer bytes text trace found told answered same alike is short fault =
-    faulty told (subst (λ (t : List ℕ). length t ≤ max_text) same short) (subst (λ t. IsFault t told) same (subst (λ r. IsFault text r) alike fault)) is
+fault-answer bytes text trace found reported answered same alike is short fault =
+    faulty reported (subst (λ (t : List ℕ). length t ≤ max_text) same short) (subst (λ t. IsFault t reported) same (subst (λ r. IsFault text r) alike fault)) is
 
 -- what a schedule comes to, of an equal program under an equal argument
 pub followed_as : (made typed : PlainProgram) (L : Limits) (a argument : ℤ) (schedule numbers : List ℕ) (found : Replayed) → made ≡ typed → a ≡ argument → schedule ≡ numbers →

@@ -38,20 +38,20 @@ ending_status-no-usage (Done value) e = cc
 ending_status-no-usage (Trapped trap place) e = cc
 ending_status-no-usage Limited e = cc
 
-told-no-usage : (c : Command) (job : Job) (text schedule : List ℕ) (outcome : Outcome) → status_of (verdict_by c job text schedule outcome) ≡ ended.Usage → ⊥
-told-no-usage command.Demo job text schedule outcome e = ending_status-no-usage outcome.ending e
-told-no-usage command.Trace job text schedule outcome e = ending_status-no-usage outcome.ending e
-told-no-usage command.Check job text schedule outcome e = ending_status-no-usage outcome.ending e
-told-no-usage command.Run job text schedule outcome e = ending_status-no-usage outcome.ending e
-told-no-usage command.Elide job text schedule outcome e = ending_status-no-usage outcome.ending e
-told-no-usage command.«List» job text schedule outcome e = ending_status-no-usage outcome.ending e
-told-no-usage command.Replay job text schedule outcome e = ending_status-no-usage outcome.ending e
-told-no-usage command.Effects job text schedule outcome e = ending_status-no-usage outcome.ending e
+reported-no-usage : (c : Command) (job : Job) (text schedule : List ℕ) (outcome : Outcome) → status_of (verdict_by c job text schedule outcome) ≡ ended.Usage → ⊥
+reported-no-usage command.Demo job text schedule outcome e = ending_status-no-usage outcome.ending e
+reported-no-usage command.Trace job text schedule outcome e = ending_status-no-usage outcome.ending e
+reported-no-usage command.Check job text schedule outcome e = ending_status-no-usage outcome.ending e
+reported-no-usage command.Run job text schedule outcome e = ending_status-no-usage outcome.ending e
+reported-no-usage command.Elide job text schedule outcome e = ending_status-no-usage outcome.ending e
+reported-no-usage command.«List» job text schedule outcome e = ending_status-no-usage outcome.ending e
+reported-no-usage command.Replay job text schedule outcome e = ending_status-no-usage outcome.ending e
+reported-no-usage command.Effects job text schedule outcome e = ending_status-no-usage outcome.ending e
 
 ran-no-usage : (job : Job) (text : List ℕ) (typed : PlainProgram) (answered : Answered) → IsRan job text typed answered
     → status_of answered.verdict ≡ ended.Usage → ⊥
 ran-no-usage job text typed answered r e =
-    told-no-usage job.command job text r.made.record.machine.schedule r.made.outcome (ap (λ (a : Answered). status_of a.verdict) (sym r.is) ∙ e)
+    reported-no-usage job.command job text r.made.record.machine.schedule r.made.outcome (ap (λ (a : Answered). status_of a.verdict) (sym r.is) ∙ e)
 
 listed-no-usage : (bytes : List ℕ) (answered : Answered) → answered ≡ only (Listed bytes) → status_of answered.verdict ≡ ended.Usage → ⊥
 listed-no-usage bytes answered is e = let s : status_of (Listed bytes) ≡ ended.Usage = ap (λ (a : Answered). status_of a.verdict) (sym is) ∙ e in cc
@@ -120,10 +120,10 @@ asks c (inr (inl demo)) = ap asks_run demo
 asks c (inr (inr trace)) = ap asks_run trace
 
 -- so is the first fault of a text
-pub faulty-answer : (asked : Job) (text : List ℕ) (found told : Refusal) (answered : Answered) → found ≡ told → answered ≡ only (Refused told) → length text ≤ max_text
+pub faulty-answer : (asked : Job) (text : List ℕ) (found reported : Refusal) (answered : Answered) → found ≡ reported → answered ≡ only (Refused reported) → length text ≤ max_text
     → IsFault text found → IsAnswer asked text answered
-faulty-answer asked text found told answered same is short fault =
-    subst (λ a. IsAnswer asked text a) (sym is) (faulty told short (subst (λ r. IsFault text r) same fault))
+faulty-answer asked text found reported answered same is short fault =
+    subst (λ a. IsAnswer asked text a) (sym is) (faulty reported short (subst (λ r. IsFault text r) same fault))
 
 -- a run in the mode that is asked, under limits and an argument that equal the job's
 pub run_in_mode : (asked made : Mode) (typed : PlainProgram) (L limits : Limits) (a argument : ℤ) (workers : ℕ) (result : Result (Option Recorded) NoMemory)
@@ -143,10 +143,10 @@ ran-so asked text typed r schedule verdict runs same is =
 pub listing-so : (text : List ℕ) (made typed : PlainProgram) (own names : ProgramNames) (code : Code) (listed : List ℕ) (answered : Answered) → TellsPlainCode
     → made ≡ typed → own ≡ names → AreNames text names → plain_code code ≡ compiled made → map (λ body. body.title) code.bodies ≡ titles_of made own
     → All (λ body. length body.instrs ≡ length body.places) code.bodies → listed ≡ listing_of code → answered ≡ only (Listed listed) → IsListing text typed answered
-listing-so text made typed own names code listed answered plain same named are_names is titles placed lists told = record {
+listing-so text made typed own names code listed answered plain same named are_names is titles placed lists reported = record {
   names = names;
   are_names = are_names;
-  lists = told
+  lists = reported
       ∙ ap (λ l. only (Listed l))
       (lists ∙ plain code placed ∙ ap (λ ts. plain_listing ts (plain_code code)) titles ∙ ap (λ c. plain_listing (titles_of made own) c) is
       ∙ ap (λ P. plain_listing (titles_of P own) (compiled P)) same ∙ ap (λ n. plain_listing (titles_of typed n) (compiled typed)) named);
@@ -155,10 +155,10 @@ listing-so text made typed own names code listed answered plain same named are_n
 -- the lines of the inferred summaries of a program, with its names
 pub effects-so : (text : List ℕ) (made typed : PlainProgram) (own names : ProgramNames) (kept : Keeping) (lines : List ℕ) (answered : Answered) → made ≡ typed → own ≡ names
     → AreNames text names → IsInferred made kept → lines ≡ lines_of (program_kept kept made) own → answered ≡ only (Effects lines) → TellsEffects text typed answered
-effects-so text made typed own names kept lines answered same named are_names inferred is told = record {
+effects-so text made typed own names kept lines answered same named are_names inferred is reported = record {
   names = names;
   are_names = are_names;
   kept = kept;
   inferred = subst (λ P. IsInferred P kept) same inferred;
-  tells = told ∙ ap (λ l. only (Effects l)) (is ∙ ap (λ P. lines_of (program_kept kept P) own) same ∙ ap (lines_of (program_kept kept typed)) named);
+  tells = reported ∙ ap (λ l. only (Effects l)) (is ∙ ap (λ P. lines_of (program_kept kept P) own) same ∙ ap (lines_of (program_kept kept typed)) named);
 }

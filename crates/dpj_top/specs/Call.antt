@@ -60,8 +60,8 @@ AppendsPart before after bytes =
 pub record Tells (words : List (List ℕ)) (text before after : Option (List ℕ)) (status : Status) (recorded : Option Record) : Type 0 where
   pub answered : Answered
   pub is_answered : IsAnswered words text answered
-  pub status_told : status ≡ status_of answered.verdict
-  pub report_told : Appends before after (report_of answered.verdict)
+  pub status_reported : status ≡ status_of answered.verdict
+  pub report_reported : Appends before after (report_of answered.verdict)
   pub run_recorded : recorded ≡ answered.recorded
 
 -- a first part was written of the report of the answer to the words and the text, and where the sink tells its
@@ -69,7 +69,7 @@ pub record Tells (words : List (List ℕ)) (text before after : Option (List ℕ
 pub record BreaksOff (words : List (List ℕ)) (text before after : Option (List ℕ)) (room : Option ℕ) (recorded : Option Record) : Type 0 where
   pub answered : Answered
   pub is_answered : IsAnswered words text answered
-  pub part_told : AppendsPart before after (report_of answered.verdict)
+  pub part_reported : AppendsPart before after (report_of answered.verdict)
   pub no_room : IfSome room (λ room. room < length (report_of answered.verdict))
   pub run_recorded : recorded ≡ answered.recorded
 

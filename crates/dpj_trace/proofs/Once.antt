@@ -11,7 +11,7 @@ use Rattle.std.proofs.lemmas.List.{append_cancel_left}
 use Rattle.dpj_base.specs.declared.outcome.Limits.{Limits}
 use Rattle.dpj_trace.specs.Pieces.{IsCut}
 use Rattle.dpj_trace.specs.Text.{limits_text}
-use Rattle.dpj_trace.specs.Reading.{AreLimits, Told, nothing, begun, settings, listing, whole, IsSettings, TellsRun, IsRun, Fits, Leads, start, next, IsMisfit}
+use Rattle.dpj_trace.specs.Reading.{AreLimits, Reported, nothing, begun, settings, listing, whole, IsSettings, TellsRun, IsRun, Fits, Leads, start, next, IsMisfit}
 use Rattle.dpj_trace.proofs.Cutting.{Without, cut-unique, uncut}
 use Rattle.dpj_trace.proofs.Telling.{limits-begins, limits-cut, limits-pieces, settings-begins, settings-cut, settings-pieces, run-cut, run-pieces}
 
@@ -58,14 +58,14 @@ settings-same text a b L K f g =
     )
 
 -- what lines have told is in its range
-abbrev Right : Told → Type 0
+abbrev Right : Reported → Type 0
 Right nothing = Unit {0}
 Right begun = Unit {0}
 Right (settings arg limits) = AreLimits limits
 Right (listing arg limits events schedule) = AreLimits limits
 Right (whole arg limits schedule) = AreLimits limits
 
-fits-right : (before : Told) (text : List ℕ) (after : Told) → Right before → Fits before text after → Right after
+fits-right : (before : Reported) (text : List ℕ) (after : Reported) → Right before → Fits before text after → Right after
 fits-right nothing text after right f = subst Right (sym f.1) tt
 fits-right begun text after right (arg, limits, f, is) = subst Right (sym is) f.limits_allowed
 fits-right (settings arg limits) text after right (events, f, is) = subst Right (sym is) right
@@ -73,9 +73,9 @@ fits-right (listing arg limits events schedule) text after right (inl (longer, r
 fits-right (listing arg limits events schedule) text after right (inr (p, is)) = subst Right (sym is) right
 fits-right (whole arg limits schedule) text after right f = absurd f
 
-leads-right : (bytes : List ℕ) (n : ℕ) (told : Told) (rest : List ℕ) → Leads bytes n told rest → Right told
+leads-right : (bytes : List ℕ) (n : ℕ) (reported : Reported) (rest : List ℕ) → Leads bytes n reported rest → Right reported
 leads-right bytes _ _ _ start = tt
-leads-right bytes _ _ _ (next {n} {before} {after} {rest} {text} {behind} leads cut fits) = fits-right before text after (leads-right bytes n before rest leads) fits
+leads-right bytes _ _ _ (next {n} {before} {after} {rest} {text} {following} leads cut fits) = fits-right before text after (leads-right bytes n before rest leads) fits
 
 no-run : (text : List ℕ) (task : ℕ) (many : List ℕ) → TellsRun text task many → text ≡ codes "program" → ⊥
 no-run text task many tells is =
@@ -90,7 +90,7 @@ runs-same text before a b f g =
     f.adds ∙ ap (λ t. before ++ replicate (digits_value 10 f.many) t) task ∙ ap (λ m. before ++ replicate (digits_value 10 m) g.task) pieces.1 ∙ sym g.adds
 
 -- a line that fits leads to one thing
-fits-unique : (told : Told) (text : List ℕ) (a b : Told) → Right told → Fits told text a → Fits told text b → a ≡ b
+fits-unique : (reported : Reported) (text : List ℕ) (a b : Reported) → Right reported → Fits reported text a → Fits reported text b → a ≡ b
 fits-unique nothing text a b right f g = f.1 ∙ sym g.1
 fits-unique begun text a b right (arg, limits, f, is) (arg', limits', g, is') =
     let same = settings-same text arg arg' limits limits' f g in is ∙ ap (λ z. settings z limits) same.0 ∙ ap (λ l. settings arg' l) same.1 ∙ sym is'
@@ -108,18 +108,18 @@ fits-unique (listing arg limits events schedule) text a b right (inr (p, is)) (i
 fits-unique (listing arg limits events schedule) text a b right (inr (p, is)) (inr (p', is')) = is ∙ sym is'
 fits-unique (whole arg limits schedule) text a b right f g = absurd f
 
-leads-zero : (bytes : List ℕ) (n : ℕ) (told : Told) (rest : List ℕ) → Leads bytes n told rest → n ≡ 0 → (told ≡ nothing) × (rest ≡ bytes)
+leads-zero : (bytes : List ℕ) (n : ℕ) (reported : Reported) (rest : List ℕ) → Leads bytes n reported rest → n ≡ 0 → (reported ≡ nothing) × (rest ≡ bytes)
 leads-zero bytes _ _ _ start e = (refl, refl)
-leads-zero bytes _ _ _ (next {n} {before} {after} {rest} {text} {behind} leads cut fits) e = absurd (omega (arith, e))
+leads-zero bytes _ _ _ (next {n} {before} {after} {rest} {text} {following} leads cut fits) e = absurd (omega (arith, e))
 
-leads-suc : (bytes : List ℕ) (m : ℕ) (told : Told) (rest : List ℕ) → Leads bytes m told rest → (j : ℕ) → m ≡ suc j
-    → (before : Told) × (left : List ℕ) × (text : List ℕ) × Leads bytes j before left × IsCut 10 left text rest × Fits before text told
+leads-suc : (bytes : List ℕ) (m : ℕ) (reported : Reported) (rest : List ℕ) → Leads bytes m reported rest → (j : ℕ) → m ≡ suc j
+    → (before : Reported) × (left : List ℕ) × (text : List ℕ) × Leads bytes j before left × IsCut 10 left text rest × Fits before text reported
 leads-suc bytes _ _ _ start j e = absurd (omega (arith, e))
-leads-suc bytes _ _ _ (next {n} {before} {after} {rest} {text} {behind} leads cut fits) j e =
+leads-suc bytes _ _ _ (next {n} {before} {after} {rest} {text} {following} leads cut fits) j e =
     let same : n ≡ j = omega (arith, e) in (before, rest, text, subst (λ i. Leads bytes i before rest) same leads, cut, fits)
 
 -- so many lines lead to one thing
-pub leads-unique : (bytes : List ℕ) (n : ℕ) (t : Told) (r : List ℕ) (u : Told) (s : List ℕ) → Leads bytes n t r → Leads bytes n u s → (t ≡ u) × (r ≡ s)
+pub leads-unique : (bytes : List ℕ) (n : ℕ) (t : Reported) (r : List ℕ) (u : Reported) (s : List ℕ) → Leads bytes n t r → Leads bytes n u s → (t ≡ u) × (r ≡ s)
 leads-unique bytes zero t r u s l k =
     let p = leads-zero bytes 0 t r l refl in
     let q = leads-zero bytes 0 u s k refl in (p.0 ∙ sym q.0, p.1 ∙ sym q.1)
@@ -133,11 +133,11 @@ leads-unique bytes (suc n) t r u s l k =
     (fits-unique p.0 p.2 t u (leads-right bytes n p.0 p.1 p.3) p.5 fits, pieces.1)
 
 -- a further line that fits
-abbrev pub HasNext : Told → List ℕ → Type 0
-HasNext told rest = (text : List ℕ) × (behind : List ℕ) × (after : Told) × IsCut 10 rest text behind × Fits told text after
+abbrev pub HasNext : Reported → List ℕ → Type 0
+HasNext reported rest = (text : List ℕ) × (following : List ℕ) × (after : Reported) × IsCut 10 rest text following × Fits reported text after
 
 -- after lines that are followed by more there is one
-pub leads-further : (bytes : List ℕ) (n : ℕ) (t : Told) (r : List ℕ) → Leads bytes n t r → (k m : ℕ) (u : Told) (s : List ℕ) → Leads bytes m u s → m ≡ suc (k + n) → HasNext t r
+pub leads-further : (bytes : List ℕ) (n : ℕ) (t : Reported) (r : List ℕ) → Leads bytes n t r → (k m : ℕ) (u : Reported) (s : List ℕ) → Leads bytes m u s → m ≡ suc (k + n) → HasNext t r
 leads-further bytes n t r l zero m u s far e =
     let p = leads-suc bytes m u s far n (omega (arith, e)) in
     let same = leads-unique bytes n p.0 p.1 t r p.3 l in
@@ -147,16 +147,16 @@ leads-further bytes n t r l (suc k) m u s far e =
     leads-further bytes n t r l k (suc (k + n)) p.0 p.1 p.3 refl
 
 -- lines don't lead beyond one that doesn't fit
-pub misfit-not-passed : (bytes : List ℕ) (line : ℕ) (x : IsMisfit bytes line) (m : ℕ) (u : Told) (s : List ℕ) → Leads bytes m u s → x.before < m → ⊥
+pub misfit-not-passed : (bytes : List ℕ) (line : ℕ) (x : IsMisfit bytes line) (m : ℕ) (u : Reported) (s : List ℕ) → Leads bytes m u s → x.before < m → ⊥
 misfit-not-passed bytes line x m u s far less =
-    let h = leads-further bytes x.before x.told x.rest x.leads (m - suc x.before) m u s far (omega (arith, less)) in
+    let h = leads-further bytes x.before x.reported x.rest x.leads (m - suc x.before) m u s far (omega (arith, less)) in
     x.unfit h.0 h.1 h.2 h.3 h.4
 
 pub one-misfit : (bytes : List ℕ) (l m : ℕ) → IsMisfit bytes l → IsMisfit bytes m → l ≡ m
 one-misfit bytes l m x y =
-    ⊎_elim (λ (less : x.before < y.before). absurd (misfit-not-passed bytes l x y.before y.told y.rest y.leads less))
+    ⊎_elim (λ (less : x.before < y.before). absurd (misfit-not-passed bytes l x y.before y.reported y.rest y.leads less))
     (λ (le : y.before ≤ x.before).
-    ⊎_elim (λ (less : y.before < x.before). absurd (misfit-not-passed bytes m y x.before x.told x.rest x.leads less))
+    ⊎_elim (λ (less : y.before < x.before). absurd (misfit-not-passed bytes m y x.before x.reported x.rest x.leads less))
     (λ (ge : x.before ≤ y.before). omega (arith, le, ge, x.number, y.number))
     (cases_lt y.before x.before))
     (cases_lt x.before y.before)

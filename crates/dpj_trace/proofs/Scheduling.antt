@@ -6,27 +6,27 @@ use Rattle.std.specs.Str.Parse.{digits_value}
 use Rattle.std.proofs.lemmas.Fmt.{decimal_injective}
 use Rattle.std.proofs.lemmas.List.{length-replicate}
 use Rattle.dpj_trace.specs.declared.listed.Listed.{Listed}
-use Rattle.dpj_trace.specs.declared.listed.Told.{Told}
+use Rattle.dpj_trace.specs.declared.listed.Reported.{Reported}
 use Rattle.dpj_trace.specs.Listing.{Lists, TellsAbout, Takes}
 use Rattle.dpj_trace.specs.Reading.{TellsRun}
 use Rattle.dpj_trace.proofs.Splitting.{last_after}
 use Rattle.dpj_trace.proofs.Telling.{run-pieces, run-cut}
 
 -- a run more
-pub lists-add : (old new : Listed) (schedule : List ℕ) (task told n : ℕ) → Lists old schedule → 0 < n → told ≡ min n 1000000000000000 → new.events ≡ old.events
-    → old.events ≤ 40000002 → new.total ≡ min (old.total + told) 1000000000000000 → new.last ≡ Some task
-    → (new.total ≤ new.events → new.numbers ≡ old.numbers ++ replicate told task) → Lists new (schedule ++ replicate n task)
-lists-add old new schedule task told n lists some is events few total last numbers =
+pub lists-add : (old new : Listed) (schedule : List ℕ) (task reported n : ℕ) → Lists old schedule → 0 < n → reported ≡ min n 1000000000000000 → new.events ≡ old.events
+    → old.events ≤ 40000002 → new.total ≡ min (old.total + reported) 1000000000000000 → new.last ≡ Some task
+    → (new.total ≤ new.events → new.numbers ≡ old.numbers ++ replicate reported task) → Lists new (schedule ++ replicate n task)
+lists-add old new schedule task reported n lists some is events few total last numbers =
     let before = lists.total in
     let size : length (replicate n task) ≡ n = length-replicate n task in
     let sizes = length-append schedule (replicate n task) in record {
       total = omega (arith, before, size, sizes, total, is);
       last = last ∙ sym (last_after schedule task n some);
       numbers = λ short.
-          let told_all : told ≡ n = omega (arith, is, short, sizes, size, events, few) in
+          let reported_all : reported ≡ n = omega (arith, is, short, sizes, size, events, few) in
           numbers (omega (arith, before, size, sizes, total, is, short, events, few))
-          ∙ ap (λ s. s ++ replicate told task) (lists.numbers (omega (arith, short, sizes, events)))
-          ∙ ap (λ k. schedule ++ replicate k task) told_all;
+          ∙ ap (λ s. s ++ replicate reported task) (lists.numbers (omega (arith, short, sizes, events)))
+          ∙ ap (λ k. schedule ++ replicate k task) reported_all;
     }
 
 -- a line tells of one run at most
@@ -37,17 +37,17 @@ tells-same text t u m o a b =
     decimal_injective t u (omega (arith, t_small)) (omega (arith, u_small)) (run-pieces text _ _ u o (run-cut text t m a) b).0
 
 -- a run of the last task doesn't fit
-pub takes-no-same : (old : Listed) (new : Listed) (text schedule : List ℕ) (told : Told) → TellsAbout text told → old.last ≡ Some told.task → Lists old schedule
+pub takes-no-same : (old : Listed) (new : Listed) (text schedule : List ℕ) (reported : Reported) → TellsAbout text reported → old.last ≡ Some reported.task → Lists old schedule
     → Takes false text schedule new
-takes-no-same old new text schedule told tells same lists = λ longer r.
-    r.other (sym lists.last ∙ same ∙ ap Some (tells-same text told.task r.task tells.many r.many tells.tells r.tells))
+takes-no-same old new text schedule reported tells same lists = λ longer r.
+    r.other (sym lists.last ∙ same ∙ ap Some (tells-same text reported.task r.task tells.many r.many tells.tells r.tells))
 
 -- another run fits
-pub takes-other : (old new : Listed) (text schedule : List ℕ) (told : Told) → TellsAbout text told → (old.last ≡ Some told.task → ⊥) → Lists old schedule
-    → ((many : ℕ) → 0 < many → told.many ≡ min many 1000000000000000 → Lists new (schedule ++ replicate many told.task)) → Takes true text schedule new
-takes-other old new text schedule told tells other lists added = (
-  schedule ++ replicate (digits_value 10 tells.many) told.task,
-  record { task = told.task; many = tells.many; tells = tells.tells; other = λ e. other (lists.last ∙ e); adds = refl },
+pub takes-other : (old new : Listed) (text schedule : List ℕ) (reported : Reported) → TellsAbout text reported → (old.last ≡ Some reported.task → ⊥) → Lists old schedule
+    → ((many : ℕ) → 0 < many → reported.many ≡ min many 1000000000000000 → Lists new (schedule ++ replicate many reported.task)) → Takes true text schedule new
+takes-other old new text schedule reported tells other lists added = (
+  schedule ++ replicate (digits_value 10 tells.many) reported.task,
+  record { task = reported.task; many = tells.many; tells = tells.tells; other = λ e. other (lists.last ∙ e); adds = refl },
   added (digits_value 10 tells.many) tells.tells.some tells.length,
 )
 

@@ -37,17 +37,17 @@ module _ (text x : List ℕ) (L : Limits) (allowed : AreLimits L) (is : text ≡
 
 pub limits-are : (text x s r y : List ℕ) (L : Limits) → text ≡ codes "steps " ++ x → IsCut 32 x s r → r ≡ codes "cells " ++ y → s ≡ decimal L.steps → y ≡ decimal L.cells
     → text ≡ limits_text L
-limits-are text x s r y L begins cut behind steps cells = begins ∙ rw (cut.is, behind, steps, cells) (sym (limits-shape L))
+limits-are text x s r y L begins cut following steps cells = begins ∙ rw (cut.is, following, steps, cells) (sym (limits-shape L))
 
 -- the line of the settings
-module _ (text x : List ℕ) (arg : ℤ) (L : Limits) (told : IsSettings text arg L) where
+module _ (text x : List ℕ) (arg : ℤ) (L : Limits) (reported : IsSettings text arg L) where
   pub settings-begins : text ≡ codes "arg " ++ (signed_decimal arg ++ 32 ∷ limits_text L)
-  settings-begins = told.is ∙ settings-shape arg L
+  settings-begins = reported.is ∙ settings-shape arg L
 
   pub settings-cut : text ≡ codes "arg " ++ x → IsCut 32 x (signed_decimal arg) (limits_text L)
   settings-cut begins = record {
     is = append_cancel_left (codes "arg ") x _ (sym begins ∙ settings-begins);
-    first = signed-without 32 arg (omega arith) told.arg_allowed;
+    first = signed-without 32 arg (omega arith) reported.arg_allowed;
   }
 
   pub settings-pieces : text ≡ codes "arg " ++ x → (s r : List ℕ) → IsCut 32 x s r → (s ≡ signed_decimal arg) × (r ≡ limits_text L)
@@ -62,11 +62,11 @@ settings-are text x s r arg L begins cut number fits allowed limits = record {
 }
 
 -- the line of the number of events
-pub events-told : (text x : List ℕ) (most : ℕ) (r : Option ℕ) → text ≡ codes "events " ++ x
+pub events-reported : (text x : List ℕ) (most : ℕ) (r : Option ℕ) → text ≡ codes "events " ++ x
     → MatchOption r ((n : ℕ) → 0 ≤ n → n ≤ most → x ≡ decimal n → ⊥) (λ n. (0 ≤ n) × (n ≤ most) × (x ≡ decimal n))
     → MatchOption r ((events : ℕ) → IsEvents text most events → ⊥) (IsEvents text most)
-events-told text x most None begins h = λ n e. h n (omega arith) e.few (append_cancel_left (codes "events ") x _ (sym begins ∙ e.is))
-events-told text x most (Some n) begins h = record { few = h.1; is = begins ∙ ap (λ t. codes "events " ++ t) h.2 }
+events-reported text x most None begins h = λ n e. h n (omega arith) e.few (append_cancel_left (codes "events ") x _ (sym begins ∙ e.is))
+events-reported text x most (Some n) begins h = record { few = h.1; is = begins ∙ ap (λ t. codes "events " ++ t) h.2 }
 
 -- a line of a run
 pub run-cut : (text : List ℕ) (task : ℕ) (many : List ℕ) → TellsRun text task many → IsCut 32 text (decimal task) many

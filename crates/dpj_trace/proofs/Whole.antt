@@ -11,7 +11,7 @@ use Rattle.dpj_trace.specs.declared.runs.Run.{Run}
 use Rattle.dpj_trace.specs.Pieces.{IsCut}
 use Rattle.dpj_trace.specs.Runs.{put_first, runs_of, last_of}
 use Rattle.dpj_trace.specs.Text.{line, limits_text, settings_text, events_text, run_text, schedule_text, trace_text}
-use Rattle.dpj_trace.specs.Reading.{AreLimits, Told, nothing, begun, settings, listing, whole, TellsRun, IsRun, Leads, start, next, IsUnfinished, IsMisfit, IsTrace}
+use Rattle.dpj_trace.specs.Reading.{AreLimits, Reported, nothing, begun, settings, listing, whole, TellsRun, IsRun, Leads, start, next, IsUnfinished, IsMisfit, IsTrace}
 use Rattle.dpj_trace.proofs.Splitting.{last_after}
 use Rattle.dpj_trace.proofs.Spelling.{number-of}
 use Rattle.dpj_trace.proofs.Cutting.{Without, without-append, decimal-without, signed-without}
@@ -147,7 +147,7 @@ trace-leads bytes t is =
     (all.0, subst (λ b. Leads b all.0 (whole t.arg t.limits t.schedule) (drop t.from bytes)) (sym is.is) all.1)
 
 -- after the last line there is none that fits
-no-further : (bytes : List ℕ) (n : ℕ) (arg : ℤ) (L : Limits) (s rest : List ℕ) → Leads bytes n (whole arg L s) rest → (m : ℕ) (u : Told) (r : List ℕ) → Leads bytes m u r → n < m → ⊥
+no-further : (bytes : List ℕ) (n : ℕ) (arg : ℤ) (L : Limits) (s rest : List ℕ) → Leads bytes n (whole arg L s) rest → (m : ℕ) (u : Reported) (r : List ℕ) → Leads bytes m u r → n < m → ⊥
 no-further bytes n arg L s rest leads m u r far less =
     let h = leads-further bytes n (whole arg L s) rest leads (m - suc n) m u r far (omega (arith, less)) in h.4
 
@@ -158,15 +158,15 @@ same-lines bytes n m a b L K s t r q l k =
     ⊎_elim (λ (less : m < n). absurd (no-further bytes m b K t q k n (whole a L s) r l less)) (λ (ge : n ≤ m). omega (arith, le, ge)) (cases_lt m n))
     (cases_lt n m)
 
-abbrev arg_in : Told → ℤ → ℤ
+abbrev arg_in : Reported → ℤ → ℤ
 arg_in (whole arg L s) a = arg
 arg_in _ a = a
 
-abbrev limits_in : Told → Limits → Limits
+abbrev limits_in : Reported → Limits → Limits
 limits_in (whole arg L s) l = L
 limits_in _ l = l
 
-abbrev schedule_in : Told → List ℕ
+abbrev schedule_in : Reported → List ℕ
 schedule_in (whole arg L s) = s
 schedule_in _ = []
 
@@ -194,11 +194,11 @@ no-misfit bytes t line is x =
     let l = trace-leads bytes t is in
     ⊎_elim (λ (less : x.before < l.0). misfit-not-passed bytes line x l.0 (whole t.arg t.limits t.schedule) (drop t.from bytes) l.1 less)
     (λ (le : l.0 ≤ x.before).
-    ⊎_elim (λ (less : l.0 < x.before). no-further bytes l.0 t.arg t.limits t.schedule (drop t.from bytes) l.1 x.before x.told x.rest x.leads less)
+    ⊎_elim (λ (less : l.0 < x.before). no-further bytes l.0 t.arg t.limits t.schedule (drop t.from bytes) l.1 x.before x.reported x.rest x.leads less)
     (λ (ge : x.before ≤ l.0).
     let same : l.0 ≡ x.before = omega (arith, le, ge) in
-    let here : Leads bytes l.0 x.told x.rest = subst (λ n. Leads bytes n x.told x.rest) (sym same) x.leads in
-    let told = (leads-unique bytes l.0 (whole t.arg t.limits t.schedule) (drop t.from bytes) x.told x.rest l.1 here).0 in
-    subst IsUnfinished (sym told) x.unfinished)
+    let here : Leads bytes l.0 x.reported x.rest = subst (λ n. Leads bytes n x.reported x.rest) (sym same) x.leads in
+    let reported = (leads-unique bytes l.0 (whole t.arg t.limits t.schedule) (drop t.from bytes) x.reported x.rest l.1 here).0 in
+    subst IsUnfinished (sym reported) x.unfinished)
     (cases_lt l.0 x.before))
     (cases_lt x.before l.0)

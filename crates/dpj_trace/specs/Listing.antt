@@ -2,7 +2,7 @@
 use Rattle.std.specs.Prelude.{◌≡◌, ℕ, ◌+◌, ◌*◌, ◌≤◌, Bool, true, false, List, [], length, min}
 use Rattle.std.specs.Str.Parse.{digits_value}
 use Rattle.dpj_trace.specs.declared.listed.Listed.{Listed}
-use Rattle.dpj_trace.specs.declared.listed.Told.{Told}
+use Rattle.dpj_trace.specs.declared.listed.Reported.{Reported}
 use Rattle.dpj_trace.specs.Reading.{TellsRun, IsRun, AreLimits, Leads, listing}
 use Rattle.dpj_trace.specs.Runs.{last_of}
 use Rattle.dpj_trace.specs.declared.settings.Settings.{Settings}
@@ -14,10 +14,10 @@ pub record Lists (listed : Listed) (schedule : List ℕ) : Type 0 where
   pub numbers : length schedule ≤ listed.events → listed.numbers ≡ schedule
 
 -- what a line tells of a run, as far as its length matters
-pub record TellsAbout (text : List ℕ) (told : Told) : Type 0 where
+pub record TellsAbout (text : List ℕ) (reported : Reported) : Type 0 where
   pub many : List ℕ
-  pub tells : TellsRun text told.task many
-  pub length : told.many ≡ min (digits_value 10 many) 1000000000000000
+  pub tells : TellsRun text reported.task many
+  pub length : reported.many ≡ min (digits_value 10 many) 1000000000000000
 
 -- whether a line tells of a run that may come next; then the schedule goes on by it
 abbrev pub Takes : Bool → List ℕ → List ℕ → Listed → Type 0

@@ -20,14 +20,14 @@ pub record AreLimits (limits : Limits) : Type 0 where
   pub cells_most : limits.cells ≤ 16777216
 
 -- what the lines up to here have told
-pub data Told : Type 0 where
-  nothing : Told
+pub data Reported : Type 0 where
+  nothing : Reported
   -- that this is a trace
-  begun : Told
-  settings : ℤ → Limits → Told
+  begun : Reported
+  settings : ℤ → Limits → Reported
   -- how many events there are to be, and the schedule so far
-  listing : ℤ → Limits → ℕ → List ℕ → Told
-  whole : ℤ → Limits → List ℕ → Told
+  listing : ℤ → Limits → ℕ → List ℕ → Reported
+  whole : ℤ → Limits → List ℕ → Reported
 
 -- the line of the settings
 pub record IsSettings (text : List ℕ) (arg : ℤ) (limits : Limits) : Type 0 where
@@ -61,7 +61,7 @@ pub record IsProgram (text : List ℕ) (events : ℕ) (schedule : List ℕ) : Ty
   pub right : length schedule ≡ events
 
 -- a line fits here, and leads there
-abbrev pub Fits : Told → List ℕ → Told → Type 0
+abbrev pub Fits : Reported → List ℕ → Reported → Type 0
 Fits nothing text after = (text ≡ codes "dpj-trace 1") × (after ≡ begun)
 Fits begun text after = (arg : ℤ) × (limits : Limits) × IsSettings text arg limits × (after ≡ settings arg limits)
 Fits (settings arg limits) text after = (events : ℕ) × IsEvents text (2 * limits.steps + 2) events × (after ≡ listing arg limits events [])
@@ -71,24 +71,24 @@ Fits (listing arg limits events schedule) text after =
 Fits (whole arg limits schedule) text after = ⊥
 
 -- the first so many lines fit one after the other, and this is left after them
-pub data Leads (bytes : List ℕ) : ℕ → Told → List ℕ → Type 0 where
+pub data Leads (bytes : List ℕ) : ℕ → Reported → List ℕ → Type 0 where
   start : Leads bytes 0 nothing bytes
-  next : {n : ℕ} {before after : Told} {rest text behind : List ℕ} → Leads bytes n before rest → IsCut 10 rest text behind → Fits before text after
-      → Leads bytes (suc n) after behind
+  next : {n : ℕ} {before after : Reported} {rest text following : List ℕ} → Leads bytes n before rest → IsCut 10 rest text following → Fits before text after
+      → Leads bytes (suc n) after following
 
-abbrev pub IsUnfinished : Told → Type 0
+abbrev pub IsUnfinished : Reported → Type 0
 IsUnfinished (whole arg limits schedule) = ⊥
 IsUnfinished _ = Unit {0}
 
 -- the lines before this one fit, and don't make a trace; and no line of this number is there, or it doesn't fit
 pub record IsMisfit (bytes : List ℕ) (line : ℕ) : Type 0 where
   pub before : ℕ
-  pub told : Told
+  pub reported : Reported
   pub rest : List ℕ
   pub number : line ≡ suc before
-  pub leads : Leads bytes before told rest
-  pub unfinished : IsUnfinished told
-  pub unfit : (text behind : List ℕ) (after : Told) → IsCut 10 rest text behind → Fits told text after → ⊥
+  pub leads : Leads bytes before reported rest
+  pub unfinished : IsUnfinished reported
+  pub unfit : (text following : List ℕ) (after : Reported) → IsCut 10 rest text following → Fits reported text after → ⊥
 
 -- the bytes are the text of a trace, with the program from this place on; and its numbers have 32 bits
 pub record IsTrace (bytes : List ℕ) (trace : Trace) : Type 0 where

@@ -21,7 +21,7 @@ pub struct Listed {
 
 /// What a line tells of a run.
 #[derive(Clone, Copy)]
-pub struct Told {
+pub struct Reported {
     pub task: u32,
     pub many: u64,
 }
@@ -47,28 +47,28 @@ impl Listed {
         ensures takes { IfOk result (λ fits. (schedule : List ℕ) → Lists self.old schedule → Takes fits line.now schedule self.new) }
         ensures events { OnOk result (self.new.events ≡ self.old.events) }
     {
-        let Some(told) = told_by(line) else {
+        let Some(reported) = reported_by(line) else {
             return Ok(false);
         };
-        if self.last == Some(told.task) {
+        if self.last == Some(reported.task) {
             return Ok(false);
         }
-        self.add(told)?;
+        self.add(reported)?;
         Ok(true)
     }
 
-    fn add(&mut self, told: Told) -> Result<(), NoMemory>
+    fn add(&mut self, reported: Reported) -> Result<(), NoMemory>
         requires few { self.old.events ≤ 40000002 }
         requires total { self.old.total ≤ 1000000000000000 }
-        requires many { told.many ≤ 1000000000000000 }
-        ensures adds { OnOk result ((schedule : List ℕ) (many : ℕ) → Lists self.old schedule → 0 < many → told.many ≡ min many 1000000000000000
-            → Lists self.new (schedule ++ replicate many told.task)) }
+        requires many { reported.many ≤ 1000000000000000 }
+        ensures adds { OnOk result ((schedule : List ℕ) (many : ℕ) → Lists self.old schedule → 0 < many → reported.many ≡ min many 1000000000000000
+            → Lists self.new (schedule ++ replicate many reported.task)) }
         ensures events { OnOk result (self.new.events ≡ self.old.events) }
     {
-        self.total = (self.total + told.many).min(GREATEST);
-        self.last = Some(told.task);
+        self.total = (self.total + reported.many).min(GREATEST);
+        self.last = Some(reported.task);
         if self.total <= self.events {
-            repeat(&mut self.numbers, told.task, told.many)?;
+            repeat(&mut self.numbers, reported.task, reported.many)?;
         }
         Ok(())
     }
@@ -84,7 +84,7 @@ fn repeat(numbers: &mut Items<u32>, task: u32, many: u64) -> Result<(), NoMemory
 }
 
 /// What a line tells of a run, if it has that form.
-fn told_by(line: &[u8]) -> Option<Told>
+fn reported_by(line: &[u8]) -> Option<Reported>
     ensures { MatchOption result ((task : ℕ) (many : List ℕ) → TellsRun line.now task many → ⊥) (TellsAbout line.now) }
 {
     let (task, many) = cut(line, b' ')?;
@@ -93,5 +93,5 @@ fn told_by(line: &[u8]) -> Option<Told>
     if many == 0 {
         return None;
     }
-    Some(Told { task, many })
+    Some(Reported { task, many })
 }

@@ -16,7 +16,7 @@ pub fn cut(text: &[u8], byte: u8) -> Option<(&[u8], &[u8])>
 }
 
 /// What stands after a prefix of a text, if it has that.
-pub fn behind<'a>(text: &'a [u8], prefix: &[u8]) -> Option<&'a [u8]>
+pub fn following<'a>(text: &'a [u8], prefix: &[u8]) -> Option<&'a [u8]>
     ensures { MatchOption result
         ((rest : List ℕ) → text.now ≡ prefix.now ++ rest → ⊥)
         (λ rest. text.now ≡ prefix.now ++ rest.now) }

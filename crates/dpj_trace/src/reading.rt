@@ -57,19 +57,19 @@ fn read_schedule(alloc: Global, bytes: &[u8], head: Head) -> Result<Trace, Trace
     let mut listed = Listed::new(alloc, head.events);
     let mut rest = head.rest;
     let mut line = 4;
-    while let Some((text, behind)) = cut(rest, b'\n') {
+    while let Some((text, following)) = cut(rest, b'\n') {
         if is_program(text, &listed) {
             return Ok(Trace {
                 arg: head.settings.arg,
                 limits: head.settings.limits,
                 schedule: listed.numbers,
-                from: (bytes.len() - behind.len()) as u64,
+                from: (bytes.len() - following.len()) as u64,
             });
         }
         if !listed.take(text)? {
             return Err(TraceStop::Bad(line));
         }
-        rest = behind;
+        rest = following;
         line += 1;
     }
     Err(TraceStop::Bad(line))

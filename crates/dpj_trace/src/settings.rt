@@ -5,7 +5,7 @@ ghost use Rattle.dpj_trace.specs.Reading.{IsSettings, IsEvents, AreLimits};
 ghost use Rattle.dpj_trace.specs.Text.{limits_text};
 
 use crate::numbers::{argument, number};
-use crate::pieces::{behind, cut};
+use crate::pieces::{cut, following};
 use dpj_base::Limits;
 
 /// What a run was given.
@@ -21,7 +21,7 @@ pub fn read_settings(text: &[u8]) -> Option<Settings>
         ((arg : ℤ) (limits : IsLimits) → IsSettings text.now arg limits → ⊥)
         (λ settings. IsSettings text.now settings.arg settings.limits) }
 {
-    let (arg, rest) = cut(behind(text, b"arg ")?, b' ')?;
+    let (arg, rest) = cut(following(text, b"arg ")?, b' ')?;
     let arg = argument(arg)?;
     let limits = read_limits(rest)?;
     Some(Settings { arg, limits })
@@ -33,9 +33,9 @@ fn read_limits(text: &[u8]) -> Option<Limits>
         ((limits : IsLimits) → AreLimits limits → text.now ≡ limits_text limits → ⊥)
         (λ limits. AreLimits limits × (text.now ≡ limits_text limits)) }
 {
-    let (steps, rest) = cut(behind(text, b"steps ")?, b' ')?;
+    let (steps, rest) = cut(following(text, b"steps ")?, b' ')?;
     let steps = number(steps, 1, 20000000)?;
-    let cells = number(behind(rest, b"cells ")?, 1, 16777216)?;
+    let cells = number(following(rest, b"cells ")?, 1, 16777216)?;
     Some(Limits { steps, cells })
 }
 
@@ -44,5 +44,5 @@ pub fn read_events(text: &[u8], most: u64) -> Option<u64>
     requires { most ≤ 40000002 }
     ensures { MatchOption result ((events : ℕ) → IsEvents text.now most events → ⊥) (IsEvents text.now most) }
 {
-    number(behind(text, b"events ")?, 0, most)
+    number(following(text, b"events ")?, 0, most)
 }

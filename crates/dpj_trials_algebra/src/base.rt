@@ -38,15 +38,15 @@ fn nested_types_copy_and_compare(rt: HostRuntime) -> Result<(), Fail> {
 }
 
 #[test]
-fn refusals_are_told_by_place_and_name(rt: HostRuntime) -> Result<(), Fail> {
-    let told = [
+fn refusals_are_reported_by_place_and_name(rt: HostRuntime) -> Result<(), Fail> {
+    let reported = [
         (Kind::TooLong, "6:5 too-long", 0),
         (Kind::RegionArgs, "6:5 region-args", 9),
         (Kind::PartialWrite, "6:5 partial-write", 13),
         (Kind::InterferesNd, "6:5 interferes-nd", 18),
         (Kind::Schedule, "6:5 schedule", 22),
     ];
-    for (kind, text, number) in told {
+    for (kind, text, number) in reported {
         let refusal = Refusal {
             kind,
             place: Place { line: 6, col: 5 },

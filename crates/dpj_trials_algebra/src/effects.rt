@@ -1,5 +1,5 @@
 use dpj_base::Access::{Read, Write};
-use dpj_base::{Access, Effect, Elem, Elems, Head, Index, NoMemory, Rpl};
+use dpj_base::{Access, Effect, Elem, Elems, Head, Index, Items, NoMemory, Plain, Rpl};
 use dpj_effects::{EffectSet, covers, interferes};
 use std::alloc::Global;
 use std::test::Fail;
@@ -48,6 +48,25 @@ fn a_set(rt: HostRuntime) -> Result<(), Fail> {
     assert_eq!(rt; marked.len(), 1);
     assert!(rt; set.set_covers(&marked));
     assert!(rt; !marked.set_covers(&set));
+    Ok(())
+}
+
+/// A set is taken into another one, empty or not, and given up in its order.
+#[test]
+fn a_set_in_another(rt: HostRuntime) -> Result<(), Fail> {
+    let alloc = rt.alloc();
+    let mut set = EffectSet::new(alloc);
+    set.add(effect(alloc, Write, false, &[Elem::Name(1)])?)?;
+    let mut more = EffectSet::new(alloc);
+    more.add(effect(alloc, Read, false, &[Elem::Name(0)])?)?;
+    more.add(effect(alloc, Write, false, &[Elem::Name(1)])?)?;
+    set.take_all(more)?;
+    let mut all = EffectSet::new(alloc);
+    all.take_all(set)?;
+    let mut wanted = Items::new(alloc);
+    wanted.push(effect(alloc, Write, false, &[Elem::Name(1)])?)?;
+    wanted.push(effect(alloc, Read, false, &[Elem::Name(0)])?)?;
+    assert!(rt; all.into_items()?.same(&wanted));
     Ok(())
 }
 

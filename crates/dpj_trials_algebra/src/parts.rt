@@ -38,13 +38,13 @@ fn passes(alloc: Global, other: u32, beside: u32, access: Access) -> Result<bool
 #[test]
 fn a_part_is_used_alone(rt: HostRuntime) -> Result<(), Fail> {
     let alloc = rt.alloc();
-    let told = [
+    let reported = [
         (2, 3, Access::Read, true),
         (2, 1, Access::Read, false),
         (1, 3, Access::Read, false),
         (2, 3, Access::Write, false),
     ];
-    for (other, beside, access, passed) in told {
+    for (other, beside, access, passed) in reported {
         assert_eq!(rt; passes(alloc, other, beside, access)?, passed);
     }
     Ok(())

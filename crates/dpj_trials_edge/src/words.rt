@@ -166,7 +166,7 @@ fn words_that_give_no_job(rt: HostRuntime) -> Result<(), Fail> {
     Ok(())
 }
 
-fn told(
+fn reported(
     rt: &impl Abort,
     alloc: Global,
     verdict: &Verdict,
@@ -194,14 +194,14 @@ const INDEX: Ending = Ending::Trapped(Trap::Index, Place { line: 6, col: 59 });
 
 #[test]
 fn reports_of_texts(rt: HostRuntime) -> Result<(), Fail> {
-    told(
+    reported(
         &rt,
         rt.alloc(),
         &Verdict::Usage,
         "usage: dpj COMMAND [NAME=VALUE]...\n",
         1,
     )?;
-    told(&rt, rt.alloc(), &Verdict::Accepted, "accepted\n", 0)?;
+    reported(&rt, rt.alloc(), &Verdict::Accepted, "accepted\n", 0)?;
     let refusals = [
         (Kind::Interferes, 6, 5, "refused 6:5 interferes\n"),
         (Kind::OverrideEffect, 7, 7, "refused 7:7 override-effect\n"),
@@ -209,7 +209,7 @@ fn reports_of_texts(rt: HostRuntime) -> Result<(), Fail> {
     ];
     for (kind, line, col, bytes) in refusals {
         let place = Place { line, col };
-        told(
+        reported(
             &rt,
             rt.alloc(),
             &Verdict::Refused(Refusal { kind, place }),
@@ -218,7 +218,7 @@ fn reports_of_texts(rt: HostRuntime) -> Result<(), Fail> {
         )?;
     }
     let listing = Bytes::from_slice(rt.alloc(), b"int 7\nreturn\n")?;
-    told(
+    reported(
         &rt,
         rt.alloc(),
         &Verdict::Listed(listing),
@@ -226,7 +226,7 @@ fn reports_of_texts(rt: HostRuntime) -> Result<(), Fail> {
         0,
     )?;
     let lines = Bytes::from_slice(rt.alloc(), b"Main.fib pure\nMain.main pure\n")?;
-    told(
+    reported(
         &rt,
         rt.alloc(),
         &Verdict::Effects(lines),
@@ -246,7 +246,7 @@ fn reports_of_runs_and_traces(rt: HostRuntime) -> Result<(), Fail> {
         (Ending::Limited, "", "limit\n", 4),
     ];
     for (ending, out, bytes, number) in rows {
-        told(
+        reported(
             &rt,
             rt.alloc(),
             &Verdict::Ran(outcome(alloc, ending, out, 4)?),
@@ -255,7 +255,7 @@ fn reports_of_runs_and_traces(rt: HostRuntime) -> Result<(), Fail> {
         )?;
         let outcome = outcome(alloc, ending, out, 4)?;
         let text = Bytes::from_slice(alloc, b"dpj-trace 1\n")?;
-        told(
+        reported(
             &rt,
             rt.alloc(),
             &Verdict::Traced { outcome, text },
@@ -290,7 +290,7 @@ fn reports_of_demos(rt: HostRuntime) -> Result<(), Fail> {
     ];
     for (classes, bytes, ending, steps, wanted, number) in rows {
         let outcome = outcome(rt.alloc(), ending, "17\n", steps)?;
-        told(
+        reported(
             &rt,
             rt.alloc(),
             &Verdict::Demo {

@@ -8,11 +8,11 @@
 
 mod by_turns;
 mod ends;
-mod told;
+mod reported;
 
 use crate::by_turns::ByTurns;
 use crate::ends::{Ends, answered};
-use crate::told::recorded;
+use crate::reported::recorded;
 use dpj_workers::NoGate;
 use std::alloc::Global;
 use std::sync::Wait;
@@ -35,8 +35,8 @@ fn tell_by_turns<R: Threads + Wait + Sync + Print>(
     alloc: Global,
 ) -> Result<(), anyhow::Error> {
     let gate = ByTurns::new();
-    let told = recorded(rt, alloc, "run workers=2", &gate)?;
-    println!(rt; "two workers by turns: {told}")?;
+    let reported = recorded(rt, alloc, "run workers=2", &gate)?;
+    println!(rt; "two workers by turns: {reported}")?;
     if gate.ran_out() {
         println!(rt; "a worker gave up waiting for its turn")?;
     }
@@ -66,8 +66,8 @@ fn tell_over_ends<R: Threads + Wait + Sync + Print>(
         ("walk", FIRST, 1, 1),
     ];
     for (words, text, read, write) in trials {
-        let told = answered(rt, alloc, words, text, Ends { read, write })?;
-        println!(rt; "{words}, read {read} and write {write} fail: {told}")?;
+        let reported = answered(rt, alloc, words, text, Ends { read, write })?;
+        println!(rt; "{words}, read {read} and write {write} fail: {reported}")?;
     }
     Ok(())
 }

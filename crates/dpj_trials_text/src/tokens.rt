@@ -29,7 +29,7 @@ fn listed(alloc: Global, read: &Tokens) -> Result<String, AllocError> {
 }
 
 /// What a text comes to: its tokens, or the refusal.
-fn told(alloc: Global, text: &[u8]) -> Result<String, AllocError> {
+fn reported(alloc: Global, text: &[u8]) -> Result<String, AllocError> {
     if text.len() > 1048576 {
         return String::from_str(alloc, "too long");
     }
@@ -95,13 +95,13 @@ fn texts_are_cut(rt: HostRuntime) -> Result<(), Fail> {
         ("\"a\tb\rc\"", "text 0 7 1:1, end 1:8"),
     ];
     for (text, wanted) in table {
-        assert_eq!(rt; told(rt.alloc(), text.as_bytes())?.as_str(), wanted);
+        assert_eq!(rt; reported(rt.alloc(), text.as_bytes())?.as_str(), wanted);
     }
     Ok(())
 }
 
 #[test]
-fn first_faults_are_told(rt: HostRuntime) -> Result<(), Fail> {
+fn first_faults_are_reported(rt: HostRuntime) -> Result<(), Fail> {
     let table = [
         ("&", "1:1 syntax"),
         ("a && & b", "1:6 syntax"),
@@ -125,13 +125,13 @@ fn first_faults_are_told(rt: HostRuntime) -> Result<(), Fail> {
         ("\"a\\\n\"", "1:3 syntax"),
     ];
     for (text, wanted) in table {
-        assert_eq!(rt; told(rt.alloc(), text.as_bytes())?.as_str(), wanted);
+        assert_eq!(rt; reported(rt.alloc(), text.as_bytes())?.as_str(), wanted);
     }
     Ok(())
 }
 
 #[test]
-fn bytes_that_are_no_text_are_told(rt: HostRuntime) -> Result<(), Fail> {
+fn bytes_that_are_no_text_are_reported(rt: HostRuntime) -> Result<(), Fail> {
     let table: [(&[u8], &str); 12] = [
         (b"a \xff".as_slice(), "1:3 syntax"),
         (b"a /* \xff".as_slice(), "1:3 syntax"),
@@ -147,7 +147,7 @@ fn bytes_that_are_no_text_are_told(rt: HostRuntime) -> Result<(), Fail> {
         (b"\"a\xff".as_slice(), "1:3 syntax"),
     ];
     for (text, wanted) in table {
-        assert_eq!(rt; told(rt.alloc(), text)?.as_str(), wanted);
+        assert_eq!(rt; reported(rt.alloc(), text)?.as_str(), wanted);
     }
     Ok(())
 }

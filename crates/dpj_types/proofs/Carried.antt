@@ -5,27 +5,27 @@ use Rattle.dpj_base.specs.declared.elems.Elem.{Elem}
 use Rattle.dpj_base.specs.declared.region.Head.{Head}
 use Rattle.dpj_base.specs.declared.region.Head.TheVariants.{Root, Param}
 use Rattle.dpj_base.specs.declared.region.Rpl.{Rpl}
-use Rattle.dpj_base.specs.Regions.{begins_with_star, heads_within, within, behind, argument, put_at, substituted}
+use Rattle.dpj_base.specs.Regions.{begins_with_star, heads_within, within, following, argument, put_at, substituted}
 use Rattle.dpj_base.specs.Types.{PlainType, type_with, all_within, class_within}
 use Rattle.dpj_base.specs.Types.PlainType.{int, boolean, void, null, class, array}
 use Rattle.dpj_regions.proofs.Inclusion.{Covers-from, Covers-to, Covers-refl, Covers-append, within-refl, within-trans}
 
-begins-behind : (b e : List Elem) → begins_with_star b ≡ true → begins_with_star (b ++ e) ≡ true
-begins-behind [] e h = absurd (false≢true h)
-begins-behind (y ∷ b) e h = h
+begins-following : (b e : List Elem) → begins_with_star b ≡ true → begins_with_star (b ++ e) ≡ true
+begins-following [] e h = absurd (false≢true h)
+begins-following (y ∷ b) e h = h
 
-heads-behind : (g h : Head) (b e : List Elem) → heads_within g h b ≡ true → heads_within g h (b ++ e) ≡ true
-heads-behind Root Root b e h = refl
-heads-behind (Param p) (Param q) b e h = h
-heads-behind (Param p) Root b e h = begins-behind b e h
-heads-behind Root (Param q) b e h = absurd (false≢true h)
+heads-following : (g h : Head) (b e : List Elem) → heads_within g h b ≡ true → heads_within g h (b ++ e) ≡ true
+heads-following Root Root b e h = refl
+heads-following (Param p) (Param q) b e h = h
+heads-following (Param p) Root b e h = begins-following b e h
+heads-following Root (Param q) b e h = absurd (false≢true h)
 
 -- what lies in a path lies in it with the same elements after both
-within-behind : (a b : Rpl) (e : List Elem) → within a b ≡ true → within (behind a e) (behind b e) ≡ true
+within-following : (a b : Rpl) (e : List Elem) → within a b ≡ true → within (following a e) (following b e) ≡ true
 unfolding within
-within-behind a b e h =
+within-following a b e h =
     let p = and_parts (heads_within a.head b.head b.elems) _ h in
-    and_from _ _ (heads-behind a.head b.head b.elems e p.0) (Covers-to (Covers-append (Covers-from b.elems a.elems p.1) (Covers-refl e)))
+    and_from _ _ (heads-following a.head b.head b.elems e p.0) (Covers-to (Covers-append (Covers-from b.elems a.elems p.1) (Covers-refl e)))
 
 within-at : (rs ss : List Rpl) (p : ℕ) (d : Rpl) → all_within rs ss ≡ true → within (get_or rs p d) (get_or ss p d) ≡ true
 within-at [] [] p d h = within-refl d
@@ -36,7 +36,7 @@ within-at (a ∷ rs) (b ∷ ss) (suc p) d h = within-at rs ss p d (and_parts (wi
 
 put-within : (rs ss : List Rpl) → all_within rs ss ≡ true → (h : Head) (e : List Elem) → within (put_at h e rs) (put_at h e ss) ≡ true
 put-within rs ss w Root e = within-refl _
-put-within rs ss w (Param p) e = within-behind (argument rs p) (argument ss p) e (within-at rs ss p (record { head = Param p; elems = [] }) w)
+put-within rs ss w (Param p) e = within-following (argument rs p) (argument ss p) e (within-at rs ss p (record { head = Param p; elems = [] }) w)
 
 substituted-within : (rs ss : List Rpl) → all_within rs ss ≡ true → (a : Rpl) → within (substituted rs a) (substituted ss a) ≡ true
 unfolding substituted

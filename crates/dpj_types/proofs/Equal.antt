@@ -71,17 +71,17 @@ pub same_type-means : (same : Bool) (a b : PlainType) → same ≡ same_type a b
 same_type-means same a b is = (λ t. same_type-is a b (sym is ∙ t), λ s. is ∙ same_type-from a b s)
 
 -- a comparison of lists that answers whether they are equal
-pub same_paths-told : (same : Bool) (rs ss : List Rpl) → IsTrue same ↔ (rs ≡ ss) → same ≡ same_paths rs ss
-same_paths-told true rs ss told = sym (same_paths-from rs ss (told.0 refl))
-same_paths-told false rs ss told = unlike (same_paths rs ss) (λ h. told.1 (same_paths-is rs ss h))
+pub same_paths-reported : (same : Bool) (rs ss : List Rpl) → IsTrue same ↔ (rs ≡ ss) → same ≡ same_paths rs ss
+same_paths-reported true rs ss reported = sym (same_paths-from rs ss (reported.0 refl))
+same_paths-reported false rs ss reported = unlike (same_paths rs ss) (λ h. reported.1 (same_paths-is rs ss h))
   where
     unlike : (b : Bool) → (b ≡ true → false ≡ true) → false ≡ b
     unlike true h = h refl
     unlike false h = refl
 
-pub same_path-told : (same : Bool) (a b : Rpl) → IsTrue same ↔ (a ≡ b) → same ≡ same_rpl a b
-same_path-told true a b told = sym (same_rpl-from a b (told.0 refl))
-same_path-told false a b told = unlike (same_rpl a b) (λ h. told.1 (same_rpl-is a b h))
+pub same_path-reported : (same : Bool) (a b : Rpl) → IsTrue same ↔ (a ≡ b) → same ≡ same_rpl a b
+same_path-reported true a b reported = sym (same_rpl-from a b (reported.0 refl))
+same_path-reported false a b reported = unlike (same_rpl a b) (λ h. reported.1 (same_rpl-is a b h))
   where
     unlike : (b : Bool) → (b ≡ true → false ≡ true) → false ≡ b
     unlike true h = h refl

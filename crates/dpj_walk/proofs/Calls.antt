@@ -25,8 +25,8 @@ module _ (P : PlainProgram) where
   abbrev pub onto : Level → Value ℕ → Frame ℕ LocalRegion → Store → Ran
   onto g v f x = items_run P g.left g.items (v ∷ g.operands) f x
 
-  abbrev pub Behind : Level → List Waiting → Prog ℕ LocalRegion → Store → out ℕ LocalRegion (Ending ℕ) Store
-  Behind g ws p w = whole P ws (bind (run sequential p w) (λ r u. proceeds (onto g) r u))
+  abbrev pub Following : Level → List Waiting → Prog ℕ LocalRegion → Store → out ℕ LocalRegion (Ending ℕ) Store
+  Following g ws p w = whole P ws (bind (run sequential p w) (λ r u. proceeds (onto g) r u))
 
   -- a body whose result goes on so
   body_kept : (d : ℕ) (m : PlainMember) (fr : Frame ℕ LocalRegion) (k : Result ℕ LocalRegion → Prog ℕ LocalRegion) (next : Result ℕ LocalRegion → Value ℕ) (g : Level) (w : Store)
@@ -51,7 +51,7 @@ module _ (P : PlainProgram) where
   back_to g (Returns v) u = refl
 
   member_entered : (d : ℕ) (o : Option PlainMember) (seen : ℕ × List (Region LocalRegion)) (vs : List (Value ℕ)) (own : List (Region LocalRegion)) (g : Level) (ws : List Waiting) (w : Store)
-      → Behind g ws (elim o as (λ o. Prog ℕ LocalRegion) [
+      → Following g ws (elim o as (λ o. Prog ℕ LocalRegion) [
         | None ↦ gives none g.frame
         | Some m ↦ on (meaning in_order P d m.body (entered in_order m vs (regions_above in_order (parent_of P) (length P.classes) seen.0 seen.1 m.class ++ own) (g.frame.left - 1))) (back g.frame)
       ]) w ≡ state_run P (enters P d o seen vs own g ws w)
@@ -61,7 +61,7 @@ module _ (P : PlainProgram) where
       (back g.frame) value_of g w (back_to g) (λ v f h. refl))
 
   row_entered : (d : ℕ) (o : Option ℕ) (seen : ℕ × List (Region LocalRegion)) (vs : List (Value ℕ)) (own : List (Region LocalRegion)) (g : Level) (ws : List Waiting) (w : Store)
-      → Behind g ws (elim o as (λ o. Prog ℕ LocalRegion) [
+      → Following g ws (elim o as (λ o. Prog ℕ LocalRegion) [
         | None ↦ gives none g.frame
         | Some n ↦ elim (member_at P n) as (λ o. Prog ℕ LocalRegion) [
           | None ↦ gives none g.frame
@@ -73,12 +73,12 @@ module _ (P : PlainProgram) where
 
   -- a choice
   either_kept : (b : Bool) (p q : Prog ℕ LocalRegion) (s t : State) (g : Level) (ws : List Waiting) (w : Store)
-      → Behind g ws p w ≡ state_run P s → Behind g ws q w ≡ state_run P t → Behind g ws (cond b p q) w ≡ state_run P (cond b s t)
+      → Following g ws p w ≡ state_run P s → Following g ws q w ≡ state_run P t → Following g ws (cond b p q) w ≡ state_run P (cond b s t)
   either_kept true p q s t g ws w h k = h
   either_kept false p q s t g ws w h k = k
 
   call_kept : (d : ℕ) (at : Place) (c r : ℕ) (own : List (Region LocalRegion)) (n : ℕ) (vs : List (Value ℕ)) (g : Level) (ws : List Waiting) (w : Store)
-      → Behind g ws (called in_order P (deeper_at P d) at c r own n vs g.frame) w ≡ state_run P (calls P d at c r own n vs g ws w)
+      → Following g ws (called in_order P (deeper_at P d) at c r own n vs g.frame) w ≡ state_run P (calls P d at c r own n vs g ws w)
   call_kept zero at c r own n vs g ws w = fell_kept P ws trap.Stack at w
   call_kept (suc d) at c r own n vs g ws w =
       either_kept (some_long own) _ _ _ _ g ws w (fell_kept P ws trap.Stack at w)
@@ -91,12 +91,12 @@ module _ (P : PlainProgram) where
   null_kept at (Some n) p k J ws w h = h n
 
   pub calls_kept : (d : ℕ) (at : Place) (v : Value ℕ) (c r : ℕ) (own : List (Region LocalRegion)) (vs : List (Value ℕ)) (g : Level) (ws : List Waiting) (w : Store)
-      → Behind g ws (unless_null at v (λ n. called in_order P (deeper_at P d) at c r own n vs g.frame)) w
+      → Following g ws (unless_null at v (λ n. called in_order P (deeper_at P d) at c r own n vs g.frame)) w
       ≡ state_run P (or_null at (reference v) ws w (λ n. calls P d at c r own n vs g ws w))
   calls_kept d at v c r own vs g ws w = null_kept at (reference v) _ _ (onto g) ws w (λ n. call_kept d at c r own n vs g ws w)
 
   constructor_entered : (d : ℕ) (o : Option PlainMember) (own : List (Region LocalRegion)) (object : Value ℕ) (vs : List (Value ℕ)) (g : Level) (ws : List Waiting) (w : Store)
-      → Behind g ws (elim o as (λ o. Prog ℕ LocalRegion) [
+      → Following g ws (elim o as (λ o. Prog ℕ LocalRegion) [
         | None ↦ gives object g.frame
         | Some m ↦ on (meaning in_order P d m.body (entered in_order m (object ∷ vs) own (g.frame.left - 1))) (λ r. gives object g.frame)
       ]) w ≡ state_run P (constructs P d o own object vs g ws w)
@@ -105,7 +105,7 @@ module _ (P : PlainProgram) where
       ap (whole P ws) (body_kept d m (entered in_order m (object ∷ vs) own (g.frame.left - 1)) (λ r. gives object g.frame) (λ r. object) g w (λ r u. refl) (λ v f h. refl))
 
   constructor_kept : (d : ℕ) (at : Place) (c : ℕ) (o : Option ℕ) (own : List (Region LocalRegion)) (vs : List (Value ℕ)) (g : Level) (ws : List Waiting) (w : Store)
-      → Behind g ws (elim o as (λ o. Prog ℕ LocalRegion) [
+      → Following g ws (elim o as (λ o. Prog ℕ LocalRegion) [
         | None ↦ Act (New (new_object P c own) false) (λ a. gives (name_made a) g.frame)
         | Some n ↦ elim (deeper_at P d) as (λ o. Prog ℕ LocalRegion) [
           | None ↦ Traps trap.Stack at
@@ -121,7 +121,7 @@ module _ (P : PlainProgram) where
       constructor_entered d (member_at P n) own (name_made {M = LocalRegion} (answer w.heap (New (new_object P c own) true))) vs g ws (after (New (new_object P c own) true) w)
 
   pub creates_kept : (d : ℕ) (at : Place) (c : ℕ) (own : List (Region LocalRegion)) (vs : List (Value ℕ)) (g : Level) (ws : List Waiting) (w : Store)
-      → Behind g ws (created in_order P (deeper_at P d) at c own vs g.frame) w
+      → Following g ws (created in_order P (deeper_at P d) at c own vs g.frame) w
       ≡ state_run P (cond (some_long own) (falls ws trap.Stack at w) (creates P d at c (constructor_of P c) own vs g ws w))
   creates_kept d at c own vs g ws w =
       either_kept (some_long own) _ _ _ _ g ws w (fell_kept P ws trap.Stack at w) (constructor_kept d at c (constructor_of P c) own vs g ws w)

@@ -15,7 +15,7 @@ use Rattle.dpj_meaning.specs.Expressions.{unless_null, called, created, class_in
 use Rattle.dpj_meaning.specs.Regions.{around, concrete}
 use Rattle.dpj_walk.specs.Agenda.{Item, evaluate, operate, carry_out, finish, deeper_at, operands_of, count, needs}
 use Rattle.dpj_walk.specs.Walk.{each}
-use Rattle.dpj_walk.proofs.Runs.{proceeds, behind, then_run}
+use Rattle.dpj_walk.proofs.Runs.{proceeds, following, then_run}
 use Rattle.dpj_walk.proofs.Residual.{Ran, items_run}
 
 -- operands above others
@@ -46,7 +46,7 @@ module _ (P : PlainProgram) (d : ℕ) where
   one_operand : (a : TypedExpr) (j : Value ℕ → Frame ℕ LocalRegion → Prog ℕ LocalRegion) (K : Follows) (L : Follows) (f : Frame ℕ LocalRegion) (w : Store)
       → ((v : Value ℕ) (g : Frame ℕ LocalRegion) (x : Store) → bind (run sequential (j v g) x) (λ s y. proceeds K s y) ≡ L v g x)
       → bind (run sequential (and_then (expr a f) j) w) (λ r u. proceeds K r u) ≡ bind (run sequential (expr a f) w) (λ r u. proceeds L r u)
-  one_operand a j K L f w h = then_run sequential (expr a f) j K w ∙ behind (run sequential (expr a f) w) _ L h
+  one_operand a j K L f w h = then_run sequential (expr a f) j K w ∙ following (run sequential (expr a f) w) _ L h
 
   -- actuals, after those that have these values, above other operands
   actuals : (es : TypedExprs) (i : Item) (is : List Item) (J : List (Value ℕ) → Frame ℕ LocalRegion → Prog ℕ LocalRegion) (K : Follows) (us vs : List (Value ℕ)) (f : Frame ℕ LocalRegion) (w : Store)

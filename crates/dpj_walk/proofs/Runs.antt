@@ -59,6 +59,6 @@ proceeds_same j k e (Goes_on v f) w = e v f w
 proceeds_same j k e (Returns v) w = refl
 
 -- after a stretch
-pub behind : {N M W : Type 0} (o : Out N M (Result N M) W) (j k : Value N → Frame N M → W → Out N M (Result N M) W) →
+pub following : {N M W : Type 0} (o : Out N M (Result N M) W) (j k : Value N → Frame N M → W → Out N M (Result N M) W) →
     ((v : Value N) (f : Frame N M) (w : W) → j v f w ≡ k v f w) → bind o (λ r u. proceeds j r u) ≡ bind o (λ r u. proceeds k r u)
-behind o j k e = bind_same o _ _ (proceeds_same j k e)
+following o j k e = bind_same o _ _ (proceeds_same j k e)

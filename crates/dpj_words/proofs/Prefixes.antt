@@ -4,12 +4,12 @@ use Rattle.std.specs.List.{starts_with}
 use Rattle.std.specs.Option.{option_map}
 use Rattle.std.specs.Str.Pattern.{FindsTextPrefix, StripsPrefix}
 use Rattle.std.proofs.lemmas.Str.Pattern.{starts_text}
-use Rattle.dpj_words.specs.Words.{behind}
+use Rattle.dpj_words.specs.Words.{following}
 
 -- the call's clause gives what stands after the prefix
-pub behind_stripped : (p s : List ℕ) (r : Option (Bor (List ℕ))) → MatchOption r (FindsTextPrefix p s None) (λ x. StripsPrefix (FindsTextPrefix p) s x.now) → option_map (λ (x : Bor (List ℕ)). x.now) r ≡ behind p s
-behind_stripped p s None h = let e : starts_with eqb s p ≡ false = sym (starts_text false p s h) in rw e refl
-behind_stripped p s (Some x) h =
+pub after_stripped : (p s : List ℕ) (r : Option (Bor (List ℕ))) → MatchOption r (FindsTextPrefix p s None) (λ x. StripsPrefix (FindsTextPrefix p) s x.now) → option_map (λ (x : Bor (List ℕ)). x.now) r ≡ following p s
+after_stripped p s None h = let e : starts_with eqb s p ≡ false = sym (starts_text false p s h) in rw e refl
+after_stripped p s (Some x) h =
     let e : starts_with eqb s p ≡ true = sym (starts_text true p s (h.0, h.1, rw h.1.0 h.1.2)) in
     let f : x.now ≡ drop (length p) s = h.2 ∙ ap (λ k. drop k s) h.1.0 in
     rw e (ap Some f)

@@ -52,12 +52,12 @@ keys_of command.Replay = []
 keys_of command.Effects = []
 
 -- what stands after a prefix
-abbrev pub behind : List ℕ → List ℕ → Option (List ℕ)
-behind prefix word = if starts_with nat_eq word prefix then Some (drop (length prefix) word) else None
+abbrev pub following : List ℕ → List ℕ → Option (List ℕ)
+following prefix word = if starts_with nat_eq word prefix then Some (drop (length prefix) word) else None
 
 -- the value that a word gives to a key: what stands after the key's name and `=`
 abbrev pub value_for : Key → List ℕ → Option (List ℕ)
-value_for key word = behind (key_name key ++ codes "=") word
+value_for key word = following (key_name key ++ codes "=") word
 
 -- all values that words give to a key
 abbrev pub values_for : Key → List (List ℕ) → List (List ℕ)

@@ -23,9 +23,9 @@ pub fn report(alloc: Global, verdict: &Verdict) -> Result<Bytes, NoMemory>
             bytes,
             outcome,
         } => demo_report(alloc, *classes, *bytes, outcome),
-        Verdict::Listed(told) | Verdict::Effects(told) | Verdict::Traced { text: told, .. } => {
-            told.copy(alloc)
-        }
+        Verdict::Listed(reported)
+        | Verdict::Effects(reported)
+        | Verdict::Traced { text: reported, .. } => { reported.copy(alloc) }
     }
 }
 
@@ -90,7 +90,7 @@ fn demo_report(
     outcome: &Outcome,
 ) -> Result<Bytes, NoMemory>
     ensures { IfOk result
-        (λ told. told ≡ demo_ending_report classes bytes outcome.now.steps outcome.now.ending) }
+        (λ reported. reported ≡ demo_ending_report classes bytes outcome.now.steps outcome.now.ending) }
 {
     let steps = outcome.steps;
     match outcome.ending {

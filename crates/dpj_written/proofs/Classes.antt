@@ -10,7 +10,7 @@ use Rattle.dpj_tree.specs.declared.region.ParamTree.{ParamTree}
 use Rattle.dpj_parse.specs.Taking.{Many, none, some}
 use Rattle.dpj_parse.specs.Classes.{DerivesDeclared, declared, DerivesParams, no_params, params, DerivesResult, void, DerivesFront, constructs, answers, DerivesField, DerivesMethod, named, DerivesMember, members, DerivesClass, class, DerivesProgram, program}
 use Rattle.dpj_written.specs.Written.{HasParams, HasFront, MemberIsWritten, ClassIsWritten}
-use Rattle.dpj_written.proofs.Numbers.{Small, Fits, takes, here, join, plainly, behind, before, both, changed}
+use Rattle.dpj_written.proofs.Numbers.{Small, Fits, takes, here, join, plainly, following, before, both, changed}
 use Rattle.dpj_written.proofs.Left.{names_left, type_left, kind_left, params_left, formals_left, summary_left, in_left, front_left, parent_left}
 use Rattle.dpj_written.proofs.Statements.{block_fits}
 
@@ -37,7 +37,7 @@ member_written : {before after : List Placed} {tree : Member} → DerivesMember 
 member_written (DerivesMember.regions d names ends_at) = plainly (join (kind_left d) (join (names_left names) (takes ends_at)))
 member_written (DerivesMember.field d t (DerivesField.field region ends_at)) = plainly (join (type_left d) (join (takes t) (join (in_left region) (takes ends_at))))
 member_written (DerivesMember.method f (named t (DerivesMethod.method d s b))) =
-    behind (join (front_left f) (join (takes t) (join (formals_left d) (summary_left s))))
+    following (join (front_left f) (join (takes t) (join (formals_left d) (summary_left s))))
     (changed (λ fits. record { params = front_params f; front = front_written f; numbers = fits }) (block_fits b))
 
 many : {A : Type 0} (Derives : List Placed → List Placed → A → Type 0) (Is : A → Type 0) → ((before after : List Placed) (one : A) → Derives before after one → Fits (Is one) before after) →
@@ -47,7 +47,7 @@ many Derives Is each (some {item = one} {items = others} d m) = changed (λ fits
 
 class_written : {before after : List Placed} {tree : Class} → DerivesClass before after tree → Fits (ClassIsWritten tree) before after
 class_written (class t u d p (members open_at m close_at)) =
-    behind (join (takes t) (join (takes u) (join (params_left d) (join (parent_left p) (takes open_at)))))
+    following (join (takes t) (join (takes u) (join (params_left d) (join (parent_left p) (takes open_at)))))
     (changed (λ fits. record { params = params_written d; members = fits })
     (before (many DerivesMember MemberIsWritten (λ b a one each. member_written each) m) (takes close_at)))
 

@@ -20,9 +20,9 @@ use Rattle.dpj_tree.specs.declared.region.Suffix.{Suffix}
 use Rattle.dpj_tree.specs.declared.region.TypeTree.{TypeTree}
 use Rattle.dpj_parse.specs.Taking.{TakesName, Listed, last, more, Many, none, some}
 use Rattle.dpj_parse.specs.Paths.{DerivesRName, one_name, two_names, DerivesHead, root, DerivesWithin, DerivesElem, star, within, DerivesNext, next, DerivesRpl, path, DerivesArgs, no_args, args}
-use Rattle.dpj_parse.specs.Types.{DerivesBase, DerivesRegion, no_region, region, DerivesIndex, no_index, index, DerivesBehind, behind, DerivesSuffix, suffix, DerivesType, type_of}
+use Rattle.dpj_parse.specs.Types.{DerivesBase, DerivesRegion, no_region, region, DerivesIndex, no_index, index, DerivesAfter, following, DerivesSuffix, suffix, DerivesType, type_of}
 use Rattle.dpj_parse.specs.Statements.{DerivesFinal, not_final, final}
-use Rattle.dpj_parse.specs.Classes.{DerivesAtomic, plain, atomic, DerivesKind, kind, DerivesParam, param, DerivesKindOr, same, other, DerivesParamsBehind, no_more, DerivesDeclared, declared, DerivesConstr, constraint, DerivesGiven, nothing_given, given, DerivesParams, no_params, params, DerivesFormal, formal, DerivesFormalList, no_formals, formals, DerivesFormals, DerivesItem, item, DerivesItems, DerivesSummary, no_summary, pure, reads, reads_and_writes, writes, DerivesIn, nowhere, in_region, DerivesResult, void, DerivesFront, constructs, answers, DerivesParent, no_parent, extends}
+use Rattle.dpj_parse.specs.Classes.{DerivesAtomic, plain, atomic, DerivesKind, kind, DerivesParam, param, DerivesKindOr, same, other, DerivesParamsAfter, no_more, DerivesDeclared, declared, DerivesConstr, constraint, DerivesGiven, nothing_given, given, DerivesParams, no_params, params, DerivesFormal, formal, DerivesFormalList, no_formals, formals, DerivesFormals, DerivesItem, item, DerivesItems, DerivesSummary, no_summary, pure, reads, reads_and_writes, writes, DerivesIn, nowhere, in_region, DerivesResult, void, DerivesFront, constructs, answers, DerivesParent, no_parent, extends}
 use Rattle.dpj_written.proofs.Numbers.{Leaves, takes, here, join, fewer}
 
 many : {A : Type 0} (Derives : List Placed → List Placed → A → Type 0) → ((before after : List Placed) (one : A) → Derives before after one → Leaves before after) →
@@ -79,17 +79,17 @@ index_left : {before after : List Placed} {tree : Option Named} → DerivesIndex
 index_left (no_index absent) = here
 index_left (index hash t) = join (takes hash) (takes t)
 
-pub behind_left : {before after : List Placed} {tree : Suffix} → DerivesBehind before after tree → Leaves before after
-behind_left (behind d i) = join (optional_rpl_left d) (index_left i)
+pub after_left : {before after : List Placed} {tree : Suffix} → DerivesAfter before after tree → Leaves before after
+after_left (following d i) = join (optional_rpl_left d) (index_left i)
 
 suffix_left : {before after : List Placed} {tree : Suffix} → DerivesSuffix before after tree → Leaves before after
-suffix_left (suffix open_at close_at d) = join (takes open_at) (join (takes close_at) (behind_left d))
+suffix_left (suffix open_at close_at d) = join (takes open_at) (join (takes close_at) (after_left d))
 
 pub suffixes_left : {before after : List Placed} {trees : List Suffix} → Many DerivesSuffix before after trees → Leaves before after
 suffixes_left m = many DerivesSuffix (λ b a one each. suffix_left each) m
 
 suffix_fewer : {before after : List Placed} {tree : Suffix} → DerivesSuffix before after tree → suc (length after) ≤ length before
-suffix_fewer (suffix open_at close_at d) = omega (arith, ap length open_at.first, fewer (takes close_at), fewer (behind_left d))
+suffix_fewer (suffix open_at close_at d) = omega (arith, ap length open_at.first, fewer (takes close_at), fewer (after_left d))
 
 -- each suffix takes a terminal
 pub suffixes_fewer : {before after : List Placed} {trees : List Suffix} → Many DerivesSuffix before after trees → length trees + length after ≤ length before
@@ -120,12 +120,12 @@ kind_or_left (other d) = kind_left d
 param_left : {is_atomic : Bool} {before after : List Placed} {tree : ParamTree} → DerivesParam is_atomic before after tree → Leaves before after
 param_left (param t) = takes t
 
-params_behind_left : {earlier : Bool} {before after : List Placed} {trees : List ParamTree} → DerivesParamsBehind earlier before after trees → Leaves before after
-params_behind_left no_more = here
-params_behind_left (DerivesParamsBehind.behind comma d one others) = join (takes comma) (join (kind_or_left d) (join (param_left one) (params_behind_left others)))
+params_after_left : {earlier : Bool} {before after : List Placed} {trees : List ParamTree} → DerivesParamsAfter earlier before after trees → Leaves before after
+params_after_left no_more = here
+params_after_left (DerivesParamsAfter.following comma d one others) = join (takes comma) (join (kind_or_left d) (join (param_left one) (params_after_left others)))
 
 declared_left : {before after : List Placed} {trees : List ParamTree} → DerivesDeclared before after trees → Leaves before after
-declared_left (declared d one others) = join (kind_left d) (join (param_left one) (params_behind_left others))
+declared_left (declared d one others) = join (kind_left d) (join (param_left one) (params_after_left others))
 
 constraint_left : {before after : List Placed} {tree : ConstrTree} → DerivesConstr before after tree → Leaves before after
 constraint_left (constraint first hash second) = join (rpl_left first) (join (takes hash) (rpl_left second))

@@ -39,16 +39,16 @@ pub join : {before one after : List Placed} → Leaves before one → Leaves one
 join {after = after} p q =
     record { front = p.front ++ q.front; whole = p.whole ∙ ap (λ rest. p.front ++ rest) q.whole ∙ sym (append_assoc p.front q.front after) }
 
-behind_front : (front after : List Placed) → AllSayFitting (front ++ after) → AllSayFitting after
-behind_front [] after all = all
-behind_front (said ∷ front) after all = behind_front front after all.1
+after_front : (front after : List Placed) → AllSayFitting (front ++ after) → AllSayFitting after
+after_front [] after all = all
+after_front (said ∷ front) after all = after_front front after all.1
 
 pub fewer : {before after : List Placed} → Leaves before after → length after ≤ length before
 fewer {after = after} p = omega (arith, ap length p.whole, length-append p.front after)
 
 pub still_small : {before after : List Placed} → Leaves before after → Small before → Small after
 still_small {after = after} p small = record {
-  numbers = behind_front p.front after (subst AllSayFitting p.whole small.numbers);
+  numbers = after_front p.front after (subst AllSayFitting p.whole small.numbers);
   few = omega (arith, small.few, fewer p);
 }
 
@@ -64,8 +64,8 @@ number_taken t = record { is = λ small. (subst AllSayFitting t.first small.numb
 pub plainly : {before after : List Placed} → Leaves before after → Fits (Unit {0}) before after
 plainly p = record { is = λ small. tt; left = p }
 
-pub behind : {Is : Type 0} {before one after : List Placed} → Leaves before one → Fits Is one after → Fits Is before after
-behind p f = record { is = λ small. f.is (still_small p small); left = join p f.left }
+pub following : {Is : Type 0} {before one after : List Placed} → Leaves before one → Fits Is one after → Fits Is before after
+following p f = record { is = λ small. f.is (still_small p small); left = join p f.left }
 
 pub before : {Is : Type 0} {before one after : List Placed} → Fits Is before one → Leaves one after → Fits Is before after
 before f p = record { is = f.is; left = join f.left p }

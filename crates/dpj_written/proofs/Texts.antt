@@ -39,7 +39,7 @@ all_fit : (names : List (List ℕ)) (bytes : List ℕ) (from : ℕ) (tokens : Li
 all_fit names bytes from [] [] stand all = tt
 all_fit names bytes from [] (said ∷ list) stand all = absurd all
 all_fit names bytes from (token ∷ tokens) [] stand all = absurd all
-all_fit names bytes from (token ∷ tokens) (said ∷ list) (behind, stands, others) (place, means, all) =
+all_fit names bytes from (token ∷ tokens) (said ∷ list) (following, stands, others) (place, means, all) =
     (said_fits names token.kind (token_text bytes token) said.terminal (can_say token.kind _ _ stands.is) means, all_fit names bytes token.to tokens list others all)
 
 few_said : (names : List (List ℕ)) (bytes : List ℕ) (tokens : List Token) (list : List Placed) → MeanAll names bytes tokens list → length list ≤ length tokens

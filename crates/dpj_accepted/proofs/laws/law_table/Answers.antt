@@ -1,5 +1,5 @@
 use Rattle.dpj_accepted.proofs.Lineage.{supers_agree}
-use Rattle.dpj_accepted.proofs.Told.{table_tells}
+use Rattle.dpj_accepted.proofs.Reported.{table_tells}
 use Rattle.dpj_accepted.proofs.Unnamed.{all_signed}
 use Rattle.dpj_accepted.proofs.laws.law_table.Goals as goal
 

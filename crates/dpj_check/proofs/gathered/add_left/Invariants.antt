@@ -1,8 +1,10 @@
-use Rattle.std.proofs.Common.{◌≡◌, drop}
+use Rattle.std.proofs.Common.{◌≡◌, length}
+use Rattle.std.specs.Vec.Iter.{into_iter_items, into_iter_len}
 use Rattle.dpj_base.specs.Effects.{gathered}
 use Rattle.dpj_check.specs.Gathering.{all_left}
 use Rattle.dpj_check.proofs.gathered.add_left.Given as goal
 
 abbrev pub invariant-loop-e : goal.invariant-loop-e
 invariant-loop-e l =
-    gathered l.set (all_left l.leaving (drop l.e-index l.e-items)) ≡ gathered l.initial.set (all_left l.leaving l.e-items)
+    (gathered l.set (all_left l.leaving (into_iter_items l.e-iterator)) ≡ gathered l.initial.set (all_left l.leaving (into_iter_items l.initial.e-iterator)))
+    × (into_iter_len l.e-iterator ≡ length (into_iter_items l.e-iterator))

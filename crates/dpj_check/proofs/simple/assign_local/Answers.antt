@@ -11,7 +11,7 @@ use Rattle.dpj_check.specs.Simple.{AssigningLocal}
 use Rattle.dpj_check.specs.Simple.{AssigningLocal as rule}
 use Rattle.dpj_check.specs.Walks.{walk_of}
 use Rattle.dpj_check.specs.Walks.{Verdict as verdict}
-use Rattle.dpj_check.proofs.Leaves.{Stored, stored_so, stored_told}
+use Rattle.dpj_check.proofs.Leaves.{Stored, stored_so, stored_reported}
 use Rattle.dpj_check.proofs.Nodes.{node_made}
 use Rattle.dpj_check.proofs.Passing.{said_of, stopped, settle_stopped}
 use Rattle.dpj_check.proofs.simple.assign_local.Goals as goal
@@ -28,7 +28,7 @@ pub returns-in_default-clause-checks : goal.returns-in_default-clause-checks
 returns-in_default-clause-checks c =
     said_of (λ q. fault_of (with_fault c.args.node kind.Unknown c.args.target.place) ≡ Some q)
     (λ q. AssigningLocal c.args.node c.args.target (plain_expr c.args.value.now) (walk_of c.args.body.now c.args.out.now) (verdict.refused q)) c.refused_at.result
-    (λ q told. rule.no_local c.in_ok-given.ensures.answer (sym c.local.ensures ∙ ap option_copied c.in_default.is) told) c.refused_at.ensures
+    (λ q reported. rule.no_local c.in_ok-given.ensures.answer (sym c.local.ensures ∙ ap option_copied c.in_default.is) reported) c.refused_at.ensures
 
 pub returns-in_err-settle-clause-checks : goal.returns-in_err-settle-clause-checks
 returns-in_err-settle-clause-checks c =
@@ -42,9 +42,9 @@ returns-in_err-settle-clause-checks c =
     } in
     settle_stopped (AssigningLocal c.args.node c.args.target (plain_expr c.args.value.now) (walk_of c.args.body.now c.args.out.now)) (fault_of c.note_found.new.self)
     c.from_residual-in_err-settle.result c.in_err-settle.field-0.0 _ c.from_residual-in_err-settle.ensures.1 c.in_err-settle.ensures.result
-    (λ q told.
-    stored_told c.args.node c.note_found.new.self c.args.target (plain_expr c.args.value.now) c.in-Some.row.now c.args.body.now c.args.out.now
-    c.typed.new.out (plain_typed c.in_ok-given.given) c.in_ok-fits.field-0 c.local_fault.result q known told)
+    (λ q reported.
+    stored_reported c.args.node c.note_found.new.self c.args.target (plain_expr c.args.value.now) c.in-Some.row.now c.args.body.now c.args.out.now
+    c.typed.new.out (plain_typed c.in_ok-given.given) c.in_ok-fits.field-0 c.local_fault.result q known reported)
 
 pub returns-clause-checks : goal.returns-clause-checks
 returns-clause-checks c =

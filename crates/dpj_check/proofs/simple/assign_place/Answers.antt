@@ -1,17 +1,18 @@
-use Rattle.std.proofs.Common.{subst, option_map}
+use Rattle.std.proofs.Common.{◌≡◌, not, sym, ap, subst, option_map}
+use Rattle.dpj_base.specs.declared.refusal.Kind.TheVariants as kind
 use Rattle.dpj_tree.specs.Plain.{plain_expr}
-use Rattle.dpj_typed.specs.Plain.{plain_stmt as typed_stmt}
+use Rattle.dpj_typed.specs.Plain.{statement, perform}
 use Rattle.dpj_exprs.specs.Answer.{refused}
-use Rattle.dpj_exprs.specs.Targeting.{Targeting, misses, aims, plain_spot, plain_target}
-use Rattle.dpj_exprs.specs.Typed.{plain_node, plain_typed}
+use Rattle.dpj_exprs.specs.Targeting.{Targeting, misses, aims, plain_target}
+use Rattle.dpj_exprs.specs.Typed.{is_value, may_be, node_at, plain_typed, type_in}
 use Rattle.dpj_exprs.specs.Typing.{Typing}
-use Rattle.dpj_check.specs.Noting.{fault_of}
-use Rattle.dpj_check.specs.Simple.{AssigningPlace}
+use Rattle.dpj_check.specs.Noting.{fault_of, with_fault_if}
+use Rattle.dpj_check.specs.Simple.{AssigningPlace, Putting}
 use Rattle.dpj_check.specs.Simple.{AssigningPlace as rule}
-use Rattle.dpj_check.specs.Walks.{walk_of}
-use Rattle.dpj_check.proofs.Leaves.{Anything, anything_so, anything_told, target_refused, target_written, Placed}
-use Rattle.dpj_check.proofs.Nodes.{node_made, place_is}
-use Rattle.dpj_check.proofs.Passing.{stopped, settle_stopped}
+use Rattle.dpj_check.specs.Walks.{walk_of, judged}
+use Rattle.dpj_check.proofs.Leaves.{anything_as, placed_as}
+use Rattle.dpj_check.proofs.Nodes.{place_is}
+use Rattle.dpj_check.proofs.Passing.{says_all, stopped}
 use Rattle.dpj_check.proofs.simple.assign_place.Goals as goal
 
 pub returns-in_err-target-clause-checks : goal.returns-in_err-target-clause-checks
@@ -30,79 +31,37 @@ returns-in_err-given-clause-checks c =
     (λ q d. rule.value_refused c.in_ok-target.ensures.answer d)
     c.in_err-given.ensures.answer
 
-pub returns-in_err-settle-in-Some-clause-checks : goal.returns-in_err-settle-in-Some-clause-checks
-returns-in_err-settle-in-Some-clause-checks c =
-    let placed : Placed c.args.node c.note_found.new.self (plain_expr c.args.written.now) (plain_expr c.args.value.now) c.in-Some.target
-    c.args.body.now c.args.out.now c.read_target.new.found c.typed.new.out (plain_typed c.in_ok-given.given) c.in_ok-fits-in-Some.fits
-    c.target_fault.result = record {
-      aimed =
-          subst (λ z. Targeting c.args.body.now.env (plain_expr c.args.written.now) c.args.out.now (aims (option_map plain_target z) c.read_target.new.found))
-          c.in-Some.is c.in_ok-target.ensures.answer;
-      typing = c.in_ok-given.ensures.answer;
-      fits = c.in_ok-fits-in-Some.ensures;
-      reason_is = c.target_fault.ensures;
-      noted_is = c.note_found.ensures.node;
-    } in
-    settle_stopped (AssigningPlace c.args.node (plain_expr c.args.written.now) (plain_expr c.args.value.now) (walk_of c.args.body.now c.args.out.now))
-    (fault_of c.note_found.new.self) c.from_residual-in_err-settle-in-Some.result c.in_err-settle-in-Some.field-0.0 _
-    c.from_residual-in_err-settle-in-Some.ensures.1 c.in_err-settle-in-Some.ensures.result
-    (λ q told.
-    target_refused c.args.node c.note_found.new.self (plain_expr c.args.written.now) (plain_expr c.args.value.now) c.in-Some.target
-    c.args.body.now c.args.out.now c.read_target.new.found c.typed.new.out
-    (plain_typed c.in_ok-given.given) c.in_ok-fits-in-Some.fits
-    c.target_fault.result q placed told)
+pub returns-in-Some-clause-checks : goal.returns-in-Some-clause-checks
+returns-in-Some-clause-checks c =
+    says_all
+    (Putting c.args.node c.args.written.now.place (plain_target c.in-Some.target) (plain_typed c.in_ok-given.given)
+    (node_at c.args.value.now.place (plain_typed c.in_ok-given.given)) (walk_of c.args.body.now c.typed.new.out))
+    (AssigningPlace c.args.node (plain_expr c.args.written.now) (plain_expr c.args.value.now) (walk_of c.args.body.now c.args.out.now))
+    c.assign_target.result _
+    (λ v d.
+    placed_as c.args.node (plain_expr c.args.written.now) (plain_expr c.args.value.now) (plain_target c.in-Some.target) c.args.body.now
+    c.args.out.now c.read_target.new.found c.typed.new.out (plain_typed c.in_ok-given.given) c.args.written.now.place
+    (node_at c.args.value.now.place (plain_typed c.in_ok-given.given)) v
+    (subst (λ z. Targeting c.args.body.now.env (plain_expr c.args.written.now) c.args.out.now (aims (option_map plain_target z) c.read_target.new.found))
+    c.in-Some.is c.in_ok-target.ensures.answer)
+    c.in_ok-given.ensures.answer (place_is c.args.written.now)
+    (ap (λ z. node_at z (plain_typed c.in_ok-given.given)) (sym (place_is c.args.value.now))) d)
+    c.assign_target.ensures.checks
 
-pub returns-in_ok-spot-in-Some-clause-checks : goal.returns-in_ok-spot-in-Some-clause-checks
-returns-in_ok-spot-in-Some-clause-checks c =
-    let placed : Placed c.args.node c.note_found.new.self (plain_expr c.args.written.now) (plain_expr c.args.value.now) c.in-Some.target
-    c.args.body.now c.args.out.now c.read_target.new.found c.typed.new.out (plain_typed c.in_ok-given.given) c.in_ok-fits-in-Some.fits
-    c.target_fault.result = record {
-      aimed =
-          subst (λ z. Targeting c.args.body.now.env (plain_expr c.args.written.now) c.args.out.now (aims (option_map plain_target z) c.read_target.new.found))
-          c.in-Some.is c.in_ok-target.ensures.answer;
-      typing = c.in_ok-given.ensures.answer;
-      fits = c.in_ok-fits-in-Some.ensures;
-      reason_is = c.target_fault.ensures;
-      noted_is = c.note_found.ensures.node;
-    } in
-    target_written c.args.node c.note_found.new.self (plain_expr c.args.written.now) (plain_expr c.args.value.now) c.in-Some.target
-    c.args.body.now c.args.out.now c.read_target.new.found c.typed.new.out c.write.new.found
-    (plain_typed c.in_ok-given.given) c.in_ok-fits-in-Some.fits
-    c.target_fault.result c.args.written.now.place (plain_spot c.in_ok-spot-in-Some.spot) (plain_node c.into_node.result)
-    (typed_stmt c.stored.result) placed c.in_ok-settle-in-Some.ensures.clean c.in_ok-spot-in-Some.ensures.found (place_is c.args.written.now) c.in_ok-spot-in-Some.ensures.spot
-    (node_made c.args.value.now c.into_node.result (plain_typed c.in_ok-given.given) c.into_node.ensures) c.stored.ensures
-
-pub returns-in_err-settle-in-None-clause-checks : goal.returns-in_err-settle-in-None-clause-checks
-returns-in_err-settle-in-None-clause-checks c =
-    let known : Anything c.args.node c.note_if.new.self (plain_expr c.args.written.now) (plain_expr c.args.value.now) c.args.body.now c.args.out.now
-    c.read_target.new.found c.typed.new.out (plain_typed c.in_ok-given.given) c.is_value.result = record {
-      aimed =
-          subst (λ z. Targeting c.args.body.now.env (plain_expr c.args.written.now) c.args.out.now (aims (option_map plain_target z) c.read_target.new.found))
-          c.in-None.is c.in_ok-target.ensures.answer;
-      typing = c.in_ok-given.ensures.answer;
-      value_is = c.is_value.ensures;
-      noted_is = c.note_if.ensures.node;
-    } in
-    settle_stopped (AssigningPlace c.args.node (plain_expr c.args.written.now) (plain_expr c.args.value.now) (walk_of c.args.body.now c.args.out.now))
-    (fault_of c.note_if.new.self) c.from_residual-in_err-settle-in-None.result c.in_err-settle-in-None.field-0.0 _
-    c.from_residual-in_err-settle-in-None.ensures.1 c.in_err-settle-in-None.ensures.result
-    (λ q told.
-    anything_told c.args.node c.note_if.new.self (plain_expr c.args.written.now) (plain_expr c.args.value.now) c.args.body.now c.args.out.now
-    c.read_target.new.found c.typed.new.out (plain_typed c.in_ok-given.given) c.is_value.result q known told)
-
-pub returns-in_ok-settle-in-None-clause-checks : goal.returns-in_ok-settle-in-None-clause-checks
-returns-in_ok-settle-in-None-clause-checks c =
-    let known : Anything c.args.node c.note_if.new.self (plain_expr c.args.written.now) (plain_expr c.args.value.now) c.args.body.now c.args.out.now
-    c.read_target.new.found c.typed.new.out (plain_typed c.in_ok-given.given) c.is_value.result = record {
-      aimed =
-          subst (λ z. Targeting c.args.body.now.env (plain_expr c.args.written.now) c.args.out.now (aims (option_map plain_target z) c.read_target.new.found))
-          c.in-None.is c.in_ok-target.ensures.answer;
-      typing = c.in_ok-given.ensures.answer;
-      value_is = c.is_value.ensures;
-      noted_is = c.note_if.ensures.node;
-    } in
-    anything_so c.args.node c.note_if.new.self (plain_expr c.args.written.now) (plain_expr c.args.value.now) c.args.body.now c.args.out.now
-    c.read_target.new.found c.typed.new.out (plain_typed c.in_ok-given.given) c.is_value.result c.args.written.now.place
-    (plain_node c.into_node-in-None.result) (typed_stmt c.performed.result) known (place_is c.args.written.now)
-    (node_made c.args.value.now c.into_node-in-None.result (plain_typed c.in_ok-given.given) c.into_node-in-None.ensures) c.performed.ensures
-    c.in_ok-settle-in-None.ensures.clean
+pub returns-in-None-clause-checks : goal.returns-in-None-clause-checks
+returns-in-None-clause-checks c =
+    says_all
+    (λ v. judged (fault_of (with_fault_if c.args.node kind.Type (not (may_be is_value (type_in (plain_typed c.in_ok-given.given))))))
+    (statement c.args.written.now.place (perform (node_at c.args.value.now.place (plain_typed c.in_ok-given.given))))
+    (walk_of c.args.body.now c.typed.new.out) ≡ v)
+    (AssigningPlace c.args.node (plain_expr c.args.written.now) (plain_expr c.args.value.now) (walk_of c.args.body.now c.args.out.now))
+    c.assign_anything.result _
+    (λ v is.
+    anything_as c.args.node (plain_expr c.args.written.now) (plain_expr c.args.value.now) c.args.body.now
+    c.args.out.now c.read_target.new.found c.typed.new.out (plain_typed c.in_ok-given.given) c.args.written.now.place
+    (node_at c.args.value.now.place (plain_typed c.in_ok-given.given)) v
+    (subst (λ z. Targeting c.args.body.now.env (plain_expr c.args.written.now) c.args.out.now (aims (option_map plain_target z) c.read_target.new.found))
+    c.in-None.is c.in_ok-target.ensures.answer)
+    c.in_ok-given.ensures.answer (place_is c.args.written.now)
+    (ap (λ z. node_at z (plain_typed c.in_ok-given.given)) (sym (place_is c.args.value.now))) is)
+    (c.assign_anything.ensures.checks (walk_of c.args.body.now c.typed.new.out))

@@ -16,10 +16,10 @@ returns-in_err-settle-clause-checks c found =
     judged (fault_of (with_fault_if c.args.node kind.Return (is_misplaced c.args.around false)))
     (typed.statement c.args.node.place typed.return_nothing) (walk_of c.args.body.now found) ≡ v)
     (fault_of c.note_if.new.self) c.from_residual.result c.in_err-settle.field-0.0 _ c.from_residual.ensures.1 c.in_err-settle.ensures.result
-    (λ q told.
+    (λ q reported.
     judged_some _ _ _ q
     (ap fault_of
-    (sym (c.note_if.ensures.node ∙ ap (λ (z : Bool). with_fault_if c.args.node kind.Return z) c.is_misplaced.ensures)) ∙ told))
+    (sym (c.note_if.ensures.node ∙ ap (λ (z : Bool). with_fault_if c.args.node kind.Return z) c.is_misplaced.ensures)) ∙ reported))
 
 pub returns-clause-checks : goal.returns-clause-checks
 returns-clause-checks c found =

@@ -7,7 +7,7 @@ use Rattle.dpj_check.specs.Noting.{fault_of}
 use Rattle.dpj_check.specs.Simple.{Returning}
 use Rattle.dpj_check.specs.Simple.{Returning as rule}
 use Rattle.dpj_check.specs.Walks.{walk_of}
-use Rattle.dpj_check.proofs.Leaves.{Left, left_so, left_told}
+use Rattle.dpj_check.proofs.Leaves.{Left, left_so, left_reported}
 use Rattle.dpj_check.proofs.Nodes.{node_made}
 use Rattle.dpj_check.proofs.Passing.{stopped, settle_stopped}
 use Rattle.dpj_check.proofs.simple.leave_with.Goals as goal
@@ -32,9 +32,9 @@ returns-in_err-settle-clause-checks c =
     } in
     settle_stopped (Returning c.args.around c.args.node (plain_expr c.args.value.now) (walk_of c.args.body.now c.args.out.now)) (fault_of c.note_if-2.new.self)
     c.from_residual-in_err-settle.result c.in_err-settle.field-0.0 _ c.from_residual-in_err-settle.ensures.1 c.in_err-settle.ensures.result
-    (λ q told.
-    left_told c.args.around c.args.node c.note_if.new.self c.note_if-2.new.self (plain_expr c.args.value.now) c.args.body.now c.args.out.now
-    c.typed.new.out (plain_typed c.in_ok-given.given) c.is_misplaced.result c.in_ok-fits.fits q known told)
+    (λ q reported.
+    left_reported c.args.around c.args.node c.note_if.new.self c.note_if-2.new.self (plain_expr c.args.value.now) c.args.body.now c.args.out.now
+    c.typed.new.out (plain_typed c.in_ok-given.given) c.is_misplaced.result c.in_ok-fits.fits q known reported)
 
 pub returns-clause-checks : goal.returns-clause-checks
 returns-clause-checks c =

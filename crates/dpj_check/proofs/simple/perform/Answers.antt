@@ -7,7 +7,7 @@ use Rattle.dpj_check.specs.Noting.{fault_of}
 use Rattle.dpj_check.specs.Simple.{Performing}
 use Rattle.dpj_check.specs.Simple.{Performing as rule}
 use Rattle.dpj_check.specs.Walks.{walk_of}
-use Rattle.dpj_check.proofs.Leaves.{performed_so, performed_told}
+use Rattle.dpj_check.proofs.Leaves.{performed_so, performed_reported}
 use Rattle.dpj_check.proofs.Nodes.{node_made}
 use Rattle.dpj_check.proofs.Passing.{stopped, settle_stopped}
 use Rattle.dpj_check.proofs.simple.perform.Goals as goal
@@ -24,9 +24,9 @@ pub returns-in_err-settle-clause-checks : goal.returns-in_err-settle-clause-chec
 returns-in_err-settle-clause-checks c =
     settle_stopped (Performing c.args.node (plain_expr c.args.e.now) (walk_of c.args.body.now c.args.out.now)) (fault_of c.args.node)
     c.from_residual-in_err-settle.result c.in_err-settle.field-0.0 _ c.from_residual-in_err-settle.ensures.1 c.in_err-settle.ensures.result
-    (λ q told.
-    performed_told c.args.node (plain_expr c.args.e.now) c.args.body.now c.args.out.now c.typed.new.out (plain_typed c.in_ok-given.given) q
-    c.in_ok-given.ensures.answer told)
+    (λ q reported.
+    performed_reported c.args.node (plain_expr c.args.e.now) c.args.body.now c.args.out.now c.typed.new.out (plain_typed c.in_ok-given.given) q
+    c.in_ok-given.ensures.answer reported)
 
 pub returns-clause-checks : goal.returns-clause-checks
 returns-clause-checks c =

@@ -12,7 +12,7 @@ returns-in_err-settle-clause-checks c found =
     settle_stopped
     (λ v. judged (fault_of c.args.node) (typed.statement c.args.node.place (typed.print_text c.args.text.now)) (walk_of c.args.body.now found) ≡ v)
     (fault_of c.args.node) c.from_residual.result c.in_err-settle.field-0.0 _ c.from_residual.ensures.1 c.in_err-settle.ensures.result
-    (λ q told. judged_some _ _ _ q told)
+    (λ q reported. judged_some _ _ _ q reported)
 
 pub returns-clause-checks : goal.returns-clause-checks
 returns-clause-checks c found =

@@ -7,27 +7,27 @@ use Rattle.dpj_base.specs.Types.{Ordered}
 use Rattle.dpj_tree.specs.declared.class.Class.{Class}
 use Rattle.dpj_tree.specs.declared.class.Program.{Program}
 use Rattle.dpj_headers.specs.declared.header.Headers.{Headers}
-use Rattle.dpj_headers.specs.First.{IsToldFirst}
+use Rattle.dpj_headers.specs.First.{IsReportedFirst}
 use Rattle.dpj_headers.specs.Gathered.{headers_in}
 use Rattle.dpj_headers.specs.Headers.{parents_of}
-use Rattle.dpj_headers.specs.Second.{AreCounted, IsToldOf}
-use Rattle.dpj_resolve.proofs.Told.{passed_on, refused_map}
+use Rattle.dpj_headers.specs.Second.{AreCounted, IsReportedOf}
+use Rattle.dpj_resolve.proofs.Reported.{passed_on, refused_map}
 use Rattle.dpj_classes.specs.declared.table.Table.{Table}
 use Rattle.dpj_classes.specs.Bodies.{class_marks, override_edges}
-use Rattle.dpj_classes.specs.Build.{first_of, text_faults, table_faults, IsReadOf, IsTable, IsTold}
-use Rattle.dpj_classes.specs.Build.IsTold.{in_signatures, in_table}
+use Rattle.dpj_classes.specs.Build.{first_of, text_faults, table_faults, IsReadOf, IsTable, IsReported}
+use Rattle.dpj_classes.specs.Build.IsReported.{in_signatures, in_table}
 use Rattle.dpj_classes.specs.Edges.{call_edges}
-use Rattle.dpj_classes.specs.Reach.{is_marked, IsBehind}
+use Rattle.dpj_classes.specs.Reach.{is_marked, IsAfter}
 use Rattle.dpj_classes.specs.RowNumbers.{rows_on_way}
 use Rattle.dpj_classes.specs.Table.{headers_of, methods_of, supers_of}
 use Rattle.dpj_classes.specs.Visible.{overridden_on_way}
 use Rattle.dpj_classes.proofs.Overrides.{finds_overridden}
 use Rattle.dpj_classes.proofs.Rising.{extending_ordered}
-use Rattle.dpj_classes.proofs.Whole.{told_by_names}
+use Rattle.dpj_classes.proofs.Whole.{reported_by_names}
 use Rattle.dpj_classes.proofs.make.build.Goals as goal
 
 abbrev Refuses : Program → Stop → Type 0
-Refuses program e = IfRefused e (IsTold program)
+Refuses program e = IfRefused e (IsReported program)
 
 -- what is found on the way through the classes
 abbrev IsOnWay : Program → Headers → Table → Type 0
@@ -36,10 +36,10 @@ IsOnWay program headers table = table.overrides ≡ overridden_on_way (parents_o
 -- what forks
 record Forks (classes : List Class) (table : Table) (forks : List Bool) : Type 0 where
   many : length forks ≡ length (flat_map class_marks classes)
-  each : (at : ℕ) → (is_marked forks at ≡ true) ↔ IsBehind (flat_map class_marks classes) (call_edges table 0 0 classes ++ override_edges table (methods_of table)) at
+  each : (at : ℕ) → (is_marked forks at ≡ true) ↔ IsAfter (flat_map class_marks classes) (call_edges table 0 0 classes ++ override_edges table (methods_of table)) at
 
 -- the table with all that is found: `before` is the one that doesn't say yet what forks
-whole : (program : Program) (before : Table) (headers : Headers) (forks : List Bool) → AreCounted (length program.names) program.classes → IsToldFirst program.classes None → headers_of before ≡ headers → before.forks ≡ [] →
+whole : (program : Program) (before : Table) (headers : Headers) (forks : List Bool) → AreCounted (length program.names) program.classes → IsReportedFirst program.classes None → headers_of before ≡ headers → before.forks ≡ [] →
     IsReadOf program.classes before → IsOnWay program headers before → before.rows ≡ rows_on_way headers (methods_of before) before.overrides → headers ≡ headers_in program → Forks program.classes before forks → IsTable program (record before { forks = forks })
 whole program before headers forks counted first same bare read on_way rows are exact = record {
   headers = here;
@@ -53,11 +53,11 @@ whole program before headers forks counted first same bare read on_way rows are 
     here = same ∙ are
 
     Exact : Table → Type 0
-    Exact table = (at : ℕ) → (is_marked forks at ≡ true) ↔ IsBehind (flat_map class_marks program.classes) (call_edges table 0 0 program.classes ++ override_edges before (methods_of before)) at
+    Exact table = (at : ℕ) → (is_marked forks at ≡ true) ↔ IsAfter (flat_map class_marks program.classes) (call_edges table 0 0 program.classes ++ override_edges before (methods_of before)) at
 
 -- what forks, where the classes are known by another name
 exact_forks : (program : Program) (before : Table) (forks : List Bool) (classes : List Class) → classes ≡ program.classes → length forks ≡ length (flat_map class_marks classes)
-    → ((at : ℕ) → (is_marked forks at ≡ true) ↔ IsBehind (flat_map class_marks classes) (call_edges before 0 0 classes ++ override_edges before (methods_of before)) at) → Forks program.classes before forks
+    → ((at : ℕ) → (is_marked forks at ≡ true) ↔ IsAfter (flat_map class_marks classes) (call_edges before 0 0 classes ++ override_edges before (methods_of before)) at) → Forks program.classes before forks
 exact_forks program before forks classes same many each = subst (λ (cs : List Class). Forks cs before forks) same (record { many = many; each = each })
 
 pub of_signatures-requires-clause-headers : goal.of_signatures-requires-clause-headers
@@ -93,7 +93,7 @@ returns-in_err-judge-clause-refused c =
     let table : Table = record before { forks = forks } in
     let refused : IfRefused e (λ fault. first_of (table_faults c.with_forks-table.result c.as_slice-2.result.now) ≡ Some fault) = c.in_err-judge.ensures.refused in
     passed_on c.from_residual-in_err-judge.result e (Refuses program) c.from_residual-in_err-judge.ensures.1
-    (refused_map e {Q = IsTold program} refused
+    (refused_map e {Q = IsReported program} refused
     (λ fault here.
     in_table table (record { first = c.in_ok-headers.ensures.first; second = c.in_ok-headers.ensures.second })
     (whole program before c.in_ok-headers.headers forks c.requires c.in_ok-headers.ensures.first said.headers said.forks said.read said.overrides said.rows c.in_ok-headers.ensures.made
@@ -107,7 +107,7 @@ returns-in_err-read-clause-refused c =
     let e = c.in_err-read.field-0.0 in
     let refused : IfRefused e (λ fault. first_of (text_faults c.in_ok-headers.headers program.classes) ≡ Some fault) = c.in_err-read.ensures.refused in
     passed_on c.from_residual-in_err-read.result e (Refuses program) c.from_residual-in_err-read.ensures.1
-    (refused_map e {Q = IsTold program} refused
+    (refused_map e {Q = IsReported program} refused
     (λ fault here.
     in_signatures (record { first = c.in_ok-headers.ensures.first; second = c.in_ok-headers.ensures.second })
     (ap (λ (h : Headers). first_of (text_faults h program.classes)) (sym c.in_ok-headers.ensures.made) ∙ here)))
@@ -120,6 +120,6 @@ pub returns-in_err-headers-clause-refused : goal.returns-in_err-headers-clause-r
 returns-in_err-headers-clause-refused c =
     let program = c.args.program.now in
     let e = c.in_err-headers.field-0.0 in
-    let refused : IfRefused e (IsToldOf program.classes) = c.in_err-headers.ensures.refused in
+    let refused : IfRefused e (IsReportedOf program.classes) = c.in_err-headers.ensures.refused in
     passed_on c.from_residual.result e (Refuses program) c.from_residual.ensures.1
-    (refused_map e {Q = IsTold program} refused (told_by_names program))
+    (refused_map e {Q = IsReported program} refused (reported_by_names program))

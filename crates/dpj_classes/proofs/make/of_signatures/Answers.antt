@@ -5,7 +5,7 @@ use Rattle.dpj_base.specs.Refused.{IfRefused}
 use Rattle.dpj_tree.specs.declared.class.Class.{Class}
 use Rattle.dpj_tree.specs.declared.class.Program.{Program}
 use Rattle.dpj_headers.specs.declared.header.Headers.{Headers}
-use Rattle.dpj_resolve.proofs.Told.{passed_on}
+use Rattle.dpj_resolve.proofs.Reported.{passed_on}
 use Rattle.dpj_classes.specs.Build.{first_of, text_faults}
 use Rattle.dpj_classes.specs.Rows.{all_constraints, methods_meant}
 use Rattle.dpj_classes.proofs.Overrides.{row_owned}

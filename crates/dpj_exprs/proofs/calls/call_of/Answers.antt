@@ -1,10 +1,10 @@
-use Rattle.std.proofs.Common.{◌≡◌, ◌∙◌, Some, map, ap}
+use Rattle.std.proofs.Common.{◌∙◌, Some, map, ap}
 use Rattle.dpj_classes.specs.declared.table.Table.{Table}
 use Rattle.dpj_classes.specs.Table.{headers_of, row_of}
 use Rattle.dpj_exprs.specs.Answer.{gives, refused}
 use Rattle.dpj_exprs.specs.Typed.{plain_node, plain_typed, value_type}
 use Rattle.dpj_exprs.specs.Uses.{CallOf}
-use Rattle.dpj_exprs.proofs.Calling.{CallTold, given_for, noted_for, all_for, fit_for, of_used, of_faulty, of_unknown}
+use Rattle.dpj_exprs.proofs.Calling.{CallReported, given_for, noted_for, all_for, fit_for, of_used, of_faulty, of_unknown}
 use Rattle.dpj_exprs.proofs.Passing.{passed_on}
 use Rattle.dpj_exprs.proofs.calls.call_of.Goals as goal
 
@@ -13,7 +13,7 @@ returns-in_err-ty-in-Some-clause-answer c =
     let env = c.args.env.now in
     let row = c.args.row.now in
     let shown = c.as_slice-in-Some-2.result.now in
-    passed_on (λ q. CallTold env row (map value_type shown) c.args.place (Some q) c.as_slice-args.result.now c.fit_args.new.faults c.is_partial-partial.result)
+    passed_on (λ q. CallReported env row (map value_type shown) c.args.place (Some q) c.as_slice-args.result.now c.fit_args.new.faults c.is_partial-partial.result)
     (CallOf env (plain_node c.args.of) c.args.class row c.args.owned.now c.args.regions (map plain_typed c.args.actuals) c.args.place c.args.found.now)
     (λ e. gives (Some (plain_node e)) c.call_with.new.found) refused
     c.from_residual-in_err-ty-in-Some.result c.in_err-ty-in-Some.field-0.0 c.from_residual-in_err-ty-in-Some.ensures.1
@@ -25,7 +25,7 @@ returns-in_err-ty-in-Some-clause-answer c =
     (noted_for c.args.regions c.as_slice.result.now row.regions c.args.place c.by_number-faults.result c.fit_args.new.faults
     c.fit_args.ensures.faults c.by_number-faults.ensures c.as_slice.ensures)
     c.is_partial-partial.ensures c.as_slice-in-Some-2.ensures d)
-    c.in_err-ty-in-Some.ensures.told
+    c.in_err-ty-in-Some.ensures.reported
 
 pub returns-in_ok-call-in-Some-clause-answer : goal.returns-in_ok-call-in-Some-clause-answer
 returns-in_ok-call-in-Some-clause-answer c =
@@ -39,7 +39,7 @@ returns-in_ok-call-in-Some-clause-answer c =
     c.as_slice-args.ensures c.in_ok-args-in-Some.ensures c.as_slice-in-Some.ensures)
     (noted_for c.args.regions c.as_slice.result.now row.regions c.args.place c.by_number-faults.result c.fit_args.new.faults
     c.fit_args.ensures.faults c.by_number-faults.ensures c.as_slice.ensures)
-    c.is_partial-partial.ensures c.as_slice-in-Some-2.ensures c.in_ok-ty-in-Some.ensures.told c.in_ok-ty-in-Some.ensures.ty c.in_ok-ty-in-Some.ensures.found
+    c.is_partial-partial.ensures c.as_slice-in-Some-2.ensures c.in_ok-ty-in-Some.ensures.reported c.in_ok-ty-in-Some.ensures.ty c.in_ok-ty-in-Some.ensures.found
     (c.row-number.ensures ∙ ap (λ (z : Table). row_of z row.id) c.table.ensures) c.in_ok-actuals-in-Some.ensures c.in_ok-call-in-Some.ensures
 
 pub returns-in-None-clause-answer : goal.returns-in-None-clause-answer

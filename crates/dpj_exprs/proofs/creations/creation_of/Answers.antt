@@ -1,10 +1,10 @@
-use Rattle.std.proofs.Common.{◌≡◌, ◌∙◌, Some, map, ap}
+use Rattle.std.proofs.Common.{◌∙◌, Some, map, ap}
 use Rattle.dpj_classes.specs.Table.{headers_of}
 use Rattle.dpj_exprs.specs.Answer.{gives, refused}
 use Rattle.dpj_exprs.specs.Typed.{plain_node, plain_typed, value_type}
 use Rattle.dpj_exprs.specs.Uses.{CreationOf}
 use Rattle.dpj_exprs.proofs.Calling.{given_for, noted_for, fit_for}
-use Rattle.dpj_exprs.proofs.Creating.{params_at, CreationTold, of_used, of_faulty, of_unknown}
+use Rattle.dpj_exprs.proofs.Creating.{params_at, CreationReported, of_used, of_faulty, of_unknown}
 use Rattle.dpj_exprs.proofs.Passing.{passed_on}
 use Rattle.dpj_exprs.proofs.creations.creation_of.Goals as goal
 
@@ -13,7 +13,7 @@ returns-in_err-ty-in-Some-clause-answer c =
     let env = c.args.env.now in
     let params = params_at env c.args.class in
     let shown = c.as_slice-shown.result.now in
-    passed_on (λ q. CreationTold env c.args.class (map value_type shown) c.args.place (Some q) c.in-Some.args c.fit_args.new.faults)
+    passed_on (λ q. CreationReported env c.args.class (map value_type shown) c.args.place (Some q) c.in-Some.args c.fit_args.new.faults)
     (CreationOf env c.args.class c.args.regions (map plain_typed c.args.actuals) c.args.place c.args.found.now)
     (λ e. gives (Some (plain_node e)) c.creation_with.new.found) refused
     c.from_residual-in_err-ty-in-Some.result c.in_err-ty-in-Some.field-0.0 c.from_residual-in_err-ty-in-Some.ensures.1
@@ -22,7 +22,7 @@ returns-in_err-ty-in-Some-clause-answer c =
     (noted_for c.args.regions c.class_params.result.now params c.args.place c.by_number-faults.result c.fit_args.new.faults
     c.fit_args.ensures.faults c.by_number-faults.ensures c.class_params.ensures)
     c.as_slice-shown.ensures d)
-    c.in_err-ty-in-Some.ensures.told
+    c.in_err-ty-in-Some.ensures.reported
 
 pub returns-in_ok-actuals-in-Some-clause-answer : goal.returns-in_ok-actuals-in-Some-clause-answer
 returns-in_ok-actuals-in-Some-clause-answer c =
@@ -32,7 +32,7 @@ returns-in_ok-actuals-in-Some-clause-answer c =
     (given_for c.args.regions c.class_params.result.now params c.in_ok-args.field-0 _ c.in_ok-args.ensures.given c.in-Some.is c.class_params.ensures)
     (noted_for c.args.regions c.class_params.result.now params c.args.place c.by_number-faults.result c.fit_args.new.faults
     c.fit_args.ensures.faults c.by_number-faults.ensures c.class_params.ensures)
-    c.as_slice-shown.ensures c.in_ok-ty-in-Some.ensures.told c.in_ok-ty-in-Some.ensures.ty c.in_ok-ty-in-Some.ensures.found c.in_ok-actuals-in-Some.ensures c.create.ensures
+    c.as_slice-shown.ensures c.in_ok-ty-in-Some.ensures.reported c.in_ok-ty-in-Some.ensures.ty c.in_ok-ty-in-Some.ensures.found c.in_ok-actuals-in-Some.ensures c.create.ensures
 
 pub returns-in-None-clause-answer : goal.returns-in-None-clause-answer
 returns-in-None-clause-answer c =

@@ -1,6 +1,6 @@
 use Rattle.std.proofs.Common.{◌≡◌, ◌∙◌, List, [], ◌∷◌, ◌++◌, map, length, refl, sym, ap, append-nil, arith}
 use Rattle.std.specs.Vec.Iter.{into_iter_items}
-use Rattle.dpj_typed.specs.Plain.{TypedExpr, exprs_of}
+use Rattle.dpj_typed.specs.Plain.{exprs_of}
 use Rattle.dpj_exprs.specs.declared.typed.Typed.{Typed}
 use Rattle.dpj_exprs.specs.Typed.{plain_node, plain_typed, node_at}
 use Rattle.dpj_exprs.proofs.Built.{nodes_step, exprs_of-nodes}

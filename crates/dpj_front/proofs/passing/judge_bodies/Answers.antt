@@ -3,7 +3,7 @@ use Rattle.dpj_assembly.specs.Assembled.{plain_body, program_of}
 use Rattle.dpj_check.specs.Methods.{BodiesChecking}
 use Rattle.dpj_front.specs.Judging.{IsFaulty, of_bodies}
 use Rattle.dpj_front.proofs.Runnable.{can_run}
-use Rattle.dpj_front.proofs.Told.{handed-so}
+use Rattle.dpj_front.proofs.Reported.{handed-so}
 use Rattle.dpj_front.proofs.passing.judge_bodies.Goals as goal
 
 pub returns-in_err-accepted-clause-fault : goal.returns-in_err-accepted-clause-fault

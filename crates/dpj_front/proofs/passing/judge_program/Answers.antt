@@ -1,6 +1,6 @@
-use Rattle.dpj_classes.specs.Build.{IsTold}
+use Rattle.dpj_classes.specs.Build.{IsReported}
 use Rattle.dpj_front.specs.Judging.{IsFaulty, of_table}
-use Rattle.dpj_front.proofs.Told.{handed-so}
+use Rattle.dpj_front.proofs.Reported.{handed-so}
 use Rattle.dpj_front.proofs.passing.judge_program.Goals as goal
 
 pub judge_bodies-requires-clause-has_table : goal.judge_bodies-requires-clause-has_table
@@ -13,8 +13,8 @@ judge_bodies-requires-clause-has_table c = record {
 
 pub returns-in_err-table-clause-fault : goal.returns-in_err-table-clause-fault
 returns-in_err-table-clause-fault c =
-    handed-so (IsTold c.args.tree) (IsFaulty c.args.tree)
-    c.from_residual.result c.in_err-table.field-0.0 c.from_residual.ensures.1 (λ refusal told. of_table told) c.in_err-table.ensures.refused
+    handed-so (IsReported c.args.tree) (IsFaulty c.args.tree)
+    c.from_residual.result c.in_err-table.field-0.0 c.from_residual.ensures.1 (λ refusal reported. of_table reported) c.in_err-table.ensures.refused
 
 pub returns-in_err-checked-clause-fault : goal.returns-in_err-checked-clause-fault
 returns-in_err-checked-clause-fault c =

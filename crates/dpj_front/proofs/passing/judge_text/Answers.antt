@@ -4,7 +4,7 @@ use Rattle.dpj_tree.specs.Size.{program_size}
 use Rattle.dpj_tree.proofs.Sizes.{classes_counted}
 use Rattle.dpj_front.specs.Front.{IsTokenFault, of_program}
 use Rattle.dpj_front.specs.Judging.{IsFaulty}
-use Rattle.dpj_front.proofs.Told.{told-so}
+use Rattle.dpj_front.proofs.Reported.{reported-so}
 use Rattle.dpj_front.proofs.passing.judge_text.Goals as goal
 
 few : (classes size bytes : ℕ) → classes ≤ size → size ≤ bytes → bytes ≤ 1048576 → classes < 4294967295
@@ -25,5 +25,5 @@ judge_program-requires-clause-small c = within (program_size c.in_ok-tree.tree) 
 
 pub returns-clause-fault : goal.returns-clause-fault
 returns-clause-fault c =
-    told-so (IsFaulty c.in_ok-tree.tree) (IsTokenFault c.args.text.now c.args.tokens.now.list c.args.tokens.now.end) c.judge_program.result
+    reported-so (IsFaulty c.in_ok-tree.tree) (IsTokenFault c.args.text.now c.args.tokens.now.list c.args.tokens.now.end) c.judge_program.result
     (λ refusal fault. of_program c.in_ok-tree.tree c.in_ok-tree.ensures.derived fault) c.judge_program.ensures.fault

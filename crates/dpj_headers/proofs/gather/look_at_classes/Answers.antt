@@ -11,6 +11,6 @@ returns-clause-noted c =
     let classes = c.args.classes.now in
     let named = number_of c.in_ok-numbers.numbers in
     let parents = c.in_ok-parents.parents in
-    let told = c.in_ok-check_cycles.ensures in
+    let reported = c.in_ok-check_cycles.ensures in
     let closed = c.in_ok-check_extended.ensures ∙ ap (λ ps. all_noted c.check_cycles.new.faults (closed_parents (map has_constructor classes) classes ps)) c.as_slice-2.ensures in
-    noted_first classes named told.0 parents c.args.faults.now c.number_classes.new.faults c.find_parents.new.faults c.check_cycles.new.faults c.check_extended.new.faults c.in_ok-numbers.ensures.first c.in_ok-parents.ensures.found (subst (λ ps. TellRounds ps told.0) c.as_slice.ensures told.1) c.in_ok-numbers.ensures.faults c.in_ok-parents.ensures.faults told.2 closed
+    noted_first classes named reported.0 parents c.args.faults.now c.number_classes.new.faults c.find_parents.new.faults c.check_cycles.new.faults c.check_extended.new.faults c.in_ok-numbers.ensures.first c.in_ok-parents.ensures.found (subst (λ ps. TellRounds ps reported.0) c.as_slice.ensures reported.1) c.in_ok-numbers.ensures.faults c.in_ok-parents.ensures.faults reported.2 closed

@@ -1,7 +1,7 @@
 use Rattle.std.proofs.Common.{rules, arith}
 use Rattle.std.specs.Result.{is_ok}
 use Rattle.std.proofs.lemmas.Grind.{common_steps}
-use Rattle.dpj_io.proofs.Told.{Took-more, extended}
+use Rattle.dpj_io.proofs.Reported.{Took-more, extended}
 use Rattle.dpj_io.proofs.read.read_all.Goals as goal
 
 pub loop-piece-preserved : goal.loop-piece-preserved

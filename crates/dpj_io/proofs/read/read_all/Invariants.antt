@@ -1,5 +1,5 @@
 use Rattle.std.proofs.Common.{◌+◌, ◌-◌, ◌≤◌, vec_len}
-use Rattle.dpj_io.proofs.Told.{Took}
+use Rattle.dpj_io.proofs.Reported.{Took}
 use Rattle.dpj_io.proofs.read.read_all.Given as goal
 
 abbrev pub invariant-loop-piece : goal.invariant-loop-piece

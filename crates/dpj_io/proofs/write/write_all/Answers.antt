@@ -1,5 +1,5 @@
 use Rattle.std.proofs.Common.{rules, arith}
-use Rattle.dpj_io.proofs.Told.{rest_of, Wrote-more, UsedRoom-more, untroubled_more}
+use Rattle.dpj_io.proofs.Reported.{rest_of, Wrote-more, UsedRoom-more, untroubled_more}
 use Rattle.dpj_io.proofs.write.write_all.Goals as goal
 
 pub loop-done-preserved : goal.loop-done-preserved

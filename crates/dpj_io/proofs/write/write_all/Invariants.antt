@@ -1,5 +1,5 @@
 use Rattle.std.proofs.Common.{◌≡◌, ◌-◌, ◌≤◌, length, IfSome}
-use Rattle.dpj_io.proofs.Told.{Wrote, UsedRoom}
+use Rattle.dpj_io.proofs.Reported.{Wrote, UsedRoom}
 use Rattle.dpj_io.proofs.write.write_all.Given as goal
 
 abbrev pub invariant-loop-done : goal.invariant-loop-done

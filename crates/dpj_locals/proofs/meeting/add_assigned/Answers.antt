@@ -1,5 +1,5 @@
-use Rattle.dpj_locals.proofs.Earlier.{assigned_told}
+use Rattle.dpj_locals.proofs.Earlier.{assigned_reported}
 use Rattle.dpj_locals.proofs.meeting.add_assigned.Goals as goal
 
 pub returns : goal.returns
-returns c = assigned_told c.args.set.now c.add_all.new.set c.args.branch.now c.as_slice.result.now c.as_slice.ensures c.in_ok-add_all.ensures
+returns c = assigned_reported c.args.set.now c.add_all.new.set c.args.branch.now c.as_slice.result.now c.as_slice.ensures c.in_ok-add_all.ensures

@@ -36,8 +36,8 @@ operators-loop-op-preserved t c = record {
       c.in_ok-place.ensures.counted
       c.binding.ensures.level
       c.in_ok-right.ensures.reads
-      c.tightest_behind-most.ensures.left
-      c.tightest_behind-most.ensures.own;
+      c.tightest_after-most.ensures.left
+      c.tightest_after-most.ensures.own;
   groups =
       grouped_operation
       c.loop-op.invariant.groups
@@ -46,7 +46,7 @@ operators-loop-op-preserved t c = record {
       (next-takes c.in_ok-place.ensures.takes c.in-Some.ensures.next)
       c.binding.ensures.level
       c.in_ok-right.ensures.derives
-      c.tightest_behind-most.ensures.left
+      c.tightest_after-most.ensures.left
       c.in_ok-left-2.ensures;
 }
 

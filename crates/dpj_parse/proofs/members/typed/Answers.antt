@@ -9,14 +9,14 @@ use Rattle.dpj_parse.proofs.MemberParts.{onward_step, onward_reads, onward_stops
 pub returns-then-is_symbol-clause-reads : goal.returns-then-is_symbol-clause-reads
 returns-then-is_symbol-clause-reads c =
     let o = onward_step (typed_begun c.args.cursor.now.rest.now c.requires c.in_ok-ty.ensures.reads) c.in_ok-named.ensures.reads in
-    on_ok_weaker c.behind_name.result (λ w. onward_reads o (method_comes (c.is_symbol.ensures.0 c.if-is_symbol.true) w)) c.behind_name.ensures.reads
+    on_ok_weaker c.after_name.result (λ w. onward_reads o (method_comes (c.is_symbol.ensures.0 c.if-is_symbol.true) w)) c.after_name.ensures.reads
 
 pub returns-then-is_symbol-clause-stops : goal.returns-then-is_symbol-clause-stops
 returns-then-is_symbol-clause-stops c =
     let o = onward_step (typed_begun c.args.cursor.now.rest.now c.requires c.in_ok-ty.ensures.reads) c.in_ok-named.ensures.reads in
-    IfErr-weaker c.behind_name.result _ _
+    IfErr-weaker c.after_name.result _ _
     (λ stop r. onward_stops stop o (c.in_ok-named.ensures.moves.end ∙ c.in_ok-ty.ensures.moves.end) (method_refused _ _ _ stop (c.is_symbol.ensures.0 c.if-is_symbol.true) r))
-    c.behind_name.ensures.stops
+    c.after_name.ensures.stops
 
 pub returns-clause-reads : goal.returns-clause-reads
 returns-clause-reads c =

@@ -1,38 +1,55 @@
-use Rattle.std.proofs.Common.{[]}
+use Rattle.std.proofs.Common.{[], refl}
 use Rattle.std.proofs.lemmas.Result.{err_from_is_err_and}
 use Rattle.dpj_parse.specs.Statements.{cobegin_word, foreach_word}
-use Rattle.dpj_parse.proofs.StmtParts.{reads_seen, reads_two, reads_four, refused_second, refused_third, refused_fourth}
-use Rattle.dpj_parse.proofs.Stating.{foreach_form, parts_form}
+use Rattle.dpj_parse.proofs.StmtParts.{reads_anew, reads_seen, reads_two, reads_four, refused_second, refused_third, refused_fourth}
+use Rattle.dpj_parse.proofs.Stating.{made_cobegin, made_foreach, made_parts}
 use Rattle.dpj_parse.proofs.stmts.+stmts.Goals as goal
+
+pub stmt-returns-clause-reads : goal.stmt-returns-clause-reads
+stmt-returns-clause-reads t c = reads_anew c.begun-stmt.result c.args.cursor.now.joined _ _ c.begun-stmt.ensures.moves refl c.begun-stmt.ensures.reads
+
+pub cobegin-returns-clause-derives : goal.cobegin-returns-clause-derives
+cobegin-returns-clause-derives t c =
+    made_cobegin
+    c.args.nd
+    c.in_ok-branches.branches
+    c.place-place.ensures.stands
+    c.requires
+    c.in_ok-accept.ensures.takes
+    c.in_ok-branches.ensures.derives
+    c.made.ensures
 
 pub foreach-returns-clause-derives : goal.foreach-returns-clause-derives
 foreach-returns-clause-derives t c =
-    foreach_form
+    made_foreach
     c.args.nd
     c.in_ok-range.range.var
     c.in_ok-range.range.first
     c.in_ok-range.range.second
     c.in_ok-body.body
+    c.place-place.ensures.stands
     c.requires
     c.in_ok-accept.ensures.takes
     c.in_ok-open.ensures.takes
     c.in_ok-range.ensures.derives
     c.in_ok-body.ensures.derives
+    c.made.ensures
 
 pub foreach_parts-returns-clause-derives : goal.foreach_parts-returns-clause-derives
 foreach_parts-returns-clause-derives t c =
-    parts_form
+    made_parts
     c.in_ok-view.view
     c.in_ok-range.range.var
     c.in_ok-range.range.first
     c.in_ok-range.range.second
     c.in_ok-body.body
-    c.in_ok-keyword.ensures.takes
+    c.in_ok-place.ensures.takes
     c.in_ok-open.ensures.takes
     c.in_ok-view.ensures.takes
     c.in_ok-symbol.ensures.takes
     c.in_ok-range.ensures.derives
     c.in_ok-body.ensures.derives
+    c.made.ensures
 
 pub cobegin-returns-clause-reads : goal.cobegin-returns-clause-reads
 cobegin-returns-clause-reads t c = reads_two (reads_seen (cobegin_word c.args.nd) c.args.cursor.now c.accept.new.self c.requires c.in_ok-accept.ensures.took) c.in_ok-branches.ensures.reads

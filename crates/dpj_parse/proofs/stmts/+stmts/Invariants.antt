@@ -6,37 +6,40 @@ use Rattle.dpj_parse.proofs.StmtParts.{Onward}
 use Rattle.dpj_parse.proofs.stmts.+stmts.Given as goal
 
 abbrev pub decreases-body : goal.decreases-body
-decreases-body l = 5 * length l.cursor.now.rest.now + 4
+decreases-body l = 6 * length l.cursor.now.rest.now + 5
 
 abbrev pub decreases-stmts : goal.decreases-stmts
-decreases-stmts l = 5 * length l.cursor.now.rest.now + 3
+decreases-stmts l = 6 * length l.cursor.now.rest.now + 4
 
 abbrev pub decreases-stmt : goal.decreases-stmt
-decreases-stmt l = 5 * length l.cursor.now.rest.now + 2
+decreases-stmt l = 6 * length l.cursor.now.rest.now + 3
 
-abbrev pub decreases-form : goal.decreases-form
-decreases-form l = 5 * length l.cursor.now.rest.now + 1
+abbrev pub decreases-begun : goal.decreases-begun
+decreases-begun l = 6 * length l.cursor.now.rest.now + 2
+
+abbrev pub decreases-braced : goal.decreases-braced
+decreases-braced l = 6 * length l.cursor.now.rest.now + 1
 
 abbrev pub decreases-block : goal.decreases-block
-decreases-block l = 5 * length l.cursor.now.rest.now
+decreases-block l = 6 * length l.cursor.now.rest.now
 
 abbrev pub decreases-choice : goal.decreases-choice
-decreases-choice l = 5 * length l.cursor.now.rest.now
+decreases-choice l = 6 * length l.cursor.now.rest.now
 
 abbrev pub decreases-while_loop : goal.decreases-while_loop
-decreases-while_loop l = 5 * length l.cursor.now.rest.now
+decreases-while_loop l = 6 * length l.cursor.now.rest.now
 
 abbrev pub decreases-cobegin : goal.decreases-cobegin
-decreases-cobegin l = 5 * length l.cursor.now.rest.now
+decreases-cobegin l = 6 * length l.cursor.now.rest.now
 
 abbrev pub decreases-atomic : goal.decreases-atomic
-decreases-atomic l = 5 * length l.cursor.now.rest.now
+decreases-atomic l = 6 * length l.cursor.now.rest.now
 
 abbrev pub decreases-foreach : goal.decreases-foreach
-decreases-foreach l = 5 * length l.cursor.now.rest.now
+decreases-foreach l = 6 * length l.cursor.now.rest.now
 
 abbrev pub decreases-foreach_parts : goal.decreases-foreach_parts
-decreases-foreach_parts l = 5 * length l.cursor.now.rest.now
+decreases-foreach_parts l = 6 * length l.cursor.now.rest.now
 
 abbrev pub invariant-stmts-loop-alloc : goal.invariant-stmts-loop-alloc
 invariant-stmts-loop-alloc l = record {

@@ -9,15 +9,15 @@ returns-then-outer-inner c = covers-alone c.args.outer.now c.args.inner.now _ c.
 pub returns-else-outer-inner : goal.returns-else-outer-inner
 returns-else-outer-inner c = covers-longer c.args.outer.now c.args.inner.now c.in_default.ensures c.if-outer-inner.false
 
-pub returns-in_default-behind : goal.returns-in_default-behind
-returns-in_default-behind c =
+pub returns-in_default-following : goal.returns-in_default-following
+returns-in_default-following c =
     let h = c.in-Some.ensures in
-    covers-no_front c.args.outer.now c.in-Some.first.now c.in-Some.pattern.now c.args.inner.now h.0 h.1 c.in_default-behind.ensures
+    covers-no_front c.args.outer.now c.in-Some.first.now c.in-Some.pattern.now c.args.inner.now h.0 h.1 c.in_default-following.ensures
 
 pub loop-segment-init : goal.loop-segment-init
 loop-segment-init c =
     let h = c.in-Some.ensures in
-    covers-front c.args.outer.now c.in-Some.first.now c.in-Some.pattern.now c.args.inner.now c.in-Some-behind.list.now h.0 h.1 c.in-Some-behind.ensures
+    covers-front c.args.outer.now c.in-Some.first.now c.in-Some.pattern.now c.args.inner.now c.in-Some-following.list.now h.0 h.1 c.in-Some-following.ensures
 
 pub returns-in_default-skip_to : goal.returns-in_default-skip_to
 returns-in_default-skip_to c =

@@ -3,7 +3,7 @@ use Rattle.std.specs.List.{filter_map}
 use Rattle.dpj_resolve.specs.Reading.{path_meant, local_with, arg_need, each_faults}
 use Rattle.dpj_resolve.specs.Index.{plain_index}
 use Rattle.dpj_resolve.specs.Scopes.{plain_scope}
-use Rattle.dpj_resolve.specs.Telling.{parts_noted, parts_told}
+use Rattle.dpj_resolve.specs.Telling.{parts_noted, parts_reported}
 use Rattle.dpj_resolve.proofs.args.read_args.Given as goal
 
 abbrev pub invariant-loop-at : goal.invariant-loop-at
@@ -15,5 +15,5 @@ invariant-loop-at l =
       paths : l.read.paths ++ filter_map (path_meant scope around) (drop l.at l.trees) ≡ filter_map (path_meant scope around) l.trees;
       local : fold (local_with scope around) l.read.local (drop l.at l.trees) ≡ fold (local_with scope around) None l.trees;
       noted : parts_noted l.faults (each_faults scope around need l.at (drop l.at l.trees)) ≡ parts_noted l.initial.faults (each_faults scope around need 0 l.trees);
-      told : parts_told l.scope.site l.faults (each_faults scope around need l.at (drop l.at l.trees)) ≡ parts_told l.scope.site l.initial.faults (each_faults scope around need 0 l.trees);
+      reported : parts_reported l.scope.site l.faults (each_faults scope around need l.at (drop l.at l.trees)) ≡ parts_reported l.scope.site l.initial.faults (each_faults scope around need 0 l.trees);
     }

@@ -1,7 +1,7 @@
 use Rattle.std.proofs.Common.{◌≡◌, ◌++◌, None, drop}
 use Rattle.dpj_resolve.specs.Index.{plain_index}
 use Rattle.dpj_resolve.specs.Scopes.{plain_scope}
-use Rattle.dpj_resolve.specs.Telling.{parts_noted, parts_told}
+use Rattle.dpj_resolve.specs.Telling.{parts_noted, parts_reported}
 use Rattle.dpj_resolve.specs.Written.{paths_from, local_from, parts_from}
 use Rattle.dpj_resolve.proofs.types.read_suffixes.Given as goal
 
@@ -14,5 +14,5 @@ invariant-loop-at l =
       paths : l.read.paths ++ paths_from scope around l.at (drop l.at suffixes) ≡ paths_from scope around 0 suffixes;
       local : local_from scope around l.at l.read.local (drop l.at suffixes) ≡ local_from scope around 0 None suffixes;
       noted : parts_noted l.faults (parts_from scope around l.at (drop l.at suffixes)) ≡ parts_noted l.initial.faults (parts_from scope around 0 suffixes);
-      told : parts_told l.scope.site l.faults (parts_from scope around l.at (drop l.at suffixes)) ≡ parts_told l.scope.site l.initial.faults (parts_from scope around 0 suffixes);
+      reported : parts_reported l.scope.site l.faults (parts_from scope around l.at (drop l.at suffixes)) ≡ parts_reported l.scope.site l.initial.faults (parts_from scope around 0 suffixes);
     }

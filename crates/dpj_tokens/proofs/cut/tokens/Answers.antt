@@ -17,10 +17,10 @@ loop-at-preserved c =
     let finds = c.in-Ok.ensures in
     record {
       within = omega (arith, finds.within, ap length left, length-drop at bytes);
-      column = c.behind-place.ensures.column;
-      room = omega (arith, c.loop-at.invariant.room, c.behind-place.ensures.room, length-take-le c.in-Ok.found.len _ finds.within);
-      read = subst (λ (tokens : List Token). ReadsTo bytes (at + c.in-Ok.found.len) tokens c.behind-place.result) (sym c.in_ok-put.ensures)
-          (read-found bytes _ at c.loop-at.list c.loop-at.place c.behind-place.result c.in-Ok.found c.loop-at.invariant.within left c.loop-at.invariant.read finds c.behind-place.ensures.place);
+      column = c.following-place.ensures.column;
+      room = omega (arith, c.loop-at.invariant.room, c.following-place.ensures.room, length-take-le c.in-Ok.found.len _ finds.within);
+      read = subst (λ (tokens : List Token). ReadsTo bytes (at + c.in-Ok.found.len) tokens c.following-place.result) (sym c.in_ok-put.ensures)
+          (read-found bytes _ at c.loop-at.list c.loop-at.place c.following-place.result c.in-Ok.found c.loop-at.invariant.within left c.loop-at.invariant.read finds c.following-place.ensures.place);
     }
 
 pub returns-clause-spans : goal.returns-clause-spans

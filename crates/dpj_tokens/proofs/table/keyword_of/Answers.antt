@@ -7,7 +7,7 @@ pub loop-keyword-preserved : goal.loop-keyword-preserved
 loop-keyword-preserved c = below_more _ _ c.loop-keyword.invariant (λ e. false≢true (c.if-spells.ensures.1 e))
 
 pub returns-clause-none : goal.returns-clause-none
-returns-clause-none c = keywords-none _ c.loop-keyword.keyword-index (omega arith) c.loop-keyword.invariant
+returns-clause-none c = keywords-none _ _ c.loop-keyword.keyword-index c.keywords_from-keyword-items.ensures (omega arith) c.loop-keyword.invariant
 
-pub returns-then-word-lt2-clause-none : goal.returns-then-word-lt2-clause-none
-returns-then-word-lt2-clause-none c = keywords-short _ (omega arith)
+pub returns-in_default-clause-none : goal.returns-in_default-clause-none
+returns-in_default-clause-none c = keywords-short _ (omega arith)

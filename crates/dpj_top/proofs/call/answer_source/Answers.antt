@@ -3,7 +3,7 @@ use Rattle.dpj_top.proofs.Sources.{answers-no-usage, source-too-long}
 use Rattle.dpj_top.proofs.call.answer_source.Goals as goal
 
 pub returns-in_ok-answer_text-in-Ok-clause-no_usage : goal.returns-in_ok-answer_text-in-Ok-clause-no_usage
-returns-in_ok-answer_text-in-Ok-clause-no_usage g c told = answers-no-usage _ _ _ c.in_ok-answer_text-in-Ok.ensures told
+returns-in_ok-answer_text-in-Ok-clause-no_usage g c reported = answers-no-usage _ _ _ c.in_ok-answer_text-in-Ok.ensures reported
 
 pub returns-in-Err-TooLong-clause-ok : goal.returns-in-Err-TooLong-clause-ok
 returns-in-Err-TooLong-clause-ok g c =

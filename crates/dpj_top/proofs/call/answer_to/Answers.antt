@@ -5,7 +5,7 @@ use Rattle.dpj_top.proofs.Verdicts.{answer-no-usage}
 use Rattle.dpj_top.proofs.call.answer_to.Goals as goal
 
 pub returns-in_ok-demonstrate-in-Demo-clause-usage : goal.returns-in_ok-demonstrate-in-Demo-clause-usage
-returns-in_ok-demonstrate-in-Demo-clause-usage g c told = absurd (answer-no-usage _ _ _ c.in_ok-demonstrate-in-Demo.ensures told)
+returns-in_ok-demonstrate-in-Demo-clause-usage g c reported = absurd (answer-no-usage _ _ _ c.in_ok-demonstrate-in-Demo.ensures reported)
 
 pub returns-in_default-command : goal.returns-in_default-command
 returns-in_default-command g c =

@@ -1,6 +1,6 @@
 use Rattle.std.proofs.Common.{arith, sym}
 use Rattle.dpj_front.specs.Judging.{typed_of}
-use Rattle.dpj_io.proofs.Told.{rest_of}
+use Rattle.dpj_io.proofs.Reported.{rest_of}
 use Rattle.dpj_top.proofs.Traces.{fault-answer, follow-answer}
 use Rattle.dpj_top.proofs.replays.on_trace.Goals as goal
 

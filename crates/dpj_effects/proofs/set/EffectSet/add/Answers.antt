@@ -1,23 +1,19 @@
-use Rattle.std.proofs.Common.{◌≡◌, ◌∙◌, true, sym, ap, subst}
-use Rattle.dpj_base.specs.Effects.{all_distinct, has_effect}
-use Rattle.dpj_effects.specs.Index.{Indexed}
-use Rattle.dpj_effects.proofs.Sets.{distinct-push}
-use Rattle.dpj_effects.proofs.Places.{indexed-noted, indexed-added}
+use Rattle.std.proofs.Common.{◌∙◌, ap, sym, subst}
+use Rattle.std.specs.List.{IsDistinct}
+use Rattle.dpj_base.specs.Effects.{has_effect, added}
+use Rattle.dpj_effects.specs.Listed.{listed, effect_eq}
+use Rattle.dpj_effects.proofs.Sets.{inserted, distinct-push}
 use Rattle.dpj_effects.proofs.set.EffectSet.add.Goals as goal
 
-pub invariant_of-self-in_err-push : goal.invariant_of-self-in_err-push
-invariant_of-self-in_err-push c =
-    let e = c.in_err-push.ensures.err in (
-      subst (λ z. all_distinct z ≡ true) (sym e) c.self.invariant.0,
-      subst (λ z. Indexed z c.note.new.spots) (sym e)
-          (indexed-noted c.self.inside.effects c.self.inside.spots c.note.new.spots c.number_of.result c.len-place.result c.self.invariant.1 c.note.ensures.others c.in_ok-note.ensures.ok),
-    )
+pub invariant_of-self-then-len-lt-FEW : goal.invariant_of-self-then-len-lt-FEW
+invariant_of-self-then-len-lt-FEW c =
+    let new = ap (λ es. has_effect es c.args.e) (sym c.as_slice.ensures) ∙ sym c.among.ensures ∙ c.if-among.false in
+    subst (IsDistinct effect_eq) (sym c.in_ok-push-in-Few.ensures.ok)
+    (distinct-push c.in-Few.effects c.args.e (subst (λ kept. IsDistinct effect_eq (listed kept)) c.in-Few.is c.self.invariant) new)
 
-pub invariant_of-self-2 : goal.invariant_of-self-2
-invariant_of-self-2 c =
-    let e = c.in_ok-push.ensures.ok in
-    let h = ap (λ z. has_effect z c.args.e) c.self.view_is ∙ sym c.has.ensures ∙ c.if-has.false in (
-      subst (λ z. all_distinct z ≡ true) (sym e) (distinct-push c.self.inside.effects c.args.e c.self.invariant.0 h),
-      subst (λ z. Indexed z c.note.new.spots) (sym e)
-          (indexed-added c.self.inside.effects c.self.inside.spots c.note.new.spots c.args.e c.number_of.result c.len-place.result c.number_of.ensures c.len-place.ensures c.self.invariant.1 c.note.ensures.others c.in_ok-note.ensures.ok),
-    )
+pub returns-in-Many-clause-ok : goal.returns-in-Many-clause-ok
+returns-in-Many-clause-ok c =
+    let e = c.args.e in
+    c.in_ok-insert-in-Many.ensures.keys ∙ inserted c.in-Many.effects.keys e
+    ∙ ap (λ kept. added (listed kept) e) (sym c.in-Many.is)
+    ∙ ap (λ es. added es e) c.self.view_is

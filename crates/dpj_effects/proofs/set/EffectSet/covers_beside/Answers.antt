@@ -1,10 +1,10 @@
-use Rattle.std.proofs.Common.{◌∙◌, sym, ap}
-use Rattle.dpj_effects.specs.Index.{any_covers_at}
-use Rattle.dpj_effects.proofs.Beside.{covers_beside-some}
+use Rattle.std.proofs.Common.{◌∙◌, sym}
+use Rattle.dpj_effects.proofs.Covered.{covers-refl}
+use Rattle.dpj_effects.proofs.Sets.{has-covers}
 use Rattle.dpj_effects.proofs.set.EffectSet.covers_beside.Goals as goal
 
-pub returns-in-Some : goal.returns-in-Some
-returns-in-Some c = λ t.
-    let places = c.as_slice-in-Some.result.now in
-    covers_beside-some c.args.self.now places c.args.f.now
-    (sym (c.any_covers_at.ensures ∙ ap (λ z. any_covers_at z places c.args.f.now) (c.as_slice.ensures ∙ c.self.view_is)) ∙ t)
+pub returns-then-has : goal.returns-then-has
+returns-then-has c = λ _. has-covers c.args.self.now c.args.f.now c.args.f.now (sym c.has.ensures ∙ c.if-has.true) (covers-refl c.args.f.now)
+
+pub returns-then-has-2 : goal.returns-then-has-2
+returns-then-has-2 c = λ _. has-covers c.args.self.now _ c.args.f.now (sym c.has-then-covers.ensures ∙ c.if-has-2.true) (sym c.covers.ensures ∙ c.if-covers.true)

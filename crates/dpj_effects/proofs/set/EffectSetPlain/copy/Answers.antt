@@ -1,12 +1,24 @@
-use Rattle.std.proofs.Common.{◌≡◌, ◌∙◌, true, sym, subst, arith}
-use Rattle.std.proofs.lemmas.List.{at_drop_all}
-use Rattle.dpj_base.specs.Effects.{all_distinct, gathered}
-use Rattle.dpj_effects.proofs.Places.{gathered-distinct}
+use Rattle.std.proofs.Common.{◌≡◌, ◌∙◌, [], ap, sym, subst}
+use Rattle.std.specs.List.{IsDistinct}
+use Rattle.dpj_base.specs.Effects.{gathered}
+use Rattle.dpj_effects.specs.Listed.{listed, effect_eq}
+use Rattle.dpj_effects.proofs.Sets.{gathered-distinct}
 use Rattle.dpj_effects.proofs.set.EffectSetPlain.copy.Goals as goal
+use Rattle.dpj_effects.proofs.set.EffectSetPlain.copy.Goals.{in-Few+in_ok-copy-in-Few, in-Many+in_ok-hashed-in-Many}
+
+-- either way the copy has the same effects
+copied : (c : goal.Joined-self) → listed c.match-self.effects ≡ listed c.self.inside.effects
+copied c =
+    elim c.match-self.branch [
+      | in-Few+in_ok-copy-in-Few w ↦ ap listed w.effects-is ∙ w.in_ok-copy-in-Few.ensures ∙ ap listed (sym w.in-Few.is)
+      | in-Many+in_ok-hashed-in-Many w ↦
+          let there = w.as_slice.ensures in
+          ap listed w.effects-is ∙ w.in_ok-hashed-in-Many.ensures ∙ ap (gathered []) there.keys ∙ gathered-distinct w.in-Many.effects.keys there.unique
+          ∙ ap listed (sym w.in-Many.is)
+    ]
+
+pub invariant_of-result : goal.invariant_of-result
+invariant_of-result c = subst (IsDistinct effect_eq) (sym (copied c)) c.self.invariant
 
 pub returns : goal.returns
-returns c =
-    let items = c.as_slice-e-items.result.now in
-    sym (at_drop_all (λ z. gathered c.loop-e.set z) items c.loop-e.e-index (omega arith)) ∙ c.loop-e.invariant
-    ∙ gathered-distinct items (subst (λ z. all_distinct z ≡ true) (sym c.as_slice-e-items.ensures) c.self.invariant.0) ∙ c.as_slice-e-items.ensures
-    ∙ c.self.view_is
+returns c = copied c ∙ c.self.view_is
