@@ -15,7 +15,6 @@ use Rattle.dpj_gen.specs.Scheme.{many, after_expr, after_exprs, expr_piece, expr
 use Rattle.dpj_gen.proofs.Pieces.{next, stop}
 use Rattle.dpj_gen.proofs.Placed.{expr_far, exprs_far}
 use Rattle.dpj_compile.specs.Emitted.{Emitted, next_of, after, Emits, patched, jump_past, BothClosed}
-use Rattle.dpj_compile.proofs.Forms.{shaped}
 use Rattle.dpj_compile.proofs.Emits.{beside_nothing, emits_as, emits_then, emits_line, emits_patched, emits_length, emits_grow, one_longer}
 
 -- an expression, and what follows it
@@ -115,16 +114,9 @@ pub two_operands : {s s1 s2 u : Emitted} (x : Instr) (at : Place) (a b : TypedEx
     Emits s (λ k p. then_next k (expr_piece k p a) (λ k. then_next k (expr_piece k (after_expr p a) b) (λ k. line x at nothing))) u
 two_operands x at a b h i j = then_expr a h (then_expr b i j)
 
-pub shaped_emits : {s t : Emitted} (e : Expr) (f : form) → plain_expr e ≡ shaped e f → Emits s (λ k p. expr_piece k p (shaped e f)) t →
-    Emits s (λ k p. expr_piece k p (plain_expr e)) t
-shaped_emits {s} {t} e f is h = subst (λ x. Emits s (λ k p. expr_piece k p x) t) (sym is) h
-
-pub operand_at : {s t : Emitted} {x y : Expr} → x ≡ y → Emits s (λ k p. expr_piece k p (plain_expr x)) t → Emits s (λ k p. expr_piece k p (plain_expr y)) t
-operand_at {s} {t} is h = subst (λ x. Emits s (λ k p. expr_piece k p (plain_expr x)) t) is h
-
-pub operands_at : {s t : Emitted} {x y : List Expr} → x ≡ y → Emits s (λ k p. exprs_piece k p (exprs_of (map plain_expr x))) t →
-    Emits s (λ k p. exprs_piece k p (exprs_of (map plain_expr y))) t
-operands_at {s} {t} is h = subst (λ x. Emits s (λ k p. exprs_piece k p (exprs_of (map plain_expr x))) t) is h
+-- what is emitted of a form is emitted of the expression that has it
+pub expr_is : {s t : Emitted} {e x : TypedExpr} → e ≡ x → Emits s (λ k p. expr_piece k p x) t → Emits s (λ k p. expr_piece k p e) t
+expr_is {s} {t} is h = subst (λ z. Emits s (λ k p. expr_piece k p z) t) (sym is) h
 
 -- several operands, and what follows them
 pub then_exprs : {s t u : Emitted} {g : Next → ℕ → Piece} (es : TypedExprs) → Emits s (λ k p. exprs_piece k p es) t → Emits t g u →

@@ -1,5 +1,5 @@
 -- How statements are emitted: a lemma a construct that needs more than its parts.
-use Rattle.std.proofs.Common.{◌≡◌, ◌∙◌, ℕ, suc, ◌+◌, ◌<◌, List, [], ◌∷◌, ◌++◌, map, length, refl, sym, ap, ap₂, subst, arith, cond, true, false, pos, Option, Some, None, ◌≤◌}
+use Rattle.std.proofs.Common.{◌≡◌, ◌∙◌, ℕ, suc, ◌+◌, ◌<◌, List, [], ◌∷◌, ◌++◌, map, length, refl, sym, ap, ap₂, subst, arith, cond, true, false, pos, Option, Some, None}
 use Rattle.dpj_base.specs.declared.place.Place.{Place}
 use Rattle.dpj_base.specs.declared.effect.Effect.{Effect}
 use Rattle.dpj_typed.specs.declared.ids.LocalRegion.{LocalRegion}
@@ -30,11 +30,9 @@ pub then_stmts : {s t u : Emitted} {g : Next → ℕ → Piece} (all : TypedStmt
     Emits s (λ k p. then_next k (stmts_piece k p all) (λ k. g k (after_stmts p all))) u
 then_stmts all h j = emits_then (λ p. after_stmts p all) (λ k p. stmts_far k p all) h j
 
-pub stmt_is : {s t : Emitted} (x y : TypedStmt) → x ≡ y → Emits s (λ k p. stmt_piece k p y) t → Emits s (λ k p. stmt_piece k p x) t
-stmt_is {s} {t} x y is h = subst (λ z. Emits s (λ k p. stmt_piece k p z) t) (sym is) h
-
-pub stmt_at : {s t : Emitted} {x y : Stmt} → x ≡ y → Emits s (λ k p. stmt_piece k p (plain_stmt x)) t → Emits s (λ k p. stmt_piece k p (plain_stmt y)) t
-stmt_at {s} {t} is h = subst (λ x. Emits s (λ k p. stmt_piece k p (plain_stmt x)) t) is h
+-- what is emitted of a form is emitted of the statement that has it
+pub stmt_is : {s t : Emitted} {x y : TypedStmt} → x ≡ y → Emits s (λ k p. stmt_piece k p y) t → Emits s (λ k p. stmt_piece k p x) t
+stmt_is {s} {t} is h = subst (λ z. Emits s (λ k p. stmt_piece k p z) t) (sym is) h
 
 -- the first of several
 pub one_more : (s t : Emitted) (e : Stmt) (all rest : List Stmt) → all ≡ e ∷ rest → Emits s (λ k p. stmt_piece k p (plain_stmt e)) t →
@@ -47,11 +45,6 @@ one_more s t e all rest is h =
 pub none_more : (s : Emitted) (all : List Stmt) → all ≡ [] → after s (λ k p. stmts_piece k p (stmts_of (map plain_stmt all))) ≡ s
 none_more s all is =
     ap (λ xs. after s (λ k p. stmts_piece k p (stmts_of (map plain_stmt xs)))) is ∙ ap (λ a. record s { piece = a }) (beside_nothing s.piece)
-
--- the place of a test stands before the end
-pub test_below : (s s1 t : Emitted) (x : Instr) (at : Place) (test : ℕ) → test ≡ length s.piece.lines → Emits s (λ k p. line x at nothing) s1 →
-    length s1.piece.lines ≤ length t.piece.lines → test < length t.piece.lines
-test_below s s1 t x at test is h more = let one = one_longer x at h in omega arith
 
 pub choice_emitted : (s s1 s2 s3 u : Emitted) (at : Place) (skip : ℕ) (e : TypedExpr) (a : TypedStmt) →
     Emits s (λ k p. expr_piece k p e) s1 → skip ≡ length s1.piece.lines → Emits s1 (λ k p. line (i.Unless 0) at nothing) s2 →
@@ -193,10 +186,6 @@ one_queued s t b all rest n is h =
     ∙ two_queued one (queue_of k.site (suc n) (branches_of (map plain_branch rest)))) both in
     whole.is ∙ ap (λ xs. after s (λ k p. queued_piece k.site n (branches_of (map plain_branch xs)))) (sym is)
 
-no_branch : beside nothing nothing ≡ nothing
-unfolding beside
-no_branch = refl
-
 empty_queue : (a : Piece) → beside a (with_branches [] nothing) ≡ a
 unfolding with_branches
 empty_queue a = beside_nothing a
@@ -256,10 +245,6 @@ pub whole_part_emitted : (s s1 s2 s3 s4 s5 s6 s7 s8 s9 : Emitted) (at : Place) (
 whole_part_emitted s s1 s2 s3 s4 s5 s6 s7 s8 s9 at x y count body h0 h1 h2 h3 h4 h5 h6 h7 h8 =
     emits_line (i.Load y) at h0 (emits_line (i.Store x) at h1 (emits_line (i.Load (y + 1)) at h2 (emits_line (i.Store (x + 1)) at h3 (then_expr count h4
     (emits_line (i.Store (x + 3)) at h5 (emits_line (i.Load (y + 2)) at h6 (emits_line (i.Store (x + 2)) at h7 h8)))))))
-
-pub spread_at : {s t : Emitted} (at : Place) (forking : Forking) (x : ℕ) (takes : Option ℕ) {a b : Stmt} → a ≡ b →
-    Emits s (λ k p. spread_piece k at forking x takes (plain_stmt a)) t → Emits s (λ k p. spread_piece k at forking x takes (plain_stmt b)) t
-spread_at {s} {t} at forking x takes is h = subst (λ z. Emits s (λ k p. spread_piece k at forking x takes (plain_stmt z)) t) is h
 
 pub test_below_two : (s s1 s2 s3 s4 : Emitted) (at : Place) (test : ℕ) (x : Instr) (a : TypedStmt) (y : Instr) → test ≡ length s.piece.lines →
     Emits s (λ k p. line (i.Unless 0) at nothing) s1 → Emits s1 (λ k p. line x at nothing) s2 → Emits s2 (λ k p. stmt_piece k p a) s3 →

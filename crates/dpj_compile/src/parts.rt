@@ -1,6 +1,6 @@
 ghost use Rattle.std.specs.Prelude.{◌≡◌, ◌+◌, OnOk, Some};
 ghost use Rattle.dpj_base.specs.declared.place.Place.{Place};
-ghost use Rattle.dpj_typed.specs.Plain.{plain_expr, plain_stmt, statement};
+ghost use Rattle.dpj_typed.specs.Plain.{plain_expr, plain_source, plain_stmt, statement};
 ghost use Rattle.dpj_typed.specs.Plain.{of_array as array_cut, of_part as part_cut};
 ghost use Rattle.dpj_typed.specs.Plain.{StmtForm as form};
 ghost use Rattle.dpj_gen.specs.Scheme.{stmt_piece};
@@ -12,11 +12,29 @@ use crate::exprs::expr;
 use crate::forks::spread;
 use dpj_base::{NoMemory, Place};
 use dpj_code::Instr;
-use dpj_typed::{Expr, Forking, Slot, Stmt};
+use dpj_typed::{Expr, Forking, PartSource, Slot, Stmt};
 use std::alloc::Global;
 
+/// `foreach_parts`. The one body of its branches waits in the queue.
+pub fn foreach_parts<'p>(
+    alloc: Global,
+    out: &mut Emitter<'p>,
+    place: Place,
+    part: Slot,
+    source: &PartSource,
+    count: &Expr,
+    body: &'p Stmt,
+) -> Result<(), NoMemory>
+    ensures { OnOk result (Emits (emitted_of out.old) (λ k p. stmt_piece k p (statement place (form.foreach_parts part.number (plain_source source.now) (plain_expr count.now) (plain_stmt body.now)))) (emitted_of out.new)) }
+{
+    match source {
+        PartSource::Array(array) => of_array(alloc, out, place, part, array, count, body),
+        PartSource::Part(whole) => of_part(alloc, out, place, part, *whole, count, body),
+    }
+}
+
 /// `foreach_parts` over an array: the whole array is the part that is cut.
-pub fn of_array<'p>(
+fn of_array<'p>(
     alloc: Global,
     out: &mut Emitter<'p>,
     place: Place,
@@ -41,7 +59,7 @@ pub fn of_array<'p>(
 }
 
 /// `foreach_parts` over a part of an array.
-pub fn of_part<'p>(
+fn of_part<'p>(
     alloc: Global,
     out: &mut Emitter<'p>,
     place: Place,
