@@ -1,5 +1,5 @@
 -- The code's lists as the definitions see them.
-use Rattle.std.specs.Prelude.{◌≡◌, ℕ, ◌==◌, Bool, true, false, cond, if◌then◌else◌, List, [], ◌∷◌, ◌++◌, map, fold, Option, Some, None, slice_get}
+use Rattle.std.specs.Prelude.{◌≡◌, ℕ, ◌==◌, Bool, true, false, cond, if◌then◌else◌, List, [], ◌∷◌, map, fold, Option, Some, None, slice_get}
 use Rattle.std.specs.List.{list_any}
 use Rattle.dpj_base.specs.declared.effect.Access.{Access}
 use Rattle.dpj_base.specs.declared.effect.Effect.{Effect}
@@ -12,8 +12,7 @@ use Rattle.dpj_typed.specs.declared.ids.Slot.{Slot}
 use Rattle.dpj_typed.specs.declared.stmt.Branch.{Branch}
 use Rattle.dpj_typed.specs.declared.stmt.PartSource.{PartSource}
 use Rattle.dpj_typed.specs.declared.stmt.PartSource.TheVariants as source
-use Rattle.dpj_typed.specs.Plain.{PlainProgram, PlainParent, TypedExpr, typed, TypedStmt, statement, TypedBranch, plain_stmt}
-use Rattle.dpj_typed.specs.Plain.{ExprForm as expr}
+use Rattle.dpj_typed.specs.Plain.{PlainProgram, PlainParent, TypedStmt, statement, TypedBranch, plain_stmt}
 use Rattle.dpj_typed.specs.Plain.{StmtForm as form}
 use Rattle.dpj_typed.specs.Effects.{does, uses, effect_of, begins_in, mapped, summary_with}
 use Rattle.dpj_typed.specs.Effects.{Own as Done}
@@ -24,7 +23,6 @@ use Rattle.dpj_infer.specs.declared.scope.Known.{Known}
 use Rattle.dpj_infer.specs.declared.scope.Known.TheVariants as known
 use Rattle.dpj_infer.specs.declared.scope.Placed.{Placed}
 use Rattle.dpj_infer.specs.Kept.{Keeping, summary_kept}
-use Rattle.dpj_infer.specs.Doing.{done_by, effects_of}
 
 abbrev pub through : Option Slot → Effect → Done
 through None e = does e
@@ -107,16 +105,6 @@ summary_of None es args = []
 abbrev pub summary_in : Keeping → ℕ → List Effect → List Rpl → List Done
 summary_in S n es args = summary_of (slice_get S n) es args
 
--- what the parts do of an expression that does nothing itself
-abbrev pub operands_done : PlainProgram → Scope → TypedExpr → List Done
-operands_done P L (typed place t (expr.array_length a)) = done_by P L a
-operands_done P L (typed place t (expr.create_array n)) = done_by P L n
-operands_done P L (typed place t (expr.unary op e)) = done_by P L e
-operands_done P L (typed place t (expr.binary op a b)) = done_by P L a ++ done_by P L b
-operands_done P L (typed place t (expr.both a b)) = done_by P L a ++ done_by P L b
-operands_done P L (typed place t (expr.either a b)) = done_by P L a ++ done_by P L b
-operands_done P L e = []
-
 -- what is seen outside the scope of these variables and local regions
 abbrev pub outside_elem : List ℕ → Elem → Elem
 outside_elem vs (At (Variable w)) = cond (list_any (λ v. v == w) vs) Any (At (Variable w))
@@ -150,24 +138,7 @@ abbrev pub regions_by : TypedStmt → List ℕ
 regions_by (statement at (form.local_regions rs)) = rs
 regions_by s = []
 
--- what a statement does that holds no other, and a construct of branches
-abbrev pub simple_done : PlainProgram → Scope → TypedStmt → List Done
-simple_done P L (statement at (form.block ss)) = []
-simple_done P L (statement at (form.choice e s)) = []
-simple_done P L (statement at (form.choice_else e s t)) = []
-simple_done P L (statement at (form.while_loop e s)) = []
-simple_done P L (statement at (form.atomic entry ss)) = []
-simple_done P L (statement at (form.cobegin forking bs)) = []
-simple_done P L (statement at (form.foreach forking x start count s)) = []
-simple_done P L (statement at (form.foreach_parts k source count s)) = []
-simple_done P L s = effects_of P L s
-
-abbrev pub fork_done : PlainProgram → Scope → TypedStmt → List Done
-fork_done P L (statement at (form.cobegin forking bs)) = effects_of P L (statement at (form.cobegin forking bs))
-fork_done P L (statement at (form.foreach forking x start count s)) = effects_of P L (statement at (form.foreach forking x start count s))
-fork_done P L (statement at (form.foreach_parts k source count s)) = effects_of P L (statement at (form.foreach_parts k source count s))
-fork_done P L s = []
-
+-- a branch as the rules see it
 abbrev pub plain_branch : Branch → TypedBranch
 plain_branch b = record { copies = map (λ slot. slot.number) b.copies; body = plain_stmt b.body }
 

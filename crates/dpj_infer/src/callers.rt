@@ -1,6 +1,8 @@
 use crate::classes::{constructor_of, override_in, row_at};
 use dpj_base::{Items, NoMemory, Ty};
-use dpj_typed::{Branch, Expr, ExprForm, MemberId, PartSource, Program, Stmt, StmtForm};
+use dpj_typed::{
+    Branch, ClassId, Expr, ExprForm, MemberId, PartSource, Program, Row, Stmt, StmtForm,
+};
 use std::alloc::Global;
 
 /// A row of a class in which a member stands for one above.
@@ -128,6 +130,7 @@ fn calls_of_branches(
     Ok(())
 }
 
+/// A function fills the room of all its arms at each call, so each form that has several parts has a function of its own.
 #[cycle(statement_calls)]
 fn calls_of_statement(
     program: &Program,
@@ -135,43 +138,96 @@ fn calls_of_statement(
     out: &mut Items<MemberId>,
 ) -> Result<(), NoMemory> {
     match &s.form {
+        StmtForm::Declare { value, .. }
+        | StmtForm::Store { value, .. }
+        | StmtForm::Perform(value)
+        | StmtForm::Return(Some(value))
+        | StmtForm::PrintInt(value)
+        | StmtForm::PrintBool(value) => calls_of_expr(program, value, out),
+        StmtForm::StoreField { of, value, .. } => calls_of_two(program, of, value, out),
+        StmtForm::StoreElement {
+            array,
+            index,
+            value,
+        } => calls_of_three(program, array, index, value, out),
+        StmtForm::StorePart { index, value, .. } => calls_of_two(program, index, value, out),
+        StmtForm::Return(None) | StmtForm::PrintText(_) | StmtForm::Regions(_) => Ok(()),
         StmtForm::Block(all) => calls_of_all(program, all.as_slice(), out),
+        StmtForm::If {
+            test,
+            then: body,
+            other: None,
+        }
+        | StmtForm::While { test, body } => calls_of_tested(program, test, body.get(), out),
+        StmtForm::If {
+            test,
+            then,
+            other: Some(other),
+        } => calls_of_choice(program, test, then.get(), other.get(), out),
         StmtForm::Atomic { body, .. } => calls_of_all(program, body.as_slice(), out),
         StmtForm::Cobegin { branches, .. } => calls_of_branches(program, branches.as_slice(), out),
-        StmtForm::If { test, then, other } => {
-            calls_of_expr(program, test, out)?;
-            calls_of_statement(program, then.get(), out)?;
-            match other {
-                Some(other) => calls_of_statement(program, other.get(), out),
-                None => Ok(()),
-            }
-        }
-        StmtForm::While { test, body } => {
-            calls_of_expr(program, test, out)?;
-            calls_of_statement(program, body.get(), out)
-        }
         StmtForm::Foreach {
             start,
             count,
             body,
             ..
-        } => {
-            calls_of_expr(program, start, out)?;
-            calls_of_expr(program, count, out)?;
-            calls_of_statement(program, body.get(), out)
-        }
+        } => calls_of_foreach(program, start, count, body.get(), out),
         StmtForm::ForeachParts {
             source,
             count,
             body,
             ..
-        } => {
-            calls_of_source(program, source, out)?;
-            calls_of_expr(program, count, out)?;
-            calls_of_statement(program, body.get(), out)
-        }
-        _ => calls_of_simple(program, s, out),
+        } => calls_of_foreach_parts(program, source, count, body.get(), out),
     }
+}
+
+/// Adds the members that a test calls, and a statement that is done where it is true.
+#[cycle(statement_calls)]
+fn calls_of_tested(
+    program: &Program,
+    test: &Expr,
+    body: &Stmt,
+    out: &mut Items<MemberId>,
+) -> Result<(), NoMemory> {
+    calls_of_expr(program, test, out)?;
+    calls_of_statement(program, body, out)
+}
+
+#[cycle(statement_calls)]
+fn calls_of_choice(
+    program: &Program,
+    test: &Expr,
+    then: &Stmt,
+    other: &Stmt,
+    out: &mut Items<MemberId>,
+) -> Result<(), NoMemory> {
+    calls_of_tested(program, test, then, out)?;
+    calls_of_statement(program, other, out)
+}
+
+#[cycle(statement_calls)]
+fn calls_of_foreach(
+    program: &Program,
+    start: &Expr,
+    count: &Expr,
+    body: &Stmt,
+    out: &mut Items<MemberId>,
+) -> Result<(), NoMemory> {
+    calls_of_two(program, start, count, out)?;
+    calls_of_statement(program, body, out)
+}
+
+#[cycle(statement_calls)]
+fn calls_of_foreach_parts(
+    program: &Program,
+    source: &PartSource,
+    count: &Expr,
+    body: &Stmt,
+    out: &mut Items<MemberId>,
+) -> Result<(), NoMemory> {
+    calls_of_source(program, source, out)?;
+    calls_of_expr(program, count, out)?;
+    calls_of_statement(program, body, out)
 }
 
 fn calls_of_source(
@@ -185,34 +241,15 @@ fn calls_of_source(
     }
 }
 
-/// Adds the members that a statement calls which holds no other.
-fn calls_of_simple(program: &Program, s: &Stmt, out: &mut Items<MemberId>) -> Result<(), NoMemory> {
-    match &s.form {
-        StmtForm::Declare { value, .. }
-        | StmtForm::Store { value, .. }
-        | StmtForm::Perform(value)
-        | StmtForm::Return(Some(value))
-        | StmtForm::PrintInt(value)
-        | StmtForm::PrintBool(value) => calls_of_expr(program, value, out),
-        StmtForm::StoreField { of, value, .. } => {
-            calls_of_expr(program, of, out)?;
-            calls_of_expr(program, value, out)
-        }
-        StmtForm::StoreElement {
-            array,
-            index,
-            value,
-        } => {
-            calls_of_expr(program, array, out)?;
-            calls_of_expr(program, index, out)?;
-            calls_of_expr(program, value, out)
-        }
-        StmtForm::StorePart { index, value, .. } => {
-            calls_of_expr(program, index, out)?;
-            calls_of_expr(program, value, out)
-        }
-        _ => Ok(()),
-    }
+fn calls_of_three(
+    program: &Program,
+    first: &Expr,
+    second: &Expr,
+    third: &Expr,
+    out: &mut Items<MemberId>,
+) -> Result<(), NoMemory> {
+    calls_of_two(program, first, second, out)?;
+    calls_of_expr(program, third, out)
 }
 
 #[cycle(expression_calls)]
@@ -227,24 +264,23 @@ fn calls_of_exprs(
     Ok(())
 }
 
+/// Adds the members that an expression calls.
 #[cycle(expression_calls)]
 fn calls_of_expr(program: &Program, e: &Expr, out: &mut Items<MemberId>) -> Result<(), NoMemory> {
     match &e.form {
+        ExprForm::Int(_)
+        | ExprForm::Bool(_)
+        | ExprForm::Null
+        | ExprForm::Local(_)
+        | ExprForm::PartLength(_) => Ok(()),
         ExprForm::Call {
             of,
             class,
             row,
             actuals,
             ..
-        } => {
-            calls_of_expr(program, of.get(), out)?;
-            calls_of_exprs(program, actuals.as_slice(), out)?;
-            add_called(row_at(program, *class, *row), out)
-        }
-        ExprForm::New(actuals) => {
-            calls_of_exprs(program, actuals.as_slice(), out)?;
-            add_called(made_by(program, &e.ty), out)
-        }
+        } => calls_of_call(program, of.get(), *class, *row, actuals, out),
+        ExprForm::New(actuals) => calls_of_creation(program, actuals, &e.ty, out),
         ExprForm::Field { of: part, .. }
         | ExprForm::Length(part)
         | ExprForm::NewArray(part)
@@ -256,16 +292,46 @@ fn calls_of_expr(program: &Program, e: &Expr, out: &mut Items<MemberId>) -> Resu
         }
         | ExprForm::Binary { left, right, .. }
         | ExprForm::And { left, right }
-        | ExprForm::Or { left, right } => {
-            calls_of_expr(program, left.get(), out)?;
-            calls_of_expr(program, right.get(), out)
-        }
-        ExprForm::Int(_)
-        | ExprForm::Bool(_)
-        | ExprForm::Null
-        | ExprForm::Local(_)
-        | ExprForm::PartLength(_) => Ok(()),
+        | ExprForm::Or { left, right } => calls_of_two(program, left.get(), right.get(), out),
     }
+}
+
+/// Adds the member that a call names, and those that its parts call.
+#[cycle(expression_calls)]
+fn calls_of_call(
+    program: &Program,
+    of: &Expr,
+    class: ClassId,
+    row: Row,
+    actuals: &Items<Expr>,
+    out: &mut Items<MemberId>,
+) -> Result<(), NoMemory> {
+    calls_of_expr(program, of, out)?;
+    calls_of_exprs(program, actuals.as_slice(), out)?;
+    add_called(row_at(program, class, row), out)
+}
+
+/// Adds the constructor of an object of this type, and what its actuals call.
+#[cycle(expression_calls)]
+fn calls_of_creation(
+    program: &Program,
+    actuals: &Items<Expr>,
+    ty: &Ty,
+    out: &mut Items<MemberId>,
+) -> Result<(), NoMemory> {
+    calls_of_exprs(program, actuals.as_slice(), out)?;
+    add_called(made_by(program, ty), out)
+}
+
+#[cycle(expression_calls)]
+fn calls_of_two(
+    program: &Program,
+    left: &Expr,
+    right: &Expr,
+    out: &mut Items<MemberId>,
+) -> Result<(), NoMemory> {
+    calls_of_expr(program, left, out)?;
+    calls_of_expr(program, right, out)
 }
 
 fn add_called(member: Option<MemberId>, out: &mut Items<MemberId>) -> Result<(), NoMemory> {

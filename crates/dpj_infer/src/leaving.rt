@@ -1,4 +1,4 @@
-ghost use Rattle.std.specs.Prelude.{◌≡◌, ◌==◌, ◌++◌, map, not, true, false, IfOk, OnOk};
+ghost use Rattle.std.specs.Prelude.{◌≡◌, ◌==◌, ◌++◌, [], map, not, true, false, IfOk, OnOk};
 ghost use Rattle.std.specs.List.{list_any};
 ghost use Rattle.dpj_typed.specs.Plain.{plain_source};
 ghost use Rattle.dpj_typed.specs.Effects.{begins_in, mapped, marked, own_after, outside_variable};
@@ -14,6 +14,37 @@ use std::alloc::Global;
 pub struct Opened {
     pub variables: Items<u64>,
     pub regions: Items<u32>,
+}
+
+impl Opened {
+    pub fn new(alloc: Global) -> Opened
+        ensures { result ≡ record { variables = []; regions = [] } }
+    {
+        Opened {
+            variables: Items::new(alloc),
+            regions: Items::new(alloc),
+        }
+    }
+
+    /// Adds what was opened after this.
+    pub fn add(&mut self, more: Opened) -> Result<(), NoMemory>
+        ensures variables { OnOk result (self.new.variables ≡ self.old.variables ++ more.variables) }
+        ensures regions { OnOk result (self.new.regions ≡ self.old.regions ++ more.regions) }
+    {
+        let Opened { variables, regions } = more;
+        append(variables, &mut self.variables)?;
+        append(regions, &mut self.regions)
+    }
+}
+
+/// Adds some items at the end of others.
+pub fn append<T: Drop>(more: Items<T>, all: &mut Items<T>) -> Result<(), NoMemory>
+    ensures { OnOk result (all.new ≡ all.old ++ more) }
+{
+    for item in more.into_vec() {
+        all.push(item)?;
+    }
+    Ok(())
 }
 
 /// Adds what a part of a body does, as it is seen outside the scope of what was opened: an index variable of it is any index, and
@@ -119,10 +150,7 @@ pub fn leave_variable(
 ) -> Result<(), NoMemory>
     ensures { OnOk result (all_done out.new ≡ all_done out.old ++ outside_variable variable (all_done inner)) }
 {
-    let mut opened = Opened {
-        variables: Items::new(alloc),
-        regions: Items::new(alloc),
-    };
+    let mut opened = Opened::new(alloc);
     opened.variables.push(variable)?;
     leave(alloc, &opened, inner, out)
 }

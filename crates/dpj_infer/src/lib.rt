@@ -25,6 +25,7 @@ mod leaving;
 mod own;
 mod scope;
 mod settling;
+mod simple;
 mod stmts;
 mod text;
 mod walk;

@@ -1,19 +1,22 @@
-ghost use Rattle.std.specs.Prelude.{◌≡◌, ◌++◌, map, Some, IfOk, OnOk};
+ghost use Rattle.std.specs.Prelude.{◌≡◌, ◌+◌, ◌++◌, map, Some, IfOk, OnOk};
 ghost use Rattle.dpj_base.specs.Types.{int, plain_type};
-ghost use Rattle.dpj_typed.specs.Plain.{plain_program, plain_stmt, plain_source, stmts_of, branches_of, TypedBranch};
+ghost use Rattle.dpj_typed.specs.Plain.{plain_program, plain_expr, plain_stmt, plain_source, stmts_of, branches_of};
 ghost use Rattle.dpj_typed.specs.Scope.{constant, with_local};
-ghost use Rattle.dpj_typed.specs.Effects.{after_branches, after_parts};
+ghost use Rattle.dpj_typed.specs.Effects.{after_block, after_branches, after_parts, outside_variable};
 ghost use Rattle.dpj_infer.specs.Kept.{program_kept};
-ghost use Rattle.dpj_infer.specs.Doing.{done_by_source, part_of, part_of_type, effects_of, effects_of_all, effects_of_branches};
-ghost use Rattle.dpj_infer.specs.Walked.{all_done, scope_of, local_of, known_as, placed_by, variables_by, regions_by, simple_done, fork_done, plain_branch, SameUse};
+ghost use Rattle.dpj_infer.specs.Doing.{done_by, done_by_source, part_of, part_of_type, with_parts, effects_of, effects_of_all, effects_of_branches};
+ghost use Rattle.dpj_infer.specs.Walked.{all_done, scope_of, local_of, placed_by, variables_by, regions_by, plain_branch, SameUse};
 
-use crate::exprs::{add_element, add_field, add_part, expr};
-use crate::leaving::{Opened, handed_on, leave, leave_block, leave_branches, leave_variable};
+use crate::exprs::expr;
+use crate::leaving::{
+    Opened, append, handed_on, leave, leave_block, leave_branches, leave_variable,
+};
 use crate::own::Own;
 use crate::scope::{Known, Scope};
+use crate::simple::{add_regions, declare, store_element, store_field, store_part};
 use crate::walk::Walk;
-use dpj_base::{Access, Items, NoMemory, Plain, Ty};
-use dpj_typed::{Branch, Expr, Forking, LocalRegion, PartSource, Slot, Stmt, StmtForm};
+use dpj_base::{Items, NoMemory, Plain, Ty};
+use dpj_typed::{Branch, Expr, Forking, PartSource, Slot, Stmt, StmtForm};
 
 /// Adds what the statements of a block do, as it is seen outside of it.
 #[cycle(stmts)]
@@ -28,133 +31,43 @@ pub fn block(
     ensures done { OnOk result (all_done out.new ≡ all_done out.old ++ effects_of_all (program_kept walk.entry.kept.now (plain_program walk.entry.program.now)) (scope_of scope.old) (stmts_of (map plain_stmt all.now))) }
 {
     let outer = scope.len();
-    let mut opened = Opened {
-        variables: Items::new(walk.alloc),
-        regions: Items::new(walk.alloc),
-    };
+    let mut opened = Opened::new(walk.alloc);
     for s in all {
+        let mut more = Opened::new(walk.alloc);
         let mut inner = Items::new(walk.alloc);
-        statement(walk, scope, s, &mut inner)?;
+        statement(walk, scope, s, &mut more, &mut inner)?;
         leave(walk.alloc, &opened, inner, out)?;
-        open(scope, &mut opened, s)?;
+        opened.add(more)?;
     }
     scope.leave(outer);
     Ok(())
 }
 
-/// What a statement declares is in scope after it.
-fn open(scope: &mut Scope, opened: &mut Opened, s: &Stmt) -> Result<(), NoMemory>
-    ensures scope { OnOk result (scope.new ≡ scope.old ++ placed_by (plain_stmt s.now)) }
-    ensures variables { OnOk result (opened.new.variables ≡ opened.old.variables ++ variables_by (plain_stmt s.now)) }
-    ensures regions { OnOk result (opened.new.regions ≡ opened.old.regions ++ regions_by (plain_stmt s.now)) }
-{
-    match &s.form {
-        StmtForm::Declare {
-            slot,
-            is_final,
-            ty,
-            ..
-        } => {
-            opened.variables.push(slot.number as u64)?;
-            scope.put(slot.number as u64, declared(*is_final, ty))
-        }
-        StmtForm::Regions(regions) => add_regions(regions, &mut opened.regions),
-        StmtForm::Store { .. }
-        | StmtForm::StoreField { .. }
-        | StmtForm::StoreElement { .. }
-        | StmtForm::StorePart { .. }
-        | StmtForm::Perform(_)
-        | StmtForm::Block(_)
-        | StmtForm::If { other: None, .. }
-        | StmtForm::If { other: Some(_), .. }
-        | StmtForm::While { .. }
-        | StmtForm::Return(None)
-        | StmtForm::Return(Some(_))
-        | StmtForm::PrintInt(_)
-        | StmtForm::PrintBool(_)
-        | StmtForm::PrintText(_)
-        | StmtForm::Atomic { .. }
-        | StmtForm::Cobegin { .. }
-        | StmtForm::Foreach { .. }
-        | StmtForm::ForeachParts { .. } => Ok(()),
-    }
-}
-
-fn add_regions(regions: &Items<LocalRegion>, all: &mut Items<u32>) -> Result<(), NoMemory>
-    ensures { OnOk result (all.new ≡ all.old ++ map (λ region. region.number) regions.now) }
-{
-    for region in regions.as_slice() {
-        all.push(region.number)?;
-    }
-    Ok(())
-}
-
-fn declared(is_final: bool, ty: &Ty) -> Known
-    ensures { result ≡ known_as is_final (plain_type ty.now) }
-{
-    match ty {
-        Ty::Int if is_final => Known::Constant,
-        _ => Known::Hidden,
-    }
-}
-
-/// Adds what a statement does.
+/// Adds what a statement does. What it declares is in scope after it, and is added to what was opened.
+///
+/// A function fills the room of all its arms at each call, so each form that has several parts has a function of its own.
 #[cycle(stmts)]
 #[tactic(auto, using(crate::proofs::Reading::joined))]
 fn statement(
     walk: Walk<'_>,
     scope: &mut Scope,
     s: &Stmt,
+    opened: &mut Opened,
     out: &mut Items<Own>,
 ) -> Result<(), NoMemory>
-    ensures scope { OnOk result (scope.new ≡ scope.old) }
+    ensures scope { OnOk result (scope.new ≡ scope.old ++ placed_by (plain_stmt s.now)) }
+    ensures variables { OnOk result (opened.new.variables ≡ opened.old.variables ++ variables_by (plain_stmt s.now)) }
+    ensures regions { OnOk result (opened.new.regions ≡ opened.old.regions ++ regions_by (plain_stmt s.now)) }
     ensures done { OnOk result (all_done out.new ≡ all_done out.old ++ effects_of (program_kept walk.entry.kept.now (plain_program walk.entry.program.now)) (scope_of scope.old) (plain_stmt s.now)) }
 {
     match &s.form {
-        StmtForm::Block(all) => block(walk, scope, all.as_slice(), out),
-        StmtForm::If { test, then, other } => {
-            expr(walk, scope, test, out)?;
-            statement(walk, scope, then.get(), out)?;
-            match other {
-                Some(other) => statement(walk, scope, other.get(), out),
-                None => Ok(()),
-            }
-        }
-        StmtForm::While { test, body } => {
-            expr(walk, scope, test, out)?;
-            statement(walk, scope, body.get(), out)
-        }
-        StmtForm::Atomic { body, .. } => {
-            let mut inner = Items::new(walk.alloc);
-            block(walk, scope, body.as_slice(), &mut inner)?;
-            leave_block(inner, out)
-        }
-        StmtForm::Cobegin { .. } | StmtForm::Foreach { .. } | StmtForm::ForeachParts { .. } => {
-            fork(walk, scope, s, out)
-        }
-        StmtForm::Declare { .. }
-        | StmtForm::Store { .. }
-        | StmtForm::StoreField { .. }
-        | StmtForm::StoreElement { .. }
-        | StmtForm::StorePart { .. }
-        | StmtForm::Perform(_)
-        | StmtForm::Return(None)
-        | StmtForm::Return(Some(_))
-        | StmtForm::PrintInt(_)
-        | StmtForm::PrintBool(_)
-        | StmtForm::PrintText(_)
-        | StmtForm::Regions(_) => simple(walk, scope, s, out),
-    }
-}
-
-/// Adds what a statement does that holds no other.
-#[tactic(auto, using(crate::proofs::Reading::joined))]
-fn simple(walk: Walk<'_>, scope: &Scope, s: &Stmt, out: &mut Items<Own>) -> Result<(), NoMemory>
-    ensures { OnOk result (all_done out.new ≡ all_done out.old ++ simple_done (program_kept walk.entry.kept.now (plain_program walk.entry.program.now)) (scope_of scope.now) (plain_stmt s.now)) }
-{
-    match &s.form {
-        StmtForm::Declare { value, .. }
-        | StmtForm::Store { value, .. }
+        StmtForm::Declare {
+            slot,
+            ty,
+            is_final,
+            value,
+        } => declare(walk, scope, *slot, ty, *is_final, value, opened, out),
+        StmtForm::Store { value, .. }
         | StmtForm::Perform(value)
         | StmtForm::Return(Some(value))
         | StmtForm::PrintInt(value)
@@ -164,104 +77,129 @@ fn simple(walk: Walk<'_>, scope: &Scope, s: &Stmt, out: &mut Items<Own>) -> Resu
             class,
             field,
             value,
-        } => {
-            expr(walk, scope, of, out)?;
-            expr(walk, scope, value, out)?;
-            add_field(walk, &of.ty, *class, *field, Access::Write, out)
-        }
+        } => store_field(walk, scope, of, *class, *field, value, out),
         StmtForm::StoreElement {
             array,
             index,
             value,
-        } => {
-            expr(walk, scope, array, out)?;
-            expr(walk, scope, index, out)?;
-            expr(walk, scope, value, out)?;
-            add_element(walk, scope, &array.ty, index, Access::Write, out)
-        }
+        } => store_element(walk, scope, array, index, value, out),
         StmtForm::StorePart { part, index, value } => {
-            expr(walk, scope, index, out)?;
-            expr(walk, scope, value, out)?;
-            add_part(walk, scope, *part, Access::Write, out)
+            store_part(walk, scope, *part, index, value, out)
         }
-        StmtForm::Return(None)
-        | StmtForm::PrintText(_)
-        | StmtForm::Regions(_)
-        | StmtForm::Block(_)
-        | StmtForm::If { other: None, .. }
-        | StmtForm::If { other: Some(_), .. }
-        | StmtForm::While { .. }
-        | StmtForm::Atomic { .. }
-        | StmtForm::Cobegin { .. }
-        | StmtForm::Foreach { .. }
-        | StmtForm::ForeachParts { .. } => Ok(()),
-    }
-}
-
-/// Adds what a construct of branches does.
-#[cycle(stmts)]
-#[tactic(auto, using(crate::proofs::Reading::joined))]
-fn fork(walk: Walk<'_>, scope: &mut Scope, s: &Stmt, out: &mut Items<Own>) -> Result<(), NoMemory>
-    ensures scope { OnOk result (scope.new ≡ scope.old) }
-    ensures done { OnOk result (all_done out.new ≡ all_done out.old ++ fork_done (program_kept walk.entry.kept.now (plain_program walk.entry.program.now)) (scope_of scope.old) (plain_stmt s.now)) }
-{
-    match &s.form {
-        StmtForm::Cobegin { forking, branches } => {
-            let mut inner = Items::new(walk.alloc);
-            all_branches(walk, scope, branches.as_slice(), &mut inner)?;
-            add_after(*forking, inner, out)
+        StmtForm::Return(None) | StmtForm::PrintText(_) => Ok(()),
+        StmtForm::Regions(regions) => add_regions(regions, &mut opened.regions),
+        StmtForm::Block(all) => block(walk, scope, all.as_slice(), out),
+        StmtForm::If {
+            test,
+            then: body,
+            other: None,
         }
+        | StmtForm::While { test, body } => tested(walk, scope, test, body.get(), out),
+        StmtForm::If {
+            test,
+            then,
+            other: Some(other),
+        } => choice(walk, scope, test, then.get(), other.get(), out),
+        StmtForm::Atomic { body, .. } => atomic(walk, scope, body, out),
+        StmtForm::Cobegin { forking, branches } => cobegin(walk, scope, *forking, branches, out),
         StmtForm::Foreach {
             forking,
             slot,
             start,
             count,
             body,
-        } => {
-            expr(walk, scope, start, out)?;
-            expr(walk, scope, count, out)?;
-            let mut inner = Items::new(walk.alloc);
-            iteration(walk, scope, slot.number as u64, body.get(), &mut inner)?;
-            let mut joined = Items::new(walk.alloc);
-            add_after(*forking, inner, &mut joined)?;
-            leave_variable(walk.alloc, slot.number as u64, joined, out)
-        }
+        } => foreach(walk, scope, *forking, *slot, start, count, body.get(), out),
         StmtForm::ForeachParts {
             part,
             source,
             count,
             body,
-        } => {
-            let cut = cut_part(walk, scope, source, out)?;
-            expr(walk, scope, count, out)?;
-            let outer = scope.len();
-            scope.put(part.number as u64, cut)?;
-            let number = part.number as u64 + 4;
-            let mut inner = Items::new(walk.alloc);
-            iteration(walk, scope, number, body.get(), &mut inner)?;
-            scope.leave(outer);
-            let mut joined = Items::new(walk.alloc);
-            add_after_parts(walk, *part, source, inner, &mut joined)?;
-            leave_variable(walk.alloc, number, joined, out)
-        }
-        StmtForm::Declare { .. }
-        | StmtForm::Store { .. }
-        | StmtForm::StoreField { .. }
-        | StmtForm::StoreElement { .. }
-        | StmtForm::StorePart { .. }
-        | StmtForm::Perform(_)
-        | StmtForm::Block(_)
-        | StmtForm::If { other: None, .. }
-        | StmtForm::If { other: Some(_), .. }
-        | StmtForm::While { .. }
-        | StmtForm::Return(None)
-        | StmtForm::Return(Some(_))
-        | StmtForm::PrintInt(_)
-        | StmtForm::PrintBool(_)
-        | StmtForm::PrintText(_)
-        | StmtForm::Regions(_)
-        | StmtForm::Atomic { .. } => Ok(()),
+        } => foreach_parts(walk, scope, *part, source, count, body.get(), out),
     }
+}
+
+/// Adds what a branch or a body does, which is a scope of its own even without braces.
+#[cycle(stmts)]
+#[tactic(auto, using(crate::proofs::Blocks::scopes))]
+fn scoped(walk: Walk<'_>, scope: &mut Scope, s: &Stmt, out: &mut Items<Own>) -> Result<(), NoMemory>
+    ensures scope { OnOk result (scope.new ≡ scope.old) }
+    ensures done { OnOk result (all_done out.new ≡ all_done out.old ++ effects_of (program_kept walk.entry.kept.now (plain_program walk.entry.program.now)) (scope_of scope.old) (plain_stmt s.now)) }
+{
+    let outer = scope.len();
+    let mut opened = Opened::new(walk.alloc);
+    statement(walk, scope, s, &mut opened, out)?;
+    scope.leave(outer);
+    Ok(())
+}
+
+/// Adds what a test does, and then what is done where it is true.
+#[cycle(stmts)]
+#[tactic(auto, using(crate::proofs::Reading::joined))]
+fn tested(
+    walk: Walk<'_>,
+    scope: &mut Scope,
+    test: &Expr,
+    body: &Stmt,
+    out: &mut Items<Own>,
+) -> Result<(), NoMemory>
+    ensures scope { OnOk result (scope.new ≡ scope.old) }
+    ensures done { let P = program_kept walk.entry.kept.now (plain_program walk.entry.program.now) in let L = scope_of scope.old in OnOk result (all_done out.new ≡ all_done out.old ++ (done_by P L (plain_expr test.now) ++ effects_of P L (plain_stmt body.now))) }
+{
+    expr(walk, scope, test, out)?;
+    scoped(walk, scope, body, out)
+}
+
+/// Adds what an `if` with an `else` does.
+#[cycle(stmts)]
+#[tactic(auto, using(crate::proofs::Reading::joined))]
+fn choice(
+    walk: Walk<'_>,
+    scope: &mut Scope,
+    test: &Expr,
+    then: &Stmt,
+    other: &Stmt,
+    out: &mut Items<Own>,
+) -> Result<(), NoMemory>
+    ensures scope { OnOk result (scope.new ≡ scope.old) }
+    ensures done { let P = program_kept walk.entry.kept.now (plain_program walk.entry.program.now) in let L = scope_of scope.old in OnOk result (all_done out.new ≡ all_done out.old ++ (done_by P L (plain_expr test.now) ++ (effects_of P L (plain_stmt then.now) ++ effects_of P L (plain_stmt other.now)))) }
+{
+    tested(walk, scope, test, then, out)?;
+    scoped(walk, scope, other, out)
+}
+
+/// Adds what an atomic block does.
+#[cycle(stmts)]
+#[tactic(auto, using(crate::proofs::Reading::joined))]
+fn atomic(
+    walk: Walk<'_>,
+    scope: &mut Scope,
+    body: &Items<Stmt>,
+    out: &mut Items<Own>,
+) -> Result<(), NoMemory>
+    ensures scope { OnOk result (scope.new ≡ scope.old) }
+    ensures done { let P = program_kept walk.entry.kept.now (plain_program walk.entry.program.now) in let L = scope_of scope.old in OnOk result (all_done out.new ≡ all_done out.old ++ after_block (effects_of_all P L (stmts_of (map plain_stmt body.now)))) }
+{
+    let mut inner = Items::new(walk.alloc);
+    block(walk, scope, body.as_slice(), &mut inner)?;
+    leave_block(inner, out)
+}
+
+/// Adds what a `cobegin` does.
+#[cycle(stmts)]
+#[tactic(auto, using(crate::proofs::Reading::joined))]
+fn cobegin(
+    walk: Walk<'_>,
+    scope: &mut Scope,
+    forking: Forking,
+    branches: &Items<Branch>,
+    out: &mut Items<Own>,
+) -> Result<(), NoMemory>
+    ensures scope { OnOk result (scope.new ≡ scope.old) }
+    ensures done { let P = program_kept walk.entry.kept.now (plain_program walk.entry.program.now) in let L = scope_of scope.old in OnOk result (all_done out.new ≡ all_done out.old ++ after_branches forking (effects_of_branches P L (branches_of (map plain_branch branches.now)))) }
+{
+    let mut inner = Items::new(walk.alloc);
+    all_branches(walk, scope, branches.as_slice(), &mut inner)?;
+    add_after(forking, inner, out)
 }
 
 #[cycle(stmts)]
@@ -273,12 +211,65 @@ fn all_branches(
     out: &mut Items<Own>,
 ) -> Result<(), NoMemory>
     ensures scope { OnOk result (scope.new ≡ scope.old) }
-    ensures done { OnOk result (all_done out.new ≡ all_done out.old ++ effects_of_branches (program_kept walk.entry.kept.now (plain_program walk.entry.program.now)) (scope_of scope.old) (branches_of (map plain_branch branches.now))) }
+    ensures done { let P = program_kept walk.entry.kept.now (plain_program walk.entry.program.now) in let L = scope_of scope.old in OnOk result (all_done out.new ≡ all_done out.old ++ effects_of_branches P L (branches_of (map plain_branch branches.now))) }
 {
     for branch in branches {
-        statement(walk, scope, &branch.body, out)?;
+        scoped(walk, scope, &branch.body, out)?;
     }
     Ok(())
+}
+
+/// Adds what a `foreach` over numbers does.
+#[cycle(stmts)]
+#[tactic(auto, using(crate::proofs::Reading::joined))]
+fn foreach(
+    walk: Walk<'_>,
+    scope: &mut Scope,
+    forking: Forking,
+    slot: Slot,
+    start: &Expr,
+    count: &Expr,
+    body: &Stmt,
+    out: &mut Items<Own>,
+) -> Result<(), NoMemory>
+    ensures scope { OnOk result (scope.new ≡ scope.old) }
+    ensures done { let P = program_kept walk.entry.kept.now (plain_program walk.entry.program.now) in let L = scope_of scope.old in OnOk result (all_done out.new ≡ all_done out.old ++ (done_by P L (plain_expr start.now) ++ (done_by P L (plain_expr count.now) ++ outside_variable slot.number (after_branches forking (effects_of P (with_local slot.number (constant int) L) (plain_stmt body.now)))))) }
+{
+    expr(walk, scope, start, out)?;
+    expr(walk, scope, count, out)?;
+    let mut inner = Items::new(walk.alloc);
+    iteration(walk, scope, slot.number as u64, body, &mut inner)?;
+    let mut joined = Items::new(walk.alloc);
+    add_after(forking, inner, &mut joined)?;
+    leave_variable(walk.alloc, slot.number as u64, joined, out)
+}
+
+/// Adds what a `foreach` over the parts of an array does.
+#[cycle(stmts)]
+#[tactic(auto, using(crate::proofs::Reading::joined))]
+fn foreach_parts(
+    walk: Walk<'_>,
+    scope: &mut Scope,
+    part: Slot,
+    source: &PartSource,
+    count: &Expr,
+    body: &Stmt,
+    out: &mut Items<Own>,
+) -> Result<(), NoMemory>
+    ensures scope { OnOk result (scope.new ≡ scope.old) }
+    ensures done { let P = program_kept walk.entry.kept.now (plain_program walk.entry.program.now) in let L = scope_of scope.old in let cut = plain_source source.now in OnOk result (all_done out.new ≡ all_done out.old ++ (done_by_source P L cut ++ (done_by P L (plain_expr count.now) ++ outside_variable (part.number + 4) (after_branches Forking.Deterministic (after_parts part.number cut (effects_of P (with_parts part.number (part_of L cut) L) (plain_stmt body.now))))))) }
+{
+    let cut = cut_part(walk, scope, source, out)?;
+    expr(walk, scope, count, out)?;
+    let outer = scope.len();
+    scope.put(part.number as u64, cut)?;
+    let number = part.number as u64 + 4;
+    let mut inner = Items::new(walk.alloc);
+    iteration(walk, scope, number, body, &mut inner)?;
+    scope.leave(outer);
+    let mut joined = Items::new(walk.alloc);
+    add_after_parts(walk, part, source, inner, &mut joined)?;
+    leave_variable(walk.alloc, number, joined, out)
 }
 
 /// Adds what one iteration does, where the loop's variable is in scope.
@@ -296,7 +287,7 @@ fn iteration(
 {
     let outer = scope.len();
     scope.put(variable, Known::Constant)?;
-    statement(walk, scope, body, out)?;
+    scoped(walk, scope, body, out)?;
     scope.leave(outer);
     Ok(())
 }
@@ -340,18 +331,8 @@ fn add_after(forking: Forking, inner: Items<Own>, out: &mut Items<Own>) -> Resul
 {
     match forking {
         Forking::Deterministic => leave_branches(inner, out),
-        Forking::Nondeterministic => add_owns(inner, out),
+        Forking::Nondeterministic => append(inner, out),
     }
-}
-
-#[tactic(auto, using(crate::proofs::Reading::joined))]
-fn add_owns(more: Items<Own>, out: &mut Items<Own>) -> Result<(), NoMemory>
-    ensures { OnOk result (all_done out.new ≡ all_done out.old ++ all_done more) }
-{
-    for own in more.into_vec() {
-        out.push(own)?;
-    }
-    Ok(())
 }
 
 /// The same of a construct over parts.
