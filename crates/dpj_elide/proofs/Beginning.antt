@@ -3,7 +3,7 @@ use Rattle.std.proofs.Common.{◌≡◌, ◌∙◌, ℕ, zero, suc, ◌+◌, ◌
 use Rattle.dpj_typed.specs.declared.stmt.Branch.{Branch}
 use Rattle.dpj_typed.specs.declared.stmt.Stmt.{Stmt}
 use Rattle.dpj_typed.specs.Plain.{TypedStmt, plain_stmt, stmts_of, more_stmts, no_stmts, branches_of}
-use Rattle.dpj_meaning.specs.Actions.{Frame, Task}
+use Rattle.dpj_meaning.specs.Actions.{Frame}
 use Rattle.dpj_meaning.specs.Elision.{LocalRegion}
 use Rattle.dpj_meaning.specs.Statements.{branch_of, tasks_of, iterations, numbered_frame, begun}
 use Rattle.dpj_frames.specs.declared.frame.Frame.{Frame as CodeFrame}

@@ -1,5 +1,5 @@
 -- A member that is entered, and an object that is made.
-use Rattle.std.proofs.Common.{◌≡◌, ◌∙◌, ℕ, zero, suc, ◌-◌, ◌<◌, List, [], ◌∷◌, ◌++◌, map, drop, length, refl, sym, ap, ap₂, arith, Option, Some, None, Bool, true, false, cond}
+use Rattle.std.proofs.Common.{◌≡◌, ◌∙◌, ℕ, zero, suc, ◌-◌, ◌<◌, List, [], ◌∷◌, ◌++◌, drop, length, refl, sym, ap, arith, Option, Some, None, true, false, cond}
 use Rattle.dpj_base.specs.declared.place.Place.{Place}
 use Rattle.dpj_base.specs.declared.value.Trap.TheVariants as trap
 use Rattle.dpj_typed.specs.Plain.{PlainProgram, PlainMember}
@@ -11,7 +11,7 @@ use Rattle.dpj_meaning.specs.Elision.{LocalRegion, in_order, Store, answer, afte
 use Rattle.dpj_meaning.specs.Expressions.{entered, new_object}
 use Rattle.dpj_meaning.specs.Outcomes.{Limits}
 use Rattle.dpj_meaning.specs.Regions.{some_long, regions_above}
-use Rattle.dpj_walk.specs.Walk.{Level, Waiting, State, At, for_value, for_object, falls, beginning, or_null, calls, enters, row_member, seen_at, constructs, creates, creates_with, pushed}
+use Rattle.dpj_walk.specs.Walk.{Level, Waiting, At, for_value, for_object, falls, beginning, or_null, calls, enters, row_member, seen_at, constructs, creates, creates_with, pushed}
 use Rattle.dpj_store.specs.Halts.{IsOver}
 use Rattle.dpj_elide.specs.States.{IsOverAt}
 

@@ -1,5 +1,5 @@
 -- A state of the walk that has cost more than a limit allows leads to such states alone.
-use Rattle.std.proofs.Common.{◌≡◌, ◌<◌, ◌≤◌, ℕ, zero, suc, List, [], ◌∷◌, arith, inl, inr, ◌⊎◌, Option, Some, None, Bool, true, false, cond}
+use Rattle.std.proofs.Common.{◌≤◌, ℕ, zero, suc, List, [], ◌∷◌, arith, inl, inr, Option, Some, None, Bool, true, false, cond}
 use Rattle.dpj_base.specs.declared.place.Place.{Place}
 use Rattle.dpj_base.specs.declared.value.Trap.{Trap}
 use Rattle.dpj_base.specs.declared.value.Trap.TheVariants as trap

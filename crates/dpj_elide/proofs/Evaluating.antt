@@ -1,5 +1,5 @@
 -- The operands of an expression, put on the agenda from the last on.
-use Rattle.std.proofs.Common.{◌≡◌, ◌∙◌, ℕ, suc, ◌+◌, ◌-◌, ◌<◌, ◌≤◌, List, [], ◌∷◌, map, length, drop, drop-cons, get_or, refl, sym, ap, arith}
+use Rattle.std.proofs.Common.{◌≡◌, ◌∙◌, ℕ, suc, ◌+◌, ◌-◌, ◌<◌, ◌≤◌, List, ◌∷◌, map, length, drop, drop-cons, get_or, sym, ap, arith}
 use Rattle.dpj_typed.specs.declared.expr.Expr.{Expr}
 use Rattle.dpj_typed.specs.Plain.{plain_expr, exprs_of}
 use Rattle.dpj_frames.proofs.Dropped.{drop_all}

@@ -1,12 +1,12 @@
 -- A branch that ends by a trap, and what its construct does then.
-use Rattle.std.proofs.Common.{◌≡◌, ◌∙◌, ℕ, List, [], ◌∷◌, ◌++◌, refl, sym, ap, Option, Some, None}
+use Rattle.std.proofs.Common.{◌≡◌, ◌∙◌, ℕ, List, [], ◌∷◌, refl, ap, Option, Some, None}
 use Rattle.std.proofs.lemmas.List.{append-nil}
 use Rattle.std.specs.Option.{unwrap_or}
 use Rattle.dpj_base.specs.declared.place.Place.{Place}
 use Rattle.dpj_base.specs.declared.value.Trap.{Trap}
 use Rattle.dpj_meaning.specs.Actions.{Task, Work, Trapped}
 use Rattle.dpj_meaning.specs.Elision.{LocalRegion, Store, one_step}
-use Rattle.dpj_walk.specs.Walk.{Construct, Level, Waiting, At, branch_level, shortened, for_branch, falls, fallen, earlier, first_or, noted, begins, branches, rejoins}
+use Rattle.dpj_walk.specs.Walk.{Construct, Level, Waiting, At, branch_level, shortened, for_branch, falls, fallen, earlier, first_or, noted, begins}
 
 pub earlier_is : (fell : Option (Trap × Place)) (x : Trap × Place) → unwrap_or fell x ≡ earlier fell x
 earlier_is None x = refl

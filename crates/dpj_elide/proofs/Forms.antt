@@ -1,5 +1,5 @@
 -- The forms of the code's expressions and statements.
-use Rattle.std.proofs.Common.{◌≡◌, ◌∙◌, ℕ, suc, ℤ, Bool, List, [], ◌∷◌, Some, None, map, length, refl, ap, sym, rules}
+use Rattle.std.proofs.Common.{◌≡◌, ◌∙◌, ℕ, suc, ℤ, Bool, List, [], ◌∷◌, Option, Some, None, map, option_map, length, refl, ap, rules}
 use Rattle.dpj_base.specs.declared.effect.Effect.{Effect}
 use Rattle.dpj_base.specs.declared.region.Rpl.{Rpl}
 use Rattle.dpj_base.specs.declared.ty.Ty.{Ty}
@@ -22,14 +22,11 @@ use Rattle.dpj_typed.specs.declared.ids.Slot.{Slot}
 use Rattle.dpj_typed.specs.declared.ids.LocalRegion.{LocalRegion}
 use Rattle.dpj_typed.specs.declared.stmt.PartSource.{PartSource}
 use Rattle.dpj_typed.specs.declared.stmt.PartSource.TheVariants as source
-use Rattle.dpj_typed.specs.Plain.{PlainProgram, of_array, of_part}
+use Rattle.dpj_typed.specs.Plain.{choice_form, of_array, of_part, plain_source}
 use Rattle.dpj_typed.specs.Plain.{TypedExpr, typed, type_of, plain_expr, exprs_of, expr_form, expr_node, TypedStmt, TypedBranch, statement, plain_stmt, stmts_of, branches_of, stmt_form, branch_node, stmt_node}
 use Rattle.dpj_typed.specs.Plain.{StmtForm as made}
 use Rattle.dpj_typed.specs.Plain.{ExprForm as form}
-use Rattle.dpj_meaning.specs.Elision.{Store}
-use Rattle.dpj_walk.specs.Agenda.{count, counted, evaluate}
-use Rattle.dpj_walk.specs.Walk.{At, Level, Waiting, doing, finishes}
-use Rattle.dpj_elide.specs.Forms.{parts_begun}
+use Rattle.dpj_walk.specs.Agenda.{count}
 use Rattle.dpj_elide.specs.States.{plain_branch}
 
 abbrev pub plain_form : ExprForm → form
@@ -304,16 +301,15 @@ pub at_PartsOfPart : (s : Stmt) (part whole : Slot) (count : Expr) (body : Stmt)
     plain_stmt s ≡ statement s.place (made.foreach_parts part.number (of_part whole.number) (plain_expr count) (plain_stmt body))
 at_PartsOfPart s part whole count body is = of_shape s _ _ is (shape_PartsOfPart part whole count body)
 
--- what a loop over parts does before its count
-pub parts_finish : (P : PlainProgram) (s : Stmt) (part : Slot) (from : PartSource) (count : Expr) (body : Stmt) (g : Level) (ws : List Waiting) (w : Store)
-    → s.form ≡ stmt_kind.ForeachParts part from count body
-    → finishes P (plain_stmt s) g ws w ≡ At (doing (evaluate (plain_expr count)) (doing (counted (plain_stmt s)) (parts_begun part.number from g))) ws w
-parts_finish P s part (source.Array array) count body g ws w is =
-    let e = at_PartsOfArray s part array count body is in
-    ap (λ x. finishes P x g ws w) e ∙ ap (λ x. At (doing (evaluate (plain_expr count)) (doing (counted x) (parts_begun part.number (source.Array array) g))) ws w) (sym e)
-parts_finish P s part (source.Part whole) count body g ws w is =
-    let e = at_PartsOfPart s part whole count body is in
-    ap (λ x. finishes P x g ws w) e ∙ ap (λ x. At (doing (evaluate (plain_expr count)) (doing (counted x) (parts_begun part.number (source.Part whole) g))) ws w) (sym e)
+pub at_Parts : (s : Stmt) (part : Slot) (from : PartSource) (many : Expr) (body : Stmt) → s.form ≡ stmt_kind.ForeachParts part from many body →
+    plain_stmt s ≡ statement s.place (made.foreach_parts part.number (plain_source from) (plain_expr many) (plain_stmt body))
+at_Parts s part (source.Array array) many body is = at_PartsOfArray s part array many body is
+at_Parts s part (source.Part whole) many body is = at_PartsOfPart s part whole many body is
+
+pub at_Choice : (s : Stmt) (e : Expr) (body : Stmt) (other : Option Stmt) → s.form ≡ stmt_kind.If e body other →
+    plain_stmt s ≡ statement s.place (choice_form (plain_expr e) (plain_stmt body) (option_map plain_stmt other))
+at_Choice s e body None is = at_If s e body is
+at_Choice s e body (Some other) is = at_IfElse s e body other is
 
 -- how many they are
 pub count_exprs : (es : List Expr) → count (exprs_of (map plain_expr es)) ≡ length es

@@ -1,5 +1,5 @@
 -- A step that is broken off.
-use Rattle.std.proofs.Common.{Result, Ok, Err, Option}
+use Rattle.std.proofs.Common.{Err}
 use Rattle.dpj_meaning.specs.Elision.{Store}
 use Rattle.dpj_meaning.specs.Outcomes.{Limits}
 use Rattle.dpj_walk.specs.Walk.{State}

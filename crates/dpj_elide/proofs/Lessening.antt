@@ -3,7 +3,7 @@ use Rattle.std.proofs.Common.{◌≡◌, ◌∙◌, ◌<◌, ◌≤◌, ◌+◌,
 use Rattle.dpj_base.specs.declared.place.Place.{Place}
 use Rattle.dpj_base.specs.declared.value.Trap.{Trap}
 use Rattle.dpj_base.specs.declared.value.Trap.TheVariants as trap
-use Rattle.dpj_typed.specs.Plain.{PlainProgram, PlainMember, of_array, of_part, TypedExpr, typed, TypedExprs, no_exprs, more_exprs, TypedStmt, statement, TypedStmts, no_stmts, more_stmts}
+use Rattle.dpj_typed.specs.Plain.{PlainProgram, PlainMember, of_array, of_part, TypedExpr, typed, TypedExprs, no_exprs, more_exprs, TypedStmt, statement, no_stmts, more_stmts}
 use Rattle.dpj_typed.specs.Plain.{ExprForm as form}
 use Rattle.dpj_typed.specs.Plain.{StmtForm as stmt}
 use Rattle.dpj_typed.specs.Scope.{constructor_of, member_at, row_at}
@@ -19,11 +19,11 @@ use Rattle.dpj_meaning.specs.Regions.{around, concrete, some_long}
 use Rattle.dpj_meaning.specs.Statements.{all_copies, iterations, tasks_of}
 use Rattle.dpj_meaning.specs.Values.{Value, Boolean, Object}
 use Rattle.dpj_walk.specs.Agenda.{Item, evaluate, operate, carry_out, finish, counted, goes_on, test, turn, leave, operands_of, count, needs, applied, finished, counts_to}
-use Rattle.dpj_walk.specs.Walk.{Level, Construct, Waiting, for_value, for_object, for_branch, State, At, Off, falls, fallen, earlier, noted, branches, rejoins, ends, lands, forks_at, parts_at, or_null, pushed, doing, without, with_length, row_member, seen_at, enters, calls, constructs, creates, creates_with, each, operates, finishes, counts, turns, does_item, next_item, step}
+use Rattle.dpj_walk.specs.Walk.{Level, Construct, Waiting, for_value, for_object, for_branch, State, At, Off, falls, fallen, earlier, noted, branches, rejoins, ends, lands, forks_at, parts_at, or_null, pushed, doing, without, with_length, row_member, seen_at, enters, calls, constructs, creates, each, operates, finishes, counts, turns, does_item, next_item, step}
 use Rattle.dpj_walk.proofs.Loops.{Leaves, run_leaves}
 use Rattle.dpj_elide.specs.declared.walker.Walker.{Walker}
 use Rattle.dpj_elide.specs.States.{StandsAt, plain_waiting}
-use Rattle.dpj_elide.specs.Work.{expr_work, exprs_work, operation_work, stmt_work, stmts_work, finish_work, item_work, items_work, waiting_work, work_left}
+use Rattle.dpj_elide.specs.Work.{expr_work, exprs_work, operation_work, stmt_work, finish_work, item_work, items_work, waiting_work, work_left}
 use Rattle.dpj_elide.proofs.Calling.{Regions}
 
 abbrev pub Lessens : ℕ → Store → State → Type 0

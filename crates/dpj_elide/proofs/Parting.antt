@@ -1,25 +1,26 @@
--- A loop over parts whose count is taken.
-use Rattle.std.proofs.Common.{◌≡◌, ◌+◌, List, ap, sym}
-use Rattle.dpj_typed.specs.declared.expr.Expr.{Expr}
-use Rattle.dpj_typed.specs.declared.ids.Slot.{Slot}
+-- A loop over parts: before its count, and after it.
+use Rattle.std.proofs.Common.{◌≡◌, ◌+◌, ℕ, List, refl}
+use Rattle.dpj_base.specs.declared.place.Place.{Place}
 use Rattle.dpj_typed.specs.declared.stmt.PartSource.{PartSource}
 use Rattle.dpj_typed.specs.declared.stmt.PartSource.TheVariants as source
-use Rattle.dpj_typed.specs.declared.stmt.Stmt.{Stmt}
-use Rattle.dpj_typed.specs.declared.stmt.StmtForm.TheVariants as kind
-use Rattle.dpj_typed.specs.Plain.{PlainProgram, plain_stmt}
+use Rattle.dpj_typed.specs.Plain.{PlainProgram, TypedExpr, TypedStmt, plain_source, statement}
+use Rattle.dpj_typed.specs.Plain.{StmtForm as form}
 use Rattle.dpj_meaning.specs.Counts.{slot_value}
 use Rattle.dpj_meaning.specs.Elision.{Store}
 use Rattle.dpj_meaning.specs.Statements.{with_value}
-use Rattle.dpj_walk.specs.Agenda.{counted, counts_to}
-use Rattle.dpj_walk.specs.Walk.{Level, Waiting, counts, does_item, without}
-use Rattle.dpj_elide.specs.Forms.{parts_from}
-use Rattle.dpj_elide.proofs.Forms.{at_PartsOfArray, at_PartsOfPart}
+use Rattle.dpj_walk.specs.Agenda.{counted, evaluate}
+use Rattle.dpj_walk.specs.Walk.{At, Level, Waiting, does_item, doing, finishes, without}
+use Rattle.dpj_elide.specs.Forms.{parts_begun, parts_from}
 
-pub counts_at : (P : PlainProgram) (s : Stmt) (part : Slot) (from : PartSource) (count : Expr) (body : Stmt) (g : Level) (ws : List Waiting) (w : Store)
-    → s.form ≡ kind.ForeachParts part from count body
-    → parts_from s.place part.number from (plain_stmt body) (record (without 1 g) { frame = with_value g.frame (part.number + 3) (slot_value g.operands 0) }) ws w
-    ≡ does_item P (counted (plain_stmt s)) g ws w
-counts_at P s part (source.Array a) count body g ws w is =
-    ap (λ x. counts x (record (without 1 g) { frame = counts_to x (slot_value g.operands 0) g.frame }) ws w) (sym (at_PartsOfArray s part a count body is))
-counts_at P s part (source.Part j) count body g ws w is =
-    ap (λ x. counts x (record (without 1 g) { frame = counts_to x (slot_value g.operands 0) g.frame }) ws w) (sym (at_PartsOfPart s part j count body is))
+module _ (P : PlainProgram) (at : Place) (k : ℕ) (many : TypedExpr) (s : TypedStmt) (g : Level) (ws : List Waiting) (w : Store) where
+  pub begins_at : (from : PartSource) →
+      At (doing (evaluate many) (doing (counted (statement at (form.foreach_parts k (plain_source from) many s))) (parts_begun k from g))) ws w
+      ≡ finishes P (statement at (form.foreach_parts k (plain_source from) many s)) g ws w
+  begins_at (source.Array a) = refl
+  begins_at (source.Part j) = refl
+
+  pub counts_at : (from : PartSource) →
+      parts_from at k from s (record (without 1 g) { frame = with_value g.frame (k + 3) (slot_value g.operands 0) }) ws w
+      ≡ does_item P (counted (statement at (form.foreach_parts k (plain_source from) many s))) g ws w
+  counts_at (source.Array a) = refl
+  counts_at (source.Part j) = refl

@@ -1,5 +1,5 @@
 -- What a program declares, in the code's types.
-use Rattle.std.proofs.Common.{◌≡◌, ◌∙◌, ℕ, List, [], ◌∷◌, map, sym, ap, refl, Option, Some, None}
+use Rattle.std.proofs.Common.{◌≡◌, ◌∙◌, ℕ, List, [], ◌∷◌, map, sym, ap, refl, Some, None}
 use Rattle.std.specs.Prelude.{slice_get, option_map}
 use Rattle.std.specs.Option.{option_map_or}
 use Rattle.std.proofs.lemmas.Option.{slice_get-map}
@@ -10,7 +10,6 @@ use Rattle.dpj_typed.specs.declared.program.Program.{Program}
 use Rattle.dpj_typed.specs.declared.program.Member.{Member}
 use Rattle.dpj_typed.specs.Plain.{plain_program, plain_class, plain_field, plain_member}
 use Rattle.dpj_typed.specs.Scope.{member_at}
-use Rattle.dpj_meaning.specs.Values.{Value}
 use Rattle.dpj_meaning.specs.Expressions.{class_fields, first_of}
 
 firsts : (fs : List Field) → map (λ f. first_of {N = ℕ} (plain_type f.ty)) fs ≡ map (λ f. first_of {N = ℕ} f.ty) (map plain_field fs)

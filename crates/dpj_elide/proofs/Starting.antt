@@ -1,19 +1,18 @@
 -- The start of a walk, and its end.
-use Rattle.std.proofs.Common.{◌≡◌, ◌∙◌, ◌<◌, ◌≤◌, ◌+◌, ℕ, zero, suc, ℤ, List, [], ◌∷◌, map, refl, sym, ap, ap₂, subst, arith, inl, inr, Option, Some, None, Result, Ok, Err, Bool, false, true, cond, ◌||◌}
+use Rattle.std.proofs.Common.{◌≡◌, ◌∙◌, ◌≤◌, ◌+◌, ℕ, zero, suc, ℤ, [], ◌∷◌, map, refl, sym, ap, subst, arith, inl, inr, Option, Some, None, Ok, Err, Bool, false, true, cond, ◌||◌}
 use Rattle.std.specs.Prelude.{nat_lt, All}
 use Rattle.std.proofs.lemmas.Bool.{lt-ltb, le-ltb}
 use Rattle.std.proofs.lemmas.List.Elements.{All-nil}
 use Rattle.dpj_base.specs.declared.outcome.Limits.{Limits}
 use Rattle.dpj_heap.specs.Heap.{Contents}
 use Rattle.dpj_typed.specs.Plain.{PlainProgram, PlainMember, TypedStmts, no_stmts}
-use Rattle.dpj_meaning.specs.Actions.{Ending, Frame, New}
+use Rattle.dpj_meaning.specs.Actions.{Frame, New}
 use Rattle.dpj_meaning.specs.Core.{Done, Stopped, Lost}
 use Rattle.dpj_meaning.specs.Core.{Out as out}
 use Rattle.dpj_meaning.specs.Costs.{size}
 use Rattle.dpj_meaning.specs.Elision.{LocalRegion, Store, after, at_start, elided, enters_main, in_order, main_object}
 use Rattle.dpj_meaning.specs.Expressions.{entered}
 use Rattle.dpj_meaning.specs.Outcomes.{Came, Limited}
-use Rattle.dpj_meaning.specs.Outcomes.{Limits as MeaningLimits}
 use Rattle.dpj_meaning.specs.Values.{Int, Object, Thing}
 use Rattle.dpj_walk.specs.Laws.{TellsElision, StaysOver}
 use Rattle.dpj_walk.specs.Walk.{State, At, Off, beginning, root_level, start, step, walk}

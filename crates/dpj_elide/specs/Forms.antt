@@ -1,38 +1,14 @@
--- Which expressions and statements are simple, and a loop over parts by what it is over.
-use Rattle.std.specs.Prelude.{ℕ, ◌+◌, Bool, true, false, List, drop}
+-- A loop over parts, by what it is over.
+use Rattle.std.specs.Prelude.{ℕ, ◌+◌, List, drop}
 use Rattle.dpj_base.specs.declared.place.Place.{Place}
 use Rattle.dpj_typed.specs.declared.stmt.PartSource.{PartSource}
 use Rattle.dpj_typed.specs.declared.stmt.PartSource.TheVariants as source
-use Rattle.dpj_typed.specs.Plain.{TypedExpr, typed, TypedStmt, statement}
-use Rattle.dpj_typed.specs.Plain.{ExprForm as form}
-use Rattle.dpj_typed.specs.Plain.{StmtForm as stmt}
+use Rattle.dpj_typed.specs.Plain.{TypedStmt}
 use Rattle.dpj_meaning.specs.Actions.{Look}
 use Rattle.dpj_meaning.specs.Counts.{reference, slot_value}
 use Rattle.dpj_meaning.specs.Elision.{Store, after}
 use Rattle.dpj_meaning.specs.Statements.{part_begun, part_taken_over, with_value}
 use Rattle.dpj_walk.specs.Walk.{Level, Waiting, State, or_null, parts_at, with_length}
-
--- an expression whose value needs no more than a frame and an operand
-abbrev pub is_own : TypedExpr → Bool
-is_own (typed at t (form.int k)) = true
-is_own (typed at t (form.boolean b)) = true
-is_own (typed at t form.null) = true
-is_own (typed at t (form.local x)) = true
-is_own (typed at t (form.part_length k)) = true
-is_own (typed at t (form.unary o e)) = true
-is_own e = false
-
--- a statement that holds no other
-abbrev pub is_simple : TypedStmt → Bool
-is_simple (statement at (stmt.block ss)) = false
-is_simple (statement at (stmt.choice e s)) = false
-is_simple (statement at (stmt.choice_else e s t)) = false
-is_simple (statement at (stmt.while_loop e s)) = false
-is_simple (statement at (stmt.atomic effects ss)) = false
-is_simple (statement at (stmt.cobegin forking bs)) = false
-is_simple (statement at (stmt.foreach forking x start many s)) = false
-is_simple (statement at (stmt.foreach_parts k source many s)) = false
-is_simple s = true
 
 -- the slots of a part up to its count, by what it is a part of
 abbrev pub parts_begun : ℕ → PartSource → Level → Level

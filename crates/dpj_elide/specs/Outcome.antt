@@ -11,7 +11,7 @@ use Rattle.dpj_meaning.specs.Elision.{Store, elided}
 use Rattle.dpj_meaning.specs.Outcomes.{Outcome as ElidedOutcome}
 use Rattle.dpj_meaning.specs.Outcomes.{Came as came_out, Limited}
 use Rattle.dpj_meaning.specs.Outcomes.{Limits as MeaningLimits}
-use Rattle.dpj_walk.specs.Walk.{start, walk}
+use Rattle.dpj_walk.specs.Walk.{start}
 use Rattle.dpj_store.specs.declared.halt.Halt.{Halt}
 use Rattle.dpj_store.specs.declared.halt.Halt.TheVariants as halt
 use Rattle.dpj_elide.specs.declared.walker.Walker.{Walker}

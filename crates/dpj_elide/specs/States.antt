@@ -1,7 +1,7 @@
 -- The walker's state, as that of the walk.
-use Rattle.std.specs.Prelude.{◌≡◌, ◌<◌, ℕ, suc, ◌-◌, false, List, map, drop, Option, Some, None, Result, Ok, Err}
+use Rattle.std.specs.Prelude.{◌≡◌, ℕ, ◌-◌, false, List, map, drop, Option, Some, None, Result, Ok, Err}
 use Rattle.dpj_base.specs.declared.value.Value.{Value as Constant}
-use Rattle.dpj_typed.specs.Plain.{plain_expr, plain_stmt, stmts_of, no_stmts, TypedBranch, TypedExpr, TypedStmt, statement, branches_of}
+use Rattle.dpj_typed.specs.Plain.{plain_expr, plain_stmt, plain_source, stmts_of, no_stmts, TypedBranch, TypedExpr, TypedStmt, statement, branches_of}
 use Rattle.dpj_typed.specs.Plain.{StmtForm as stmt}
 use Rattle.dpj_typed.specs.declared.stmt.Branch.{Branch}
 use Rattle.dpj_typed.specs.declared.ids.Slot.{Slot}
@@ -25,7 +25,6 @@ use Rattle.dpj_elide.specs.declared.item.Item.{Item as CodeItem}
 use Rattle.dpj_elide.specs.declared.item.Item.TheVariants as item
 use Rattle.dpj_elide.specs.declared.level.Level.{Level}
 use Rattle.dpj_elide.specs.declared.waiting.Given.{Given}
-use Rattle.dpj_elide.specs.declared.waiting.Numbers.{Numbers}
 use Rattle.dpj_elide.specs.declared.waiting.Rest.{Rest}
 use Rattle.dpj_elide.specs.declared.waiting.Rest.TheVariants as rest
 use Rattle.dpj_elide.specs.declared.waiting.Fork.{Fork}
@@ -34,18 +33,20 @@ use Rattle.dpj_elide.specs.declared.waiting.Awaited.{Awaited}
 use Rattle.dpj_elide.specs.declared.waiting.Awaited.TheVariants as awaited
 use Rattle.dpj_elide.specs.declared.item.ExprStage.{ExprStage}
 use Rattle.dpj_elide.specs.declared.item.ExprStage.TheVariants.{Evaluate, Operate}
+use Rattle.dpj_elide.specs.declared.item.LoopStage.{LoopStage}
+use Rattle.dpj_elide.specs.declared.item.LoopStage.TheVariants.{Test, Turn}
+use Rattle.dpj_elide.specs.declared.item.PartsLoop.{PartsLoop}
 use Rattle.dpj_elide.specs.declared.item.StmtStage.{StmtStage}
-use Rattle.dpj_elide.specs.declared.item.StmtStage.TheVariants.{CarryOut, Finish, Counted, Test, Turn}
+use Rattle.dpj_elide.specs.declared.item.StmtStage.TheVariants.{CarryOut, Finish}
 use Rattle.dpj_elide.specs.declared.walker.Walker.{Walker}
 use Rattle.dpj_elide.specs.declared.walker.Over.{Over}
 use Rattle.dpj_elide.specs.declared.walker.Over.TheVariants as over
 use Rattle.dpj_store.specs.Halts.{IsOver}
 use Rattle.dpj_store.specs.Stores.{Holds}
 
--- a while loop has a test and a body, and no other statement is one
-abbrev pub in_loop : (TypedExpr → TypedStmt → Item) → TypedStmt → Item
-in_loop k (statement at (stmt.while_loop e s)) = k e s
-in_loop k s = goes_on no_stmts
+-- a loop over parts, as a statement
+abbrev pub plain_parts : PartsLoop → TypedStmt
+plain_parts l = statement l.place (stmt.foreach_parts l.part.number (plain_source l.source.now) (plain_expr l.count.now) (plain_stmt l.body.now))
 
 abbrev pub expr_item : ExprStage → TypedExpr → Item
 expr_item Evaluate e = evaluate e
@@ -54,13 +55,16 @@ expr_item Operate e = operate e
 abbrev pub stmt_item : StmtStage → TypedStmt → Item
 stmt_item CarryOut s = carry_out s
 stmt_item Finish s = finish s
-stmt_item Counted s = counted s
-stmt_item Test s = in_loop test s
-stmt_item Turn s = in_loop turn s
+
+abbrev pub loop_item : LoopStage → TypedExpr → TypedStmt → Item
+loop_item Test e s = test e s
+loop_item Turn e s = turn e s
 
 abbrev pub plain_item : CodeItem → Item
 plain_item (item.Expr stage e) = expr_item stage (plain_expr e.now)
 plain_item (item.Stmt stage s) = stmt_item stage (plain_stmt s.now)
+plain_item (item.Loop stage e s) = loop_item stage (plain_expr e.now) (plain_stmt s.now)
+plain_item (item.Counted l) = counted (plain_parts l)
 plain_item (item.GoesOn ss) = goes_on (stmts_of (map plain_stmt ss.now))
 plain_item item.Leave = leave
 

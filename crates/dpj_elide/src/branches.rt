@@ -22,15 +22,7 @@ impl<'p> Fork<'p> {
     {
         match self.rest {
             Rest::Branches(at) => self.begin_branch(alloc, at, outer),
-            Rest::Numbers(numbers) => {
-                if numbers.left == 0 {
-                    return Ok(None);
-                }
-                let frame = numbers.frame(alloc, &outer.frame)?;
-                self.running = &[];
-                self.rest = Rest::Numbers(numbers.after());
-                Ok(Some(Level::beginning(alloc, slice::from_ref(numbers.body), frame)?))
-            }
+            Rest::Numbers(numbers) => self.begin_iteration(alloc, numbers, outer),
         }
     }
 
@@ -41,8 +33,7 @@ impl<'p> Fork<'p> {
         at: usize,
         outer: &Level,
     ) -> Result<Option<Level<'p>>, NoMemory>
-        requires { self.old.rest ≡ rest.Branches at }
-        ensures { IfOk result (λ level. Begins (plain_level outer.now) self.old level self.new) }
+        ensures { IfOk result (λ level. Begins (plain_level outer.now) (record self.old { rest = rest.Branches at }) level self.new) }
     {
         if at >= self.branches.len() {
             return Ok(None);
@@ -52,6 +43,24 @@ impl<'p> Fork<'p> {
         self.running = branch.copies.as_slice();
         self.rest = Rest::Branches(at + 1);
         Ok(Some(Level::beginning(alloc, slice::from_ref(&branch.body), frame)?))
+    }
+
+    /// The next iteration of a loop.
+    fn begin_iteration(
+        &mut self,
+        alloc: Global,
+        numbers: Numbers<'p>,
+        outer: &Level,
+    ) -> Result<Option<Level<'p>>, NoMemory>
+        ensures { IfOk result (λ level. Begins (plain_level outer.now) (record self.old { rest = rest.Numbers numbers.entry }) level self.new) }
+    {
+        if numbers.left == 0 {
+            return Ok(None);
+        }
+        let frame = numbers.frame(alloc, &outer.frame)?;
+        self.running = &[];
+        self.rest = Rest::Numbers(numbers.after());
+        Ok(Some(Level::beginning(alloc, slice::from_ref(numbers.body), frame)?))
     }
 }
 

@@ -1,4 +1,5 @@
-use dpj_typed::{Expr, Stmt};
+use dpj_base::{Boxed, Place};
+use dpj_typed::{Expr, PartSource, Slot, Stmt};
 
 /// What comes next of an expression.
 #[derive(Clone, Copy, Debug, PartialEq, Eq)]
@@ -15,11 +16,23 @@ pub enum StmtStage {
     CarryOut,
     /// What it does once its operands stand there.
     Finish,
-    /// A loop over parts, whose count is on top.
-    Counted,
-    /// A while loop in front of its test, and after it.
+}
+
+/// Where a while loop stands: in front of its test, or after it.
+#[derive(Clone, Copy, Debug, PartialEq, Eq)]
+pub enum LoopStage {
     Test,
     Turn,
+}
+
+/// A loop over the parts of an array, or of a part.
+#[derive(Clone, Copy, Drop)]
+pub struct PartsLoop<'p> {
+    pub place: Place,
+    pub part: Slot,
+    pub source: &'p PartSource,
+    pub count: &'p Expr,
+    pub body: &'p Boxed<Stmt>,
 }
 
 /// A thing that a body at work has to do.
@@ -27,6 +40,10 @@ pub enum StmtStage {
 pub enum Item<'p> {
     Expr(ExprStage, &'p Expr),
     Stmt(StmtStage, &'p Stmt),
+    /// A while loop, of this test and this body.
+    Loop(LoopStage, &'p Expr, &'p Boxed<Stmt>),
+    /// A loop over parts, whose count is on top.
+    Counted(PartsLoop<'p>),
     GoesOn(&'p [Stmt]),
     /// The end of an atomic block.
     Leave,

@@ -163,14 +163,8 @@ impl<'p> Level<'p> {
                 ExprStage::Evaluate,
                 one.get(),
             )),
-            ExprForm::Element {
-                array: left,
-                index: right,
-            }
-            | ExprForm::Binary { left, right, .. } => {
-                self.will(Item::Expr(ExprStage::Evaluate, right.get()))?;
-                self.will(Item::Expr(ExprStage::Evaluate, left.get()))
-            }
+            ExprForm::Element { array, index } => self.will_both(array.get(), index.get()),
+            ExprForm::Binary { left, right, .. } => self.will_both(left.get(), right.get()),
             ExprForm::Call { of, actuals, .. } => {
                 self.will_evaluate(actuals.as_slice())?;
                 self.will(Item::Expr(ExprStage::Evaluate, of.get()))
@@ -192,6 +186,19 @@ impl<'p> Level<'p> {
         self.will(Item::Expr(ExprStage::Evaluate, first))
     }
 
+    /// The values of three expressions come next.
+    fn will_three(
+        &mut self,
+        first: &'p Expr,
+        second: &'p Expr,
+        third: &'p Expr,
+    ) -> Result<(), NoMemory>
+        ensures { OnOk result (plain_level self.new ≡ record (plain_level self.old) { items = evaluate (plain_expr first.now) ∷ evaluate (plain_expr second.now) ∷ evaluate (plain_expr third.now) ∷ (plain_level self.old).items }) }
+    {
+        self.will(Item::Expr(ExprStage::Evaluate, third))?;
+        self.will_both(first, second)
+    }
+
     /// The operands of a statement come next, and then the statement.
     #[tactic(auto, using(crate::proofs::Forms::shapes))]
     pub fn carry_out(&mut self, s: &'p Stmt) -> Result<(), NoMemory>
@@ -199,51 +206,33 @@ impl<'p> Level<'p> {
     {
         self.will(Item::Stmt(StmtStage::Finish, s))?;
         match &s.form {
-            StmtForm::Declare { value: one, .. }
-            | StmtForm::Store { value: one, .. }
-            | StmtForm::Perform(one)
-            | StmtForm::PrintInt(one)
-            | StmtForm::PrintBool(one)
-            | StmtForm::If { test: one, .. }
-            | StmtForm::Return(Some(one))
-            | StmtForm::ForeachParts {
-                source: PartSource::Array(one),
-                ..
-            } => self.will(Item::Expr(ExprStage::Evaluate, one)),
-            StmtForm::StoreField {
-                of: first,
-                value: second,
-                ..
+            StmtForm::Declare { value, .. } | StmtForm::Store { value, .. } => {
+                self.will(Item::Expr(ExprStage::Evaluate, value))
             }
-            | StmtForm::StorePart {
-                index: first,
-                value: second,
-                ..
-            }
-            | StmtForm::Foreach {
-                start: first,
-                count: second,
-                ..
-            } => self.will_both(first, second),
+            StmtForm::StoreField { of, value, .. } => self.will_both(of, value),
             StmtForm::StoreElement {
                 array,
                 index,
                 value,
-            } => {
-                self.will(Item::Expr(ExprStage::Evaluate, value))?;
-                self.will_both(array, index)
+            } => self.will_three(array, index, value),
+            StmtForm::StorePart { index, value, .. } => self.will_both(index, value),
+            StmtForm::Perform(value) | StmtForm::PrintInt(value) | StmtForm::PrintBool(value) => {
+                self.will(Item::Expr(ExprStage::Evaluate, value))
             }
+            StmtForm::If { test, .. } => self.will(Item::Expr(ExprStage::Evaluate, test)),
+            StmtForm::Return(Some(value)) => self.will(Item::Expr(ExprStage::Evaluate, value)),
+            StmtForm::Foreach { start, count, .. } => self.will_both(start, count),
+            StmtForm::ForeachParts { source, .. } => match source {
+                PartSource::Array(array) => self.will(Item::Expr(ExprStage::Evaluate, array)),
+                PartSource::Part(_) => Ok(()),
+            },
             StmtForm::Block(_)
             | StmtForm::While { .. }
             | StmtForm::Return(None)
             | StmtForm::PrintText(_)
             | StmtForm::Regions(_)
             | StmtForm::Atomic { .. }
-            | StmtForm::Cobegin { .. }
-            | StmtForm::ForeachParts {
-                source: PartSource::Part(_),
-                ..
-            } => Ok(()),
+            | StmtForm::Cobegin { .. } => Ok(()),
         }
     }
 }

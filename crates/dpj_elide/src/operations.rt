@@ -1,21 +1,25 @@
-ghost use Rattle.std.specs.Prelude.{◌∷◌, pos, drop};
+ghost use Rattle.std.specs.Prelude.{◌∷◌, ◌+◌, pos, drop};
 ghost use Rattle.dpj_meaning.specs.Core.{run};
-ghost use Rattle.dpj_meaning.specs.Counts.{number, slot_value, length_seen};
+ghost use Rattle.dpj_meaning.specs.Counts.{number, slot_value, text_of, unary, length_seen};
+ghost use Rattle.dpj_meaning.specs.Counts.{line as plain_line};
 ghost use Rattle.dpj_meaning.specs.Elision.{after, sequential, in_order};
 ghost use Rattle.dpj_meaning.specs.Expressions.{gives, operation, unless_null, read_cell, part_element};
-ghost use Rattle.dpj_meaning.specs.Statements.{write_cell};
+ghost use Rattle.dpj_meaning.specs.Statements.{with_value, write_cell};
 ghost use Rattle.dpj_meaning.specs.Core.{Act};
 ghost use Rattle.dpj_meaning.specs.Actions.{Look, Print};
 ghost use Rattle.dpj_meaning.specs.Values.{Int};
 ghost use Rattle.dpj_frames.specs.Names.{plain_value, plain_frame};
-ghost use Rattle.dpj_walk.specs.Walk.{At, lands};
+ghost use Rattle.dpj_walk.specs.Walk.{At, lands, pushed, without};
 ghost use Rattle.dpj_elide.specs.States.{Does};
 
 use crate::walker::{Over, Walker};
-use dpj_base::{Place, Trap, Value};
-use dpj_frames::{number, operated, part_place, reference, slot};
+use dpj_base::{Bytes, Place, Trap, Value};
+use dpj_frames::{
+    inverted, negated, number, operated, part_place, reference, set_slot, slot, slot_after,
+    text_line, value_line,
+};
 use dpj_store::Halt;
-use dpj_typed::BinaryOp;
+use dpj_typed::{BinaryOp, FieldSlot, Slot, UnaryOp};
 
 impl<'p> Walker<'p> {
     /// A value in the place of so many operands.
@@ -32,6 +36,33 @@ impl<'p> Walker<'p> {
     {
         self.level.operands.drop_top(many);
         Ok(None)
+    }
+
+    /// The value of a local.
+    pub fn local(&mut self, local: Slot) -> Result<Option<Over>, Halt>
+        ensures { Does (λ g ws w. At (pushed (slot_value g.frame.values local.number) g) ws w) self.old result self.new }
+    {
+        let value = slot(&self.level.frame.values, local.number as usize);
+        self.give(0, value)
+    }
+
+    /// The length of a part.
+    pub fn part_length(&mut self, part: Slot) -> Result<Option<Over>, Halt>
+        ensures { Does (λ g ws w. At (pushed (slot_value g.frame.values (part.number + 2)) g) ws w) self.old result self.new }
+    {
+        let len = slot_after(&self.level.frame.values, part.number as usize, 2);
+        self.give(0, len)
+    }
+
+    /// An operation on the operand on top.
+    pub fn unary(&mut self, op: UnaryOp) -> Result<Option<Over>, Halt>
+        ensures { Does (λ g ws w. At (pushed (unary op (slot_value g.operands 0)) (without 1 g)) ws w) self.old result self.new }
+    {
+        let value = self.level.operand(0);
+        match op {
+            UnaryOp::Negate => self.give(1, negated(value)),
+            UnaryOp::Not => self.give(1, inverted(value)),
+        }
     }
 
     /// An operation on the two operands on top.
@@ -62,6 +93,14 @@ impl<'p> Walker<'p> {
             Some(value) => self.give(many, value),
             None => self.fall(Trap::Index, place),
         }
+    }
+
+    /// The field of the object on top.
+    pub fn read_field(&mut self, place: Place, field: FieldSlot) -> Result<Option<Over>, Halt>
+        ensures { Does (λ g ws w. lands g (λ v. v ∷ drop 1 g.operands) ws (run sequential (unless_null place (slot_value g.operands 0) (λ n. read_cell place n (pos field.number) g.frame)) w)) self.old result self.new }
+    {
+        let object = self.level.operand(0);
+        self.read(place, object, i64::from(field.number), 1)
     }
 
     /// The element of an array, at the index on top.
@@ -119,6 +158,24 @@ impl<'p> Walker<'p> {
         self.discard(many)
     }
 
+    /// The value on top into a local.
+    pub fn assign(&mut self, slot: Slot) -> Result<Option<Over>, Halt>
+        ensures { Does (λ g ws w. At (record (without 1 g) { frame = with_value g.frame slot.number (slot_value g.operands 0) }) ws w) self.old result self.new }
+    {
+        let value = self.level.operand(0);
+        set_slot(&mut self.level.frame.values, slot.number as usize, value);
+        self.discard(1)
+    }
+
+    /// The value on top into a field of the object below it.
+    pub fn write_field(&mut self, place: Place, field: FieldSlot) -> Result<Option<Over>, Halt>
+        ensures { Does (λ g ws w. lands g (λ v. drop 2 g.operands) ws (run sequential (unless_null place (slot_value g.operands 1) (λ n. write_cell place n (pos field.number) (slot_value g.operands 0) g.frame)) w)) self.old result self.new }
+    {
+        let value = self.level.operand(0);
+        let object = self.level.operand(1);
+        self.write(place, object, i64::from(field.number), value, 2)
+    }
+
     /// The value on top into the element of an array, whose index is below it.
     pub fn write_element(&mut self, place: Place) -> Result<Option<Over>, Halt>
         ensures { Does (λ g ws w. lands g (λ v. drop 3 g.operands) ws (run sequential (unless_null place (slot_value g.operands 2) (λ n. write_cell place n (number (slot_value g.operands 1)) (slot_value g.operands 0) g.frame)) w)) self.old result self.new }
@@ -144,8 +201,24 @@ impl<'p> Walker<'p> {
         }
     }
 
+    /// The value on top, printed.
+    pub fn print_value(&mut self) -> Result<Option<Over>, Halt>
+        ensures { Does (λ g ws w. At (without 1 g) ws (after (Print (plain_line (text_of (slot_value g.operands 0)))) w)) self.old result self.new }
+    {
+        let line = value_line(self.alloc, self.level.operand(0))?;
+        self.print(line.as_slice(), 1)
+    }
+
+    /// A text, printed.
+    pub fn print_text(&mut self, text: &Bytes) -> Result<Option<Over>, Halt>
+        ensures { Does (λ g ws w. At g ws (after (Print (plain_line text.now)) w)) self.old result self.new }
+    {
+        let line = text_line(self.alloc, text)?;
+        self.print(line.as_slice(), 0)
+    }
+
     /// A printed line, which takes so many operands off.
-    pub fn print(&mut self, line: &[u8], many: usize) -> Result<Option<Over>, Halt>
+    fn print(&mut self, line: &[u8], many: usize) -> Result<Option<Over>, Halt>
         ensures { Does (λ g ws w. At (record g { operands = drop many g.operands }) ws (after (Print line.now) w)) self.old result self.new }
     {
         self.store.print(line)?;

@@ -1,47 +1,31 @@
-ghost use Rattle.std.specs.Prelude.{◌≡◌, [], map, slice_set, IsTrue};
-ghost use Rattle.dpj_typed.specs.Plain.{PlainProgram, plain_expr, plain_stmt, branches_of};
-ghost use Rattle.dpj_meaning.specs.Core.{run};
-ghost use Rattle.dpj_meaning.specs.Counts.{how_many, number, reference, slot_value};
+ghost use Rattle.std.specs.Prelude.{◌≡◌, List, [], cond, map, option_map, slice_set};
+ghost use Rattle.std.specs.Option.{option_copied};
+ghost use Rattle.dpj_base.specs.declared.effect.Effect.{Effect};
+ghost use Rattle.dpj_base.specs.declared.place.Place.{Place};
+ghost use Rattle.dpj_typed.specs.Plain.{PlainProgram, TypedExpr, branches_of, choice_form, plain_expr, plain_stmt, statement, stmts_of};
+ghost use Rattle.dpj_typed.specs.Plain.{StmtForm as form};
+ghost use Rattle.dpj_meaning.specs.Core.{Returns, run};
+ghost use Rattle.dpj_meaning.specs.Counts.{how_many, number, reference, slot_value, truth};
 ghost use Rattle.dpj_meaning.specs.Elision.{Made, after, sequential};
 ghost use Rattle.dpj_meaning.specs.Actions.{Exit, Look};
 ghost use Rattle.dpj_meaning.specs.Statements.{makes, all_copies, tasks_of, iterations};
-ghost use Rattle.dpj_walk.specs.Agenda.{evaluate, counted};
-ghost use Rattle.dpj_walk.specs.Walk.{At, does_item, doing, finishes, forks_at, or_null, parts_at, lands, with_length, without};
+ghost use Rattle.dpj_walk.specs.Agenda.{evaluate, counted, turn};
+ghost use Rattle.dpj_walk.specs.Walk.{At, does_item, doing, ends, finishes, forks_at, or_null, parts_at, lands, turns, with_length, without};
 ghost use Rattle.dpj_frames.specs.Names.{plain_local};
-ghost use Rattle.dpj_elide.specs.declared.item.StmtStage.TheVariants.{Counted, Test, Turn};
-ghost use Rattle.dpj_elide.specs.Forms.{is_simple, parts_from};
-ghost use Rattle.dpj_elide.specs.States.{Does, plain_item, plain_branch, stmt_item, tasks_in};
+ghost use Rattle.dpj_elide.specs.Forms.{parts_from};
+ghost use Rattle.dpj_elide.specs.States.{Does, plain_branch, plain_item, plain_parts, tasks_in};
 
-use crate::item::{ExprStage, Item, StmtStage};
+use crate::item::{ExprStage, Item, LoopStage, PartsLoop, StmtStage};
 use crate::level::Level;
 use crate::waiting::{Fork, Numbers, Rest};
 use crate::walker::{Over, Walker};
-use dpj_base::{Items, Place, Trap, Value};
-use dpj_frames::{
-    how_many, number, reference, set_slot, set_slot_after, slot, slot_after, text_line, truth,
-    value_line,
-};
+use dpj_base::{Boxed, Items, Place, Trap, Value};
+use dpj_frames::{how_many, number, reference, set_slot_after, slot, slot_after, truth};
 use dpj_store::Halt;
 use dpj_typed::{Branch, Expr, LocalRegion, PartSource, Slot, Stmt, StmtForm};
 use std::mem;
 
 impl<'p> Walker<'p> {
-    /// What comes next of a statement.
-    pub fn do_stage(&mut self, stage: StmtStage, s: &'p Stmt) -> Result<Option<Over>, Halt>
-        ensures { (P : PlainProgram) → Does (does_item P (stmt_item stage (plain_stmt s.now))) self.old result self.new }
-    {
-        match stage {
-            StmtStage::CarryOut => {
-                self.level.carry_out(s)?;
-                Ok(None)
-            }
-            StmtStage::Finish => self.finish(s),
-            StmtStage::Counted => self.counted(s),
-            StmtStage::Test => self.test(s),
-            StmtStage::Turn => self.turn(s),
-        }
-    }
-
     /// The end of an atomic block.
     pub fn leave(&mut self) -> Result<Option<Over>, Halt>
         ensures { Does (λ g ws w. At g ws (after Exit w)) self.old result self.new }
@@ -52,94 +36,74 @@ impl<'p> Walker<'p> {
 
     /// A statement whose operands are on top.
     #[tactic(auto, using(crate::proofs::Forms::shapes))]
-    fn finish(&mut self, s: &'p Stmt) -> Result<Option<Over>, Halt>
-        ensures { (P : PlainProgram) → Does (finishes P (plain_stmt s.now)) self.old result self.new }
-    {
-        match &s.form {
-            StmtForm::Block(all) => self.next(0, Item::GoesOn(all.as_slice())),
-            StmtForm::If { then, other, .. } => {
-                if truth(self.level.operand(0)) {
-                    return self.next(1, Item::Stmt(StmtStage::CarryOut, then.get()));
-                }
-                match other {
-                    Some(other) => self.next(1, Item::Stmt(StmtStage::CarryOut, other.get())),
-                    None => self.discard(1),
-                }
-            }
-            StmtForm::While { .. } => self.next(0, Item::Stmt(StmtStage::Test, s)),
-            StmtForm::Atomic { body, .. } => {
-                self.store.count()?;
-                self.level.will(Item::Leave)?;
-                self.next(0, Item::GoesOn(body.as_slice()))
-            }
-            StmtForm::Cobegin { branches, .. } => self.cobegin(s.place, branches.as_slice()),
-            StmtForm::Foreach { slot, body, .. } => {
-                self.iterate(s.place, slot.number as usize, body.get())
-            }
-            StmtForm::ForeachParts {
-                part,
-                source,
-                count,
-                ..
-            } => {
-                self.level.start_parts(*part, source);
-                self.count_parts(s, count)
-            }
-            _ => self.finish_simple(s),
-        }
-    }
-
-    /// A statement that holds no other.
-    #[tactic(auto, using(crate::proofs::Forms::shapes))]
-    fn finish_simple(&mut self, s: &'p Stmt) -> Result<Option<Over>, Halt>
-        requires { IsTrue (is_simple (plain_stmt s.now)) }
+    pub fn finish(&mut self, s: &'p Stmt) -> Result<Option<Over>, Halt>
         ensures { (P : PlainProgram) → Does (finishes P (plain_stmt s.now)) self.old result self.new }
     {
         let place = s.place;
         match &s.form {
-            StmtForm::Declare { slot, .. } | StmtForm::Store { slot, .. } => {
-                let value = self.level.operand(0);
-                set_slot(&mut self.level.frame.values, slot.number as usize, value);
-                self.discard(1)
-            }
-            StmtForm::StoreField { field, .. } => {
-                let value = self.level.operand(0);
-                let object = self.level.operand(1);
-                self.write(place, object, i64::from(field.number), value, 2)
-            }
+            StmtForm::Declare { slot, .. } | StmtForm::Store { slot, .. } => self.assign(*slot),
+            StmtForm::StoreField { field, .. } => self.write_field(place, *field),
             StmtForm::StoreElement { .. } => self.write_element(place),
             StmtForm::StorePart { part, .. } => self.write_part(place, part.number as usize),
             StmtForm::Perform(_) => self.discard(1),
+            StmtForm::Block(all) => self.next(0, Item::GoesOn(all.as_slice())),
+            StmtForm::If { then, other, .. } => self.choose(then.get(), other.as_ref()),
+            StmtForm::While { test, body } => self.next(0, Item::Loop(LoopStage::Test, test, body)),
             StmtForm::Return(None) => self.end(Some(Value::Null)),
-            StmtForm::Return(Some(_)) => {
-                let value = self.level.operand(0);
-                self.end(Some(value))
-            }
-            StmtForm::PrintInt(_) | StmtForm::PrintBool(_) => {
-                let line = value_line(self.alloc, self.level.operand(0))?;
-                self.print(line.as_slice(), 1)
-            }
-            StmtForm::PrintText(text) => {
-                let line = text_line(self.alloc, text)?;
-                self.print(line.as_slice(), 0)
-            }
+            StmtForm::Return(Some(_)) => self.end_with_value(),
+            StmtForm::PrintInt(_) | StmtForm::PrintBool(_) => self.print_value(),
+            StmtForm::PrintText(text) => self.print_text(text),
             StmtForm::Regions(made) => self.make_regions(made),
-            StmtForm::Block(_)
-            | StmtForm::If { other: None, .. }
-            | StmtForm::If { other: Some(_), .. }
-            | StmtForm::While { .. }
-            | StmtForm::Atomic { .. }
-            | StmtForm::Cobegin { .. }
-            | StmtForm::Foreach { .. }
-            | StmtForm::ForeachParts {
-                source: PartSource::Array(_),
-                ..
-            }
-            | StmtForm::ForeachParts {
-                source: PartSource::Part(_),
-                ..
-            } => Ok(None),
+            StmtForm::Atomic { body, .. } => self.enter(body.as_slice()),
+            StmtForm::Cobegin { branches, .. } => self.cobegin(place, branches.as_slice()),
+            StmtForm::Foreach { slot, body, .. } => self.iterate(place, *slot, body.get()),
+            StmtForm::ForeachParts {
+                part,
+                source,
+                count,
+                body,
+            } => self.begin_parts(PartsLoop {
+                place,
+                part: *part,
+                source,
+                count,
+                body,
+            }),
         }
+    }
+
+    /// A choice by the test on top, with or without a statement for where it is false.
+    fn choose(
+        &mut self,
+        then: &'p Stmt,
+        other: Option<&'p Boxed<Stmt>>,
+    ) -> Result<Option<Over>, Halt>
+        ensures { (P : PlainProgram) (at : Place) (e : TypedExpr) → Does (finishes P (statement at (choice_form e (plain_stmt then.now) (option_map plain_stmt (option_copied other.entry))))) self.old result self.new }
+    {
+        if truth(self.level.operand(0)) {
+            return self.next(1, Item::Stmt(StmtStage::CarryOut, then));
+        }
+        match other {
+            Some(other) => self.next(1, Item::Stmt(StmtStage::CarryOut, other.get())),
+            None => self.discard(1),
+        }
+    }
+
+    /// An atomic block is entered.
+    fn enter(&mut self, body: &'p [Stmt]) -> Result<Option<Over>, Halt>
+        ensures { (P : PlainProgram) (at : Place) (effects : List Effect) → Does (finishes P (statement at (form.atomic effects (stmts_of (map plain_stmt body.now))))) self.old result self.new }
+    {
+        self.store.count()?;
+        self.level.will(Item::Leave)?;
+        self.next(0, Item::GoesOn(body))
+    }
+
+    /// The body at work ends with the value on top.
+    fn end_with_value(&mut self) -> Result<Option<Over>, Halt>
+        ensures { Does (λ g ws w. ends ws (Returns (slot_value g.operands 0)) w) self.old result self.new }
+    {
+        let value = self.level.operand(0);
+        self.end(Some(value))
     }
 
     /// An item comes next, and so many operands are taken off.
@@ -163,59 +127,41 @@ impl<'p> Walker<'p> {
     }
 
     /// A while loop in front of its test.
-    #[tactic(auto, using(crate::proofs::Forms::shapes))]
-    fn test(&mut self, s: &'p Stmt) -> Result<Option<Over>, Halt>
-        ensures { (P : PlainProgram) → Does (does_item P (stmt_item Test (plain_stmt s.now))) self.old result self.new }
+    pub fn test(&mut self, test: &'p Expr, body: &'p Boxed<Stmt>) -> Result<Option<Over>, Halt>
+        ensures { Does (λ g ws w. At (doing (evaluate (plain_expr test.now)) (doing (turn (plain_expr test.now) (plain_stmt body.now)) g)) ws w) self.old result self.new }
     {
-        let StmtForm::While { test, .. } = &s.form else {
-            return Ok(None);
-        };
-        self.level.will(Item::Stmt(StmtStage::Turn, s))?;
+        self.level.will(Item::Loop(LoopStage::Turn, test, body))?;
         self.next(0, Item::Expr(ExprStage::Evaluate, test))
     }
 
     /// After the test: a turn and the body, where it is true.
-    #[tactic(auto, using(crate::proofs::Forms::shapes))]
-    fn turn(&mut self, s: &'p Stmt) -> Result<Option<Over>, Halt>
-        ensures { (P : PlainProgram) → Does (does_item P (stmt_item Turn (plain_stmt s.now))) self.old result self.new }
+    pub fn turn(&mut self, test: &'p Expr, body: &'p Boxed<Stmt>) -> Result<Option<Over>, Halt>
+        ensures { Does (λ g ws w. cond (truth (slot_value g.operands 0)) (turns w.turns (plain_expr test.now) (plain_stmt body.now) (without 1 g) ws w) (At (without 1 g) ws w)) self.old result self.new }
     {
-        let StmtForm::While { body, .. } = &s.form else {
-            return Ok(None);
-        };
         if !truth(self.level.operand(0)) {
             return self.discard(1);
         }
         self.store.turn()?;
         self.level.operands.drop_top(1);
-        self.level.will(Item::Stmt(StmtStage::Test, s))?;
+        self.level.will(Item::Loop(LoopStage::Test, test, body))?;
         self.next(0, Item::Stmt(StmtStage::CarryOut, body.get()))
     }
 
     /// The count of the parts comes next, and then the loop over them.
-    fn count_parts(&mut self, s: &'p Stmt, count: &'p Expr) -> Result<Option<Over>, Halt>
-        ensures { Does (λ g ws w. At (doing (evaluate (plain_expr count.now)) (doing (counted (plain_stmt s.now)) g)) ws w) self.old result self.new }
+    fn begin_parts(&mut self, parts: PartsLoop<'p>) -> Result<Option<Over>, Halt>
+        ensures { (P : PlainProgram) → Does (finishes P (plain_parts parts.entry)) self.old result self.new }
     {
-        self.level.will(Item::Stmt(StmtStage::Counted, s))?;
-        self.next(0, Item::Expr(ExprStage::Evaluate, count))
+        self.level.start_parts(parts.part, parts.source);
+        self.level.will(Item::Counted(parts))?;
+        self.next(0, Item::Expr(ExprStage::Evaluate, parts.count))
     }
 
     /// A loop over parts whose count is on top.
-    #[tactic(auto, using(crate::proofs::Forms::shapes))]
-    fn counted(&mut self, s: &'p Stmt) -> Result<Option<Over>, Halt>
-        ensures { (P : PlainProgram) → Does (does_item P (stmt_item Counted (plain_stmt s.now))) self.old result self.new }
+    pub fn counted(&mut self, parts: PartsLoop<'p>) -> Result<Option<Over>, Halt>
+        ensures { (P : PlainProgram) → Does (does_item P (counted (plain_parts parts.entry))) self.old result self.new }
     {
-        match &s.form {
-            StmtForm::ForeachParts {
-                part,
-                source,
-                body,
-                ..
-            } => {
-                self.level.take_count(part.number as usize);
-                self.parts_from(s.place, *part, source, body.get())
-            }
-            _ => self.discard(1),
-        }
+        self.level.take_count(parts.part.number as usize);
+        self.parts_from(parts.place, parts.part, parts.source, parts.body.get())
     }
 
     /// A branch for each part of an array, or of a part.
@@ -266,13 +212,13 @@ impl<'p> Walker<'p> {
     }
 
     /// A branch for each number, whose count and start are on top.
-    fn iterate(&mut self, place: Place, slot: usize, body: &'p Stmt) -> Result<Option<Over>, Halt>
-        ensures { Does (λ g ws w. forks_at g.left place (without 2 g) [] (iterations None slot (plain_stmt body.now) g.frame (number (slot_value g.operands 1)) 0 (how_many (number (slot_value g.operands 0)))) ws w) self.old result self.new }
+    fn iterate(&mut self, place: Place, slot: Slot, body: &'p Stmt) -> Result<Option<Over>, Halt>
+        ensures { Does (λ g ws w. forks_at g.left place (without 2 g) [] (iterations None slot.number (plain_stmt body.now) g.frame (number (slot_value g.operands 1)) 0 (how_many (number (slot_value g.operands 0)))) ws w) self.old result self.new }
     {
         let count = number(self.level.operand(0));
         let start = number(self.level.operand(1));
         self.level.operands.drop_top(2);
-        self.numbers(place, None, slot, body, start, count)
+        self.numbers(place, None, slot.number as usize, body, start, count)
     }
 
     /// The branches of a `cobegin`.

@@ -1,20 +1,19 @@
-ghost use Rattle.std.specs.Prelude.{◌∷◌, cond, not, drop, IsTrue};
-ghost use Rattle.dpj_typed.specs.Plain.{PlainProgram, plain_program, plain_expr};
-ghost use Rattle.dpj_meaning.specs.Counts.{slot_value, unary, truth};
+ghost use Rattle.std.specs.Prelude.{cond, not};
+ghost use Rattle.dpj_typed.specs.Plain.{plain_program, plain_expr};
+ghost use Rattle.dpj_meaning.specs.Counts.{slot_value, truth};
 ghost use Rattle.dpj_meaning.specs.Values.{Boolean};
 ghost use Rattle.dpj_walk.specs.Walk.{At, step, does_item, operates, pushed, doing, without};
 ghost use Rattle.dpj_walk.specs.Agenda.{evaluate};
 ghost use Rattle.dpj_elide.specs.States.{Does, plain_item};
-ghost use Rattle.dpj_elide.specs.Forms.{is_own};
 ghost use Rattle.dpj_elide.specs.Walks.{CostsMore, IsHolding, Walks};
 
 use crate::calls::Call;
-use crate::item::{ExprStage, Item};
+use crate::item::{ExprStage, Item, LoopStage, StmtStage};
 use crate::walker::{Over, Walker};
 use dpj_base::Value;
-use dpj_frames::{inverted, negated, number, slot, slot_after, truth};
+use dpj_frames::truth;
 use dpj_store::Halt;
-use dpj_typed::{Expr, ExprForm, Program, UnaryOp};
+use dpj_typed::{Expr, ExprForm, Program};
 
 impl<'p> Walker<'p> {
     /// Steps up to one that costs something, or to the end. Those before it leave less work each.
@@ -53,11 +52,18 @@ impl<'p> Walker<'p> {
                 Ok(None)
             }
             Item::Expr(ExprStage::Operate, e) => self.operate(program, e),
-            Item::Stmt(stage, s) => self.do_stage(stage, s),
+            Item::Stmt(StmtStage::CarryOut, s) => {
+                self.level.carry_out(s)?;
+                Ok(None)
+            }
+            Item::Stmt(StmtStage::Finish, s) => self.finish(s),
+            Item::Counted(parts) => self.counted(parts),
             Item::GoesOn(stmts) => {
                 self.level.go_on(stmts)?;
                 Ok(None)
             }
+            Item::Loop(LoopStage::Test, test, body) => self.test(test, body),
+            Item::Loop(LoopStage::Turn, test, body) => self.turn(test, body),
             Item::Leave => self.leave(),
         }
     }
@@ -69,18 +75,13 @@ impl<'p> Walker<'p> {
     {
         let place = e.place;
         match &e.form {
-            ExprForm::Field { field, .. } => {
-                let object = self.level.operand(0);
-                self.read(place, object, i64::from(field.number), 1)
-            }
+            ExprForm::Int(n) => self.give(0, Value::Int(*n)),
+            ExprForm::Bool(b) => self.give(0, Value::Bool(*b)),
+            ExprForm::Null => self.give(0, Value::Null),
+            ExprForm::Local(slot) => self.local(*slot),
+            ExprForm::Field { field, .. } => self.read_field(place, *field),
             ExprForm::Element { .. } => self.read_element(place),
             ExprForm::Length(_) => self.length(place),
-            ExprForm::PartElement { part, .. } => self.read_part(place, part.number as usize),
-            ExprForm::Binary { op, .. } => self.binary(place, *op),
-            ExprForm::And { right, .. } => self.second(true, right.get()),
-            ExprForm::Or { right, .. } => self.second(false, right.get()),
-            ExprForm::New(actuals) => self.create(program, place, &e.ty, actuals.len()),
-            ExprForm::NewArray(_) => self.create_array(place, &e.ty),
             ExprForm::Call {
                 class,
                 row,
@@ -97,45 +98,14 @@ impl<'p> Walker<'p> {
                 };
                 self.call(program, call)
             }
-            ExprForm::Int(_)
-            | ExprForm::Bool(_)
-            | ExprForm::Null
-            | ExprForm::Local(_)
-            | ExprForm::PartLength(_)
-            | ExprForm::Unary { .. } => self.give_own(e),
-        }
-    }
-
-    /// The value that an expression has by its frame and its operand alone.
-    #[tactic(auto, using(crate::proofs::Forms::forms))]
-    fn give_own(&mut self, e: &'p Expr) -> Result<Option<Over>, Halt>
-        requires { IsTrue (is_own (plain_expr e.now)) }
-        ensures { (P : PlainProgram) → Does (operates P (plain_expr e.now)) self.old result self.new }
-    {
-        match &e.form {
-            ExprForm::Int(n) => self.give(0, Value::Int(*n)),
-            ExprForm::Bool(b) => self.give(0, Value::Bool(*b)),
-            ExprForm::Local(x) => {
-                let value = slot(&self.level.frame.values, x.number as usize);
-                self.give(0, value)
-            }
-            ExprForm::PartLength(part) => {
-                let len = slot_after(&self.level.frame.values, part.number as usize, 2);
-                self.give(0, len)
-            }
+            ExprForm::New(actuals) => self.create(program, place, &e.ty, actuals.len()),
+            ExprForm::NewArray(_) => self.create_array(place, &e.ty),
             ExprForm::Unary { op, .. } => self.unary(*op),
-            _ => self.give(0, Value::Null),
-        }
-    }
-
-    /// An operation on the operand on top.
-    fn unary(&mut self, op: UnaryOp) -> Result<Option<Over>, Halt>
-        ensures { Does (λ g ws w. At (record g { operands = unary op (slot_value g.operands 0) ∷ drop 1 g.operands }) ws w) self.old result self.new }
-    {
-        let value = self.level.operand(0);
-        match op {
-            UnaryOp::Negate => self.give(1, negated(value)),
-            UnaryOp::Not => self.give(1, inverted(value)),
+            ExprForm::Binary { op, .. } => self.binary(place, *op),
+            ExprForm::And { right, .. } => self.second(true, right.get()),
+            ExprForm::Or { right, .. } => self.second(false, right.get()),
+            ExprForm::PartLength(part) => self.part_length(*part),
+            ExprForm::PartElement { part, .. } => self.read_part(place, part.number as usize),
         }
     }
 

@@ -1,4 +1,4 @@
-use Rattle.std.proofs.Common.{◌≡◌, ◌∙◌, ◌++◌, sym, ap, map}
+use Rattle.std.proofs.Common.{◌∙◌, ◌++◌, sym, ap, map}
 use Rattle.std.proofs.lemmas.List.{append-nil}
 use Rattle.dpj_base.specs.Types.{plain_type}
 use Rattle.dpj_meaning.specs.Expressions.{first_of}

@@ -1,4 +1,4 @@
-use Rattle.std.proofs.Common.{◌∙◌, ◌+◌, ap, ap₂, map, drop, pos}
+use Rattle.std.proofs.Common.{◌∙◌, ◌+◌, ap, ap₂, map, pos}
 use Rattle.std.specs.Prelude.{slice_set}
 use Rattle.dpj_meaning.specs.Values.{Int}
 use Rattle.dpj_frames.specs.Names.{plain_value}

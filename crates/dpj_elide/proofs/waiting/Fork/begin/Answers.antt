@@ -1,24 +1,15 @@
-use Rattle.std.proofs.Common.{◌≡◌, ◌∙◌, ◌∷◌, ap, sym, refl, map, [], arith, ◌<◌}
-use Rattle.dpj_typed.specs.Plain.{plain_stmt, more_stmts, no_stmts}
-use Rattle.dpj_meaning.specs.Statements.{branch_of, numbered_frame}
-use Rattle.dpj_walk.specs.Walk.{beginning}
-use Rattle.dpj_frames.specs.Names.{plain_frame}
-use Rattle.dpj_elide.specs.States.{rest_of, plain_level}
-use Rattle.dpj_elide.proofs.Beginning.{level_is, next_number, begun_left}
+use Rattle.std.proofs.Common.{sym, subst}
+use Rattle.std.specs.Prelude.{IfOk}
+use Rattle.dpj_elide.specs.Falls.{Begins}
+use Rattle.dpj_elide.specs.States.{plain_level}
 use Rattle.dpj_elide.proofs.waiting.Fork.begin.Goals as goal
 
-pub returns-in_ok-beginning-in-Numbers : goal.returns-in_ok-beginning-in-Numbers
-returns-in_ok-beginning-in-Numbers c =
-    let n = c.in-Numbers.numbers in
-    let f = plain_frame c.args.outer.now.frame in
-    let some : 0 < n.left = omega arith in
-    record {
-      task = branch_of n.takes [] (plain_stmt n.body.now) (numbered_frame n.slot n.start n.next f);
-      first = ap (λ r. rest_of (record c.args.self.now { rest = r }) (plain_level c.args.outer.now)) c.in-Numbers.is
-          ∙ next_number n.takes n.slot (plain_stmt n.body.now) f n.start n.next n.left some
-          ∙ ap (λ ts. branch_of n.takes [] (plain_stmt n.body.now) (numbered_frame n.slot n.start n.next f) ∷ ts) (sym (c.after.ensures f));
-      level = level_is _ _ _ n.body.now _ c.in_ok-beginning-in-Numbers.ensures c.from_ref.ensures.value c.in_ok-frame-in-Numbers.ensures
-          ∙ ap (beginning (more_stmts (plain_stmt n.body.now) no_stmts) _) (begun_left n.takes _);
-      work = refl;
-      kept = refl;
-    }
+pub returns-in-Branches : goal.returns-in-Branches
+returns-in-Branches c =
+    subst (λ r. IfOk c.begin_branch.result (λ level. Begins (plain_level c.args.outer.now) (record c.args.self.now { rest = r }) level c.begin_branch.new.self)) (sym c.in-Branches.is)
+    c.begin_branch.ensures
+
+pub returns-in-Numbers : goal.returns-in-Numbers
+returns-in-Numbers c =
+    subst (λ r. IfOk c.begin_iteration.result (λ level. Begins (plain_level c.args.outer.now) (record c.args.self.now { rest = r }) level c.begin_iteration.new.self))
+    (sym c.in-Numbers.is) c.begin_iteration.ensures

@@ -3,7 +3,7 @@ use Rattle.dpj_typed.specs.declared.stmt.Branch.{Branch}
 use Rattle.dpj_typed.specs.Plain.{plain_stmt}
 use Rattle.dpj_meaning.specs.Statements.{branch_of}
 use Rattle.dpj_frames.specs.Names.{plain_frame}
-use Rattle.dpj_elide.specs.States.{plain_level, work_of, rest_of}
+use Rattle.dpj_elide.specs.States.{work_of}
 use Rattle.dpj_elide.proofs.Beginning.{level_is, next_branch}
 use Rattle.dpj_elide.proofs.waiting.Fork.begin_branch.Goals as goal
 
@@ -15,8 +15,7 @@ returns c =
     let same : c.as_slice-self.result.now ≡ branch.copies = c.as_slice-self.ensures ∙ ap (λ (b : Branch). b.copies) (sym c.index-self-at.is) in
     record {
       task = branch_of None (map (λ slot. slot.number) branch.copies) (plain_stmt branch.body) f;
-      first = ap (λ r. rest_of (record c.args.self.now { rest = r }) (plain_level c.args.outer.now)) c.requires
-          ∙ next_branch c.args.self.now.branches.now c.args.at branch f below c.index-self-at.is;
+      first = next_branch c.args.self.now.branches.now c.args.at branch f below c.index-self-at.is;
       level = level_is _ _ _ branch.body _ c.in_ok-beginning.ensures (c.from_ref.ensures.value ∙ ap (λ (b : Branch). b.body ∷ []) (sym c.index-self-at.is)) (ap plain_frame c.in_ok-frame.ensures);
       work = ap work_of same;
       kept = refl;

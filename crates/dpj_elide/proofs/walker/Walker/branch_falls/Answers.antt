@@ -1,8 +1,7 @@
-use Rattle.std.proofs.Common.{◌≡◌, ◌∙◌, ◌∷◌, sym, ap, subst, map, Ok, Err, Some}
+use Rattle.std.proofs.Common.{◌∙◌, sym, ap, subst, map, Ok, Err, Some}
 use Rattle.std.proofs.lemmas.Result.{err_from_is_err_and}
-use Rattle.dpj_meaning.specs.Elision.{Store}
 use Rattle.dpj_meaning.specs.Elision.{one_step}
-use Rattle.dpj_walk.specs.Walk.{State, Waiting, At, for_branch, begins, earlier, falls, fallen}
+use Rattle.dpj_walk.specs.Walk.{begins, falls, fallen}
 use Rattle.dpj_elide.specs.States.{ComesTo, construct, plain_level, plain_waiting, rest_of, work_of}
 use Rattle.dpj_elide.proofs.Falling.{earlier_is, falls_last, falls_next, begun_is}
 use Rattle.dpj_elide.proofs.Costs.{branch_over}

@@ -4,7 +4,6 @@ use Rattle.dpj_meaning.specs.Counts.{brought}
 use Rattle.dpj_meaning.specs.Elision.{LocalRegion, one_step}
 use Rattle.dpj_meaning.specs.Outcomes.{joined_or}
 use Rattle.dpj_walk.specs.Walk.{branches, rejoins}
-use Rattle.dpj_store.specs.Stores.{Holds}
 use Rattle.dpj_elide.specs.States.{ComesTo, construct, plain_level, plain_waiting, rest_of}
 use Rattle.dpj_elide.proofs.Costs.{branches_over}
 use Rattle.dpj_elide.proofs.Falling.{begun_is}

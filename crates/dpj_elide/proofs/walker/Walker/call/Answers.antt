@@ -10,7 +10,7 @@ use Rattle.dpj_meaning.specs.Elision.{in_order, after}
 use Rattle.dpj_meaning.specs.Regions.{around, concrete, some_long}
 use Rattle.dpj_frames.specs.declared.classes.Seen.{Seen}
 use Rattle.dpj_frames.specs.Classes.{plain_seen}
-use Rattle.dpj_frames.specs.Names.{plain_region, plain_value}
+use Rattle.dpj_frames.specs.Names.{plain_value}
 use Rattle.dpj_store.specs.Stores.{Holds}
 use Rattle.dpj_elide.specs.States.{ComesTo, IsOverAt, plain_level, plain_waiting}
 use Rattle.dpj_elide.proofs.Calling.{object_of, drop_more, called_is, enters_over, enters_same}

@@ -1,4 +1,4 @@
-use Rattle.std.proofs.Common.{◌≡◌, ◌∙◌, ◌∷◌, ◌<◌, ◌-◌, sym, ap, subst, map, drop, take, reverse, arith, true}
+use Rattle.std.proofs.Common.{◌∙◌, ◌∷◌, ◌<◌, ◌-◌, ap, subst, map, take, reverse, arith, true}
 use Rattle.std.proofs.lemmas.Result.{err_from_is_err_and}
 use Rattle.dpj_base.specs.declared.value.Value.{Value as Constant}
 use Rattle.dpj_typed.specs.Plain.{plain_program, plain_member}
@@ -10,10 +10,9 @@ use Rattle.dpj_meaning.specs.Values.{An_object}
 use Rattle.dpj_frames.specs.Names.{plain_region, plain_value}
 use Rattle.dpj_store.specs.Stores.{Holds}
 use Rattle.dpj_walk.specs.Walk.{At, beginning, for_object, pushed, without}
-use Rattle.dpj_walk.specs.Walk.{Level as Body}
 use Rattle.dpj_elide.specs.declared.level.Level.{Level}
 use Rattle.dpj_elide.specs.States.{ComesTo, IsOverAt, plain_level, plain_waiting}
-use Rattle.dpj_elide.proofs.Calling.{Regions, made_with, constructs_over, constructed_is, unconstructed_is}
+use Rattle.dpj_elide.proofs.Calling.{made_with, constructs_over, constructed_is, unconstructed_is}
 use Rattle.dpj_elide.proofs.Halting.{refused}
 use Rattle.dpj_elide.proofs.Programs.{member_is, no_member}
 use Rattle.dpj_frames.proofs.Dropped.{map_drop}

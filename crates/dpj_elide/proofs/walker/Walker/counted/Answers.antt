@@ -1,6 +1,6 @@
 use Rattle.std.proofs.Common.{◌∙◌, ◌+◌, ap, subst, map}
 use Rattle.dpj_typed.specs.declared.stmt.Stmt.{Stmt}
-use Rattle.dpj_typed.specs.Plain.{plain_stmt}
+use Rattle.dpj_typed.specs.Plain.{plain_expr, plain_stmt}
 use Rattle.dpj_meaning.specs.Counts.{slot_value}
 use Rattle.dpj_meaning.specs.Statements.{with_value}
 use Rattle.dpj_walk.specs.Walk.{without}
@@ -10,15 +10,15 @@ use Rattle.dpj_elide.specs.States.{ComesTo, plain_level, plain_waiting}
 use Rattle.dpj_elide.proofs.Parting.{counts_at}
 use Rattle.dpj_elide.proofs.walker.Walker.counted.Goals as goal
 
-pub returns-in-ForeachParts : goal.returns-in-ForeachParts
-returns-in-ForeachParts c = λ P L w h.
-    let s = c.args.s.now in
-    let arm = c.in-ForeachParts in
+pub returns : goal.returns
+returns c = λ P L w h.
+    let l = c.args.parts in
+    let k = l.part.number in
+    let s = plain_stmt l.body.now in
     let g = plain_level c.args.self.now.level in
     let ws = map plain_waiting c.args.self.now.waiting in
-    let k = arm.part.number in
     subst (λ x. ComesTo L c.parts_from.result c.parts_from.new.self x)
-    (ap (λ (b : Body). parts_from s.place k arm.source (plain_stmt c.get.result.now) b ws w) c.take_count.ensures
-    ∙ ap (λ (b : Stmt). parts_from s.place k arm.source (plain_stmt b) (record (without 1 g) { frame = with_value g.frame (k + 3) (slot_value g.operands 0) }) ws w) c.get.ensures
-    ∙ counts_at P s arm.part arm.source arm.count arm.body g ws w arm.is)
+    (ap (λ (b : Body). parts_from l.place k l.source.now (plain_stmt c.get.result.now) b ws w) c.take_count.ensures
+    ∙ ap (λ (b : Stmt). parts_from l.place k l.source.now (plain_stmt b) (record (without 1 g) { frame = with_value g.frame (k + 3) (slot_value g.operands 0) }) ws w) c.get.ensures
+    ∙ counts_at P l.place k (plain_expr l.count.now) s g ws w l.source.now)
     (c.parts_from.ensures L w h)

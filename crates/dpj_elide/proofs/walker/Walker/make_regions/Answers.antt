@@ -1,4 +1,4 @@
-use Rattle.std.proofs.Common.{◌≡◌, ◌<◌, ◌+◌, ◌∙◌, ℕ, List, ap, refl, sym, subst, map, drop, arith}
+use Rattle.std.proofs.Common.{◌<◌, ◌+◌, ◌∙◌, ℕ, List, ap, refl, sym, subst, map, drop, arith}
 use Rattle.std.proofs.lemmas.Result.{err_from_is_err_and}
 use Rattle.dpj_typed.specs.declared.ids.LocalRegion.{LocalRegion}
 use Rattle.dpj_frames.specs.Names.{plain_frame, plain_local, plain_value}

@@ -1,7 +1,6 @@
-use Rattle.std.proofs.Common.{◌≡◌, ◌≤◌, refl, suc, map, arith, Ok, Err, Some, None}
+use Rattle.std.proofs.Common.{◌≤◌, refl, suc, map, arith, Ok, Err, Some, None}
 use Rattle.std.proofs.lemmas.Result.{err_from_is_err_and}
 use Rattle.dpj_typed.specs.Plain.{plain_program}
-use Rattle.dpj_walk.specs.Walk.{At}
 use Rattle.dpj_elide.specs.States.{plain_level, plain_waiting}
 use Rattle.dpj_elide.specs.Work.{work_left}
 use Rattle.dpj_elide.proofs.Lessening.{less_work, no_less, step_less}
