@@ -23,13 +23,14 @@ use Rattle.dpj_typed.specs.Scope.{Local as Slot}
 use Rattle.dpj_typed.specs.Table.{params_from, body_scope}
 use Rattle.dpj_typed.specs.Types.{GoodType}
 use Rattle.dpj_assembly.specs.Assembled.{PlainBody, member_of}
-use Rattle.dpj_classes.specs.declared.rows.MethodRow.{MethodRow}
-use Rattle.dpj_classes.specs.declared.table.Table.{Table}
+use Rattle.dpj_table.specs.declared.rows.MethodRow.{MethodRow}
+use Rattle.dpj_table.specs.declared.table.Table.{Table}
 use Rattle.dpj_classes.specs.Around.{class_scope, formal_names}
-use Rattle.dpj_classes.specs.Rows.{PlainMethod, said_scope, method_scope, said_faults}
+use Rattle.dpj_table.specs.Plain.{PlainMethod}
+use Rattle.dpj_classes.specs.Rows.{said_scope, method_scope, said_faults}
 use Rattle.dpj_classes.specs.Signatures.{formal_faults, result_type, result_faults, summary_faults, constraints_faults}
-use Rattle.dpj_classes.specs.Table.{headers_of, given_of, numbered}
-use Rattle.dpj_classes.specs.Table.{supers_of as superclasses}
+use Rattle.dpj_table.specs.Table.{headers_of, given_of, numbered}
+use Rattle.dpj_table.specs.Table.{supers_of as superclasses}
 use Rattle.dpj_exprs.specs.declared.env.Env.{Env}
 use Rattle.dpj_exprs.specs.Env.{table_of, supers_of, scope_of, at_class, at_members, with_row, param_paths, this_type_of}
 use Rattle.dpj_exprs.specs.Typed.{AreTaken}

@@ -12,16 +12,16 @@ use Rattle.dpj_tree.specs.declared.class.Class.{Class}
 use Rattle.dpj_tree.specs.declared.class.Member.{Member}
 use Rattle.dpj_tree.specs.declared.class.Member.TheVariants as member
 use Rattle.dpj_tree.specs.declared.class.Program.{Program}
-use Rattle.dpj_classes.specs.declared.reach.Edge.{Edge}
-use Rattle.dpj_classes.specs.declared.rows.MethodRow.{MethodRow}
-use Rattle.dpj_classes.specs.declared.table.Table.{Table}
-use Rattle.dpj_classes.specs.Bodies.{own_marks, class_marks, override_edge, override_edges}
+use Rattle.dpj_reach.specs.declared.reach.Edge.{Edge}
+use Rattle.dpj_table.specs.declared.rows.MethodRow.{MethodRow}
+use Rattle.dpj_table.specs.declared.table.Table.{Table}
+use Rattle.dpj_reach.specs.Bodies.{own_marks, class_marks, override_edge, override_edges}
 use Rattle.dpj_classes.specs.Build.{TellsForking}
-use Rattle.dpj_classes.specs.Edges.{call_edges, without_forks}
-use Rattle.dpj_classes.specs.Inherited.{members_in}
-use Rattle.dpj_classes.specs.Overridden.{overridden_in}
-use Rattle.dpj_classes.specs.Reach.{leads, IsAfter}
-use Rattle.dpj_classes.specs.Table.{headers_of, methods_of, overridden_by, is_forking}
+use Rattle.dpj_reach.specs.Edges.{call_edges, without_forks}
+use Rattle.dpj_members.specs.Inherited.{members_in}
+use Rattle.dpj_members.specs.Overridden.{overridden_in}
+use Rattle.dpj_reach.specs.Reach.{leads, IsAfter}
+use Rattle.dpj_table.specs.Table.{headers_of, methods_of, overridden_by, is_forking}
 use Rattle.dpj_typed.specs.Plain.{PlainClass}
 use Rattle.dpj_typed.specs.Scope.{IsBelow, class_at, row_at}
 use Rattle.dpj_assembly.specs.Assembled.{PlainBody}

@@ -30,13 +30,14 @@ use Rattle.dpj_resolve.specs.Reading.{path_meant}
 use Rattle.dpj_resolve.specs.Scoped.{no_names, with_name, values_in, place_in}
 use Rattle.dpj_resolve.specs.Scopes.{PlainScope}
 use Rattle.dpj_resolve.specs.Written.{type_faults}
-use Rattle.dpj_classes.specs.declared.rows.MethodRow.{MethodRow}
-use Rattle.dpj_classes.specs.declared.table.Table.{Table}
+use Rattle.dpj_table.specs.declared.rows.MethodRow.{MethodRow}
+use Rattle.dpj_table.specs.declared.table.Table.{Table}
 use Rattle.dpj_classes.specs.Around.{class_scope}
 use Rattle.dpj_classes.specs.Build.{IsReadOf, text_faults}
-use Rattle.dpj_classes.specs.Rows.{PlainMethod, plain_method, method_row, said_scope, said_faults, method_scope, method_faults, member_faults, methods_from, methods_meant, super_faults, class_faults, all_constraint_faults, signature_faults}
+use Rattle.dpj_table.specs.Plain.{PlainMethod, plain_method}
+use Rattle.dpj_classes.specs.Rows.{method_row, said_scope, said_faults, method_scope, method_faults, member_faults, methods_from, methods_meant, super_faults, class_faults, all_constraint_faults, signature_faults}
 use Rattle.dpj_classes.specs.Signatures.{known_type, known_type_faults, effects_meant, formal_types, formal_faults, result_type, result_faults, summary_meant, summary_faults, constraints_faults}
-use Rattle.dpj_classes.specs.Table.{headers_of, methods_of}
+use Rattle.dpj_table.specs.Table.{headers_of, methods_of}
 use Rattle.dpj_rows.proofs.Facts.{got_either}
 use Rattle.dpj_resolved.proofs.Free.{none_reported, append_none, joined_free}
 use Rattle.dpj_resolved.proofs.Known.{type_known}

@@ -27,12 +27,13 @@ use Rattle.dpj_resolve.specs.Classes.{params_in}
 use Rattle.dpj_resolve.specs.Index.{PlainIndex, no_index}
 use Rattle.dpj_resolve.specs.Reading.{path_meant, each_faults, arg_need, args_read}
 use Rattle.dpj_resolve.specs.Scopes.{PlainScope}
-use Rattle.dpj_classes.specs.declared.table.Table.{Table}
+use Rattle.dpj_table.specs.declared.table.Table.{Table}
 use Rattle.dpj_classes.specs.Around.{class_scope}
-use Rattle.dpj_classes.specs.Places.{last_from, by_place, is_super_of, super_place}
-use Rattle.dpj_classes.specs.Rows.{PlainSuper, plain_super, super_rows, super_faults, supers_meant, class_faults}
+use Rattle.dpj_table.specs.Places.{last_from, by_place, is_super_of, super_place}
+use Rattle.dpj_table.specs.Plain.{PlainSuper, plain_super}
+use Rattle.dpj_classes.specs.Rows.{super_rows, super_faults, supers_meant, class_faults}
 use Rattle.dpj_classes.specs.Signatures.{parent_meant, parent_arg_faults, fit_faults, parent_faults}
-use Rattle.dpj_classes.specs.Table.{headers_of, supers_of, parent_type_of, parent_args_of, class_paths}
+use Rattle.dpj_table.specs.Table.{headers_of, supers_of, parent_type_of, parent_args_of, class_paths}
 use Rattle.dpj_rows.specs.Rows.{HasRows}
 use Rattle.dpj_rows.proofs.Facts.{got_either}
 use Rattle.dpj_resolved.proofs.Free.{NoFaults, append_none, fault_none, joined_free}

@@ -10,13 +10,13 @@ use Rattle.dpj_tree.specs.declared.class.Member.{Member}
 use Rattle.dpj_tree.specs.declared.class.Method.{Method}
 use Rattle.dpj_tree.specs.Nd.{some_holds_nd}
 use Rattle.dpj_tree.specs.Plain.{plain_stmt, plain_stmts}
-use Rattle.dpj_classes.specs.declared.reach.Edge.{Edge}
-use Rattle.dpj_classes.specs.declared.table.Table.{Table}
-use Rattle.dpj_classes.specs.Bodies.{own_marks, class_marks}
-use Rattle.dpj_classes.specs.Calls.{body_calls}
-use Rattle.dpj_classes.specs.Edges.{edges_from, member_edges, class_edges, call_edges}
-use Rattle.dpj_classes.specs.Reach.{is_marked, leads}
-use Rattle.dpj_classes.specs.Table.{is_forking}
+use Rattle.dpj_reach.specs.declared.reach.Edge.{Edge}
+use Rattle.dpj_table.specs.declared.table.Table.{Table}
+use Rattle.dpj_reach.specs.Bodies.{own_marks, class_marks}
+use Rattle.dpj_reach.specs.Calls.{body_calls}
+use Rattle.dpj_reach.specs.Edges.{edges_from, member_edges, class_edges, call_edges}
+use Rattle.dpj_reach.specs.Reach.{is_marked, leads}
+use Rattle.dpj_table.specs.Table.{is_forking}
 use Rattle.dpj_resolved.proofs.Lists.{got_first, got_later}
 use Rattle.dpj_accepted.specs.Whole.{StandsIn, StandsAmong}
 use Rattle.dpj_accepted.proofs.Reached.{some_forks}

@@ -18,18 +18,18 @@ use Rattle.dpj_tree.specs.Size.{type_size, method_size, member_size, class_size}
 use Rattle.dpj_resolve.specs.Names.{Names}
 use Rattle.dpj_resolve.specs.Scoped.{no_names, with_name}
 use Rattle.dpj_resolve.specs.Scopes.{PlainScope}
-use Rattle.dpj_classes.specs.declared.rows.MethodRow.{MethodRow}
-use Rattle.dpj_classes.specs.declared.shape.Shape.{Shape}
-use Rattle.dpj_classes.specs.declared.table.Table.{Table}
+use Rattle.dpj_table.specs.declared.rows.MethodRow.{MethodRow}
+use Rattle.dpj_reach.specs.declared.shape.Shape.{Shape}
+use Rattle.dpj_table.specs.declared.table.Table.{Table}
 use Rattle.dpj_classes.specs.Around.{class_scope}
-use Rattle.dpj_classes.specs.Bodies.{class_marks, override_edges}
-use Rattle.dpj_classes.specs.Calls.{body_calls, formal_shapes}
-use Rattle.dpj_classes.specs.Edges.{call_edges, without_forks}
-use Rattle.dpj_classes.specs.Reach.{IsAfter}
+use Rattle.dpj_reach.specs.Bodies.{class_marks, override_edges}
+use Rattle.dpj_reach.specs.Calls.{body_calls, formal_shapes}
+use Rattle.dpj_reach.specs.Edges.{call_edges, without_forks}
+use Rattle.dpj_reach.specs.Reach.{IsAfter}
 use Rattle.dpj_classes.specs.Rows.{said_scope}
-use Rattle.dpj_classes.specs.Shapes.{tree_shape}
+use Rattle.dpj_reach.specs.Shapes.{tree_shape}
 use Rattle.dpj_classes.specs.Signatures.{known_type}
-use Rattle.dpj_classes.specs.Table.{headers_of, methods_of, numbered}
+use Rattle.dpj_table.specs.Table.{headers_of, methods_of, numbered}
 use Rattle.dpj_exprs.specs.declared.env.Env.{Env}
 use Rattle.dpj_exprs.specs.Env.{table_of, at_class, at_members, with_row, with_local}
 use Rattle.dpj_check.specs.Methods.{formals_declared, formal_types, body_begun}

@@ -12,8 +12,8 @@ use Rattle.dpj_headers.specs.Headers.{parent_of, class_count}
 use Rattle.dpj_headers.specs.Numbers.{as_number}
 use Rattle.dpj_tree.specs.declared.class.Program.{Program}
 use Rattle.dpj_tree.specs.Nd.{program_uses_nd}
-use Rattle.dpj_classes.specs.declared.table.Table.{Table}
-use Rattle.dpj_classes.specs.Table.{headers_of, supers_of, parent_type_of, parent_args_of, of_class_type, args_above}
+use Rattle.dpj_table.specs.declared.table.Table.{Table}
+use Rattle.dpj_table.specs.Table.{headers_of, supers_of, parent_type_of, parent_args_of, of_class_type, args_above}
 use Rattle.dpj_typed.specs.Plain.{PlainProgram, PlainClass, PlainParent}
 use Rattle.dpj_typed.specs.Scope.{Above, class_at}
 use Rattle.dpj_typed.specs.Scope.{parent_of as parent_in}

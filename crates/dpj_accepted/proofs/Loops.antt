@@ -9,7 +9,7 @@ use Rattle.dpj_base.specs.Branches.{iterations_clash}
 use Rattle.dpj_base.specs.Types.{PlainType, plain_type}
 use Rattle.dpj_base.specs.Types.{PlainType as ty}
 use Rattle.dpj_headers.specs.Headers.{atomic_regions}
-use Rattle.dpj_classes.specs.Table.{headers_of}
+use Rattle.dpj_table.specs.Table.{headers_of}
 use Rattle.dpj_tree.specs.declared.region.Named.{Named}
 use Rattle.dpj_locals.specs.Touches.{stmt_reads, stmt_assigns}
 use Rattle.dpj_tree.specs.Plain.{PlainStmt}

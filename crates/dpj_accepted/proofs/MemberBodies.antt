@@ -19,8 +19,8 @@ use Rattle.dpj_typed.specs.Scope.{Scope, variable, part}
 use Rattle.dpj_typed.specs.Statements.{AllPass, all_complete}
 use Rattle.dpj_typed.specs.Table.{first_locals, body_scope}
 use Rattle.dpj_assembly.specs.Assembled.{PlainBody, member_of}
-use Rattle.dpj_classes.specs.declared.table.Table.{Table}
-use Rattle.dpj_classes.specs.Table.{numbered, is_forking, supers_of}
+use Rattle.dpj_table.specs.declared.table.Table.{Table}
+use Rattle.dpj_table.specs.Table.{numbered, is_forking, supers_of}
 use Rattle.dpj_exprs.specs.declared.env.Env.{Env}
 use Rattle.dpj_exprs.specs.declared.found.Found.{Found}
 use Rattle.dpj_exprs.specs.Env.{table_of, at_class}

@@ -19,12 +19,13 @@ use Rattle.dpj_resolve.specs.Classes.{params_in}
 use Rattle.dpj_typed.specs.Plain.{PlainClass, PlainMember}
 use Rattle.dpj_typed.specs.Scope.{class_at, member_at}
 use Rattle.dpj_assembly.specs.Assembled.{PlainBody, class_of, member_of}
-use Rattle.dpj_classes.specs.declared.rows.MethodRow.{MethodRow}
-use Rattle.dpj_classes.specs.declared.table.Table.{Table}
+use Rattle.dpj_table.specs.declared.rows.MethodRow.{MethodRow}
+use Rattle.dpj_table.specs.declared.table.Table.{Table}
 use Rattle.dpj_classes.specs.Around.{class_scope}
 use Rattle.dpj_classes.specs.Build.{text_faults}
-use Rattle.dpj_classes.specs.Rows.{PlainMethod, plain_method, method_row, method_faults, all_constraint_faults, methods_meant, signature_faults}
-use Rattle.dpj_classes.specs.Table.{headers_of, given_of, methods_of, numbered}
+use Rattle.dpj_table.specs.Plain.{PlainMethod, plain_method}
+use Rattle.dpj_classes.specs.Rows.{method_row, method_faults, all_constraint_faults, methods_meant, signature_faults}
+use Rattle.dpj_table.specs.Table.{headers_of, given_of, methods_of, numbered}
 use Rattle.dpj_exprs.specs.declared.env.Env.{Env}
 use Rattle.dpj_exprs.specs.Env.{table_of, at_class}
 use Rattle.dpj_check.specs.Methods.{MethodChecking, own_params, class_params}

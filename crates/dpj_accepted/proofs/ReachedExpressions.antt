@@ -24,15 +24,15 @@ use Rattle.dpj_tree.specs.declared.region.BaseTree.{BaseTree}
 use Rattle.dpj_tree.specs.declared.region.Named.{Named}
 use Rattle.dpj_tree.specs.declared.region.RplTree.{RplTree}
 use Rattle.dpj_tree.specs.Plain as tree
-use Rattle.dpj_classes.specs.declared.rows.FieldRow.{FieldRow}
-use Rattle.dpj_classes.specs.declared.rows.MethodRow.{MethodRow}
-use Rattle.dpj_classes.specs.declared.shape.Shape.{Shape}
-use Rattle.dpj_classes.specs.declared.table.Table.{Table}
-use Rattle.dpj_classes.specs.Calls.{shape_of, id_of, calls_of, all_calls}
-use Rattle.dpj_classes.specs.Edges.{without_forks}
-use Rattle.dpj_classes.specs.Shapes.{no_class, object_shape, written_shape, type_shape, element_in, object_of, called_row, call_shape, run_row, create_shape, field_shape}
-use Rattle.dpj_classes.specs.Shapes.{element_of as element_shape}
-use Rattle.dpj_classes.specs.Table.{headers_of, field_of, method_of, constructor_of, args_at, is_forking}
+use Rattle.dpj_table.specs.declared.rows.FieldRow.{FieldRow}
+use Rattle.dpj_table.specs.declared.rows.MethodRow.{MethodRow}
+use Rattle.dpj_reach.specs.declared.shape.Shape.{Shape}
+use Rattle.dpj_table.specs.declared.table.Table.{Table}
+use Rattle.dpj_reach.specs.Calls.{shape_of, id_of, calls_of, all_calls}
+use Rattle.dpj_reach.specs.Edges.{without_forks}
+use Rattle.dpj_reach.specs.Shapes.{no_class, object_shape, written_shape, type_shape, element_in, object_of, called_row, call_shape, run_row, create_shape, field_shape}
+use Rattle.dpj_reach.specs.Shapes.{element_of as element_shape}
+use Rattle.dpj_table.specs.Table.{headers_of, field_of, method_of, constructor_of, args_at, is_forking}
 use Rattle.dpj_typed.specs.Plain.{TypedExpr, typed, type_of}
 use Rattle.dpj_typed.specs.Plain.{ExprForm as form}
 use Rattle.dpj_exprs.specs.declared.env.Env.{Env}

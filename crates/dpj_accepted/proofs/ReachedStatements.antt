@@ -18,13 +18,13 @@ use Rattle.dpj_typed.specs.Plain.{TypedExpr, type_of, Source, TypedStmt, TypedBr
 use Rattle.dpj_typed.specs.Plain as typed
 use Rattle.dpj_resolve.specs.Names.{Names}
 use Rattle.dpj_resolve.specs.Scoped.{with_name}
-use Rattle.dpj_classes.specs.declared.shape.Shape.{Shape}
-use Rattle.dpj_classes.specs.declared.table.Table.{Table}
-use Rattle.dpj_classes.specs.Calls.{shape_of, calls_of, stmt_calls, block_calls, branch_calls}
-use Rattle.dpj_classes.specs.Calls.{following as after_stmt}
-use Rattle.dpj_classes.specs.Edges.{without_forks}
-use Rattle.dpj_classes.specs.Shapes.{no_class, tree_shape}
-use Rattle.dpj_classes.specs.Table.{headers_of}
+use Rattle.dpj_reach.specs.declared.shape.Shape.{Shape}
+use Rattle.dpj_table.specs.declared.table.Table.{Table}
+use Rattle.dpj_reach.specs.Calls.{shape_of, calls_of, stmt_calls, block_calls, branch_calls}
+use Rattle.dpj_reach.specs.Calls.{following as after_stmt}
+use Rattle.dpj_reach.specs.Edges.{without_forks}
+use Rattle.dpj_reach.specs.Shapes.{no_class, tree_shape}
+use Rattle.dpj_table.specs.Table.{headers_of}
 use Rattle.dpj_exprs.specs.declared.env.Env.{Env}
 use Rattle.dpj_exprs.specs.declared.found.Found.{Found}
 use Rattle.dpj_exprs.specs.Answer.{gives}

@@ -13,12 +13,12 @@ use Rattle.dpj_headers.specs.Headers.{class_of, region_of, header_of, regions_of
 use Rattle.dpj_headers.specs.Numbers.{as_number}
 use Rattle.dpj_tree.specs.declared.class.Program.{Program}
 use Rattle.dpj_tree.specs.Nd.{program_uses_nd}
-use Rattle.dpj_classes.specs.declared.rows.FieldRow.{FieldRow}
-use Rattle.dpj_classes.specs.declared.rows.MethodRow.{MethodRow}
-use Rattle.dpj_classes.specs.declared.table.Table.{Table}
-use Rattle.dpj_classes.specs.Places.{constructor_number}
-use Rattle.dpj_classes.specs.Rows.{plain_method}
-use Rattle.dpj_classes.specs.Table.{headers_of, given_of, methods_of, numbered, field_of, own_field, method_of, own_method, row_of, constructor_of, args_at}
+use Rattle.dpj_table.specs.declared.rows.FieldRow.{FieldRow}
+use Rattle.dpj_table.specs.declared.rows.MethodRow.{MethodRow}
+use Rattle.dpj_table.specs.declared.table.Table.{Table}
+use Rattle.dpj_table.specs.Places.{constructor_number}
+use Rattle.dpj_table.specs.Plain.{plain_method}
+use Rattle.dpj_table.specs.Table.{headers_of, given_of, methods_of, numbered, field_of, own_field, method_of, own_method, row_of, constructor_of, args_at}
 use Rattle.dpj_typed.specs.Scope.{row_at}
 use Rattle.dpj_assembly.specs.Assembled.{PlainBody, member_of}
 use Rattle.dpj_assembly.specs.Assembled.{class_of as typed_class}

@@ -18,14 +18,15 @@ use Rattle.dpj_tree.specs.declared.region.Suffix.{Suffix}
 use Rattle.dpj_tree.specs.declared.region.TypeTree.{TypeTree}
 use Rattle.dpj_tree.specs.Size.{suffix_size, type_size, result_size, member_size, class_size}
 use Rattle.dpj_resolve.specs.Scopes.{PlainScope}
-use Rattle.dpj_classes.specs.declared.rows.MethodRow.{MethodRow}
-use Rattle.dpj_classes.specs.declared.table.Table.{Table}
+use Rattle.dpj_table.specs.declared.rows.MethodRow.{MethodRow}
+use Rattle.dpj_table.specs.declared.table.Table.{Table}
 use Rattle.dpj_classes.specs.Around.{class_scope}
-use Rattle.dpj_classes.specs.Bodies.{class_marks}
+use Rattle.dpj_reach.specs.Bodies.{class_marks}
 use Rattle.dpj_classes.specs.Build.{IsReadOf}
-use Rattle.dpj_classes.specs.Rows.{PlainField, plain_field, PlainMethod, plain_method, method_row, said_scope, fields_from, fields_meant, first_slot, methods_from, methods_meant}
+use Rattle.dpj_table.specs.Plain.{PlainField, plain_field, PlainMethod, plain_method}
+use Rattle.dpj_classes.specs.Rows.{method_row, said_scope, fields_from, fields_meant, first_slot, methods_from, methods_meant}
 use Rattle.dpj_classes.specs.Signatures.{known_type, result_type}
-use Rattle.dpj_classes.specs.Table.{headers_of, own_field, own_method, numbered}
+use Rattle.dpj_table.specs.Table.{headers_of, own_field, own_method, numbered}
 use Rattle.dpj_rows.proofs.Facts.{got_either}
 use Rattle.dpj_resolved.proofs.Lists.{some_same, and_then_there, map_there, got_first, got_later, got_mapped}
 use Rattle.dpj_accepted.specs.Whole.{StandsIn, StandsAmong}

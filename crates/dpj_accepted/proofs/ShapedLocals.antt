@@ -11,11 +11,11 @@ use Rattle.dpj_tree.specs.declared.region.TypeTree.{TypeTree}
 use Rattle.dpj_tree.specs.Plain.{PlainStmt, PlainStmts, no_stmts, more_stmts}
 use Rattle.dpj_resolve.specs.Names.{Names, last_place}
 use Rattle.dpj_resolve.specs.Scoped.{names_in, values_in, place_in, value_in, with_name}
-use Rattle.dpj_classes.specs.declared.shape.Shape.{Shape}
-use Rattle.dpj_classes.specs.declared.table.Table.{Table}
-use Rattle.dpj_classes.specs.Calls.{IsPaired, declared_by, following}
-use Rattle.dpj_classes.specs.Shapes.{no_class, tree_shape}
-use Rattle.dpj_classes.proofs.Locals.{paired_more}
+use Rattle.dpj_reach.specs.declared.shape.Shape.{Shape}
+use Rattle.dpj_table.specs.declared.table.Table.{Table}
+use Rattle.dpj_reach.specs.Calls.{IsPaired, declared_by, following}
+use Rattle.dpj_reach.specs.Shapes.{no_class, tree_shape}
+use Rattle.dpj_reach.proofs.Locals.{paired_more}
 use Rattle.dpj_exprs.specs.declared.env.Env.{Env}
 use Rattle.dpj_exprs.specs.declared.env.LocalRow.{LocalRow}
 use Rattle.dpj_exprs.specs.Env.{table_of, local_of, local_row, part_row, with_row_in, with_local, with_part, with_region, left_to, mark_of}

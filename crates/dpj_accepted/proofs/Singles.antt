@@ -10,8 +10,8 @@ use Rattle.dpj_locals.specs.Touches.{expr_reads}
 use Rattle.dpj_tree.specs.declared.region.Named.{Named}
 use Rattle.dpj_tree.specs.Plain as tree
 use Rattle.dpj_tree.specs.Targets.{IsPerformed}
-use Rattle.dpj_classes.specs.declared.rows.MethodRow.{MethodRow}
-use Rattle.dpj_classes.specs.Table.{numbered}
+use Rattle.dpj_table.specs.declared.rows.MethodRow.{MethodRow}
+use Rattle.dpj_table.specs.Table.{numbered}
 use Rattle.dpj_typed.specs.Plain.{PlainProgram, TypedExpr, type_of, TypedStmt, statement}
 use Rattle.dpj_typed.specs.Plain.{StmtForm as stmt}
 use Rattle.dpj_typed.specs.Scope.{Scope, Local, variable}

@@ -19,12 +19,13 @@ use Rattle.dpj_headers.proofs.Walks.{top_none, superclasses_step, class_at}
 use Rattle.dpj_tree.specs.declared.class.Class.{Class}
 use Rattle.dpj_tree.specs.declared.class.Program.{Program}
 use Rattle.dpj_tree.specs.Size.{program_size}
-use Rattle.dpj_classes.specs.declared.rows.FieldRow.{FieldRow}
-use Rattle.dpj_classes.specs.declared.table.Table.{Table}
+use Rattle.dpj_table.specs.declared.rows.FieldRow.{FieldRow}
+use Rattle.dpj_table.specs.declared.table.Table.{Table}
 use Rattle.dpj_classes.specs.Around.{class_scope}
-use Rattle.dpj_classes.specs.Inherited.{field_with, declared_fields, fields_after, fields_in}
-use Rattle.dpj_classes.specs.Rows.{PlainField, plain_field, fields_meant, first_slot}
-use Rattle.dpj_classes.specs.Table.{headers_of, fields_of, parent_args_of}
+use Rattle.dpj_members.specs.Inherited.{field_with, declared_fields, fields_after, fields_in}
+use Rattle.dpj_table.specs.Plain.{PlainField, plain_field}
+use Rattle.dpj_classes.specs.Rows.{fields_meant, first_slot}
+use Rattle.dpj_table.specs.Table.{headers_of, fields_of, parent_args_of}
 use Rattle.dpj_rows.specs.Rows.{HasRows}
 use Rattle.dpj_rows.proofs.Facts.{Facts, facts_of, parent_is}
 use Rattle.dpj_resolved.proofs.Lists.{some_same, there}

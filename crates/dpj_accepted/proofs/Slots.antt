@@ -22,7 +22,8 @@ use Rattle.dpj_resolve.specs.Classes.{params_in}
 use Rattle.dpj_resolve.specs.Index.{no_index}
 use Rattle.dpj_resolve.specs.Scopes.{PlainScope}
 use Rattle.dpj_classes.specs.Around.{class_scope}
-use Rattle.dpj_classes.specs.Rows.{PlainField, method_faults, member_faults, fields_from, fields_meant, first_slot, super_faults, class_faults, signature_faults}
+use Rattle.dpj_table.specs.Plain.{PlainField}
+use Rattle.dpj_classes.specs.Rows.{method_faults, member_faults, fields_from, fields_meant, first_slot, super_faults, class_faults, signature_faults}
 use Rattle.dpj_classes.specs.Signatures.{rpl_meant, known_type_faults, field_region_faults, region_of_field}
 use Rattle.dpj_rows.proofs.Facts.{got_either}
 use Rattle.dpj_resolved.proofs.Free.{append_none}

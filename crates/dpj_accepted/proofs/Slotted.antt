@@ -18,11 +18,11 @@ use Rattle.dpj_headers.proofs.Gathered.{length_rows}
 use Rattle.dpj_tree.specs.declared.class.Program.{Program}
 use Rattle.dpj_tree.specs.Size.{program_size}
 use Rattle.dpj_resolve.specs.Classes.{params_in}
-use Rattle.dpj_classes.specs.declared.rows.FieldRow.{FieldRow}
-use Rattle.dpj_classes.specs.declared.table.Table.{Table}
-use Rattle.dpj_classes.specs.Inherited.{field_with, fields_in}
-use Rattle.dpj_classes.specs.Rows.{PlainField, plain_field}
-use Rattle.dpj_classes.specs.Table.{headers_of, fields_of, parent_args_of, args_above, args_at}
+use Rattle.dpj_table.specs.declared.rows.FieldRow.{FieldRow}
+use Rattle.dpj_table.specs.declared.table.Table.{Table}
+use Rattle.dpj_members.specs.Inherited.{field_with, fields_in}
+use Rattle.dpj_table.specs.Plain.{PlainField, plain_field}
+use Rattle.dpj_table.specs.Table.{headers_of, fields_of, parent_args_of, args_above, args_at}
 use Rattle.dpj_typed.specs.Plain.{PlainClass}
 use Rattle.dpj_typed.specs.Types.{Known, Readable}
 use Rattle.dpj_assembly.specs.Assembled.{PlainBody, field_of}

@@ -16,7 +16,7 @@ use Rattle.dpj_tree.specs.declared.class.Method.{Method}
 use Rattle.dpj_tree.specs.Size.{method_size, member_size, class_size}
 use Rattle.dpj_resolve.specs.Scopes.{PlainScope}
 use Rattle.dpj_classes.specs.Around.{class_scope}
-use Rattle.dpj_classes.specs.Bodies.{own_marks, class_marks}
+use Rattle.dpj_reach.specs.Bodies.{own_marks, class_marks}
 use Rattle.dpj_classes.specs.Rows.{method_row, method_faults, member_faults, own_methods, methods_from, methods_meant, super_faults, class_faults, signature_faults}
 use Rattle.dpj_assembly.specs.Assembled.{PlainBody}
 use Rattle.dpj_exprs.specs.declared.env.Env.{Env}

@@ -16,8 +16,8 @@ use Rattle.dpj_resolve.specs.Index.{PlainIndex}
 use Rattle.dpj_resolve.specs.Reading.{args_read}
 use Rattle.dpj_resolve.specs.Scopes.{PlainScope}
 use Rattle.dpj_resolve.specs.Written.{base_read, base_type, is_indexed, arrays_from, paths_from, type_read, judged_type, type_index, type_meant}
-use Rattle.dpj_classes.specs.declared.shape.Shape.{Shape}
-use Rattle.dpj_classes.specs.Shapes.{base_class, written_shape, tree_shape, in_array, type_shape, element_in, element_of, object_of}
+use Rattle.dpj_reach.specs.declared.shape.Shape.{Shape}
+use Rattle.dpj_reach.specs.Shapes.{base_class, written_shape, tree_shape, in_array, type_shape, element_in, element_of, object_of}
 use Rattle.dpj_resolved.proofs.Lists.{some_same}
 
 -- what is known of a value of this type: its class, or what is known of its elements; nothing is asked of any other

@@ -8,12 +8,12 @@ use Rattle.dpj_tree.specs.declared.class.Member.TheVariants as member
 use Rattle.dpj_tree.specs.declared.class.Program.{Program}
 use Rattle.dpj_tree.specs.Nd.{member_holds_nd, program_uses_nd}
 use Rattle.dpj_assembly.specs.Assembled.{PlainBody}
-use Rattle.dpj_classes.specs.declared.reach.Edge.{Edge}
-use Rattle.dpj_classes.specs.declared.table.Table.{Table}
-use Rattle.dpj_classes.specs.Bodies.{own_marks, class_marks, override_edges}
-use Rattle.dpj_classes.specs.Edges.{call_edges, without_forks}
-use Rattle.dpj_classes.specs.Reach.{is_marked, IsAfter}
-use Rattle.dpj_classes.specs.Table.{methods_of, is_forking}
+use Rattle.dpj_reach.specs.declared.reach.Edge.{Edge}
+use Rattle.dpj_table.specs.declared.table.Table.{Table}
+use Rattle.dpj_reach.specs.Bodies.{own_marks, class_marks, override_edges}
+use Rattle.dpj_reach.specs.Edges.{call_edges, without_forks}
+use Rattle.dpj_reach.specs.Reach.{is_marked, IsAfter}
+use Rattle.dpj_table.specs.Table.{methods_of, is_forking}
 use Rattle.dpj_resolved.specs.Accepted.{IsAccepted}
 use Rattle.dpj_accepted.specs.Whole.{never_forks}
 

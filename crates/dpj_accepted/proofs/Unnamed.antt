@@ -12,10 +12,10 @@ use Rattle.dpj_headers.proofs.Cycles.{up-then}
 use Rattle.dpj_tree.specs.declared.class.Program.{Program}
 use Rattle.dpj_tree.specs.Nd.{program_uses_nd}
 use Rattle.dpj_resolve.specs.Classes.{params_in}
-use Rattle.dpj_classes.specs.declared.table.Table.{Table}
-use Rattle.dpj_classes.specs.Inherited.{field_with, fields_in}
-use Rattle.dpj_classes.specs.Rows.{PlainField}
-use Rattle.dpj_classes.specs.Table.{headers_of, parent_args_of}
+use Rattle.dpj_table.specs.declared.table.Table.{Table}
+use Rattle.dpj_members.specs.Inherited.{field_with, fields_in}
+use Rattle.dpj_table.specs.Plain.{PlainField}
+use Rattle.dpj_table.specs.Table.{headers_of, parent_args_of}
 use Rattle.dpj_typed.specs.Plain.{PlainClass, PlainMember, PlainParent}
 use Rattle.dpj_typed.specs.Plain.{PlainField as TypedField}
 use Rattle.dpj_typed.specs.Scope.{class_at, field_at, member_at}

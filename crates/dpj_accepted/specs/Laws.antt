@@ -10,7 +10,7 @@ use Rattle.dpj_tree.specs.Targets.{IsPerformed}
 use Rattle.dpj_tree.specs.declared.region.Named.{Named}
 use Rattle.dpj_tree.specs.declared.class.Program.{Program}
 use Rattle.dpj_locals.specs.Touches.{expr_reads, stmts_read, stmts_assign}
-use Rattle.dpj_classes.specs.declared.table.Table.{Table}
+use Rattle.dpj_table.specs.declared.table.Table.{Table}
 use Rattle.dpj_typed.specs.Plain.{PlainProgram, TypedExpr, TypedStmt, TypedStmts, stmts_of}
 use Rattle.dpj_typed.specs.Statements.{Passes, AllPass}
 use Rattle.dpj_typed.specs.Effects.{Own}

@@ -12,11 +12,11 @@ use Rattle.dpj_resolve.specs.declared.scope.ParamFound.{ParamFound}
 use Rattle.dpj_resolve.specs.Classes.{params_in}
 use Rattle.dpj_resolve.specs.Scoped.{value_in}
 use Rattle.dpj_resolve.specs.Scopes.{param_meant}
-use Rattle.dpj_classes.specs.declared.rows.FieldRow.{FieldRow}
-use Rattle.dpj_classes.specs.declared.rows.MethodRow.{MethodRow}
-use Rattle.dpj_classes.specs.declared.table.Table.{Table}
+use Rattle.dpj_table.specs.declared.rows.FieldRow.{FieldRow}
+use Rattle.dpj_table.specs.declared.rows.MethodRow.{MethodRow}
+use Rattle.dpj_table.specs.declared.table.Table.{Table}
 use Rattle.dpj_check.specs.declared.node.Around.{Around}
-use Rattle.dpj_classes.specs.Table.{numbered, headers_of, given_of, field_of, method_of, row_of, constructor_of, args_at, is_forking}
+use Rattle.dpj_table.specs.Table.{numbered, headers_of, given_of, field_of, method_of, row_of, constructor_of, args_at, is_forking}
 use Rattle.dpj_typed.specs.Plain.{PlainProgram, PlainClass, PlainField, PlainMember, PlainParent}
 use Rattle.dpj_typed.specs.Scope.{Scope, Local, variable, frozen, constant, part, reserved, Above, IsBelow, class_at, member_at, field_at, row_at}
 use Rattle.dpj_typed.specs.Scope.{parent_of as parent_in}

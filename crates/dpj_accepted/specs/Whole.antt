@@ -10,9 +10,9 @@ use Rattle.dpj_tree.specs.declared.class.Program.{Program}
 use Rattle.dpj_tree.specs.Nd.{program_uses_nd}
 use Rattle.dpj_tree.specs.Plain.{plain_stmt, plain_stmts}
 use Rattle.dpj_headers.specs.Gathered.{name_number}
-use Rattle.dpj_classes.specs.declared.table.Table.{Table}
-use Rattle.dpj_classes.specs.Bodies.{own_marks, class_marks}
-use Rattle.dpj_classes.specs.Table.{is_forking, supers_of}
+use Rattle.dpj_table.specs.declared.table.Table.{Table}
+use Rattle.dpj_reach.specs.Bodies.{own_marks, class_marks}
+use Rattle.dpj_table.specs.Table.{is_forking, supers_of}
 use Rattle.dpj_typed.specs.Effects.{Own, as_effects}
 use Rattle.dpj_typed.specs.Plain.{PlainProgram, PlainClass, PlainMember, TypedStmt}
 use Rattle.dpj_typed.specs.Scope.{class_at, member_at}

@@ -1,6 +1,6 @@
 -- Members without bodies.
 use Rattle.std.proofs.Common.{◌≡◌, ℕ, List, [], ◌∷◌, refl}
-use Rattle.dpj_classes.specs.declared.rows.MethodRow.{MethodRow}
+use Rattle.dpj_table.specs.declared.rows.MethodRow.{MethodRow}
 use Rattle.dpj_assembly.specs.Assembled.{members_of}
 use Rattle.dpj_assembly.specs.Named.{members_named}
 

@@ -7,11 +7,11 @@ use Rattle.dpj_headers.specs.Inheriting.{of_each_class}
 use Rattle.dpj_headers.specs.Numbers.{as_number}
 use Rattle.dpj_typed.specs.Plain.{TypedStmts, stmts_of, plain_stmt, PlainParent, PlainClass, PlainMember, PlainProgram}
 use Rattle.dpj_typed.specs.Plain.{PlainField as TypedField}
-use Rattle.dpj_classes.specs.declared.rows.MethodRow.{MethodRow}
-use Rattle.dpj_classes.specs.Inherited.{fields_in, members_in}
-use Rattle.dpj_classes.specs.Main.{main_class, main_method}
-use Rattle.dpj_classes.specs.Rows.{PlainField}
-use Rattle.dpj_classes.specs.Table.{PlainTable, headers_of, given_of, methods_of, constructor_of, parent_args_of}
+use Rattle.dpj_table.specs.declared.rows.MethodRow.{MethodRow}
+use Rattle.dpj_members.specs.Inherited.{fields_in, members_in}
+use Rattle.dpj_table.specs.Main.{main_class, main_method}
+use Rattle.dpj_table.specs.Plain.{PlainField}
+use Rattle.dpj_table.specs.Table.{PlainTable, headers_of, given_of, methods_of, constructor_of, parent_args_of}
 use Rattle.dpj_assembly.specs.declared.body.MemberBody.{MemberBody}
 
 -- a body: its statements, and how many slots and local regions it has

@@ -8,8 +8,8 @@ use Rattle.dpj_headers.specs.Headers.{header_of, regions_of}
 use Rattle.dpj_headers.specs.Inheriting.{of_each_class}
 use Rattle.dpj_headers.specs.Numbers.{as_number}
 use Rattle.dpj_typed.specs.Names.{Named, NamedRegion, ProgramNames}
-use Rattle.dpj_classes.specs.declared.rows.MethodRow.{MethodRow}
-use Rattle.dpj_classes.specs.Table.{PlainTable, headers_of, methods_of}
+use Rattle.dpj_table.specs.declared.rows.MethodRow.{MethodRow}
+use Rattle.dpj_table.specs.Table.{PlainTable, headers_of, methods_of}
 use Rattle.dpj_assembly.specs.Assembled.{PlainBody}
 
 -- a name by its number among the names of a text

@@ -10,8 +10,8 @@ use crate::classes::classes;
 use crate::members::members;
 use crate::texts::text;
 use dpj_base::{Bytes, Items, NoMemory};
-use dpj_classes::{Table, main_class, main_method};
 use dpj_headers::RegionRow;
+use dpj_table::{Table, main_class, main_method};
 use dpj_typed::{ClassId, MemberId, Program, RegionName};
 use std::alloc::Global;
 

@@ -5,15 +5,16 @@ ghost use Rattle.dpj_headers.specs.Numbers.{as_number};
 ghost use Rattle.dpj_typed.specs.Names.{named_class};
 ghost use Rattle.dpj_typed.specs.Plain.{plain_class, plain_parent};
 ghost use Rattle.dpj_typed.specs.Plain.{plain_field as typed_field};
-ghost use Rattle.dpj_classes.specs.Rows.{plain_field};
-ghost use Rattle.dpj_classes.specs.Table.{headers_of, constructor_of};
+ghost use Rattle.dpj_table.specs.Plain.{plain_field};
+ghost use Rattle.dpj_table.specs.Table.{headers_of, constructor_of};
 ghost use Rattle.dpj_assembly.specs.Assembled.{field_of, class_of, parent_at, class_from};
 ghost use Rattle.dpj_assembly.specs.Named.{class_named};
 
 use crate::texts::{copies, params, text};
 use dpj_base::{Bytes, Items, NoMemory, Plain};
-use dpj_classes::{FieldRow, Table, all_fields, all_rows};
 use dpj_headers::number_at;
+use dpj_members::{all_fields, all_rows};
+use dpj_table::{FieldRow, Table};
 use dpj_typed::{Class, ClassId, Field, MemberId, Parent};
 use std::alloc::Global;
 

@@ -7,7 +7,7 @@ ghost use Rattle.dpj_assembly.specs.Named.{member_named, members_named};
 use crate::body::MemberBody;
 use crate::texts::{copies, params, text};
 use dpj_base::{Bytes, Items, NoMemory, Plain};
-use dpj_classes::MethodRow;
+use dpj_table::MethodRow;
 use dpj_typed::{ClassId, Member};
 use std::alloc::Global;
 

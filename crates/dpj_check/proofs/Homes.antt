@@ -5,8 +5,8 @@ use Rattle.dpj_base.specs.declared.effect.Constraint.{Constraint}
 use Rattle.dpj_base.specs.declared.array_part.PartUse.{PartUse}
 use Rattle.dpj_base.specs.Branches.{Atomic, iterations_clash}
 use Rattle.dpj_headers.specs.Headers.{atomic_regions}
-use Rattle.dpj_classes.specs.declared.table.Table.{Table}
-use Rattle.dpj_classes.specs.Table.{headers_of}
+use Rattle.dpj_table.specs.declared.table.Table.{Table}
+use Rattle.dpj_table.specs.Table.{headers_of}
 use Rattle.dpj_parts.specs.Uses.{parts_interfere}
 use Rattle.dpj_tree.specs.Plain.{PlainStmt}
 use Rattle.dpj_typed.specs.Plain.{TypedStmt}

@@ -11,7 +11,7 @@ use Rattle.dpj_tree.specs.declared.region.TypeTree.{TypeTree}
 use Rattle.dpj_tree.specs.Plain.{PlainExpr}
 use Rattle.dpj_typed.specs.Plain.{TypedExpr, TypedStmt}
 use Rattle.dpj_typed.specs.Plain as typed
-use Rattle.dpj_classes.specs.Table.{numbered}
+use Rattle.dpj_table.specs.Table.{numbered}
 use Rattle.dpj_exprs.specs.declared.env.LocalRow.{LocalRow}
 use Rattle.dpj_exprs.specs.declared.found.Found.{Found}
 use Rattle.dpj_exprs.specs.declared.assigned.Target.{Target}

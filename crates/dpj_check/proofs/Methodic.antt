@@ -25,9 +25,9 @@ use Rattle.dpj_tree.specs.declared.class.Member.TheVariants as member
 use Rattle.dpj_tree.specs.declared.class.Method.{Method}
 use Rattle.dpj_tree.specs.declared.class.Program.{Program}
 use Rattle.dpj_tree.specs.Plain.{PlainStmts, plain_stmt, plain_stmts}
-use Rattle.dpj_classes.specs.declared.rows.MethodRow.{MethodRow}
-use Rattle.dpj_classes.specs.declared.table.Table.{Table}
-use Rattle.dpj_classes.specs.Table.{given_of, numbered}
+use Rattle.dpj_table.specs.declared.rows.MethodRow.{MethodRow}
+use Rattle.dpj_table.specs.declared.table.Table.{Table}
+use Rattle.dpj_table.specs.Table.{given_of, numbered}
 use Rattle.dpj_typed.specs.Plain.{TypedStmt, stmts_of}
 use Rattle.dpj_assembly.specs.declared.body.MemberBody.{MemberBody}
 use Rattle.dpj_assembly.specs.Assembled.{PlainBody, plain_body}

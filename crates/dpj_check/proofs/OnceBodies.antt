@@ -7,9 +7,9 @@ use Rattle.dpj_resolve.specs.Scoped.{no_names}
 use Rattle.dpj_tree.specs.declared.class.Class.{Class}
 use Rattle.dpj_tree.specs.declared.class.Member.{Member}
 use Rattle.dpj_tree.specs.declared.class.Method.{Method}
-use Rattle.dpj_classes.specs.declared.table.Table.{Table}
-use Rattle.dpj_classes.specs.Table.{given_of}
-use Rattle.dpj_classes.specs.Table.{supers_of as superclasses}
+use Rattle.dpj_table.specs.declared.table.Table.{Table}
+use Rattle.dpj_table.specs.Table.{given_of}
+use Rattle.dpj_table.specs.Table.{supers_of as superclasses}
 use Rattle.dpj_assembly.specs.Assembled.{PlainBody}
 use Rattle.dpj_exprs.specs.declared.env.Env.{Env}
 use Rattle.dpj_exprs.specs.Env.{table_of, at_class, IsFresh}

@@ -9,7 +9,7 @@ use Rattle.dpj_base.specs.Regions.{fully_specified}
 use Rattle.dpj_base.specs.Types.{PlainType, plain_type}
 use Rattle.dpj_base.specs.Types.PlainType.{array}
 use Rattle.dpj_base.specs.declared.ty.Super.{Super}
-use Rattle.dpj_classes.specs.declared.rows.MethodRow.{MethodRow}
+use Rattle.dpj_table.specs.declared.rows.MethodRow.{MethodRow}
 use Rattle.dpj_tree.specs.declared.class.MethodResult.{MethodResult}
 use Rattle.dpj_tree.specs.declared.class.MethodResult.TheVariants as given
 use Rattle.dpj_tree.specs.Plain.{PlainStmt}

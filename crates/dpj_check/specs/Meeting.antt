@@ -5,7 +5,7 @@ use Rattle.dpj_base.specs.declared.effect.Constraint.{Constraint}
 use Rattle.dpj_base.specs.Branches.{Atomic, lists_clash}
 use Rattle.dpj_base.specs.Pairs.{NoPair}
 use Rattle.dpj_headers.specs.Headers.{atomic_regions}
-use Rattle.dpj_classes.specs.Table.{headers_of}
+use Rattle.dpj_table.specs.Table.{headers_of}
 use Rattle.dpj_exprs.specs.declared.env.Env.{Env}
 use Rattle.dpj_exprs.specs.Env.{given_in, table_of}
 

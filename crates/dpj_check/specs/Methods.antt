@@ -19,9 +19,9 @@ use Rattle.dpj_tree.specs.declared.class.Program.{Program}
 use Rattle.dpj_tree.specs.Plain.{plain_stmt, plain_stmts}
 use Rattle.dpj_typed.specs.Plain.{TypedStmt, stmts_of}
 use Rattle.dpj_assembly.specs.Assembled.{PlainBody, plain_body}
-use Rattle.dpj_classes.specs.declared.rows.MethodRow.{MethodRow}
-use Rattle.dpj_classes.specs.declared.table.Table.{Table}
-use Rattle.dpj_classes.specs.Table.{headers_of, numbered}
+use Rattle.dpj_table.specs.declared.rows.MethodRow.{MethodRow}
+use Rattle.dpj_table.specs.declared.table.Table.{Table}
+use Rattle.dpj_table.specs.Table.{headers_of, numbered}
 use Rattle.dpj_exprs.specs.declared.env.Env.{Env}
 use Rattle.dpj_check.specs.declared.bodies.ClassBodies.{ClassBodies}
 use Rattle.dpj_check.specs.declared.body.Body.{Body}

@@ -1,7 +1,7 @@
 -- The rules of bodies leave no choice.
 use Rattle.std.specs.Prelude.{◌≡◌, List, Result}
 use Rattle.dpj_tree.specs.declared.class.Program.{Program}
-use Rattle.dpj_classes.specs.declared.table.Table.{Table}
+use Rattle.dpj_table.specs.declared.table.Table.{Table}
 use Rattle.dpj_base.specs.declared.refusal.Refusal.{Refusal}
 use Rattle.dpj_assembly.specs.Assembled.{PlainBody}
 use Rattle.dpj_check.specs.Methods.{BodiesChecking}

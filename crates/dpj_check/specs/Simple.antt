@@ -19,7 +19,7 @@ use Rattle.dpj_tree.specs.declared.region.TypeTree.{TypeTree}
 use Rattle.dpj_tree.specs.Plain.{PlainExpr, expression}
 use Rattle.dpj_typed.specs.Plain.{TypedExpr, type_of, TypedStmt}
 use Rattle.dpj_typed.specs.Plain as typed
-use Rattle.dpj_classes.specs.Table.{headers_of, numbered}
+use Rattle.dpj_table.specs.Table.{headers_of, numbered}
 use Rattle.dpj_exprs.specs.declared.env.Env.{Env}
 use Rattle.dpj_exprs.specs.declared.env.LocalRow.{LocalRow}
 use Rattle.dpj_exprs.specs.declared.found.Found.{Found}

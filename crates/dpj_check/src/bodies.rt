@@ -21,10 +21,10 @@ use crate::node::Around;
 use crate::statements::{CheckedBlock, block};
 use dpj_assembly::MemberBody;
 use dpj_base::{Items, Kind, NoMemory, Plain, Stop, Ty};
-use dpj_classes::{MethodRow, Table};
 use dpj_effects::EffectSet;
 use dpj_exprs::{Env, Found, length_name, refused};
 use dpj_headers::number_at;
+use dpj_table::{MethodRow, Table};
 use dpj_tree::{Class, Formal, Member, Method, MethodResult, Program, uses_nd};
 use std::alloc::Global;
 

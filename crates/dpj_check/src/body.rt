@@ -33,7 +33,7 @@ impl Body<'_> {
     ghost use Rattle.std.specs.Prelude.{◌≡◌, ◌↔◌, ◌++◌, None, true, not, take, IsTrue, IfOk, OnOk};
     ghost use Rattle.dpj_base.specs.Types.{plain_type};
     ghost use Rattle.dpj_tree.specs.Plain.{plain_expr};
-    ghost use Rattle.dpj_classes.specs.Table.{numbered};
+    ghost use Rattle.dpj_table.specs.Table.{numbered};
     ghost use Rattle.dpj_exprs.specs.Answer.{gives, refused, Says};
     ghost use Rattle.dpj_exprs.specs.Env.{at_class, at_method, supers_of, table_of};
     ghost use Rattle.dpj_exprs.specs.Typed.{plain_typed, value_type, may_be, is_int, is_boolean, Fits};

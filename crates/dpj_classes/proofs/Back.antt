@@ -5,9 +5,9 @@ use Rattle.dpj_base.specs.declared.ty.Ty.{Ty, fold-roll-Ty, ind-Ty, roll-Ty, map
 use Rattle.dpj_base.specs.declared.ty.Ty.TheOpen.{Ty-F}
 use Rattle.dpj_base.specs.Types.{PlainType, plain_type, type_step}
 use Rattle.dpj_base.specs.Types.{PlainType as ty}
-use Rattle.dpj_classes.specs.declared.rows.FieldRow.{FieldRow}
-use Rattle.dpj_classes.specs.declared.rows.MethodRow.{MethodRow}
-use Rattle.dpj_classes.specs.Rows.{PlainSuper, PlainField, PlainMethod, plain_super, plain_field, plain_method}
+use Rattle.dpj_table.specs.declared.rows.FieldRow.{FieldRow}
+use Rattle.dpj_table.specs.declared.rows.MethodRow.{MethodRow}
+use Rattle.dpj_table.specs.Plain.{PlainSuper, PlainField, PlainMethod, plain_super, plain_field, plain_method}
 
 -- the type that a plain type is of
 abbrev pub type_back : PlainType → Ty

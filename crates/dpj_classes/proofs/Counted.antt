@@ -5,9 +5,10 @@ use Rattle.dpj_base.specs.declared.effect.Constraint.{Constraint}
 use Rattle.dpj_tree.specs.declared.class.Class.{Class}
 use Rattle.dpj_headers.specs.declared.header.Headers.{Headers}
 use Rattle.dpj_headers.specs.Numbers.{as_number}
-use Rattle.dpj_classes.specs.declared.rows.MethodRow.{MethodRow}
+use Rattle.dpj_table.specs.declared.rows.MethodRow.{MethodRow}
 use Rattle.dpj_classes.specs.Around.{class_scope}
-use Rattle.dpj_classes.specs.Rows.{PlainMethod, plain_method, methods_from, methods_meant}
+use Rattle.dpj_table.specs.Plain.{PlainMethod, plain_method}
+use Rattle.dpj_classes.specs.Rows.{methods_from, methods_meant}
 
 -- one class more is read
 pub methods_step : (headers : Headers) (given : List (List Constraint)) (at : ℕ) (old new : List MethodRow) (class : Class) (left rest : List Class) (whole : List PlainMethod)

@@ -12,7 +12,7 @@ use Rattle.dpj_headers.specs.Passes.{fault_if, extends_place, second_classes, un
 use Rattle.dpj_headers.specs.Rounds.{TellRounds}
 use Rattle.dpj_headers.specs.Second.{reported_second}
 use Rattle.dpj_headers.specs.Gathered.{headers_in}
-use Rattle.dpj_classes.specs.declared.table.Table.{Table}
+use Rattle.dpj_table.specs.declared.table.Table.{Table}
 use Rattle.dpj_classes.specs.Build.{first_of, text_faults, table_faults, AreWellNamed, IsTable, IsReported}
 use Rattle.dpj_classes.proofs.Tables.{both_ways, one_table}
 use Rattle.dpj_classes.specs.Build.IsReported.{in_classes, in_members, in_signatures, in_table}

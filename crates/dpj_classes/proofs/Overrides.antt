@@ -27,17 +27,18 @@ use Rattle.dpj_headers.proofs.Among.{among_either}
 use Rattle.dpj_headers.proofs.Order.{Among}
 use Rattle.dpj_headers.proofs.Second.{and_true, below_split, sound_from, length_parents}
 use Rattle.dpj_resolve.specs.Scopes.{PlainScope}
-use Rattle.dpj_classes.specs.declared.overridden.Own.{Own}
-use Rattle.dpj_classes.specs.declared.rows.MethodRow.{MethodRow}
-use Rattle.dpj_classes.specs.declared.table.Table.{Table}
+use Rattle.dpj_members.specs.declared.overridden.Own.{Own}
+use Rattle.dpj_table.specs.declared.rows.MethodRow.{MethodRow}
+use Rattle.dpj_table.specs.declared.table.Table.{Table}
 use Rattle.dpj_classes.specs.Around.{class_scope}
 use Rattle.dpj_classes.specs.Build.{IsReadOf}
-use Rattle.dpj_classes.specs.Overridden.{overridden_in}
-use Rattle.dpj_classes.specs.Places.{entry_at, method_number}
-use Rattle.dpj_classes.specs.Rows.{PlainMethod, plain_method, methods_from, methods_meant}
-use Rattle.dpj_classes.specs.Table.{headers_of, all_given, methods_of}
-use Rattle.dpj_classes.specs.Visible.{all_own, all_overriding, Seen, none_seen, after_step, after_way, overridden_on_way}
-use Rattle.dpj_classes.proofs.Visible.{AreRows, overriding, overridden_found}
+use Rattle.dpj_members.specs.Overridden.{overridden_in}
+use Rattle.dpj_table.specs.Places.{entry_at, method_number}
+use Rattle.dpj_table.specs.Plain.{PlainMethod, plain_method}
+use Rattle.dpj_classes.specs.Rows.{methods_from, methods_meant}
+use Rattle.dpj_table.specs.Table.{headers_of, all_given, methods_of}
+use Rattle.dpj_members.specs.Visible.{all_own, all_overriding, Seen, none_seen, after_step, after_way, overridden_on_way}
+use Rattle.dpj_members.proofs.Visible.{AreRows, overriding, overridden_found}
 
 -- the names of a class's methods are counted, and the class is theirs
 from_counted : (names : ℕ) (scope : PlainScope) (count : ℕ) (members : List Member) (row : PlainMethod) → are_below names (flat_map declared_in_method (flat_map method_in members)) ≡ true → Among row (methods_from scope count members) → (row.name < names) × (row.owner ≡ scope.class)

@@ -6,15 +6,15 @@ use Rattle.dpj_base.specs.declared.effect.Constraint.{Constraint}
 use Rattle.dpj_tree.specs.declared.class.Program.{Program}
 use Rattle.dpj_headers.specs.declared.header.Headers.{Headers}
 use Rattle.dpj_headers.specs.Gathered.{headers_in}
-use Rattle.dpj_classes.specs.declared.table.Table.{Table}
-use Rattle.dpj_classes.specs.Bodies.{class_marks, override_edges}
+use Rattle.dpj_table.specs.declared.table.Table.{Table}
+use Rattle.dpj_reach.specs.Bodies.{class_marks, override_edges}
 use Rattle.dpj_classes.specs.Build.{IsTable}
-use Rattle.dpj_classes.specs.Edges.{call_edges, without_forks}
-use Rattle.dpj_classes.specs.Overridden.{overridden_in}
-use Rattle.dpj_classes.specs.Reach.{IsAfter}
-use Rattle.dpj_classes.specs.RowNumbers.{rows_on_way}
+use Rattle.dpj_reach.specs.Edges.{call_edges, without_forks}
+use Rattle.dpj_members.specs.Overridden.{overridden_in}
+use Rattle.dpj_reach.specs.Reach.{IsAfter}
+use Rattle.dpj_members.specs.RowNumbers.{rows_on_way}
 use Rattle.dpj_classes.specs.Rows.{all_constraints, supers_meant, fields_meant, methods_meant}
-use Rattle.dpj_classes.specs.Table.{headers_of, methods_of}
+use Rattle.dpj_table.specs.Table.{headers_of, methods_of}
 use Rattle.dpj_classes.proofs.Back.{super_back, field_back, method_back, supers_back, fields_back, methods_back}
 
 -- a table with the rows that the text says over these headers, and nothing else

@@ -10,16 +10,17 @@ use Rattle.dpj_headers.specs.Faults.{reported, none_by, all_noted}
 use Rattle.dpj_headers.specs.First.{IsReportedFirst}
 use Rattle.dpj_headers.specs.Gathered.{headers_in}
 use Rattle.dpj_headers.specs.Second.{reported_second}
-use Rattle.dpj_classes.specs.declared.table.Table.{Table}
-use Rattle.dpj_classes.specs.Bodies.{class_marks, override_edges}
-use Rattle.dpj_classes.specs.Edges.{call_edges, without_forks}
-use Rattle.dpj_classes.specs.Main.{main_faults}
-use Rattle.dpj_classes.specs.Overridden.{overridden_in}
+use Rattle.dpj_table.specs.declared.table.Table.{Table}
+use Rattle.dpj_reach.specs.Bodies.{class_marks, override_edges}
+use Rattle.dpj_reach.specs.Edges.{call_edges, without_forks}
+use Rattle.dpj_table.specs.Main.{main_faults}
+use Rattle.dpj_members.specs.Overridden.{overridden_in}
 use Rattle.dpj_classes.specs.Overriding.{override_faults}
-use Rattle.dpj_classes.specs.Reach.{IsAfter}
-use Rattle.dpj_classes.specs.RowNumbers.{rows_on_way}
-use Rattle.dpj_classes.specs.Rows.{plain_super, plain_field, plain_method, all_constraints, all_constraint_faults, supers_meant, fields_meant, methods_meant, signature_faults}
-use Rattle.dpj_classes.specs.Table.{headers_of, all_given, supers_of, fields_of, methods_of, is_forking}
+use Rattle.dpj_reach.specs.Reach.{IsAfter}
+use Rattle.dpj_members.specs.RowNumbers.{rows_on_way}
+use Rattle.dpj_table.specs.Plain.{plain_super, plain_field, plain_method}
+use Rattle.dpj_classes.specs.Rows.{all_constraints, all_constraint_faults, supers_meant, fields_meant, methods_meant, signature_faults}
+use Rattle.dpj_table.specs.Table.{headers_of, all_given, supers_of, fields_of, methods_of, is_forking}
 
 -- the fault that is reported of these: that with the least place
 abbrev pub first_of : List Refusal → Option Refusal

@@ -17,9 +17,9 @@ use Rattle.dpj_headers.specs.declared.header.ParamRow.{ParamRow}
 use Rattle.dpj_headers.specs.Headers.{header_of}
 use Rattle.dpj_headers.specs.Numbers.{as_number}
 use Rattle.dpj_headers.specs.Passes.{fault, fault_if}
-use Rattle.dpj_classes.specs.declared.rows.MethodRow.{MethodRow}
-use Rattle.dpj_classes.specs.declared.table.Table.{Table}
-use Rattle.dpj_classes.specs.Table.{headers_of, numbered, overridden_by, args_at}
+use Rattle.dpj_table.specs.declared.rows.MethodRow.{MethodRow}
+use Rattle.dpj_table.specs.declared.table.Table.{Table}
+use Rattle.dpj_table.specs.Table.{headers_of, numbered, overridden_by, args_at}
 
 -- as many region parameters, and each as atomic as the other
 abbrev pub same_kinds : List ParamRow → List ParamRow → Bool

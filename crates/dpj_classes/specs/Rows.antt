@@ -21,54 +21,10 @@ use Rattle.dpj_headers.specs.Headers.{header_of, parent_of}
 use Rattle.dpj_headers.specs.Numbers.{as_number}
 use Rattle.dpj_headers.specs.Passes.{is_constructor_result}
 use Rattle.dpj_resolve.specs.Scopes.{PlainScope}
-use Rattle.dpj_classes.specs.declared.rows.FieldRow.{FieldRow}
-use Rattle.dpj_classes.specs.declared.rows.MethodRow.{MethodRow}
+use Rattle.dpj_table.specs.declared.rows.FieldRow.{FieldRow}
+use Rattle.dpj_table.specs.declared.rows.MethodRow.{MethodRow}
 use Rattle.dpj_classes.specs.Around.{method_names, class_scope, with_names, with_given}
 use Rattle.dpj_classes.specs.Signatures.{constraints_meant, constraints_faults, known_type, known_type_faults, region_of_field, field_region_faults, formal_types, formal_faults, result_type, result_faults, summary_meant, summary_faults, parent_meant, parent_faults}
-
--- a superclass with its region arguments, a field and a method, with plain types
-pub record PlainSuper : Type 0 where
-  pub class : ℕ
-  pub parent : PlainType
-
-pub record PlainField : Type 0 where
-  pub name : ℕ
-  pub slot : ℕ
-  pub owner : ℕ
-  pub ty : PlainType
-  pub rpl : Rpl
-
-pub record PlainMethod : Type 0 where
-  pub id : ℕ
-  pub owner : ℕ
-  pub name : ℕ
-  pub place : Place
-  pub is_constructor : Bool
-  pub regions : List ParamRow
-  pub given : List Constraint
-  pub params : List PlainType
-  pub result : PlainType
-  pub summary : List Effect
-
-abbrev pub plain_super : Super → PlainSuper
-plain_super row = record { class = row.class; parent = plain_type row.parent }
-
-abbrev pub plain_field : FieldRow → PlainField
-plain_field row = record { name = row.name; slot = row.slot; owner = row.owner; ty = plain_type row.ty; rpl = row.rpl }
-
-abbrev pub plain_method : MethodRow → PlainMethod
-plain_method row = record {
-  id = row.id;
-  owner = row.owner;
-  name = row.name;
-  place = row.place;
-  is_constructor = row.is_constructor;
-  regions = row.regions;
-  given = row.given;
-  params = map plain_type row.params;
-  result = plain_type row.result;
-  summary = row.summary;
-}
 
 -- a field with this slot
 abbrev pub field_row : PlainScope → ℕ → Field → PlainField

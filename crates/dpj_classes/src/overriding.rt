@@ -3,14 +3,13 @@ ghost use Rattle.std.specs.Option.{option_copied};
 ghost use Rattle.dpj_base.specs.Effects.{gathered};
 ghost use Rattle.dpj_headers.specs.Faults.{all_noted};
 ghost use Rattle.dpj_classes.specs.Overriding.{same_kinds, same_path_with, same_constraints, same_with, same_types, fits, effect_with, is_covered, override_fault, param_path, params_from, param_count, args_in, overridden_row, row_faults, override_faults};
-ghost use Rattle.dpj_classes.specs.Table.{methods_of};
+ghost use Rattle.dpj_table.specs.Table.{methods_of};
 
-use crate::rows::MethodRow;
-use crate::table::Table;
 use dpj_base::{Constraint, Effect, Elems, Head, Items, Kind, NoMemory, Rpl, Ty};
 use dpj_effects::EffectSet;
 use dpj_headers::{Faults, Headers, ParamRow, number_at};
 use dpj_regions::subst;
+use dpj_table::{MethodRow, Table};
 use dpj_types::{same_path, same_type, subst_type};
 use std::alloc::Global;
 

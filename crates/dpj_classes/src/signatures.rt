@@ -6,27 +6,20 @@ ghost use Rattle.dpj_headers.specs.Numbers.{as_number};
 ghost use Rattle.dpj_headers.specs.Passes.{is_constructor_result};
 ghost use Rattle.dpj_resolve.specs.Classes.{constraints_in};
 ghost use Rattle.dpj_classes.specs.Around.{with_names, class_scope};
-ghost use Rattle.dpj_classes.specs.Rows.{plain_super, plain_field, plain_method, field_row, field_faults, said_faults, said_scope, method_row, method_faults, own_fields, next_slot, own_methods, member_faults, fields_from, methods_from, first_slot, super_rows, super_faults, class_faults, supers_meant, fields_meant, methods_meant, signature_faults, all_constraints, all_constraint_faults};
+ghost use Rattle.dpj_table.specs.Plain.{plain_super, plain_field, plain_method};
+ghost use Rattle.dpj_classes.specs.Rows.{field_row, field_faults, said_faults, said_scope, method_row, method_faults, own_fields, next_slot, own_methods, member_faults, fields_from, methods_from, first_slot, super_rows, super_faults, class_faults, supers_meant, fields_meant, methods_meant, signature_faults, all_constraints, all_constraint_faults};
 ghost use Rattle.dpj_classes.specs.Signatures.{constraints_meant, constraints_faults, formal_types, result_type, summary_meant, parent_meant, parent_faults};
 ghost use Rattle.dpj_classes.specs.Supers.{classes_in, extending, all_extending};
 
 use crate::around::{Names, read_constraints};
-use crate::rows::{FieldRow, MethodRow};
 use crate::summary::read_summary;
 use crate::written::{read_field, read_formals, read_parent, read_result};
 use dpj_base::{Constraint, Items, NoMemory, Plain, Super, Ty};
 use dpj_effects::EffectSet;
 use dpj_headers::{Faults, Headers, ParamRow, number_at, param_rows};
+use dpj_table::{FieldRow, MethodRow, Signatures};
 use dpj_tree::{Class, Field, Member, Method, MethodResult, Parent};
 use std::alloc::Global;
-
-/// What the signatures of all classes say.
-#[derive(Drop)]
-pub struct Signatures {
-    pub supers: Items<Super>,
-    pub fields: Items<FieldRow>,
-    pub methods: Items<MethodRow>,
-}
 
 /// Reads the constraints of each class.
 #[tactic(auto, using(dpj_headers::proofs::Noting::noting))]

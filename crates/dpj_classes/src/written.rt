@@ -6,14 +6,15 @@ ghost use Rattle.dpj_resolve.specs.Classes.{class_args};
 ghost use Rattle.dpj_resolve.specs.Reading.{args_read};
 ghost use Rattle.dpj_resolve.specs.Index.{no_index};
 ghost use Rattle.dpj_resolve.specs.Scopes.{plain_scope};
-ghost use Rattle.dpj_classes.specs.Rows.{plain_field, field_row, field_faults};
+ghost use Rattle.dpj_table.specs.Plain.{plain_field};
+ghost use Rattle.dpj_classes.specs.Rows.{field_row, field_faults};
 ghost use Rattle.dpj_classes.specs.Signatures.{known_type, known_type_faults, region_of_field, field_region_faults, formal_types, formal_faults, result_type, result_faults, parent_arg_faults, fit_faults, parent_meant, parent_faults};
 
 use crate::around::read_path;
-use crate::rows::FieldRow;
 use dpj_base::{Items, Kind, NoMemory, Rpl, Stop, Ty};
 use dpj_headers::Faults;
 use dpj_resolve::{IndexNames, ReadArgs, Scope, constraints_hold, fit_args, read_args, root, ty};
+use dpj_table::FieldRow;
 use dpj_tree::{Field, Formal, MethodResult, Parent, RplTree, TypeTree};
 use std::alloc::Global;
 

@@ -41,14 +41,15 @@ use Rattle.dpj_tree.specs.declared.region.Suffix.{Suffix}
 use Rattle.dpj_tree.specs.Size.{class_size, member_size, suffix_size, type_size}
 use Rattle.dpj_resolve.specs.Classes.{params_in, constraints_in}
 use Rattle.dpj_resolve.specs.Scopes.{PlainScope}
-use Rattle.dpj_classes.specs.declared.rows.FieldRow.{FieldRow}
-use Rattle.dpj_classes.specs.declared.table.Table.{Table}
+use Rattle.dpj_table.specs.declared.rows.FieldRow.{FieldRow}
+use Rattle.dpj_table.specs.declared.table.Table.{Table}
 use Rattle.dpj_classes.specs.Build.{IsReadOf, text_faults}
-use Rattle.dpj_classes.specs.Inherited.{declared_fields, fields_after, fields_in, members_in}
-use Rattle.dpj_classes.specs.Inherited.{field_with as plain_with}
-use Rattle.dpj_classes.specs.Rows.{PlainField, plain_field, field_row, plain_super, PlainSuper, member_faults, class_faults, super_faults, all_constraint_faults, signature_faults}
+use Rattle.dpj_members.specs.Inherited.{declared_fields, fields_after, fields_in, members_in}
+use Rattle.dpj_members.specs.Inherited.{field_with as plain_with}
+use Rattle.dpj_table.specs.Plain.{PlainField, plain_field, plain_super, PlainSuper}
+use Rattle.dpj_classes.specs.Rows.{field_row, member_faults, class_faults, super_faults, all_constraint_faults, signature_faults}
 use Rattle.dpj_classes.specs.Signatures.{parent_args, parent_faults, parent_meant, constraints_meant, known_type_faults, field_region_faults}
-use Rattle.dpj_classes.specs.Table.{headers_of, fields_of, supers_of, class_paths, parent_args_of}
+use Rattle.dpj_table.specs.Table.{headers_of, fields_of, supers_of, class_paths, parent_args_of}
 use Rattle.dpj_classes.specs.Around.{class_scope as text_scope}
 use Rattle.dpj_typed.specs.Plain.{PlainProgram, PlainClass, PlainParent}
 use Rattle.dpj_typed.specs.Scope.{Scope, class_at}

@@ -15,8 +15,9 @@ use Rattle.dpj_resolve.specs.Scopes.{PlainScope}
 use Rattle.dpj_tree.specs.declared.class.Class.{Class}
 use Rattle.dpj_tree.specs.declared.class.Parent.{Parent}
 use Rattle.dpj_classes.specs.Around.{class_scope}
-use Rattle.dpj_classes.specs.Places.{last_from, by_place, is_super_of, super_place}
-use Rattle.dpj_classes.specs.Rows.{PlainSuper, super_rows, supers_meant}
+use Rattle.dpj_table.specs.Places.{last_from, by_place, is_super_of, super_place}
+use Rattle.dpj_table.specs.Plain.{PlainSuper}
+use Rattle.dpj_classes.specs.Rows.{super_rows, supers_meant}
 use Rattle.dpj_classes.specs.Signatures.{parent_meant}
 use Rattle.dpj_resolved.proofs.Lists.{some_same, map_there}
 

@@ -20,13 +20,14 @@ use Rattle.dpj_tree.specs.Size.{type_size, result_size, method_size}
 use Rattle.dpj_resolve.specs.Classes.{params_in, constraints_in}
 use Rattle.dpj_resolve.specs.Scoped.{values_in}
 use Rattle.dpj_resolve.specs.Scopes.{PlainScope}
-use Rattle.dpj_classes.specs.declared.rows.MethodRow.{MethodRow}
-use Rattle.dpj_classes.specs.declared.table.Table.{Table}
+use Rattle.dpj_table.specs.declared.rows.MethodRow.{MethodRow}
+use Rattle.dpj_table.specs.declared.table.Table.{Table}
 use Rattle.dpj_classes.specs.Around.{param_names}
 use Rattle.dpj_classes.specs.Around.{class_scope as text_scope}
-use Rattle.dpj_classes.specs.Rows.{PlainMethod, plain_method, method_scope, method_given, said_scope, said_faults}
+use Rattle.dpj_table.specs.Plain.{PlainMethod, plain_method}
+use Rattle.dpj_classes.specs.Rows.{method_scope, method_given, said_scope, said_faults}
 use Rattle.dpj_classes.specs.Signatures.{constraints_faults, formal_faults, result_faults, summary_faults}
-use Rattle.dpj_classes.specs.Table.{headers_of, methods_of}
+use Rattle.dpj_table.specs.Table.{headers_of, methods_of}
 use Rattle.dpj_typed.specs.Plain.{PlainClass, PlainMember}
 use Rattle.dpj_typed.specs.Scope.{class_at, member_at}
 use Rattle.dpj_typed.specs.Table.{GoodConstraint, member_scope}

@@ -15,7 +15,8 @@ use Rattle.dpj_headers.specs.Headers.{parent_of}
 use Rattle.dpj_headers.specs.Numbers.{as_number}
 use Rattle.dpj_resolve.specs.Scopes.{PlainScope}
 use Rattle.dpj_classes.specs.Around.{class_scope}
-use Rattle.dpj_classes.specs.Rows.{PlainSuper, PlainField, PlainMethod, field_row, method_row, fields_from, fields_meant, first_slot, methods_from, methods_meant, class_faults, signature_faults, super_rows, supers_meant, all_constraints}
+use Rattle.dpj_table.specs.Plain.{PlainSuper, PlainField, PlainMethod}
+use Rattle.dpj_classes.specs.Rows.{field_row, method_row, fields_from, fields_meant, first_slot, methods_from, methods_meant, class_faults, signature_faults, super_rows, supers_meant, all_constraints}
 use Rattle.dpj_classes.specs.Signatures.{constraints_meant, parent_meant}
 use Rattle.dpj_rows.proofs.Facts.{got_either}
 use Rattle.dpj_resolved.proofs.Free.{append_none}

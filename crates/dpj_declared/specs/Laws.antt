@@ -4,7 +4,7 @@ use Rattle.dpj_base.specs.Regions.{fully_specified}
 use Rattle.dpj_base.specs.Types.{void}
 use Rattle.dpj_tree.specs.Nd.{program_uses_nd}
 use Rattle.dpj_tree.specs.declared.class.Program.{Program}
-use Rattle.dpj_classes.specs.declared.table.Table.{Table}
+use Rattle.dpj_table.specs.declared.table.Table.{Table}
 use Rattle.dpj_typed.specs.Plain.{PlainProgram, PlainClass, PlainMember, PlainParent}
 use Rattle.dpj_typed.specs.Scope.{class_at, member_at}
 use Rattle.dpj_typed.specs.Table.{GoodConstraint, GoodField, class_scope, member_scope}

@@ -18,8 +18,8 @@ use Rattle.dpj_headers.specs.Faults.{none_by, all_noted}
 use Rattle.dpj_resolve.specs.declared.args.ReadArgs.{ReadArgs}
 use Rattle.dpj_resolve.specs.Args.{args_given, args_faults}
 use Rattle.dpj_resolve.specs.Constraints.{all_hold}
-use Rattle.dpj_classes.specs.declared.rows.MethodRow.{MethodRow}
-use Rattle.dpj_classes.specs.Table.{headers_of, row_of}
+use Rattle.dpj_table.specs.declared.rows.MethodRow.{MethodRow}
+use Rattle.dpj_table.specs.Table.{headers_of, row_of}
 use Rattle.dpj_headers.specs.Passes.{fault}
 use Rattle.dpj_typed.specs.declared.expr.Expr.{Expr}
 use Rattle.dpj_typed.specs.Plain.{TypedExpr, typed, TypedExprs, exprs_of, call}

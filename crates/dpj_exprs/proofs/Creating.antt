@@ -18,7 +18,7 @@ use Rattle.dpj_resolve.specs.declared.args.ReadArgs.{ReadArgs}
 use Rattle.dpj_resolve.specs.Args.{args_given}
 use Rattle.dpj_resolve.specs.Classes.{params_in}
 use Rattle.dpj_resolve.specs.Constraints.{all_hold}
-use Rattle.dpj_classes.specs.Table.{headers_of, constructor_of, given_of}
+use Rattle.dpj_table.specs.Table.{headers_of, constructor_of, given_of}
 use Rattle.dpj_tree.specs.declared.region.Named.{Named}
 use Rattle.dpj_typed.specs.declared.expr.Expr.{Expr}
 use Rattle.dpj_typed.specs.Plain.{TypedExpr, typed, TypedExprs, exprs_of, create}

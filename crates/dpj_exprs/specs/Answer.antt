@@ -11,9 +11,9 @@ use Rattle.dpj_base.specs.declared.region.Rpl.{Rpl}
 use Rattle.dpj_base.specs.Effects.{added, gathered}
 use Rattle.dpj_base.specs.Refused.{IfRefused}
 use Rattle.dpj_headers.specs.Passes.{fault}
-use Rattle.dpj_classes.specs.declared.rows.MethodRow.{MethodRow}
-use Rattle.dpj_classes.specs.declared.table.Table.{Table}
-use Rattle.dpj_classes.specs.Table.{is_forking}
+use Rattle.dpj_table.specs.declared.rows.MethodRow.{MethodRow}
+use Rattle.dpj_table.specs.declared.table.Table.{Table}
+use Rattle.dpj_table.specs.Table.{is_forking}
 use Rattle.dpj_typed.specs.Plain.{TypedExpr}
 use Rattle.dpj_exprs.specs.declared.found.Found.{Found}
 use Rattle.dpj_exprs.specs.Found.{access_to, part_access, effect_with}

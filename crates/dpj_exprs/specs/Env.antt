@@ -16,10 +16,10 @@ use Rattle.dpj_resolve.specs.Classes.{params_in}
 use Rattle.dpj_resolve.specs.Names.{Names}
 use Rattle.dpj_resolve.specs.Scopes.{PlainScope, param_meant}
 use Rattle.dpj_resolve.specs.Scoped.{no_names, names_in, place_in, value_in, values_in, with_name, names_left}
-use Rattle.dpj_classes.specs.declared.rows.MethodRow.{MethodRow}
-use Rattle.dpj_classes.specs.declared.table.Table.{Table}
-use Rattle.dpj_classes.specs.Table.{headers_of, given_of, all_given, numbered}
-use Rattle.dpj_classes.specs.Table.{supers_of as superclasses}
+use Rattle.dpj_table.specs.declared.rows.MethodRow.{MethodRow}
+use Rattle.dpj_table.specs.declared.table.Table.{Table}
+use Rattle.dpj_table.specs.Table.{headers_of, given_of, all_given, numbered}
+use Rattle.dpj_table.specs.Table.{supers_of as superclasses}
 use Rattle.dpj_exprs.specs.declared.env.Env.{Env}
 use Rattle.dpj_exprs.specs.declared.env.LocalRow.{LocalRow}
 use Rattle.dpj_exprs.specs.declared.env.Mark.{Mark}

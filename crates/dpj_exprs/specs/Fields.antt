@@ -8,9 +8,9 @@ use Rattle.dpj_base.specs.Regions.{substituted}
 use Rattle.dpj_base.specs.Types.{PlainType, plain_type, type_with}
 use Rattle.dpj_base.specs.Types.{PlainType as ty}
 use Rattle.dpj_headers.specs.Passes.{fault}
-use Rattle.dpj_classes.specs.declared.rows.FieldRow.{FieldRow}
-use Rattle.dpj_classes.specs.declared.table.Table.{Table}
-use Rattle.dpj_classes.specs.Table.{field_of, args_at}
+use Rattle.dpj_table.specs.declared.rows.FieldRow.{FieldRow}
+use Rattle.dpj_table.specs.declared.table.Table.{Table}
+use Rattle.dpj_table.specs.Table.{field_of, args_at}
 use Rattle.dpj_typed.specs.Plain.{TypedExpr, typed, type_of, field, array_length}
 use Rattle.dpj_exprs.specs.declared.env.Env.{Env}
 use Rattle.dpj_exprs.specs.declared.fields.FieldAt.{FieldAt}

@@ -4,7 +4,7 @@ use Rattle.dpj_base.specs.declared.region.Rpl.{Rpl}
 use Rattle.dpj_base.specs.Regions.{fully_specified}
 use Rattle.dpj_base.specs.declared.ty.Ty.{Ty}
 use Rattle.dpj_base.specs.Types.{PlainType, plain_type, mentions_param, rigid_in_param}
-use Rattle.dpj_classes.specs.declared.rows.MethodRow.{MethodRow}
+use Rattle.dpj_table.specs.declared.rows.MethodRow.{MethodRow}
 
 -- parameters have numbers of 32 bits; no text has more of them
 abbrev pub param_number : ℕ → ℕ

@@ -25,9 +25,9 @@ use Rattle.dpj_resolve.specs.Reading.{args_read, arg_faults}
 use Rattle.dpj_resolve.specs.Telling.{parts_reported}
 use Rattle.dpj_tree.specs.declared.region.Named.{Named}
 use Rattle.dpj_tree.specs.declared.region.RplTree.{RplTree}
-use Rattle.dpj_classes.specs.declared.rows.MethodRow.{MethodRow}
-use Rattle.dpj_classes.specs.declared.table.Table.{Table}
-use Rattle.dpj_classes.specs.Table.{headers_of, method_of, row_of, constructor_of, given_of, args_at}
+use Rattle.dpj_table.specs.declared.rows.MethodRow.{MethodRow}
+use Rattle.dpj_table.specs.declared.table.Table.{Table}
+use Rattle.dpj_table.specs.Table.{headers_of, method_of, row_of, constructor_of, given_of, args_at}
 use Rattle.dpj_typed.specs.Plain.{TypedExpr, typed, type_of, call, create}
 use Rattle.dpj_exprs.specs.declared.env.Env.{Env}
 use Rattle.dpj_exprs.specs.declared.found.Found.{Found}

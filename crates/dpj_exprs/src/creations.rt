@@ -3,7 +3,7 @@ ghost use Rattle.dpj_base.specs.Types.{plain_type};
 ghost use Rattle.dpj_base.specs.Types.{PlainType as plain};
 ghost use Rattle.dpj_resolve.specs.Classes.{params_in};
 ghost use Rattle.dpj_resolve.specs.Constraints.{all_hold};
-ghost use Rattle.dpj_classes.specs.Table.{headers_of, constructor_of, given_of};
+ghost use Rattle.dpj_table.specs.Table.{headers_of, constructor_of, given_of};
 ghost use Rattle.dpj_exprs.specs.Answer.{gives, refused, Says};
 ghost use Rattle.dpj_exprs.specs.Env.{table_of, given_in};
 ghost use Rattle.dpj_exprs.specs.Typed.{plain_node, plain_typed, value_type};

@@ -7,9 +7,9 @@ ghost use Rattle.dpj_exprs.specs.Env.{index_slot, param_paths};
 use crate::supers::Supers;
 use crate::table_ref::TableRef;
 use dpj_base::{Constraint, Elems, Head, Items, NoMemory, Plain, Rpl, Ty};
-use dpj_classes::Table;
 use dpj_headers::{ParamRow, number_at};
 use dpj_resolve::{Scope, Scoped, Site};
+use dpj_table::Table;
 use dpj_tree::{Expr, ExprKind, Program};
 use std::alloc::Global;
 
@@ -76,7 +76,7 @@ pub fn length_name(program: &Program) -> Option<u32>
 
 impl<'a> Env<'a> {
     ghost use Rattle.std.specs.Prelude.{◌≡◌, ◌↔◌, ◌∷◌, ◌++◌, [], take, IsTrue, IfOk, OnOk};
-    ghost use Rattle.dpj_classes.specs.Table.{given_of};
+    ghost use Rattle.dpj_table.specs.Table.{given_of};
     ghost use Rattle.std.specs.Option.{option_copied};
     ghost use Rattle.dpj_base.specs.Types.{plain_type};
     ghost use Rattle.dpj_resolve.specs.Scopes.{plain_scope};

@@ -1,7 +1,7 @@
 use dpj_base::{Access, Effect, Items, NoMemory, PartUse, Rpl};
-use dpj_classes::{MethodRow, Table};
 use dpj_effects::EffectSet;
 use dpj_regions::subst;
+use dpj_table::{MethodRow, Table};
 use std::alloc::Global;
 
 /// What was found, in the order of evaluation: the effects, and the uses of array parts apart from them.

@@ -1,6 +1,6 @@
 ghost use Rattle.std.specs.Prelude.{◌≡◌};
 
-use dpj_classes::Table;
+use dpj_table::Table;
 use std::marker::Model;
 
 /// A class table that is read. A contract sees it as the table, wherever that stands.
@@ -10,8 +10,8 @@ pub struct TableRef<'a> {
 }
 
 impl<'a> Model for TableRef<'a> {
-    ghost use Rattle.dpj_classes.specs.contracts.table.Table as class_table;
-    ghost use Rattle.dpj_classes.specs.declared.table.Table.{Table};
+    ghost use Rattle.dpj_table.specs.contracts.table.Table as class_table;
+    ghost use Rattle.dpj_table.specs.declared.table.Table.{Table};
 
     ghost Value = { Table };
 

@@ -2,7 +2,7 @@
 use Rattle.std.proofs.Common.{◌≡◌, List, Ok, Err, ap, sym, ◌∙◌, subst}
 use Rattle.dpj_base.specs.declared.refusal.Refusal.{Refusal}
 use Rattle.dpj_tree.specs.declared.class.Program.{Program}
-use Rattle.dpj_classes.specs.declared.table.Table.{Table}
+use Rattle.dpj_table.specs.declared.table.Table.{Table}
 use Rattle.dpj_classes.specs.Once.{OneTable, OneFault}
 use Rattle.dpj_tree.specs.Nd.{program_uses_nd}
 use Rattle.dpj_typed.specs.Names.{ProgramNames}

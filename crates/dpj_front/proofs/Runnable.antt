@@ -4,7 +4,7 @@ use Rattle.dpj_headers.specs.Second.{AreCounted}
 use Rattle.dpj_tree.specs.declared.class.Program.{Program}
 use Rattle.dpj_tree.specs.Size.{program_size}
 use Rattle.dpj_typed.specs.Plain.{PlainProgram}
-use Rattle.dpj_classes.specs.declared.table.Table.{Table}
+use Rattle.dpj_table.specs.declared.table.Table.{Table}
 use Rattle.dpj_assembly.specs.Assembled.{PlainBody, program_of}
 use Rattle.dpj_check.specs.Methods.{BodiesChecking}
 use Rattle.dpj_resolved.specs.Accepted.{AcceptedIsResolved, AcceptedBegins, SmallHasRows}

@@ -4,9 +4,9 @@ use Rattle.std.specs.Prelude.{◌≡◌, ℕ, List, map, None, Ok, Err}
 use Rattle.dpj_base.specs.declared.refusal.Refusal.{Refusal}
 use Rattle.dpj_base.specs.Types.{Ordered}
 use Rattle.dpj_tree.specs.declared.class.Program.{Program}
-use Rattle.dpj_classes.specs.declared.table.Table.{Table}
+use Rattle.dpj_table.specs.declared.table.Table.{Table}
 use Rattle.dpj_classes.specs.Build.{AreWellNamed, IsTable, IsReported, first_of, table_faults}
-use Rattle.dpj_classes.specs.Table.{supers_of}
+use Rattle.dpj_table.specs.Table.{supers_of}
 use Rattle.dpj_check.specs.declared.accepted.Accepted.{Accepted}
 use Rattle.dpj_check.specs.Keeping.{ProgramKeeps}
 use Rattle.dpj_gen.specs.Resolved.{Resolved}

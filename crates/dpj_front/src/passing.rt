@@ -9,9 +9,10 @@ ghost use Rattle.dpj_front.specs.Judging.{HasNames, HasTable, IsAccepted, IsFaul
 use dpj_assembly::program;
 use dpj_base::{Bytes, Items, NoMemory, Place, Stop};
 use dpj_check::{Accepted, check};
-use dpj_classes::{Table, build};
+use dpj_classes::build;
 use dpj_parse::parse;
 use dpj_resolved::laws::{law_begins, law_has_rows, law_resolved};
+use dpj_table::Table;
 use dpj_tokens::{Tokens, tokens};
 use dpj_tree::Program as Tree;
 use dpj_typed::Program;

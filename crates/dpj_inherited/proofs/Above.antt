@@ -17,8 +17,8 @@ use Rattle.dpj_tree.specs.Nd.{program_uses_nd}
 use Rattle.dpj_typed.specs.Plain.{PlainProgram, PlainClass}
 use Rattle.dpj_typed.specs.Scope.{Above, class_at}
 use Rattle.dpj_typed.specs.Scope.{parent_of as typed_parent}
-use Rattle.dpj_classes.specs.declared.table.Table.{Table}
-use Rattle.dpj_classes.specs.Table.{headers_of, parent_type_of, parent_args_of, of_class_type, args_above, args_at}
+use Rattle.dpj_table.specs.declared.table.Table.{Table}
+use Rattle.dpj_table.specs.Table.{headers_of, parent_type_of, parent_args_of, of_class_type, args_above, args_at}
 use Rattle.dpj_assembly.specs.Assembled.{PlainBody, class_of, program_of}
 use Rattle.dpj_resolved.specs.Accepted.{IsAccepted}
 use Rattle.dpj_resolved.proofs.Assembled.{facts, number_is}

@@ -22,12 +22,12 @@ use Rattle.dpj_typed.specs.Scope.{member_at}
 use Rattle.dpj_typed.specs.WellTyped.{GoodMain}
 use Rattle.dpj_assembly.specs.Assembled.{PlainBody, member_of, program_of}
 use Rattle.dpj_assembly.specs.Assembled.{class_of as made_class}
-use Rattle.dpj_classes.specs.declared.rows.MethodRow.{MethodRow}
-use Rattle.dpj_classes.specs.declared.table.Table.{Table}
+use Rattle.dpj_table.specs.declared.rows.MethodRow.{MethodRow}
+use Rattle.dpj_table.specs.declared.table.Table.{Table}
 use Rattle.dpj_classes.specs.Build.{table_faults}
 use Rattle.dpj_classes.specs.Overriding.{override_faults}
-use Rattle.dpj_classes.specs.Main.{begins_runs, is_int, is_main, is_spelled, main_class, main_faults, main_method, start, takes_int}
-use Rattle.dpj_classes.specs.Table.{headers_of, methods_of, constructor_of}
+use Rattle.dpj_table.specs.Main.{begins_runs, is_int, is_main, is_spelled, main_class, main_faults, main_method, start, takes_int}
+use Rattle.dpj_table.specs.Table.{headers_of, methods_of, constructor_of}
 use Rattle.dpj_resolved.specs.Accepted.{IsAccepted}
 use Rattle.dpj_resolved.proofs.Assembled.{facts, has_member, number_is}
 use Rattle.dpj_resolved.proofs.Expressions.{and_split}

@@ -16,12 +16,13 @@ use Rattle.dpj_tree.specs.declared.class.MethodResult.{MethodResult}
 use Rattle.dpj_tree.specs.declared.class.MethodResult.TheVariants as outcome
 use Rattle.dpj_tree.specs.declared.class.Program.{Program}
 use Rattle.dpj_tree.specs.declared.region.Params.{Params}
-use Rattle.dpj_classes.specs.declared.rows.MethodRow.{MethodRow}
-use Rattle.dpj_classes.specs.declared.table.Table.{Table}
+use Rattle.dpj_table.specs.declared.rows.MethodRow.{MethodRow}
+use Rattle.dpj_table.specs.declared.table.Table.{Table}
 use Rattle.dpj_classes.specs.Around.{class_scope}
-use Rattle.dpj_classes.specs.Rows.{PlainMethod, plain_method, said_scope, method_scope, all_constraints}
+use Rattle.dpj_table.specs.Plain.{PlainMethod, plain_method}
+use Rattle.dpj_classes.specs.Rows.{said_scope, method_scope, all_constraints}
 use Rattle.dpj_classes.specs.Signatures.{constraints_meant, result_type}
-use Rattle.dpj_classes.specs.Table.{headers_of, methods_of, given_of, all_given}
+use Rattle.dpj_table.specs.Table.{headers_of, methods_of, given_of, all_given}
 use Rattle.dpj_assembly.specs.Assembled.{PlainBody}
 use Rattle.dpj_resolved.specs.Accepted.{IsAccepted}
 use Rattle.dpj_resolved.proofs.Lists.{some_same, got_mapped}

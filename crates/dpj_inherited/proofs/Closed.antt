@@ -18,11 +18,11 @@ use Rattle.dpj_tree.specs.declared.class.Member.TheVariants as member
 use Rattle.dpj_tree.specs.declared.class.Program.{Program}
 use Rattle.dpj_tree.specs.Nd.{program_uses_nd}
 use Rattle.dpj_typed.specs.Table.{IsConstructor}
-use Rattle.dpj_classes.specs.declared.rows.MethodRow.{MethodRow}
-use Rattle.dpj_classes.specs.declared.table.Table.{Table}
-use Rattle.dpj_classes.specs.Places.{by_id, constructor_number, is_constructor_of}
-use Rattle.dpj_classes.specs.Rows.{PlainMethod}
-use Rattle.dpj_classes.specs.Table.{headers_of, methods_of, numbered, constructor_of}
+use Rattle.dpj_table.specs.declared.rows.MethodRow.{MethodRow}
+use Rattle.dpj_table.specs.declared.table.Table.{Table}
+use Rattle.dpj_table.specs.Places.{by_id, constructor_number, is_constructor_of}
+use Rattle.dpj_table.specs.Plain.{PlainMethod}
+use Rattle.dpj_table.specs.Table.{headers_of, methods_of, numbered, constructor_of}
 use Rattle.dpj_assembly.specs.Assembled.{PlainBody, member_of}
 use Rattle.dpj_resolved.specs.Accepted.{IsAccepted}
 use Rattle.dpj_resolved.proofs.Assembled.{facts, has_member}

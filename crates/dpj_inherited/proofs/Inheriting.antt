@@ -19,16 +19,16 @@ use Rattle.dpj_tree.specs.Nd.{program_uses_nd}
 use Rattle.dpj_typed.specs.Plain.{PlainProgram, PlainClass, PlainMember, PlainParent}
 use Rattle.dpj_typed.specs.Scope.{Above, class_at}
 use Rattle.dpj_typed.specs.Table.{field_with, own_paths, method_paths, KeepsRow, Overrides, RowIsThere}
-use Rattle.dpj_classes.specs.declared.rows.MethodRow.{MethodRow}
-use Rattle.dpj_classes.specs.declared.table.Table.{Table}
+use Rattle.dpj_table.specs.declared.rows.MethodRow.{MethodRow}
+use Rattle.dpj_table.specs.declared.table.Table.{Table}
 use Rattle.dpj_classes.specs.Build.{table_faults}
-use Rattle.dpj_classes.specs.Inherited.{declared_fields, fields_after, fields_in, members_in}
-use Rattle.dpj_classes.specs.Inherited.{field_with as checked_with}
-use Rattle.dpj_classes.specs.Main.{main_faults}
+use Rattle.dpj_members.specs.Inherited.{declared_fields, fields_after, fields_in, members_in}
+use Rattle.dpj_members.specs.Inherited.{field_with as checked_with}
+use Rattle.dpj_table.specs.Main.{main_faults}
 use Rattle.dpj_classes.specs.Overriding.{args_in, override_fault, overridden_row, override_faults, param_count, row_faults}
 use Rattle.dpj_classes.specs.Overriding.{params_from as checked_from}
-use Rattle.dpj_classes.specs.Rows.{PlainField}
-use Rattle.dpj_classes.specs.Table.{headers_of, methods_of, numbered, constructor_of, overridden_by, parent_args_of, args_at}
+use Rattle.dpj_table.specs.Plain.{PlainField}
+use Rattle.dpj_table.specs.Table.{headers_of, methods_of, numbered, constructor_of, overridden_by, parent_args_of, args_at}
 use Rattle.dpj_assembly.specs.Assembled.{PlainBody, class_of, field_of, member_of, parent_at}
 use Rattle.dpj_resolved.specs.Accepted.{IsAccepted}
 use Rattle.dpj_resolved.proofs.Assembled.{facts, has_member}

@@ -12,12 +12,12 @@ use Rattle.dpj_tree.specs.declared.class.Member.TheVariants as member
 use Rattle.dpj_tree.specs.declared.class.Program.{Program}
 use Rattle.dpj_tree.specs.Size.{class_size, member_size}
 use Rattle.dpj_typed.specs.Table.{params_from}
-use Rattle.dpj_classes.specs.declared.rows.MethodRow.{MethodRow}
-use Rattle.dpj_classes.specs.declared.table.Table.{Table}
+use Rattle.dpj_table.specs.declared.rows.MethodRow.{MethodRow}
+use Rattle.dpj_table.specs.declared.table.Table.{Table}
 use Rattle.dpj_classes.specs.Overriding.{param_path}
 use Rattle.dpj_classes.specs.Overriding.{params_from as checked_from}
-use Rattle.dpj_classes.specs.Rows.{PlainMethod}
-use Rattle.dpj_classes.specs.Table.{headers_of, methods_of}
+use Rattle.dpj_table.specs.Plain.{PlainMethod}
+use Rattle.dpj_table.specs.Table.{headers_of, methods_of}
 use Rattle.dpj_assembly.specs.Assembled.{PlainBody}
 use Rattle.dpj_resolved.specs.Accepted.{IsAccepted}
 use Rattle.dpj_resolved.proofs.Lists.{some_same}

@@ -14,10 +14,10 @@ use Rattle.dpj_tree.specs.declared.class.Program.{Program}
 use Rattle.dpj_tree.specs.Nd.{program_uses_nd}
 use Rattle.dpj_typed.specs.Scope.{IsBelow, below, same}
 use Rattle.dpj_typed.specs.Table.{RowIsThere}
-use Rattle.dpj_classes.specs.declared.rows.MethodRow.{MethodRow}
-use Rattle.dpj_classes.specs.declared.table.Table.{Table}
-use Rattle.dpj_classes.specs.Inherited.{declared_methods, with_member, members_after, members_in}
-use Rattle.dpj_classes.specs.Table.{headers_of, methods_of, overridden_by, row_of}
+use Rattle.dpj_table.specs.declared.rows.MethodRow.{MethodRow}
+use Rattle.dpj_table.specs.declared.table.Table.{Table}
+use Rattle.dpj_members.specs.Inherited.{declared_methods, with_member, members_after, members_in}
+use Rattle.dpj_table.specs.Table.{headers_of, methods_of, overridden_by, row_of}
 use Rattle.dpj_assembly.specs.Assembled.{PlainBody, member_of}
 use Rattle.dpj_resolved.specs.Accepted.{IsAccepted}
 use Rattle.dpj_resolved.proofs.Assembled.{facts, has_member}

@@ -23,12 +23,13 @@ use Rattle.dpj_resolve.specs.Scopes.{PlainScope}
 use Rattle.dpj_tree.specs.declared.class.Class.{Class}
 use Rattle.dpj_tree.specs.declared.class.Parent.{Parent}
 use Rattle.dpj_tree.specs.declared.class.Program.{Program}
-use Rattle.dpj_classes.specs.declared.table.Table.{Table}
+use Rattle.dpj_table.specs.declared.table.Table.{Table}
 use Rattle.dpj_classes.specs.Around.{class_scope}
-use Rattle.dpj_classes.specs.Places.{last_from, by_place, is_super_of, super_place}
-use Rattle.dpj_classes.specs.Rows.{PlainSuper, plain_super, super_rows, supers_meant}
+use Rattle.dpj_table.specs.Places.{last_from, by_place, is_super_of, super_place}
+use Rattle.dpj_table.specs.Plain.{PlainSuper, plain_super}
+use Rattle.dpj_classes.specs.Rows.{super_rows, supers_meant}
 use Rattle.dpj_classes.specs.Signatures.{parent_meant}
-use Rattle.dpj_classes.specs.Table.{headers_of, all_given, supers_of, parent_type_of, parent_args_of, class_paths}
+use Rattle.dpj_table.specs.Table.{headers_of, all_given, supers_of, parent_type_of, parent_args_of, class_paths}
 use Rattle.dpj_assembly.specs.Assembled.{PlainBody}
 use Rattle.dpj_resolved.specs.Accepted.{IsAccepted}
 use Rattle.dpj_resolved.proofs.Lists.{some_same, and_then_there, map_there, got_later, got_mapped}

@@ -11,7 +11,8 @@ use Rattle.dpj_tree.specs.declared.class.Member.{Member}
 use Rattle.dpj_tree.specs.declared.class.Member.TheVariants as member
 use Rattle.dpj_tree.specs.declared.class.Method.{Method}
 use Rattle.dpj_classes.specs.Around.{class_scope}
-use Rattle.dpj_classes.specs.Rows.{PlainMethod, method_row, methods_from, methods_meant}
+use Rattle.dpj_table.specs.Plain.{PlainMethod}
+use Rattle.dpj_classes.specs.Rows.{method_row, methods_from, methods_meant}
 use Rattle.dpj_rows.proofs.Facts.{got_either}
 use Rattle.dpj_resolved.proofs.Lists.{some_same}
 

@@ -2,7 +2,7 @@
 use Rattle.std.specs.Prelude.{◌≡◌, ◌<◌, ◌++◌, ℕ, List, All, map, None, Some, slice_get}
 use Rattle.dpj_tree.specs.Nd.{program_uses_nd}
 use Rattle.dpj_tree.specs.declared.class.Program.{Program}
-use Rattle.dpj_classes.specs.declared.table.Table.{Table}
+use Rattle.dpj_table.specs.declared.table.Table.{Table}
 use Rattle.dpj_typed.specs.Plain.{PlainProgram, PlainClass, PlainField, PlainParent}
 use Rattle.dpj_typed.specs.Scope.{class_at}
 use Rattle.dpj_typed.specs.Table.{KeepsRow, RowIsThere, IsConstructor, field_with}

@@ -12,7 +12,7 @@ use Rattle.dpj_tree.specs.declared.class.Method.{Method}
 use Rattle.dpj_tree.specs.Plain.{plain_stmt, plain_stmts}
 use Rattle.dpj_typed.specs.Plain.{TypedStmt}
 use Rattle.dpj_assembly.specs.Assembled.{PlainBody}
-use Rattle.dpj_classes.specs.Table.{numbered}
+use Rattle.dpj_table.specs.Table.{numbered}
 use Rattle.dpj_exprs.specs.declared.env.Env.{Env}
 use Rattle.dpj_exprs.specs.Env.{table_of}
 use Rattle.dpj_check.specs.Checking.{InBlock}

@@ -8,9 +8,9 @@ use Rattle.dpj_base.specs.Types.{PlainType}
 use Rattle.dpj_resolve.specs.declared.args.ReadArgs.{ReadArgs}
 use Rattle.dpj_arrays.specs.Access.{PlainElement}
 use Rattle.dpj_resolve.specs.Index.{PlainIndex}
-use Rattle.dpj_classes.specs.declared.rows.MethodRow.{MethodRow}
-use Rattle.dpj_classes.specs.declared.table.Table.{Table}
-use Rattle.dpj_classes.specs.Table.{constructor_of}
+use Rattle.dpj_table.specs.declared.rows.MethodRow.{MethodRow}
+use Rattle.dpj_table.specs.declared.table.Table.{Table}
+use Rattle.dpj_table.specs.Table.{constructor_of}
 use Rattle.dpj_tree.specs.declared.region.BaseTree.{BaseTree}
 use Rattle.dpj_tree.specs.declared.region.Named.{Named}
 use Rattle.dpj_tree.specs.declared.region.RplTree.{RplTree}

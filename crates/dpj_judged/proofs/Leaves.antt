@@ -7,8 +7,8 @@ use Rattle.dpj_base.specs.declared.ty.Ty.{Ty, roll-Ty, fold-roll-Ty}
 use Rattle.dpj_base.specs.declared.ty.Ty.TheOpen.{Ty-F}
 use Rattle.dpj_base.specs.Types.{PlainType, type_step, plain_type}
 use Rattle.dpj_base.specs.Types.{PlainType as ty}
-use Rattle.dpj_classes.specs.declared.rows.MethodRow.{MethodRow}
-use Rattle.dpj_classes.specs.Table.{numbered}
+use Rattle.dpj_table.specs.declared.rows.MethodRow.{MethodRow}
+use Rattle.dpj_table.specs.Table.{numbered}
 use Rattle.dpj_tree.specs.declared.region.Named.{Named}
 use Rattle.dpj_tree.specs.declared.region.TypeTree.{TypeTree}
 use Rattle.dpj_tree.specs.Plain.{PlainExpr}

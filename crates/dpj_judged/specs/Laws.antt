@@ -3,7 +3,7 @@ use Rattle.std.specs.Prelude.{◌⊎◌, List, Ok, Err}
 use Rattle.dpj_base.specs.declared.refusal.Refusal.{Refusal}
 use Rattle.dpj_tree.specs.declared.class.Program.{Program}
 use Rattle.dpj_tree.specs.Plain.{PlainExpr}
-use Rattle.dpj_classes.specs.declared.table.Table.{Table}
+use Rattle.dpj_table.specs.declared.table.Table.{Table}
 use Rattle.dpj_assembly.specs.Assembled.{PlainBody}
 use Rattle.dpj_exprs.specs.declared.env.Env.{Env}
 use Rattle.dpj_exprs.specs.declared.found.Found.{Found}

@@ -11,9 +11,9 @@ use Rattle.dpj_tree.specs.declared.class.Program.{Program}
 use Rattle.dpj_tree.specs.Nd.{program_uses_nd}
 use Rattle.dpj_tree.specs.Size.{method_size, member_size, class_size, program_size}
 use Rattle.dpj_typed.specs.Plain.{TypedStmt}
-use Rattle.dpj_classes.specs.declared.rows.MethodRow.{MethodRow}
-use Rattle.dpj_classes.specs.declared.table.Table.{Table}
-use Rattle.dpj_classes.specs.Table.{methods_of}
+use Rattle.dpj_table.specs.declared.rows.MethodRow.{MethodRow}
+use Rattle.dpj_table.specs.declared.table.Table.{Table}
+use Rattle.dpj_table.specs.Table.{methods_of}
 use Rattle.dpj_assembly.specs.Assembled.{PlainBody, members_of, program_of}
 use Rattle.dpj_exprs.specs.declared.env.Env.{Env}
 use Rattle.dpj_check.specs.Methods.{typed_body, after_ok, reported, method_reported, method_judged, MethodChecking, of_method, MemberChecking, bodies_of, PlainBodies, after_bodies, MembersChecking, ClassesChecking}

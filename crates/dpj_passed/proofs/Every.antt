@@ -12,7 +12,7 @@ use Rattle.dpj_tree.proofs.Sizes.{classes_counted}
 use Rattle.dpj_headers.specs.Way.{IsCounted}
 use Rattle.dpj_parse.specs.Program.{IsProgram}
 use Rattle.dpj_parse.proofs.Promised.{sized_in}
-use Rattle.dpj_classes.specs.declared.table.Table.{Table}
+use Rattle.dpj_table.specs.declared.table.Table.{Table}
 use Rattle.dpj_typed.specs.Plain.{PlainProgram}
 use Rattle.dpj_assembly.specs.Assembled.{program_of}
 use Rattle.dpj_front.specs.Front.{first_place, of_grammar, of_program}

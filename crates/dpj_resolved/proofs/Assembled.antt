@@ -21,15 +21,15 @@ use Rattle.dpj_tree.specs.declared.class.Program.{Program}
 use Rattle.dpj_typed.specs.Plain.{PlainProgram, PlainClass, PlainMember, PlainParent}
 use Rattle.dpj_typed.specs.Scope.{class_at, member_at, row_at}
 use Rattle.dpj_typed.specs.Scope.{parent_of as typed_parent, constructor_of as typed_constructor}
-use Rattle.dpj_classes.specs.declared.rows.MethodRow.{MethodRow}
-use Rattle.dpj_classes.specs.declared.table.Table.{Table}
+use Rattle.dpj_table.specs.declared.rows.MethodRow.{MethodRow}
+use Rattle.dpj_table.specs.declared.table.Table.{Table}
 use Rattle.dpj_classes.specs.Build.{table_faults}
-use Rattle.dpj_classes.specs.Inherited.{members_in}
-use Rattle.dpj_classes.specs.Main.{main_faults}
-use Rattle.dpj_classes.specs.Overridden.{overridden_in}
+use Rattle.dpj_members.specs.Inherited.{members_in}
+use Rattle.dpj_table.specs.Main.{main_faults}
+use Rattle.dpj_members.specs.Overridden.{overridden_in}
 use Rattle.dpj_classes.specs.Overriding.{same_kinds, same_constraints, same_types, same_with, fits, is_covered, override_fault, args_in, overridden_row, row_faults, override_faults}
-use Rattle.dpj_classes.specs.Places.{last_from, by_id, is_constructor_of, constructor_number}
-use Rattle.dpj_classes.specs.Table.{headers_of, methods_of, method_of, numbered, row_of, own_method, constructor_of, overridden_by, parent_args_of, own_field}
+use Rattle.dpj_table.specs.Places.{last_from, by_id, is_constructor_of, constructor_number}
+use Rattle.dpj_table.specs.Table.{headers_of, methods_of, method_of, numbered, row_of, own_method, constructor_of, overridden_by, parent_args_of, own_field}
 use Rattle.dpj_assembly.specs.Assembled.{PlainBody, member_of, members_of, class_of, parent_at, program_of}
 use Rattle.dpj_check.specs.Deciding.{has_value}
 use Rattle.dpj_gen.specs.Resolved.{gives_value, RowGives}

@@ -21,12 +21,12 @@ use Rattle.dpj_tree.specs.Size.{class_size, member_size}
 use Rattle.dpj_typed.specs.Plain.{PlainMember}
 use Rattle.dpj_typed.specs.Scope.{member_at}
 use Rattle.dpj_assembly.specs.Assembled.{PlainBody, program_of}
-use Rattle.dpj_classes.specs.declared.rows.MethodRow.{MethodRow}
-use Rattle.dpj_classes.specs.declared.table.Table.{Table}
+use Rattle.dpj_table.specs.declared.rows.MethodRow.{MethodRow}
+use Rattle.dpj_table.specs.declared.table.Table.{Table}
 use Rattle.dpj_classes.specs.Build.{table_faults}
 use Rattle.dpj_classes.specs.Overriding.{override_faults}
-use Rattle.dpj_classes.specs.Main.{begins_runs, is_main, main_class, main_faults, main_method, start}
-use Rattle.dpj_classes.specs.Table.{headers_of, methods_of, constructor_of}
+use Rattle.dpj_table.specs.Main.{begins_runs, is_main, main_class, main_faults, main_method, start}
+use Rattle.dpj_table.specs.Table.{headers_of, methods_of, constructor_of}
 use Rattle.dpj_resolved.specs.Accepted.{IsAccepted, AcceptedBegins, SmallHasRows}
 use Rattle.dpj_resolved.proofs.Assembled.{facts, has_member}
 use Rattle.dpj_resolved.proofs.Free.{append_none, fault_none, none_reported, not_false}

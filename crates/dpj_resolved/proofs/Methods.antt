@@ -17,9 +17,9 @@ use Rattle.dpj_tree.specs.Plain.{plain_stmt, plain_stmts}
 use Rattle.dpj_typed.specs.Plain.{PlainProgram, PlainMember, TypedStmt}
 use Rattle.dpj_typed.specs.Scope.{member_at}
 use Rattle.dpj_typed.specs.Statements.{all_complete}
-use Rattle.dpj_classes.specs.declared.rows.MethodRow.{MethodRow}
-use Rattle.dpj_classes.specs.declared.table.Table.{Table}
-use Rattle.dpj_classes.specs.Table.{methods_of, numbered}
+use Rattle.dpj_table.specs.declared.rows.MethodRow.{MethodRow}
+use Rattle.dpj_table.specs.declared.table.Table.{Table}
+use Rattle.dpj_table.specs.Table.{methods_of, numbered}
 use Rattle.dpj_assembly.specs.Assembled.{PlainBody, member_of}
 use Rattle.dpj_exprs.specs.declared.env.Env.{Env}
 use Rattle.dpj_exprs.specs.Env.{table_of, at_members, with_row}

@@ -9,7 +9,7 @@ use Rattle.dpj_tree.specs.declared.class.Member.{Member}
 use Rattle.dpj_tree.specs.declared.class.Member.TheVariants as member
 use Rattle.dpj_tree.specs.declared.class.Method.{Method}
 use Rattle.dpj_assembly.specs.Assembled.{PlainBody}
-use Rattle.dpj_classes.specs.declared.table.Table.{Table}
+use Rattle.dpj_table.specs.declared.table.Table.{Table}
 use Rattle.dpj_exprs.specs.declared.env.Env.{Env}
 use Rattle.dpj_exprs.specs.Env.{table_of, at_class}
 use Rattle.dpj_check.specs.Methods.{MethodChecking, is_method, MemberChecking, number_after, bodies_of, PlainBodies, after_bodies, after_ok, MembersChecking, own_params, ClassesChecking}

@@ -22,14 +22,15 @@ use Rattle.dpj_tree.specs.declared.class.MethodResult.{MethodResult}
 use Rattle.dpj_tree.specs.declared.class.MethodResult.TheVariants as outcome
 use Rattle.dpj_tree.specs.declared.class.Program.{Program}
 use Rattle.dpj_tree.specs.declared.region.TypeTree.{TypeTree}
-use Rattle.dpj_classes.specs.declared.rows.FieldRow.{FieldRow}
-use Rattle.dpj_classes.specs.declared.rows.MethodRow.{MethodRow}
-use Rattle.dpj_classes.specs.declared.table.Table.{Table}
+use Rattle.dpj_table.specs.declared.rows.FieldRow.{FieldRow}
+use Rattle.dpj_table.specs.declared.rows.MethodRow.{MethodRow}
+use Rattle.dpj_table.specs.declared.table.Table.{Table}
 use Rattle.dpj_classes.specs.Around.{class_scope}
 use Rattle.dpj_classes.specs.Build.{IsReadOf, text_faults}
-use Rattle.dpj_classes.specs.Rows.{PlainField, plain_field, PlainMethod, plain_method, method_row, said_scope, said_faults, method_scope, method_faults, member_faults, fields_from, fields_meant, first_slot, methods_from, methods_meant, super_faults, class_faults, all_constraint_faults, signature_faults}
+use Rattle.dpj_table.specs.Plain.{PlainField, plain_field, PlainMethod, plain_method}
+use Rattle.dpj_classes.specs.Rows.{method_row, said_scope, said_faults, method_scope, method_faults, member_faults, fields_from, fields_meant, first_slot, methods_from, methods_meant, super_faults, class_faults, all_constraint_faults, signature_faults}
 use Rattle.dpj_classes.specs.Signatures.{known_type, known_type_faults, field_region_faults, formal_faults, result_type, result_faults, summary_faults, constraints_faults}
-use Rattle.dpj_classes.specs.Table.{headers_of, fields_of, methods_of}
+use Rattle.dpj_table.specs.Table.{headers_of, fields_of, methods_of}
 use Rattle.dpj_check.specs.Deciding.{has_value}
 use Rattle.dpj_gen.specs.Scheme.{is_void}
 use Rattle.dpj_rows.proofs.Facts.{got_either}

@@ -26,8 +26,8 @@ use Rattle.dpj_typed.specs.Plain.{StmtForm as form}
 use Rattle.dpj_typed.specs.Plain as typed
 use Rattle.dpj_typed.specs.Statements.{completes, all_complete}
 use Rattle.dpj_locals.specs.declared.branch.Touched.{Touched}
-use Rattle.dpj_classes.specs.declared.rows.MethodRow.{MethodRow}
-use Rattle.dpj_classes.specs.Table.{numbered}
+use Rattle.dpj_table.specs.declared.rows.MethodRow.{MethodRow}
+use Rattle.dpj_table.specs.Table.{numbered}
 use Rattle.dpj_exprs.specs.declared.env.Env.{Env}
 use Rattle.dpj_exprs.specs.declared.found.Found.{Found}
 use Rattle.dpj_exprs.specs.Answer.{gives}

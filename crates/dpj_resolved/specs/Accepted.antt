@@ -2,12 +2,12 @@
 use Rattle.std.specs.Prelude.{◌≡◌, ◌≤◌, ℕ, Bool, List, length, Some, None, Ok, unwrap_or}
 use Rattle.dpj_headers.specs.Second.{AreCounted}
 use Rattle.dpj_tree.specs.declared.class.Program.{Program}
-use Rattle.dpj_classes.specs.declared.table.Table.{Table}
+use Rattle.dpj_table.specs.declared.table.Table.{Table}
 use Rattle.dpj_tree.specs.Size.{program_size}
 use Rattle.dpj_typed.specs.Plain.{PlainMember}
 use Rattle.dpj_typed.specs.Scope.{member_at}
 use Rattle.dpj_classes.specs.Build.{AreWellNamed, IsTable, first_of, table_faults}
-use Rattle.dpj_classes.specs.Main.{main_method}
+use Rattle.dpj_table.specs.Main.{main_method}
 use Rattle.dpj_assembly.specs.Assembled.{PlainBody, program_of}
 use Rattle.dpj_check.specs.Methods.{BodiesChecking}
 use Rattle.dpj_gen.specs.Resolved.{Resolved}

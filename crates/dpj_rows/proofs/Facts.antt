@@ -22,13 +22,14 @@ use Rattle.dpj_headers.proofs.Gathered.{parents_gathered}
 use Rattle.dpj_headers.proofs.Order.{Among}
 use Rattle.dpj_headers.proofs.Second.{and_true, sound_from, length_parents}
 use Rattle.dpj_resolve.specs.Scopes.{PlainScope}
-use Rattle.dpj_classes.specs.declared.rows.MethodRow.{MethodRow}
-use Rattle.dpj_classes.specs.declared.table.Table.{Table}
+use Rattle.dpj_table.specs.declared.rows.MethodRow.{MethodRow}
+use Rattle.dpj_table.specs.declared.table.Table.{Table}
 use Rattle.dpj_classes.specs.Around.{class_scope}
-use Rattle.dpj_classes.specs.Overridden.{method_named, overridden_in}
-use Rattle.dpj_classes.specs.Places.{entry_at, last_from, by_id, is_method_of, method_number}
-use Rattle.dpj_classes.specs.Rows.{PlainMethod, plain_method, methods_from, methods_meant, own_methods}
-use Rattle.dpj_classes.specs.Table.{headers_of, methods_of}
+use Rattle.dpj_members.specs.Overridden.{method_named, overridden_in}
+use Rattle.dpj_table.specs.Places.{entry_at, last_from, by_id, is_method_of, method_number}
+use Rattle.dpj_table.specs.Plain.{PlainMethod, plain_method}
+use Rattle.dpj_classes.specs.Rows.{methods_from, methods_meant, own_methods}
+use Rattle.dpj_table.specs.Table.{headers_of, methods_of}
 use Rattle.dpj_classes.proofs.Overrides.{row_counted}
 use Rattle.dpj_rows.specs.Rows.{is_own, HasRows}
 

@@ -10,11 +10,11 @@ use Rattle.dpj_headers.specs.Rounds.{entry_of, up}
 use Rattle.dpj_headers.proofs.Cycles.{up-then}
 use Rattle.dpj_headers.proofs.Inheriting.{made_step}
 use Rattle.dpj_headers.proofs.Walks.{top_none}
-use Rattle.dpj_classes.specs.declared.rows.MethodRow.{MethodRow}
-use Rattle.dpj_classes.specs.declared.table.Table.{Table}
-use Rattle.dpj_classes.specs.Inherited.{with_member, members_after, members_in}
-use Rattle.dpj_classes.specs.Places.{entry_at}
-use Rattle.dpj_classes.specs.Table.{headers_of, methods_of, row_of}
+use Rattle.dpj_table.specs.declared.rows.MethodRow.{MethodRow}
+use Rattle.dpj_table.specs.declared.table.Table.{Table}
+use Rattle.dpj_members.specs.Inherited.{with_member, members_after, members_in}
+use Rattle.dpj_table.specs.Places.{entry_at}
+use Rattle.dpj_table.specs.Table.{headers_of, methods_of, row_of}
 use Rattle.dpj_rows.specs.Rows.{is_own, one_new, new_in, inherited}
 use Rattle.dpj_rows.proofs.Facts.{Facts, parent_is}
 use Rattle.dpj_rows.proofs.Numbers.{owner_of}

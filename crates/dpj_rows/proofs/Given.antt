@@ -14,15 +14,15 @@ use Rattle.dpj_headers.specs.Rounds.{entry_of, up}
 use Rattle.dpj_headers.specs.Way.{way_of}
 use Rattle.dpj_headers.proofs.Cycles.{up-then}
 use Rattle.dpj_headers.proofs.Inheriting.{made_step}
-use Rattle.dpj_classes.specs.declared.overridden.Own.{Own}
-use Rattle.dpj_classes.specs.declared.rows.MethodRow.{MethodRow}
-use Rattle.dpj_classes.specs.declared.table.Table.{Table}
-use Rattle.dpj_classes.specs.Inherited.{with_member, members_after, members_in, declared_methods}
-use Rattle.dpj_classes.specs.Places.{entry_at}
-use Rattle.dpj_classes.specs.RowNumbers.{Numbering, with_all_rows, Counts, counted_after, all_counted, no_counts, inherited_rows}
-use Rattle.dpj_classes.specs.Table.{headers_of, methods_of, row_of, overridden_by}
-use Rattle.dpj_classes.specs.Visible.{all_own}
-use Rattle.dpj_classes.proofs.Visible.{own_from, own_listed}
+use Rattle.dpj_members.specs.declared.overridden.Own.{Own}
+use Rattle.dpj_table.specs.declared.rows.MethodRow.{MethodRow}
+use Rattle.dpj_table.specs.declared.table.Table.{Table}
+use Rattle.dpj_members.specs.Inherited.{with_member, members_after, members_in, declared_methods}
+use Rattle.dpj_table.specs.Places.{entry_at}
+use Rattle.dpj_members.specs.RowNumbers.{Numbering, with_all_rows, Counts, counted_after, all_counted, no_counts, inherited_rows}
+use Rattle.dpj_table.specs.Table.{headers_of, methods_of, row_of, overridden_by}
+use Rattle.dpj_members.specs.Visible.{all_own}
+use Rattle.dpj_members.proofs.Visible.{own_from, own_listed}
 use Rattle.dpj_rows.specs.Rows.{is_own, one_new, new_in, RowIs, inherited, HasRows}
 use Rattle.dpj_rows.proofs.Facts.{Facts, facts_of, parent_is, IsMethod, named_is, over_is}
 use Rattle.dpj_rows.proofs.Few.{sized, members_few}

@@ -7,13 +7,13 @@ use Rattle.std.proofs.lemmas.Option.{none-some}
 use Rattle.std.specs.Option.{option_map_or}
 use Rattle.std.specs.Prelude.{slice_get}
 use Rattle.dpj_headers.specs.Numbers.{as_number}
-use Rattle.dpj_classes.specs.declared.overridden.Own.{Own}
-use Rattle.dpj_classes.specs.declared.rows.MethodRow.{MethodRow}
-use Rattle.dpj_classes.specs.Places.{entry_at}
-use Rattle.dpj_classes.specs.RowNumbers.{Numbering, with_row, with_all_rows}
-use Rattle.dpj_classes.specs.Visible.{own_row}
+use Rattle.dpj_members.specs.declared.overridden.Own.{Own}
+use Rattle.dpj_table.specs.declared.rows.MethodRow.{MethodRow}
+use Rattle.dpj_table.specs.Places.{entry_at}
+use Rattle.dpj_members.specs.RowNumbers.{Numbering, with_row, with_all_rows}
+use Rattle.dpj_members.specs.Visible.{own_row}
 use Rattle.dpj_headers.proofs.Second.{and_true}
-use Rattle.dpj_classes.proofs.Visible.{own_from}
+use Rattle.dpj_members.proofs.Visible.{own_from}
 use Rattle.dpj_rows.specs.Rows.{is_own, one_new, new_in, RowIs, as_overridden, as_next}
 
 pub new_append : (overrides : List (Option ℕ)) (class at : ℕ) (xs ys : List MethodRow) → new_in overrides class at (xs ++ ys) ≡ new_in overrides class at xs + new_in overrides class (at + length xs) ys

@@ -15,12 +15,12 @@ use Rattle.dpj_headers.proofs.Cycles.{up-then}
 use Rattle.dpj_headers.proofs.Inheriting.{made_step}
 use Rattle.dpj_headers.proofs.Second.{and_true}
 use Rattle.dpj_headers.proofs.Walks.{top_none}
-use Rattle.dpj_classes.specs.declared.rows.MethodRow.{MethodRow}
-use Rattle.dpj_classes.specs.declared.table.Table.{Table}
-use Rattle.dpj_classes.specs.Inherited.{with_member, members_after, members_in}
-use Rattle.dpj_classes.specs.Overridden.{method_named}
-use Rattle.dpj_classes.specs.Places.{entry_at, last_from, by_id, is_method_of, method_number}
-use Rattle.dpj_classes.specs.Table.{headers_of, methods_of, method_of, numbered, overridden_by, row_of}
+use Rattle.dpj_table.specs.declared.rows.MethodRow.{MethodRow}
+use Rattle.dpj_table.specs.declared.table.Table.{Table}
+use Rattle.dpj_members.specs.Inherited.{with_member, members_after, members_in}
+use Rattle.dpj_members.specs.Overridden.{method_named}
+use Rattle.dpj_table.specs.Places.{entry_at, last_from, by_id, is_method_of, method_number}
+use Rattle.dpj_table.specs.Table.{headers_of, methods_of, method_of, numbered, overridden_by, row_of}
 use Rattle.dpj_rows.specs.Rows.{is_own, one_new, new_in, RowIs, as_overridden, as_next, inherited, HasRows}
 use Rattle.dpj_rows.proofs.Facts.{Facts, facts_of, parent_is, IsMethod, named_is}
 use Rattle.dpj_rows.proofs.Given.{rows_given}

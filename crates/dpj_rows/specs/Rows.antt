@@ -4,12 +4,12 @@ use Rattle.std.specs.Option.{option_map_or}
 use Rattle.dpj_tree.specs.declared.class.Program.{Program}
 use Rattle.dpj_headers.specs.Headers.{parent_of}
 use Rattle.dpj_headers.specs.Second.{AreCounted}
-use Rattle.dpj_classes.specs.declared.rows.MethodRow.{MethodRow}
-use Rattle.dpj_classes.specs.declared.table.Table.{Table}
+use Rattle.dpj_table.specs.declared.rows.MethodRow.{MethodRow}
+use Rattle.dpj_table.specs.declared.table.Table.{Table}
 use Rattle.dpj_classes.specs.Build.{AreWellNamed, IsTable}
-use Rattle.dpj_classes.specs.Inherited.{members_in}
-use Rattle.dpj_classes.specs.Places.{entry_at}
-use Rattle.dpj_classes.specs.Table.{headers_of, methods_of, method_of, overridden_by, row_of}
+use Rattle.dpj_members.specs.Inherited.{members_in}
+use Rattle.dpj_table.specs.Places.{entry_at}
+use Rattle.dpj_table.specs.Table.{headers_of, methods_of, method_of, overridden_by, row_of}
 
 -- a class itself declares the method
 abbrev pub is_own : ℕ → MethodRow → Bool

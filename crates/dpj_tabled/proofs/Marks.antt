@@ -1,9 +1,9 @@
 -- It is decided what reaches something that is marked.
 use Rattle.std.proofs.Common.{◌≡◌, ◌↔◌, ◌⊎◌, ◌≤◌, ◌+◌, ℕ, zero, suc, Bool, true, List, [], ◌∷◌, ◌++◌, length, inl, inr, refl, ap, subst, arith}
-use Rattle.dpj_classes.specs.declared.reach.Edge.{Edge}
-use Rattle.dpj_classes.specs.Marking.{sources, places_from, all_marked, all_added}
-use Rattle.dpj_classes.specs.Reach.{is_marked, IsAfter}
-use Rattle.dpj_classes.proofs.Marking.{Marking, begun, turn, done, all_taken}
+use Rattle.dpj_reach.specs.declared.reach.Edge.{Edge}
+use Rattle.dpj_reach.specs.Marking.{sources, places_from, all_marked, all_added}
+use Rattle.dpj_reach.specs.Reach.{is_marked, IsAfter}
+use Rattle.dpj_reach.proofs.Marking.{Marking, begun, turn, done, all_taken}
 
 -- marks of all that reaches something that is marked
 pub record Marks (first : List Bool) (edges : List Edge) : Type 0 where

@@ -14,7 +14,8 @@ use Rattle.dpj_headers.specs.Headers.{parent_of}
 use Rattle.dpj_headers.specs.Numbers.{as_number}
 use Rattle.dpj_resolve.specs.Scopes.{PlainScope}
 use Rattle.dpj_classes.specs.Around.{class_scope}
-use Rattle.dpj_classes.specs.Rows.{PlainSuper, PlainField, PlainMethod, plain_super, plain_field, plain_method, super_rows, supers_meant}
+use Rattle.dpj_table.specs.Plain.{PlainSuper, PlainField, PlainMethod, plain_super, plain_field, plain_method}
+use Rattle.dpj_classes.specs.Rows.{super_rows, supers_meant}
 use Rattle.dpj_classes.specs.Signatures.{parent_meant}
 use Rattle.dpj_classes.specs.Supers.{classes_in, extending, all_extending}
 use Rattle.dpj_classes.proofs.Back.{type_back, super_back, field_back, method_back}

@@ -4,7 +4,7 @@ use Rattle.dpj_headers.specs.Numbers.{as_number}
 use Rattle.dpj_typed.specs.Names.{named_class}
 use Rattle.dpj_typed.specs.Plain.{plain_class}
 use Rattle.dpj_typed.specs.Plain.{plain_field as typed_field}
-use Rattle.dpj_classes.specs.Inherited.{fields_in, members_in}
+use Rattle.dpj_members.specs.Inherited.{fields_in, members_in}
 use Rattle.dpj_assembly.specs.Assembled.{field_of, class_of, class_from}
 use Rattle.dpj_assembly.specs.Named.{class_named}
 use Rattle.dpj_assembly.proofs.Lists.{each_at, one_made}

@@ -1,6 +1,6 @@
 use Rattle.std.proofs.Common.{◌≡◌, ◌++◌, map, drop}
 use Rattle.dpj_typed.specs.Plain.{plain_field as typed_field}
-use Rattle.dpj_classes.specs.Rows.{plain_field}
+use Rattle.dpj_table.specs.Plain.{plain_field}
 use Rattle.dpj_assembly.specs.Assembled.{field_of}
 use Rattle.dpj_assembly.proofs.classes.fields_of.Given as goal
 

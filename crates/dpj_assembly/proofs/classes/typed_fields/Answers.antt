@@ -1,7 +1,7 @@
 use Rattle.std.proofs.Common.{◌∙◌, ap, sym, map, []}
 use Rattle.std.specs.Option.{option_copied}
 use Rattle.dpj_typed.specs.Plain.{plain_field as typed_field}
-use Rattle.dpj_classes.specs.Rows.{plain_field}
+use Rattle.dpj_table.specs.Plain.{plain_field}
 use Rattle.dpj_assembly.specs.Assembled.{field_of}
 use Rattle.dpj_assembly.proofs.Lists.{if_ok, mapped_or}
 use Rattle.dpj_assembly.proofs.classes.typed_fields.Goals as goal

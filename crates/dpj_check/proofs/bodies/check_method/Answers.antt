@@ -1,6 +1,6 @@
 use Rattle.std.proofs.Common.{◌∙◌, map, refl, ap, sym}
 use Rattle.std.specs.Option.{option_copied}
-use Rattle.dpj_classes.specs.Table.{numbered}
+use Rattle.dpj_table.specs.Table.{numbered}
 use Rattle.dpj_typed.specs.Plain.{plain_stmt as typed_stmt}
 use Rattle.dpj_check.specs.Checking.{InBlock}
 use Rattle.dpj_check.specs.Methods.{formals_declared, of_method, MethodChecking}

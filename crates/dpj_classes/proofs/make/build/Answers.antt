@@ -12,15 +12,15 @@ use Rattle.dpj_headers.specs.Gathered.{headers_in}
 use Rattle.dpj_headers.specs.Headers.{parents_of}
 use Rattle.dpj_headers.specs.Second.{AreCounted, IsReportedOf}
 use Rattle.dpj_resolve.proofs.Reported.{passed_on, refused_map}
-use Rattle.dpj_classes.specs.declared.table.Table.{Table}
-use Rattle.dpj_classes.specs.Bodies.{class_marks, override_edges}
+use Rattle.dpj_table.specs.declared.table.Table.{Table}
+use Rattle.dpj_reach.specs.Bodies.{class_marks, override_edges}
 use Rattle.dpj_classes.specs.Build.{first_of, text_faults, table_faults, IsReadOf, IsTable, IsReported}
 use Rattle.dpj_classes.specs.Build.IsReported.{in_signatures, in_table}
-use Rattle.dpj_classes.specs.Edges.{call_edges}
-use Rattle.dpj_classes.specs.Reach.{is_marked, IsAfter}
-use Rattle.dpj_classes.specs.RowNumbers.{rows_on_way}
-use Rattle.dpj_classes.specs.Table.{headers_of, methods_of, supers_of}
-use Rattle.dpj_classes.specs.Visible.{overridden_on_way}
+use Rattle.dpj_reach.specs.Edges.{call_edges}
+use Rattle.dpj_reach.specs.Reach.{is_marked, IsAfter}
+use Rattle.dpj_members.specs.RowNumbers.{rows_on_way}
+use Rattle.dpj_table.specs.Table.{headers_of, methods_of, supers_of}
+use Rattle.dpj_members.specs.Visible.{overridden_on_way}
 use Rattle.dpj_classes.proofs.Overrides.{finds_overridden}
 use Rattle.dpj_classes.proofs.Rising.{extending_ordered}
 use Rattle.dpj_classes.proofs.Whole.{reported_by_names}

@@ -1,6 +1,7 @@
 use Rattle.std.proofs.Common.{◌≡◌, ◌++◌, drop, map, length}
 use Rattle.dpj_headers.specs.Faults.{all_noted}
-use Rattle.dpj_classes.specs.Rows.{plain_super, plain_field, plain_method, supers_meant, fields_meant, methods_meant, signature_faults}
+use Rattle.dpj_table.specs.Plain.{plain_super, plain_field, plain_method}
+use Rattle.dpj_classes.specs.Rows.{supers_meant, fields_meant, methods_meant, signature_faults}
 use Rattle.dpj_classes.specs.Supers.{classes_in, all_extending}
 use Rattle.dpj_classes.proofs.signatures.read_signatures.Given as goal
 

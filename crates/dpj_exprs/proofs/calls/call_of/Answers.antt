@@ -1,6 +1,6 @@
 use Rattle.std.proofs.Common.{◌∙◌, Some, map, ap}
-use Rattle.dpj_classes.specs.declared.table.Table.{Table}
-use Rattle.dpj_classes.specs.Table.{headers_of, row_of}
+use Rattle.dpj_table.specs.declared.table.Table.{Table}
+use Rattle.dpj_table.specs.Table.{headers_of, row_of}
 use Rattle.dpj_exprs.specs.Answer.{gives, refused}
 use Rattle.dpj_exprs.specs.Typed.{plain_node, plain_typed, value_type}
 use Rattle.dpj_exprs.specs.Uses.{CallOf}

@@ -1,5 +1,5 @@
 use Rattle.std.proofs.Common.{◌∙◌, map, ap}
-use Rattle.dpj_classes.specs.Table.{headers_of}
+use Rattle.dpj_table.specs.Table.{headers_of}
 use Rattle.dpj_exprs.specs.Typed.{plain_typed}
 use Rattle.dpj_exprs.proofs.Creating.{class_for, of_class, of_no_class}
 use Rattle.dpj_exprs.proofs.creations.creation.Goals as goal

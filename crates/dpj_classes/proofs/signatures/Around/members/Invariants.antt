@@ -3,7 +3,8 @@ use Rattle.std.specs.List.{flat_map}
 use Rattle.dpj_headers.specs.Faults.{all_noted}
 use Rattle.dpj_resolve.specs.Classes.{constraints_in}
 use Rattle.dpj_classes.specs.Reading.{scope_around}
-use Rattle.dpj_classes.specs.Rows.{plain_field, plain_method, member_faults, fields_from, methods_from}
+use Rattle.dpj_table.specs.Plain.{plain_field, plain_method}
+use Rattle.dpj_classes.specs.Rows.{member_faults, fields_from, methods_from}
 use Rattle.dpj_classes.proofs.signatures.Around.members.Given as goal
 
 abbrev pub invariant-loop-member : goal.invariant-loop-member

@@ -1,0 +1,4 @@
+pub mod Inherited
+pub mod Overridden
+pub mod RowNumbers
+pub mod Visible

@@ -1,0 +1,3 @@
+pub mod Joined
+pub mod Locals
+pub mod Marking

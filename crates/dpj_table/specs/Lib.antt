@@ -1,0 +1,5 @@
+pub mod Finding
+pub mod Main
+pub mod Places
+pub mod Plain
+pub mod Table
