@@ -1,28 +1,21 @@
 -- The rows of the class table, as the text says them, and what is wrong in what they are read from.
-use Rattle.std.specs.Prelude.{ℕ, ◌+◌, Bool, List, [], ◌∷◌, ◌++◌, map, length}
+use Rattle.std.specs.Prelude.{ℕ, ◌+◌, List, [], ◌∷◌, ◌++◌, map, length}
 use Rattle.std.specs.List.{flat_map}
 use Rattle.std.specs.Option.{option_map_or}
 use Rattle.dpj_base.specs.declared.effect.Constraint.{Constraint}
-use Rattle.dpj_base.specs.declared.effect.Effect.{Effect}
-use Rattle.dpj_base.specs.declared.place.Place.{Place}
 use Rattle.dpj_base.specs.declared.refusal.Refusal.{Refusal}
-use Rattle.dpj_base.specs.declared.region.Rpl.{Rpl}
-use Rattle.dpj_base.specs.declared.ty.Super.{Super}
-use Rattle.dpj_base.specs.Types.{PlainType, plain_type}
 use Rattle.dpj_tree.specs.declared.class.Class.{Class}
 use Rattle.dpj_tree.specs.declared.class.Field.{Field}
 use Rattle.dpj_tree.specs.declared.class.Member.{Member}
 use Rattle.dpj_tree.specs.declared.class.Member.TheVariants as member
 use Rattle.dpj_tree.specs.declared.class.Method.{Method}
 use Rattle.dpj_headers.specs.declared.header.Headers.{Headers}
-use Rattle.dpj_headers.specs.declared.header.ParamRow.{ParamRow}
 use Rattle.dpj_headers.specs.Gathered.{param_row}
 use Rattle.dpj_headers.specs.Headers.{header_of, parent_of}
 use Rattle.dpj_headers.specs.Numbers.{as_number}
 use Rattle.dpj_headers.specs.Passes.{is_constructor_result}
 use Rattle.dpj_resolve.specs.Scopes.{PlainScope}
-use Rattle.dpj_table.specs.declared.rows.FieldRow.{FieldRow}
-use Rattle.dpj_table.specs.declared.rows.MethodRow.{MethodRow}
+use Rattle.dpj_table.specs.Plain.{PlainSuper, PlainField, PlainMethod}
 use Rattle.dpj_classes.specs.Around.{method_names, class_scope, with_names, with_given}
 use Rattle.dpj_classes.specs.Signatures.{constraints_meant, constraints_faults, known_type, known_type_faults, region_of_field, field_region_faults, formal_types, formal_faults, result_type, result_faults, summary_meant, summary_faults, parent_meant, parent_faults}
 
