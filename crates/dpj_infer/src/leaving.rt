@@ -1,9 +1,9 @@
-ghost use Rattle.std.specs.Prelude.{◌≡◌, ◌==◌, ◌++◌, [], map, not, true, false, IfOk, OnOk};
-ghost use Rattle.std.specs.List.{list_any};
+ghost use Rattle.std.specs.Prelude.{◌≡◌, ◌++◌, [], map, not, true, false, IfOk, OnOk};
 ghost use Rattle.dpj_typed.specs.Plain.{plain_source};
 ghost use Rattle.dpj_typed.specs.Effects.{begins_in, mapped, marked, own_after, outside_variable};
 ghost use Rattle.dpj_infer.specs.Walked.{all_done, done_of, outside_elem, outside, outside_all, handed_to};
 
+use crate::numbers::Numbers;
 use crate::own::Own;
 use dpj_base::{Elem, Elems, Index, Items, NoMemory, Rpl};
 use dpj_typed::{PartSource, Slot};
@@ -12,8 +12,8 @@ use std::alloc::Global;
 /// What came into scope at a place of a body and isn't in scope outside of it.
 #[derive(Drop)]
 pub struct Opened {
-    pub variables: Items<u64>,
-    pub regions: Items<u32>,
+    pub variables: Numbers,
+    pub regions: Numbers,
 }
 
 impl Opened {
@@ -21,8 +21,8 @@ impl Opened {
         ensures { result ≡ record { variables = []; regions = [] } }
     {
         Opened {
-            variables: Items::new(alloc),
-            regions: Items::new(alloc),
+            variables: Numbers::new(alloc),
+            regions: Numbers::new(alloc),
         }
     }
 
@@ -32,8 +32,8 @@ impl Opened {
         ensures regions { OnOk result (self.new.regions ≡ self.old.regions ++ more.regions) }
     {
         let Opened { variables, regions } = more;
-        append(variables, &mut self.variables)?;
-        append(regions, &mut self.regions)
+        self.variables.append(variables)?;
+        self.regions.append(regions)
     }
 }
 
@@ -66,35 +66,14 @@ pub fn leave(
     Ok(())
 }
 
+#[tactic(auto, using(crate::proofs::Finding::any_swapped))]
 fn is_seen(opened: &Opened, rpl: &Rpl) -> bool
     ensures { result ≡ not (begins_in opened.now.regions rpl.now.elems) }
 {
     match rpl.elems.as_slice() {
-        [Elem::Local(number, _), ..] => !has_region(opened.regions.as_slice(), *number),
+        [Elem::Local(number, _), ..] => !opened.regions.has(*number as u64),
         _ => true,
     }
-}
-
-fn has_region(regions: &[u32], number: u32) -> bool
-    ensures { result ≡ list_any (λ q. number == q) regions.now }
-{
-    for region in regions {
-        if number == *region {
-            return true;
-        }
-    }
-    false
-}
-
-fn has_variable(variables: &[u64], slot: u32) -> bool
-    ensures { result ≡ list_any (λ v. v == slot) variables.now }
-{
-    for variable in variables {
-        if *variable == slot as u64 {
-            return true;
-        }
-    }
-    false
 }
 
 fn outside(alloc: Global, opened: &Opened, own: Own) -> Result<Own, NoMemory>
@@ -133,7 +112,7 @@ fn outside_elem(opened: &Opened, elem: Elem) -> Elem
 fn outside_variable(opened: &Opened, slot: u32) -> Elem
     ensures { result ≡ outside_elem opened.now.variables (Elem.At (Index.Variable slot)) }
 {
-    if has_variable(opened.variables.as_slice(), slot) {
+    if opened.variables.has(slot as u64) {
         Elem::Any
     } else {
         Elem::At(Index::Variable(slot))

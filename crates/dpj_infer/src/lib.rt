@@ -22,6 +22,7 @@ mod inferring;
 mod kept;
 pub mod laws;
 mod leaving;
+mod numbers;
 mod own;
 mod scope;
 mod settling;

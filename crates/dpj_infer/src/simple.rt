@@ -9,6 +9,7 @@ ghost use Rattle.dpj_infer.specs.Walked.{all_done, scope_of, known_as};
 
 use crate::exprs::{add_element, add_field, add_part, expr};
 use crate::leaving::Opened;
+use crate::numbers::Numbers;
 use crate::own::Own;
 use crate::scope::{Known, Scope};
 use crate::walk::Walk;
@@ -46,11 +47,11 @@ fn declared(is_final: bool, ty: &Ty) -> Known
 }
 
 /// Adds new local regions.
-pub fn add_regions(regions: &Items<LocalRegion>, all: &mut Items<u32>) -> Result<(), NoMemory>
+pub fn add_regions(regions: &Items<LocalRegion>, all: &mut Numbers) -> Result<(), NoMemory>
     ensures { OnOk result (all.new ≡ all.old ++ map (λ region. region.number) regions.now) }
 {
     for region in regions.as_slice() {
-        all.push(region.number)?;
+        all.push(region.number as u64)?;
     }
     Ok(())
 }
