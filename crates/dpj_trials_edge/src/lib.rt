@@ -1,10 +1,8 @@
-//! The tests of the tool's edge: input and output and the command line.
+//! The tests of input and output, over sources and sinks that fail at a given call.
 //!
-//! They stand here and not in their crates, since a crate with tests is proved twice. Each says what no contract
-//! can say: that memory suffices, and that the answers are those of tables from outside.
+//! They stand here and not in their crate, since a crate with tests is proved twice. They show besides that memory suffices, which no
+//! contract can say. The command line and the reports are tried by `tests/cases`, which takes no proof.
 #![tactic(auto)]
 
 #[cfg(test)]
 mod io;
-#[cfg(test)]
-mod words;

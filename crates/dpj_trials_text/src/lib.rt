@@ -1,10 +1,8 @@
-//! The tests of the text's crates: tokens and trees.
+//! The tests of tokens: their kinds and places, and the refusals among them, on texts whose answers come from outside.
 //!
-//! They stand here and not in their crates, since a crate with tests is proved twice. Their expected values come
-//! from outside, and they show that memory suffices, which no contract can say.
+//! They stand here and not in their crate, since a crate with tests is proved twice. They show besides that memory suffices, which
+//! no contract can say.
 #![tactic(auto)]
 
 #[cfg(test)]
 mod tokens;
-#[cfg(test)]
-mod tree;
