@@ -1,4 +1,5 @@
 pub mod Same
+pub mod Places
 pub mod Finding
 pub mod Reading
 pub mod Alike

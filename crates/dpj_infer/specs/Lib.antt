@@ -1,4 +1,5 @@
 pub mod Kept
+pub mod Places
 pub mod Finding
 pub mod Doing
 pub mod Walked

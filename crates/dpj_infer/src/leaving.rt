@@ -66,7 +66,7 @@ pub fn leave(
     Ok(())
 }
 
-#[tactic(auto, using(crate::proofs::Finding::swapping))]
+#[tactic(auto, using(crate::proofs::Finding::any_swapped))]
 fn is_seen(opened: &Opened, rpl: &Rpl) -> bool
     ensures { result ≡ not (begins_in opened.now.regions rpl.now.elems) }
 {

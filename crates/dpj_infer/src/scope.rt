@@ -1,4 +1,4 @@
-ghost use Rattle.std.specs.Prelude.{◌≡◌, ◌∷◌, ◌++◌, [], length, take, IfOk, OnOk, None};
+ghost use Rattle.std.specs.Prelude.{◌≡◌, ◌-◌, ◌∷◌, ◌++◌, [], length, take, IfOk, OnOk, None};
 ghost use Rattle.std.specs.Option.{option_copied};
 ghost use Rattle.dpj_typed.specs.Plain.{plain_expr};
 ghost use Rattle.dpj_typed.specs.Typing.{index_elem};
@@ -6,6 +6,7 @@ ghost use Rattle.dpj_infer.specs.Walked.{scope_of, last_of, is_constant_in, path
 
 use dpj_base::{Elem, Index, Items, NoMemory, Plain, Rpl};
 use dpj_typed::{Expr, ExprForm, Slot};
+use indexmap::IndexMap;
 use std::alloc::Global;
 use std::marker::Model;
 
@@ -27,19 +28,32 @@ pub struct Placed {
     pub known: Known,
 }
 
-/// What is in scope at a place of a body; what came last stands last.
+/// A slot that came into scope, and where the one stands that it hides: the last before it under the same number.
+#[derive(Drop)]
+struct Entry {
+    placed: Placed,
+    hidden: Option<usize>,
+}
+
+/// What is in scope at a place of a body; what came last stands last. A contract sees the list, and not where a slot is
+/// found in it.
 #[derive(Drop)]
 pub struct Scope {
-    locals: Items<Placed>,
+    entries: Items<Entry>,
+    /// Where the last entry of each slot stands. One that has left scope stands nowhere.
+    places: IndexMap<u64, Option<usize>>,
 }
 
 impl Model for Scope {
     ghost use Rattle.std.specs.Prelude.{List};
     ghost use Rattle.dpj_infer.specs.declared.scope.Placed.{Placed};
+    ghost use Rattle.dpj_infer.specs.Places.{placed_in, FindsPlaces};
 
     ghost Value = { List Placed };
 
-    ghost view = { λ scope. scope.locals };
+    ghost view = { λ scope. placed_in scope.entries };
+
+    ghost invariant = { λ scope. FindsPlaces scope.entries scope.places };
 }
 
 impl Scope {
@@ -47,40 +61,58 @@ impl Scope {
         ensures { result ≡ [] }
     {
         Scope {
-            locals: Items::new(alloc),
+            entries: Items::new(alloc),
+            places: IndexMap::new(alloc),
         }
     }
 
     pub fn len(&self) -> usize
         ensures { result ≡ length self.now }
     {
-        self.locals.len()
+        self.entries.len()
     }
 
     pub fn put(&mut self, slot: u64, known: Known) -> Result<(), NoMemory>
         ensures { OnOk result (self.new ≡ self.old ++ (record { slot = slot; known = known }) ∷ []) }
     {
-        self.locals.push(Placed { slot, known })
+        // With room in the map, nothing can fail once the entry stands there.
+        self.places.reserve(1)?;
+        let place = self.entries.len();
+        let hidden = self.places.get(&slot).copied().flatten();
+        let placed = Placed { slot, known };
+        self.entries.push(Entry { placed, hidden })?;
+        let _ = self.places.insert(slot, Some(place))?;
+        Ok(())
     }
 
     /// Forgets what came into scope after the first `len`.
+    #[tactic(auto, using(crate::proofs::Places::leaving))]
     pub fn leave(&mut self, len: usize)
         ensures { self.new ≡ take len self.old }
     {
-        self.locals.truncate(len);
+        while self.len() > len {
+            self.forget_last();
+        }
+    }
+
+    /// Forgets what came last into scope. What it hid is found again.
+    fn forget_last(&mut self)
+        ensures { self.new ≡ take (length self.old - 1) self.old }
+    {
+        let Some(last) = self.entries.pop() else {
+            return;
+        };
+        let _ = self.places.insert(last.placed.slot, last.hidden);
     }
 
     /// What came last into scope under a slot.
+    #[tactic(auto, using(crate::proofs::Places::finding))]
     fn find(&self, slot: u32) -> Option<&Known>
         ensures { option_copied result ≡ last_of slot None self.now }
     {
-        let mut last = None;
-        for placed in self.locals.as_slice() {
-            if slot as u64 == placed.slot {
-                last = Some(&placed.known);
-            }
-        }
-        last
+        let place = self.places.get(&(slot as u64)).copied().flatten()?;
+        let entry = self.entries.get(place)?;
+        Some(&entry.placed.known)
     }
 
     #[tactic(auto, using(crate::proofs::Reading::found_local))]
