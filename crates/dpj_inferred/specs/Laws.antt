@@ -1,6 +1,6 @@
 -- The program with its inferred summaries, and what is said of it.
-use Rattle.std.specs.Prelude.{◌≡◌, ℕ, ◌+◌, Bool, false, List, map, Option, Some, None}
-use Rattle.dpj_base.specs.Types.{PlainType, int}
+use Rattle.std.specs.Prelude.{◌≡◌, false, List, map, Option, Some, None}
+use Rattle.dpj_base.specs.Types.{int}
 use Rattle.dpj_typed.specs.Plain.{PlainProgram, PlainClass, PlainMember, TypedStmt, statement, TypedStmts, no_stmts, more_stmts, TypedBranches, no_branches, more_branches}
 use Rattle.dpj_typed.specs.Plain.{StmtForm as form}
 use Rattle.dpj_typed.specs.Scope.{Scope, constant, class_at, with_local}
