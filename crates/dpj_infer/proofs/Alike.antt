@@ -17,7 +17,7 @@ use Rattle.dpj_typed.specs.Typing.{variable_elem, index_elem}
 use Rattle.dpj_infer.specs.Doing.{of_element, of_local, done_by, done_by_all, done_by_source, part_of_local, part_of, with_parts, effects_of, effects_of_all, effects_of_branches}
 use Rattle.dpj_infer.specs.Walked.{SameUse, Agree, is_constant, part_path, nowhere, local_of, known_as}
 
-both_same : {a b c d : List Own} → a ≡ b → c ≡ d → a ++ c ≡ b ++ d
+pub both_same : {a b c d : List Own} → a ≡ b → c ≡ d → a ++ c ≡ b ++ d
 both_same {a} {b} {c} {d} e h = ap (λ x. x ++ c) e ∙ ap (λ x. b ++ x) h
 
 variable_is : (x : ℕ) (l : Option Local) → variable_elem x l ≡ cond (is_constant l) (At (Variable x)) Any
@@ -115,7 +115,7 @@ still_part : (l : Option Local) → part_path (Some (part_of_local l)) ≡ part_
 still_part None = refl
 still_part (Some l) = refl
 
-part_alike : (L K : Scope) → Agree L K → (s : Source) → SameUse (Some (part_of L s)) (Some (part_of K s))
+pub part_alike : (L K : Scope) → Agree L K → (s : Source) → SameUse (Some (part_of L s)) (Some (part_of K s))
 part_alike L K h (of_array e) = same_use (Some (part_of L (of_array e)))
 part_alike L K h (of_part k) = record {
   constant = still_constant (L.local k) ∙ SameUse.constant (h.local k) ∙ sym (still_constant (K.local k));
@@ -129,7 +129,7 @@ chosen_alike false l k p q s r = r
 pub with_alike : (L K : Scope) (x : ℕ) (l k : Local) → Agree L K → SameUse (Some l) (Some k) → Agree (with_local x l L) (with_local x k K)
 with_alike L K x l k h s = record { local = λ y. chosen_alike (y == x) (Some l) (Some k) (L.local y) (K.local y) s (h.local y) }
 
-with_same : (L K : Scope) (x : ℕ) (l : Local) → Agree L K → Agree (with_local x l L) (with_local x l K)
+pub with_same : (L K : Scope) (x : ℕ) (l : Local) → Agree L K → Agree (with_local x l L) (with_local x l K)
 with_same L K x l h = with_alike L K x l l h (same_use (Some l))
 
 pub parts_alike : (L K : Scope) (k : ℕ) (l m : Local) → Agree L K → SameUse (Some l) (Some m) → Agree (with_parts k l L) (with_parts k m K)

@@ -21,12 +21,12 @@ if_all A B C (Ok x) f k a b = f k x a b
 if_all A B C (Err e) f k a b = tt
 
 -- a member with what is left of its summary
-abbrev kept_at : Option (List Kept) → Option PlainMember → Option PlainMember
+abbrev pub kept_at : Option (List Kept) → Option PlainMember → Option PlainMember
 kept_at (Some ks) (Some m) = Some (record m { summary = summary_kept ks m.summary })
 kept_at (Some ks) None = None
 kept_at None m = None
 
-members_at : (S : Keeping) (ms : List PlainMember) (n : ℕ) → slice_get (members_kept S ms) n ≡ kept_at (slice_get S n) (slice_get ms n)
+pub members_at : (S : Keeping) (ms : List PlainMember) (n : ℕ) → slice_get (members_kept S ms) n ≡ kept_at (slice_get S n) (slice_get ms n)
 members_at [] [] n = refl
 members_at [] (m ∷ ms) n = refl
 members_at (ks ∷ S) [] zero = refl

@@ -131,7 +131,7 @@ whole_summary : (es : List Effect) → summary_kept (map (λ e. kept.Whole) es) 
 whole_summary [] = refl
 whole_summary (e ∷ es) = ap (λ rest. e ∷ rest) (whole_summary es)
 
-abbrev all_whole : PlainProgram → Keeping
+abbrev pub all_whole : PlainProgram → Keeping
 all_whole P = map (λ m. map (λ e. kept.Whole) m.summary) P.members
 
 whole_members : (ms : List PlainMember) → members_kept (map (λ m. map (λ e. kept.Whole) m.summary) ms) ms ≡ ms
@@ -140,7 +140,7 @@ whole_members (m ∷ ms) =
     ap (λ es. record m { summary = es } ∷ members_kept (map (λ m. map (λ e. kept.Whole) m.summary) ms) ms) (whole_summary m.summary)
     ∙ ap (λ rest. m ∷ rest) (whole_members ms)
 
-whole_program : (P : PlainProgram) → program_kept (all_whole P) P ≡ P
+pub whole_program : (P : PlainProgram) → program_kept (all_whole P) P ≡ P
 whole_program P = ap (λ ms. record P { members = ms }) (whole_members P.members)
 
 kept_most : (k : Kept) (e : Effect) → strength_kept k e ≤ strength_of e.access
@@ -148,7 +148,7 @@ kept_most kept.Nothing e = omega arith
 kept_most kept.Read e = some_strength e.access
 kept_most kept.Whole e = omega arith
 
-no_more_than_whole : (P : PlainProgram) (S : Keeping) → KeepsNoMore P S (all_whole P)
+pub no_more_than_whole : (P : PlainProgram) (S : Keeping) → KeepsNoMore P S (all_whole P)
 no_more_than_whole P S = λ n i m ks ls item k l is a b c d e.
     let of = mapped_from (λ m. map (λ e. kept.Whole) m.summary) P.members n ls b in
     let at = mapped_from (λ e. kept.Whole) of.0.summary i l (ap (λ x. slice_get x i) (sym of.1) ∙ e) in

@@ -126,7 +126,7 @@ creation_less P S T says h t = by_class (class_parts t) refl
         fewer_none Less (of_constructor t (constructed (program_kept S P) t)) (of_constructor t (constructed (program_kept T P) t)) (made_unclassed (program_kept S P) t g)
     by_class (Some ca) g = by_number ca.0 ca.1 (constructor_of P ca.0) g refl
 
-grown : (P : PlainProgram) (S T : Keeping) → SaysOfEach P T → KeepsNoMore P S T → Grows (program_kept S P) (program_kept T P)
+pub grown : (P : PlainProgram) (S T : Keeping) → SaysOfEach P T → KeepsNoMore P S T → Grows (program_kept S P) (program_kept T P)
 grown P S T says h = record {
   field = λ t c k access. refl;
   callee = λ t c r regions. call_less P S T says h t (row_at P c r) regions;

@@ -1,0 +1,10 @@
+pub mod Chains
+pub mod Scopes
+pub mod Forms
+pub mod Effects
+pub mod Tables
+pub mod Clashing
+pub mod Entered
+pub mod Bodies
+pub mod Kept
+pub mod WellTyped
