@@ -8,3 +8,4 @@ pub mod Entered
 pub mod Bodies
 pub mod Kept
 pub mod WellTyped
+pub mod Lines

@@ -2,6 +2,10 @@
 use Rattle.std.proofs.Common.{◌≡◌, ◌∙◌, ℕ, true, false, List, [], Option, Some, MatchOption, IfSome, inl, inr, refl, sym, ap, subst, arith}
 use Rattle.dpj_history.specs.declared.record.Record.{Record}
 use Rattle.dpj_typed.specs.Plain.{PlainProgram}
+use Rattle.dpj_infer.specs.Kept.{program_kept}
+use Rattle.dpj_infer.specs.Lines.{lines_of}
+use Rattle.dpj_inferred.specs.Laws.{program_inferred}
+use Rattle.dpj_inferred.proofs.Lines.{same_lines}
 use Rattle.dpj_passed.specs.Laws.{OneVerdict, OnePassing}
 use Rattle.dpj_words.specs.Jobs.{job}
 use Rattle.dpj_words.specs.Reports.{report_of, status_of}
@@ -11,11 +15,11 @@ use Rattle.dpj_words.specs.declared.job.Job.{Job}
 use Rattle.dpj_words.specs.declared.verdict.Status.{Status}
 use Rattle.dpj_words.specs.declared.verdict.Status.TheVariants as ended
 use Rattle.dpj_words.specs.declared.verdict.Verdict.{Verdict}
-use Rattle.dpj_words.specs.declared.verdict.Verdict.TheVariants.{Ran, Usage}
+use Rattle.dpj_words.specs.declared.verdict.Verdict.TheVariants.{Ran, Effects, Usage}
 use Rattle.dpj_top.specs.declared.answered.Answered.{Answered}
-use Rattle.dpj_top.specs.Answer.{IsAnswer, IsAnswerOn, IsElided, IsRan, IsWithin, asks_run, faulty, of_program, only, verdict_by, verdict_of, to_check, to_effects, to_elide, to_list, to_run, too_long}
+use Rattle.dpj_top.specs.Answer.{IsAnswer, IsAnswerOn, IsElided, IsRan, IsWithin, TellsEffects, asks_run, faulty, of_program, only, verdict_by, verdict_of, to_check, to_effects, to_elide, to_list, to_run, too_long}
 use Rattle.dpj_top.specs.Call.{Answers, AnswersBy, Appends, IsAnswered, Tells, TellsOfVerdict, text_for}
-use Rattle.dpj_top.specs.Promise.{AsksElision, GivesJob, IsReported, KeepsPromise, ReportsElision, ReportsReduced, elision_for}
+use Rattle.dpj_top.specs.Promise.{AsksElision, GivesJob, IsReported, KeepsPromise, ReportsElision, ReportsReduced, ReportsSummaries, elision_for}
 use Rattle.dpj_top.proofs.Ranges.{words_within}
 
 -- a status that tells of a verdict is no want of memory
@@ -109,4 +113,27 @@ module _ (keeps : KeepsPromise) (verdict : OneVerdict) (one : OnePassing) (words
         reported = verdict_reported (verdict_of asked text known.made.record.machine.schedule known.made.outcome) (ap (λ (a : Answered). a.verdict) known.is);
         reduced = known.reduced;
         inside = known.inside;
+      }
+
+  told_so : asked.command ≡ command.Effects → TellsEffects text typed tells.answered
+  told_so effects = by (on_program (λ e. absurd (cc (sym effects ∙ e))))
+    where
+      by : IsAnswerOn asked text typed tells.answered → TellsEffects text typed tells.answered
+      by (to_effects c is) = is
+      by (to_run c is) = absurd (true_false (sym c ∙ ap asks_run effects))
+      by (to_check c is) = absurd (cc (sym effects ∙ c))
+      by (to_elide c is) = absurd (cc (sym effects ∙ c))
+      by (to_list c is) = absurd (cc (sym effects ∙ c))
+
+  pub owed_summaries : asked.command ≡ command.Effects → ReportsSummaries text typed before after status
+  owed_summaries effects =
+      let told = told_so effects in
+      record {
+        names = told.names;
+        are_names = told.are_names;
+        kept = told.kept;
+        inferred = told.inferred;
+        well_typed = keeps.summaries text gives.place typed told.kept gives.accepted told.inferred;
+        reported = verdict_reported (Effects (lines_of (program_inferred told.kept typed) told.names))
+            (ap (λ (a : Answered). a.verdict) told.tells ∙ ap Effects (sym (same_lines told.kept typed told.names)));
       }

@@ -12,6 +12,9 @@ use Rattle.dpj_meaning.specs.Outcomes.{Outcome as ElidedOutcome, Came as came_ou
 use Rattle.dpj_elide.specs.Outcome.{ending_of, outcome_of}
 use Rattle.dpj_elide.specs.Outcome.{limits as plain_limits}
 use Rattle.dpj_typed.specs.WellTyped.{WellTyped}
+use Rattle.dpj_infer.specs.Firm.{IsInferred}
+use Rattle.dpj_infer.specs.Kept.{Keeping}
+use Rattle.dpj_inferred.specs.Laws.{InferredIsWellTyped, program_inferred}
 use Rattle.dpj_passed.specs.Laws.{Keeps, PassedKeeps}
 use Rattle.dpj_promise.specs.Promise.{GreedyMachinesElide, MachinesAreNotStuck, MachinesComeOutAsElided, MachinesGoOn, elision, ending_of_elision, outcome_of_elision}
 use Rattle.dpj_promise.specs.Inside.{ComesOutElidedInside, MachinesElideInside}
@@ -129,8 +132,8 @@ same_outcome : (o : ElidedOutcome ℕ) → outcome_of o ≡ outcome_of_elision o
 same_outcome (came_out x output steps cells) = ap (λ e. record { ending = e; out = output; steps = steps; cells = cells }) (same_ending x)
 same_outcome (Limited steps cells) = refl
 
-pub keeps_promise : MachinesComeOutAsElided → GreedyMachinesElide → MachinesAreReduced → MachinesElideInside → MachinesAreNotStuck → MachinesGoOn → PassedKeeps → KeepsPromise
-keeps_promise machines greedy reduce inside never_stuck goes passed = record { typed_well = typed_well; goes_on = goes_further; follows = follows; replay = replay; run = run; reduce = reduces; elide = elide; greedy = greedily }
+pub keeps_promise : MachinesComeOutAsElided → GreedyMachinesElide → MachinesAreReduced → MachinesElideInside → MachinesAreNotStuck → MachinesGoOn → PassedKeeps → InferredIsWellTyped → KeepsPromise
+keeps_promise machines greedy reduce inside never_stuck goes passed with_inferred = record { typed_well = typed_well; goes_on = goes_further; follows = follows; replay = replay; run = run; reduce = reduces; elide = elide; greedy = greedily; summaries = summaries }
   where
     kept : (text : List ℕ) (place : Place) (typed : PlainProgram) → IsAcceptedAs text place typed → Keeps typed
     kept text place typed accepted = passed text place typed accepted.0 accepted.1
@@ -209,3 +212,6 @@ keeps_promise machines greedy reduce inside never_stuck goes passed = record { t
         → ComesOut typed (limits_of job) job.arg (Some outcome) → outcome ≡ elision_for job typed
     greedily job text place typed outcome within accepted (finished p o is come) =
         reported_greedy typed (kept text place typed accepted) (limits_of job) job.arg within.0.steps_most within.1 greedy p o is come
+
+    summaries : (text : List ℕ) (place : Place) (typed : PlainProgram) (S : Keeping) → IsAcceptedAs text place typed → IsInferred typed S → WellTyped (program_inferred S typed)
+    summaries text place typed S accepted is = with_inferred typed S (typed_well text place typed accepted) is

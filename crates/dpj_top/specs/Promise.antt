@@ -4,9 +4,15 @@ use Rattle.std.specs.Int.{w32}
 use Rattle.dpj_base.specs.declared.outcome.Limits.{Limits}
 use Rattle.dpj_base.specs.declared.outcome.Outcome.{Outcome}
 use Rattle.dpj_base.specs.declared.place.Place.{Place}
+use Rattle.dpj_typed.specs.Names.{ProgramNames}
 use Rattle.dpj_typed.specs.Plain.{PlainProgram}
 use Rattle.dpj_typed.specs.WellTyped.{WellTyped}
+use Rattle.dpj_front.specs.Front.{AreNames}
 use Rattle.dpj_history.specs.declared.record.Record.{Record}
+use Rattle.dpj_infer.specs.Firm.{IsInferred}
+use Rattle.dpj_infer.specs.Kept.{Keeping}
+use Rattle.dpj_infer.specs.Lines.{lines_of}
+use Rattle.dpj_inferred.specs.Laws.{program_inferred}
 use Rattle.dpj_promise.specs.Inside.{ComesOutElidedInside}
 use Rattle.dpj_promise.specs.Promise.{elision}
 use Rattle.dpj_promise.specs.Reduced.{ComesOutReduced}
@@ -23,7 +29,7 @@ use Rattle.dpj_words.specs.declared.command.Command.TheVariants as command
 use Rattle.dpj_words.specs.declared.job.Job.{Job}
 use Rattle.dpj_words.specs.declared.verdict.Status.{Status}
 use Rattle.dpj_words.specs.declared.verdict.Verdict.{Verdict}
-use Rattle.dpj_words.specs.declared.verdict.Verdict.TheVariants.{Ran}
+use Rattle.dpj_words.specs.declared.verdict.Verdict.TheVariants.{Ran, Effects}
 use Rattle.dpj_top.specs.declared.answered.Answered.{Answered}
 use Rattle.dpj_top.specs.Answer.{IsAcceptedAs, IsElided, IsRan, IsRunBy, IsWithin, asks_run, limits_of, only, verdict_of}
 use Rattle.dpj_top.specs.Call.{Appends, text_for}
@@ -62,7 +68,7 @@ pub record GoesOn (job : Job) (typed : PlainProgram) : Type 0 where
 
 -- What is accepted is well typed, and a run of it comes out. Where it has no nd construct a run of it is answered by its elision, by any number of workers, in
 -- any order; with nd constructs too by a run that is reduced. And an elision is answered by the elision, as which the run comes out
--- in which the greatest ready task always goes on.
+-- in which the greatest ready task always goes on. With the summaries that are inferred it is well typed too.
 pub record KeepsPromise : Type 0 where
   pub typed_well : (text : List ℕ) (place : Place) (typed : PlainProgram) → IsAcceptedAs text place typed → WellTyped typed
   pub goes_on : (job : Job) (text : List ℕ) (place : Place) (typed : PlainProgram) → IsWithin job → IsAcceptedAs text place typed → GoesOn job typed
@@ -79,6 +85,7 @@ pub record KeepsPromise : Type 0 where
       → IsElided job typed answered → answered ≡ only (Ran (elision_for job typed))
   pub greedy : (job : Job) (text : List ℕ) (place : Place) (typed : PlainProgram) (outcome : Outcome) → IsWithin job → IsAcceptedAs text place typed
       → ComesOut typed (limits_of job) job.arg (Some outcome) → outcome ≡ elision_for job typed
+  pub summaries : (text : List ℕ) (place : Place) (typed : PlainProgram) (kept : Keeping) → IsAcceptedAs text place typed → IsInferred typed kept → WellTyped (program_inferred kept typed)
 
 -- the status is that of the verdict, and its report was written after what was held
 abbrev pub IsReported : Verdict → Option (List ℕ) → Option (List ℕ) → Status → Type 0
@@ -119,6 +126,20 @@ OwesElision words held before after status =
 abbrev pub OwesReduction : List (List ℕ) → Option (List ℕ) → Option (List ℕ) → Option (List ℕ) → Status → Option Record → Type 0
 OwesReduction words held before after status recorded =
     (job : Job) (text : List ℕ) (typed : PlainProgram) → GivesJob words held job text typed → asks_run job.command ≡ true → ReportsReduced job text typed before after status recorded
+
+-- the lines are reported of the inferred summaries, with which the program is well typed
+pub record ReportsSummaries (text : List ℕ) (typed : PlainProgram) (before after : Option (List ℕ)) (status : Status) : Type 0 where
+  pub names : ProgramNames
+  pub are_names : AreNames text names
+  pub kept : Keeping
+  pub inferred : IsInferred typed kept
+  pub well_typed : WellTyped (program_inferred kept typed)
+  pub reported : IsReported (Effects (lines_of (program_inferred kept typed) names)) before after status
+
+-- and where its effects are asked, by summaries that may stand in place of the written ones
+abbrev pub OwesSummaries : List (List ℕ) → Option (List ℕ) → Option (List ℕ) → Option (List ℕ) → Status → Type 0
+OwesSummaries words held before after status =
+    (job : Job) (text : List ℕ) (typed : PlainProgram) → GivesJob words held job text typed → job.command ≡ command.Effects → ReportsSummaries text typed before after status
 
 -- words that ask for a replay of these bytes
 pub record GivesReplay (words : List (List ℕ)) (held : Option (List ℕ)) (bytes : List ℕ) : Type 0 where

@@ -5,7 +5,7 @@ ghost use Rattle.dpj_make.specs.Demo.{demo_text};
 ghost use Rattle.dpj_words.specs.Jobs.{job, IsInRange};
 ghost use Rattle.dpj_words.specs.Reports.{report_of, status_of};
 ghost use Rattle.dpj_top.specs.Answer.{IsAnswer, most_bytes, only};
-ghost use Rattle.dpj_top.specs.Promise.{OwesElision, OwesReduction, OwesReplay};
+ghost use Rattle.dpj_top.specs.Promise.{OwesElision, OwesReduction, OwesReplay, OwesSummaries};
 ghost use Rattle.dpj_top.specs.Call.{Answers, IsAnswered, TellsOfVerdict, Tells, BreaksOff, ReadToEnd, Appends, AppendsPart, asks_text, makes_text};
 
 use crate::answered::Answered;
@@ -58,6 +58,9 @@ pub fn dpj<R: Threads + Wait + Sync, S: Source, K: Sink, G: Gate + Sync>(
     // So is a run that a replay has made, which is reported by its outcome: without nd constructs that is the elision.
     ensures replayed { TellsOfVerdict result.status
         → OwesReplay (map string_bytes words.now) (S.left source.old) (K.held sink.old) (K.held sink.new) result.status result.recorded }
+    // And what `effects` reports may stand in place of the written summaries: with it the program is well typed.
+    ensures summaries { TellsOfVerdict result.status
+        → OwesSummaries (map string_bytes words.now) (S.left source.old) (K.held sink.old) (K.held sink.new) result.status }
 
     // Every other status has its cause, and want of memory alone needs none.
     ensures read_fault { result.status ≡ Status.ReadFault → Rose (S.faults source.old) (S.faults source.new) }

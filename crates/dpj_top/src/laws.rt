@@ -5,6 +5,7 @@ ghost use Rattle.dpj_top.specs.Replaying.{OneReplay};
 
 use dpj_going::laws::law_going;
 use dpj_infer::laws::law_one_inferred;
+use dpj_inferred::laws::law_inferred;
 use dpj_passed::laws::{law_one_passing, law_passed};
 use dpj_promise::laws::{law_elide, law_goes_on, law_inside, law_promise, law_reduced};
 use dpj_steps::laws::law_steps;
@@ -29,7 +30,7 @@ pub fn one_answer()
 /// outcome of its sequential elision, whatever schedule it made; of every accepted program a run is one of the source, whose
 /// unordered events that conflict lie in atomic blocks, gathered by blocks it comes out the same, and so it does with its deterministic
 /// constructs in sequence; so is a run that a replay has made; and an elision is answered by the outcome of the elision, as which the run
-/// comes out in which the greatest ready task always goes on.
+/// comes out in which the greatest ready task always goes on. With its inferred summaries it is well typed too.
 pub fn promise()
     ensures { KeepsPromise }
 {
@@ -39,4 +40,5 @@ pub fn promise()
     law_inside();
     law_goes_on();
     law_passed();
+    law_inferred();
 }

@@ -1,6 +1,6 @@
 use Rattle.std.proofs.Common.{Global, map, refl}
 use Rattle.std.specs.String.{string_bytes}
-use Rattle.dpj_top.proofs.Owed.{owed_elision, owed_reduction, tells-no-want}
+use Rattle.dpj_top.proofs.Owed.{owed_elision, owed_reduction, owed_summaries, tells-no-want}
 use Rattle.dpj_top.proofs.Replayed.{owed_replay}
 use Rattle.dpj_top.proofs.call.dpj.Goals as goal
 
@@ -41,4 +41,17 @@ returns-in-Ok-clause-replayed g c reported =
       status_reported = whole.0;
       report_reported = whole.1;
       run_recorded = c.tell.ensures.kept (tells-no-want c.tell.result.status reported);
+    })
+
+pub returns-in-Ok-clause-summaries : goal.returns-in-Ok-clause-summaries
+returns-in-Ok-clause-summaries g c reported =
+    let whole = c.tell.ensures.whole reported in
+    owed_summaries c.promise.ensures c.law_one_passing.ensures.verdict c.law_one_passing.ensures.one (map (string_bytes {Z = Global}) c.args.words.now)
+    (g.S.Source.left c.args.source.now) (g.K.Sink.held c.args.sink.now) (g.K.Sink.held c.tell.new.sink) c.tell.result.status c.in-Ok.answered.recorded
+    (record {
+      answered = c.in-Ok.answered;
+      is_answered = c.in-Ok.ensures.ok;
+      status_reported = whole.0;
+      report_reported = whole.1;
+      run_recorded = refl;
     })
