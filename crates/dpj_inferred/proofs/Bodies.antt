@@ -38,6 +38,7 @@ pub record IsThere (ks qs : List PlainMember) (n : ℕ) (m : PlainMember) : Type
 
 -- by the members `ks` what is done is less; the members `qs` have the same summaries
 module _ (P : PlainProgram) (rank : ℕ → ℕ) (falls : Falls P rank) (ks qs : List PlainMember) (there : (n : ℕ) (m : PlainMember) → member_at P n ≡ Some m → IsThere ks qs n m) where
+  -- the program in which effects are taken, and the one in which bodies are to pass
   abbrev K : PlainProgram
   K = with_members P ks
 
@@ -101,6 +102,7 @@ module _ (P : PlainProgram) (rank : ℕ → ℕ) (falls : Falls P rank) (ks qs :
   part_there L M s h = block_as (sym (alone_entered K M s)) (sym (alone_does K M s)) h
 
   module _ (grows : Grows K P) where
+    -- what a statement does is less
     less_here : (L : Scope) (s : TypedStmt) → Fewer Less (effects_of K L s) (effects_of P L s)
     less_here L s =
         subst (λ E. Fewer Less E (effects_of P L s)) (alone_does K L s)
@@ -146,6 +148,7 @@ module _ (P : PlainProgram) (rank : ℕ → ℕ) (falls : Falls P rank) (ks qs :
         subst (λ nd. iterations_clash L.given nd x (as_effects E) ≡ false) (atomic_there P qs forking L)
         (iterations_less L.given (atomic_for forking P L) x (as_effects E) (as_effects G) (effects_less E G h) none)
 
+    -- in branches and blocks the judgement's scope is another than the one in which effects are taken, so each rule has both
     mutual
       passes_there : {L : Scope} {s : TypedStmt} {E : List Own} → Passes P L s E → (M : Scope) → Agree L M → Passes Q L (entered K M s) (effects_of K M s)
       passes_there {L} (store lx h sub) M g = store lx (has_in L M g h) (subtype_there P qs sub)

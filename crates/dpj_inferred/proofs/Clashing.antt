@@ -23,18 +23,19 @@ no_write Read b h e = refl
 no_write Write Read h e = absurd (omega (arith, h))
 no_write Write Write h e = e
 
--- what doesn't clash, with less written
+-- effects that don't clash still don't where less is written
 less_written : (w v x y : Bool) → (w ≡ false → v ≡ false) → ((w && x) && y) ≡ false → ((v && x) && y) ≡ false
 less_written true true x y h e = e
 less_written true false x y h e = refl
 less_written false true x y h e = absurd (let g = h refl in cc)
 less_written false false x y h e = refl
 
-module _ (given : List Constraint) (nd : Option Atomic) where
-  ordered_alike : (nd : Option Atomic) (d e : Effect) (a b : Access) → ordered_by_blocks nd (effect_by a d) (effect_by b e) ≡ ordered_by_blocks nd d e
-  ordered_alike None d e a b = refl
-  ordered_alike (Some atomic) d e a b = refl
+-- what atomic blocks order doesn't depend on accesses
+ordered_alike : (nd : Option Atomic) (d e : Effect) (a b : Access) → ordered_by_blocks nd (effect_by a d) (effect_by b e) ≡ ordered_by_blocks nd d e
+ordered_alike None d e a b = refl
+ordered_alike (Some atomic) d e a b = refl
 
+module _ (given : List Constraint) (nd : Option Atomic) where
   weaker_clash : (d e : Effect) (a b : Access) → strength_of d.access ≤ strength_of a → strength_of e.access ≤ strength_of b → clashes given nd (effect_by a d) (effect_by b e) ≡ false →
       clashes given nd d e ≡ false
   unfolding clashes interferes

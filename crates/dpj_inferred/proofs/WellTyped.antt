@@ -31,6 +31,7 @@ use Rattle.dpj_inferred.proofs.Kept.{kept_grows, member_inferred, body_entered, 
 use Rattle.dpj_inferred.proofs.Tables.{with_members, above_there, below_there, path_there, args_there, type_there}
 
 module _ (P : PlainProgram) (S : Keeping) (wt : WellTyped P) (says : SaysOfEach P S) (firm : IsFirm P S) where
+  -- the program with its inferred summaries
   abbrev Q : PlainProgram
   Q = with_members P (members_inferred S P)
 
