@@ -11,8 +11,8 @@ must answer NAME.out, and where NAME.ran is there, `run` and `elide` on 10 what 
 writes NAME.ran on 40, elided, by 1, 4 and 64 workers, and by rounds; every program of README.md, docs/*.md
 and examples/README.md, which stands in a fence that begins with ```dpj check: ANSWER, ```dpj run: LINE, LINE or ```dpj elide: LINE, LINE;
 and prefixes of accepted programs (tests/prefixes.py), of three examples where the program is unproved. Where it is proved, random
-programs follow (tests/random_programs.py), and programs with random schedules (tests/schedules.py), each of which passes or fails; `--only random`
-asks for these alone. It is an error, and no pass, where a fence isn't understood or no case is left.
+programs follow (tests/random_programs.py), programs with random schedules (tests/schedules.py), and the accepted texts with their inferred summaries
+(tests/inferred.py), each of which passes or fails; `--only random` asks for these alone. It is an error, and no pass, where a fence isn't understood or no case is left.
 
 The program is out/dpj where ./build or the gate made it of these sources; else it is built once, unproved, by `rt try`.
 """
@@ -27,6 +27,7 @@ import subprocess
 import sys
 import tempfile
 
+import inferred
 import prefixes
 import random_programs
 import schedules
@@ -229,18 +230,18 @@ def run_unproved(cases):
         case["got"] = (written, int(status.group(1)) if status else None)
 
 
-def wants_random(options, is_proved):
-    """Whether random programs and schedules are to be tried. Each is asked for many times, so an unproved program is too slow."""
-    is_wanted = not options.files and re.search(options.only or "", "random programs and schedules")
+def wants_campaigns(options, is_proved):
+    """Whether the campaigns are to be made. In them a program is asked for many times, so an unproved one is too slow."""
+    is_wanted = not options.files and re.search(options.only or "", "random programs and schedules, and inferred summaries")
     if is_wanted and not is_proved:
-        print("tests/run: the random programs and schedules are left out, since the sources run unproved")
+        print("tests/run: random programs and schedules and inferred summaries are left out, since the sources run unproved")
     return is_wanted and is_proved
 
 
-def random_campaigns(shows):
-    """How many random programs, and how many programs with random schedules, passed and how many failed."""
-    campaigns = random_programs.campaign(PROVED, shows=shows), schedules.campaign(PROVED)
-    return tuple(map(sum, zip(*campaigns)))
+def campaigns(sources, shows):
+    """How many random programs, programs with random schedules and texts with inferred summaries passed, and how many failed."""
+    counts = random_programs.campaign(PROVED, shows=shows), schedules.campaign(PROVED), inferred.campaign(PROVED, sources)
+    return tuple(map(sum, zip(*counts)))
 
 
 def main():
@@ -255,15 +256,15 @@ def main():
     if twice:
         sys.exit(f"tests/run: two cases are named {twice[0]}")
     cases = [case for case in loaded if re.search(options.only or "", case["name"])]
-    is_random = wants_random(options, is_proved)
-    if not cases and not is_random:
+    has_campaigns = wants_campaigns(options, is_proved)
+    if not cases and not has_campaigns:
         sys.exit(f"tests/run: no case is left{f' whose name has {options.only}' if options.only else ''}")
     if is_proved:
         run_proved(cases)
     else:
         print("tests/run: the sources are newer than the proved program, so they run unproved, which takes ten minutes and more", flush=True)
         run_unproved(cases)
-    passed, failed = random_campaigns(options.show) if is_random else (0, 0)
+    passed, failed = campaigns((case["source"] for case in loaded), options.show) if has_campaigns else (0, 0)
     for case in cases:
         wanted, got = (case["stdout"], case["status"]), case.get("got", (b"(not run)", None))
         if got != wanted:
