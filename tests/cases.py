@@ -264,7 +264,7 @@ def main():
     else:
         print("tests/run: the sources are newer than the proved program, so they run unproved, which takes ten minutes and more", flush=True)
         run_unproved(cases)
-    passed, failed = campaigns((case["source"] for case in loaded), options.show) if has_campaigns else (0, 0)
+    passed, failed = campaigns((case["source"] for case in loaded if case["status"] != 2), options.show) if has_campaigns else (0, 0)
     for case in cases:
         wanted, got = (case["stdout"], case["status"]), case.get("got", (b"(not run)", None))
         if got != wanted:

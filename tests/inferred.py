@@ -16,6 +16,9 @@ TOP = pathlib.Path(__file__).resolve().parent.parent
 TOKEN = re.compile(r'//[^\n]*|/\*.*?\*/|"(?:\\.|[^"\\\n])*"|\w+|\S', re.S)
 SECONDS = 120
 
+# The most bytes that a text may have.
+MAX_TEXT = 1048576
+
 
 def tokens_of(text):
     """The tokens of a text but for comments, each with where it begins and ends."""
@@ -57,12 +60,15 @@ def effects(program, text):
 
 
 def tried(program, source):
-    """What is wrong with a text once its summaries are the inferred ones, which is empty where nothing is; None of a text that isn't accepted."""
+    """What is wrong with a text once its summaries are the inferred ones, which is empty where nothing is; None of a text
+    that isn't accepted, or that has no room for them."""
     text = source.decode("latin-1")
     answer, status = effects(program, text)
     if status != 0:
         return None
     again = with_summaries(text, answer.splitlines())
+    if len(again) > MAX_TEXT:
+        return None
     got = effects(program, again)
     return "" if got == (answer, 0) else f"wanted {answer!r}, got {got} of {again!r}"
 
@@ -82,7 +88,7 @@ def main():
     import cases
 
     program = pathlib.Path(sys.argv[1] if len(sys.argv) > 1 else TOP / "out" / "dpj")
-    passed, failed = campaign(program, (case["source"] for case in cases.load([], True)))
+    passed, failed = campaign(program, (case["source"] for case in cases.load([], True) if case["status"] != 2))
     print(f"{passed} passed, {failed} failed")
     return 1 if failed else 0
 
