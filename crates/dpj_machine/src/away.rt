@@ -6,8 +6,8 @@ ghost use Rattle.dpj_machine.specs.declared.away.Away.{Away as Taken};
 
 use crate::slot::Slot;
 use dpj_code::Code;
+use rayon::prelude::par_for_each_mut;
 use std::alloc::Global;
-use std::thread;
 use std::thread::Threads;
 
 /// A task that was taken out of the map.
@@ -28,24 +28,14 @@ impl Away {
     }
 }
 
-/// Takes each of these tasks to its next action, side by side in at most so many threads.
-pub fn advance_each<R: Threads + Sync>(
-    rt: &R,
-    alloc: Global,
-    code: &Code,
-    threads: usize,
-    tasks: &mut [Away],
-)
+/// Takes each of these tasks to its next action, side by side in threads.
+pub fn advance_each<R: Threads + Sync>(rt: &R, alloc: Global, code: &Code, tasks: &mut [Away])
     requires few { All IsFew code.now.sites }
-    requires threads { 0 < threads }
     requires go { All (CanGoAway (plain_code code.now)) tasks.old }
     ensures len { length tasks.new ≡ length tasks.old }
     ensures further { (i : ℕ) (d : Taken) → i < length tasks.old → GoesFurther (plain_code code.now) (slice_index_or tasks.old i d) (slice_index_or tasks.new i d) }
 {
-    thread::for_each_mut(
-        rt,
-        tasks,
-        threads,
-        &|_, task: &mut Away| { task.advance(alloc, code) },
-    );
+    par_for_each_mut(rt, tasks, |_, task: &mut Away| {
+        task.advance(alloc, code)
+    });
 }
