@@ -134,12 +134,12 @@ impl Machine {
         Ok(())
     }
 
-    /// Takes tasks towards their next events, side by side in threads, so that their steps find them there. What a
+    /// Takes tasks towards their next events, side by side in at most so many threads, so that their steps find them there. What a
     /// task does up to its event touches nothing but the task, so nothing else can be seen of it.
-    pub fn prepare<R: Threads + Sync>(&mut self, rt: &R, tasks: &[u32])
+    pub fn prepare<R: Threads + Sync>(&mut self, rt: &R, threads: usize, tasks: &[u32])
         ensures { self.new ≡ self.old }
     {
-        self.run.slots.prepare(rt, &self.code, tasks);
+        self.run.slots.prepare(rt, &self.code, threads, tasks);
     }
 
     /// How the run came out, once it has finished.

@@ -176,25 +176,31 @@ impl Slots {
         }
     }
 
-    /// Takes some tasks towards their next actions, side by side in threads.
-    fn prepare_some<R: Threads + Sync>(&mut self, rt: &R, code: &Code, tasks: &[u32])
+    /// Takes some tasks towards their next actions, side by side in at most so many threads.
+    fn prepare_some<R: Threads + Sync>(
+        &mut self,
+        rt: &R,
+        code: &Code,
+        threads: usize,
+        tasks: &[u32],
+    )
         requires few { All IsFew code.now.sites }
         requires stand { (tasks : ℕ → Option Running) × AllGo (plain_code code.now) tasks × AllStand (plain_code code.now) self.old tasks }
         ensures stand { (tasks : ℕ → Option Running) → AllGo (plain_code code.now) tasks → AllStand (plain_code code.now) self.old tasks → AllStand (plain_code code.now) self.new tasks }
     {
         let mut away = self.take_each(tasks);
-        advance_each(rt, self.alloc, code, away.as_mut_slice());
+        advance_each(rt, self.alloc, code, threads.max(1), away.as_mut_slice());
         self.put_each(away);
     }
 
-    /// Takes tasks towards their next actions, side by side in threads; some of them only, where memory runs out.
-    pub fn prepare<R: Threads + Sync>(&mut self, rt: &R, code: &Code, tasks: &[u32])
+    /// Takes tasks towards their next actions, side by side in at most so many threads; some of them only, where memory runs out.
+    pub fn prepare<R: Threads + Sync>(&mut self, rt: &R, code: &Code, threads: usize, tasks: &[u32])
         requires few { All IsFew code.now.sites }
         requires stand { (tasks : ℕ → Option Running) × AllGo (plain_code code.now) tasks × AllStand (plain_code code.now) self.old tasks }
         ensures stand { (tasks : ℕ → Option Running) → AllGo (plain_code code.now) tasks → AllStand (plain_code code.now) self.old tasks → AllStand (plain_code code.now) self.new tasks }
     {
         for some in tasks.chunks(MOST_AWAY) {
-            self.prepare_some(rt, code, some);
+            self.prepare_some(rt, code, threads, some);
         }
     }
 }

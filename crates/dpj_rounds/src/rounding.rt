@@ -13,8 +13,8 @@ use std::thread::Threads;
 const MOST_EVENTS: usize = 40000002;
 
 /// Makes rounds until the machine has finished, or no task is ready, or 40000002 events were made. Where it breaks off, the machine is
-/// where its schedule leaves it. With more than one thread, what the tasks do up to their events is computed side by side, by as many as
-/// there are processors, wherever it was long in the round before.
+/// where its schedule leaves it. What the tasks do up to their events is computed in at most so many threads, side by side, wherever it
+/// was long in the round before.
 pub fn run_rounds<R: Threads + Sync>(
     rt: &R,
     alloc: Global,
@@ -62,7 +62,7 @@ fn prepare<R: Threads + Sync>(rt: &R, machine: &mut Machine, threads: usize, tas
     ensures { machine.new ≡ machine.old }
 {
     if threads > 1 && tasks.len() > 1 {
-        machine.prepare(rt, tasks.as_slice());
+        machine.prepare(rt, threads, tasks.as_slice());
     }
 }
 
