@@ -6,8 +6,8 @@ ghost use Rattle.dpj_machine.specs.declared.away.Away.{Away as Taken};
 
 use crate::slot::Slot;
 use dpj_code::Code;
+use rayon::prelude::par_chunks_mut_for_each;
 use std::alloc::Global;
-use std::thread;
 use std::thread::Threads;
 
 /// A task that was taken out of the map.
@@ -28,24 +28,37 @@ impl Away {
     }
 }
 
-/// Takes each of these tasks to its next action, side by side in at most so many threads.
+/// Takes each of these tasks to its next action, side by side: in at most so many pieces, one after another in each.
 pub fn advance_each<R: Threads + Sync>(
     rt: &R,
     alloc: Global,
     code: &Code,
-    threads: usize,
+    pieces: usize,
     tasks: &mut [Away],
 )
     requires few { All IsFew code.now.sites }
-    requires threads { 0 < threads }
+    requires pieces { 0 < pieces }
     requires go { All (CanGoAway (plain_code code.now)) tasks.old }
     ensures len { length tasks.new ≡ length tasks.old }
     ensures further { (i : ℕ) (d : Taken) → i < length tasks.old → GoesFurther (plain_code code.now) (slice_index_or tasks.old i d) (slice_index_or tasks.new i d) }
 {
-    thread::for_each_mut(
-        rt,
-        tasks,
-        threads,
-        &|_, task: &mut Away| { task.advance(alloc, code) },
-    );
+    if tasks.is_empty() {
+        return;
+    }
+    let size = tasks.len().div_ceil(pieces);
+    par_chunks_mut_for_each(rt, tasks, size, |_, piece: &mut [Away]| {
+        advance_in_turn(alloc, code, piece)
+    });
+}
+
+/// Takes each of these tasks to its next action, one after another.
+fn advance_in_turn(alloc: Global, code: &Code, tasks: &mut [Away])
+    requires few { All IsFew code.now.sites }
+    requires go { All (CanGoAway (plain_code code.now)) tasks.old }
+    ensures len { length tasks.new ≡ length tasks.old }
+    ensures further { (i : ℕ) (d : Taken) → i < length tasks.old → GoesFurther (plain_code code.now) (slice_index_or tasks.old i d) (slice_index_or tasks.new i d) }
+{
+    for task in tasks.iter_mut() {
+        task.advance(alloc, code);
+    }
 }
