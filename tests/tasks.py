@@ -239,6 +239,25 @@ class Run:
             self.outcome = Outcome("".join(f"{line}\n" for line in [*task.output, last]).encode(), status, self.steps, self.cells)
 
 
+def blocks(run, schedule):
+    """The events of a schedule, each as its task's number and the open block that it stands in, if any."""
+    for number in schedule:
+        task = run.tasks[number]
+        inside = task.inside
+        run.step(number)
+        yield number, inside or task.inside
+
+
+def gather(run, schedule):
+    """The schedule in which the events of each block, from its entry on, stand together at that entry, and all else keeps its order. The run
+    is at its beginning, and is made."""
+    gathered = []
+    for number, block in blocks(run, schedule):
+        same = [place for place, (_, other) in enumerate(gathered) if block and other is block]
+        gathered.insert(same[-1] + 1 if same else len(gathered), (number, block))
+    return [number for number, _ in gathered]
+
+
 def entered(member, this, actuals, depth, task):
     frame = Frame(this, dict(zip(member.formal_names(), actuals)), depth)
     returned = yield from all_of(member.body, task, frame)
