@@ -246,7 +246,7 @@ def campaigns(sources, shows):
 
 
 def main():
-    options = argparse.ArgumentParser()
+    options = argparse.ArgumentParser(description=__doc__, formatter_class=argparse.RawDescriptionHelpFormatter)
     options.add_argument("--only")
     options.add_argument("--show", action="store_true")
     options.add_argument("files", nargs="*")

@@ -141,7 +141,7 @@ def campaign(program, every):
 
 
 def main():
-    options = argparse.ArgumentParser()
+    options = argparse.ArgumentParser(description=__doc__, formatter_class=argparse.RawDescriptionHelpFormatter)
     options.add_argument("--every", type=int, default=1)
     options.add_argument("program", nargs="?", default=TOP / "out" / "dpj")
     options = options.parse_args()

@@ -214,7 +214,7 @@ def campaign(dpj, plain=PLAIN, with_nd=WITH_ND, many=SCHEDULES, seed=SEED):
 
 
 def main():
-    options = argparse.ArgumentParser()
+    options = argparse.ArgumentParser(description=__doc__, formatter_class=argparse.RawDescriptionHelpFormatter)
     options.add_argument("--all", action="store_true")
     options.add_argument("--plain", type=int)
     options.add_argument("--nd", type=int)

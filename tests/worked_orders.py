@@ -7,6 +7,7 @@ the other the one that began last. The replay of either has to come out as was w
 with one step less. The run of two blocks is gathered, block by block, and comes out the same. What `trace` writes, by 1, 4 and 64 workers, is replayed as it
 stands; and two blocks come out in one of two ways. PROGRAM is out/dpj where none is named. tests/run calls this. The status is 1 where an answer differs.
 """
+import argparse
 import dataclasses
 import json
 import pathlib
@@ -250,7 +251,9 @@ def campaign(dpj):
 
 
 def main():
-    _, failed = campaign(pathlib.Path(sys.argv[1] if len(sys.argv) > 1 else PROGRAM))
+    options = argparse.ArgumentParser(description=__doc__, formatter_class=argparse.RawDescriptionHelpFormatter)
+    options.add_argument("program", nargs="?", default=PROGRAM)
+    _, failed = campaign(options.parse_args().program)
     return 1 if failed else 0
 
 
