@@ -9,6 +9,7 @@ The status is 1 where an answer is another.
 """
 import argparse
 import concurrent.futures
+import json
 import os
 import pathlib
 import struct
@@ -45,6 +46,13 @@ class Main {
 TRAP = b"class Main { int main(int n) { print(1); return 1 / n; } }"
 REFUSED = b"class Main { region A; int x in A; int main(int n) { cobegin { this.x = 1; this.x = 2; } return 0; } }"
 
+
+def stored(file, name):
+    """The text of a case."""
+    cases = json.loads((TOP / "tests" / "cases" / file).read_text(encoding="utf-8"))
+    return next(case["source"] for case in cases if case["name"] == name).encode()
+
+
 JOBS = (
     ("check", EVERYTHING),
     ("run workers=1 arg=4", EVERYTHING),
@@ -55,7 +63,9 @@ JOBS = (
     ("effects", EVERYTHING),
     ("trace workers=1 arg=4", EVERYTHING),
     ("replay", None),
+    ("run workers=4 arg=4", stored("runs.json", "a tree of bodies: run arg=4 workers=4")),
     ("demo n=3 workers=1", b""),
+    ("demo n=8", b""),
     ("run workers=1", TRAP),
     ("run workers=1 steps=3 arg=4", EVERYTHING),
     ("check", REFUSED),
@@ -131,7 +141,7 @@ def campaign(program, every):
 
 
 def main():
-    options = argparse.ArgumentParser()
+    options = argparse.ArgumentParser(description=__doc__, formatter_class=argparse.RawDescriptionHelpFormatter)
     options.add_argument("--every", type=int, default=1)
     options.add_argument("program", nargs="?", default=TOP / "out" / "dpj")
     options = options.parse_args()

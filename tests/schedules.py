@@ -4,7 +4,7 @@
 
 tests/tasks.py runs programs of tests/random_trees.py event by event, any ready task next, and so makes schedules by itself, which are
 written as traces. `replay` has to give the outcome of that very run, which without nd constructs is that of the elision
-(tests/elision.py), also in its cost. For each tenth schedule there is another one: under a limit that the run may go over; cut off, or with
+(tests/elision.py), also in its cost; and with them the run comes out the same once each block's events are gathered at its entry. For each tenth schedule there is another one: under a limit that the run may go over; cut off, or with
 a number of a task that isn't ready, which has to be refused at its line. Then each program is traced with 1, 2, 4 and 64 workers: every event of the
 trace has to be one that its task may make, and its replay has to be as tests/tasks.py says. With --all there are 1000 schedules of 40
 programs without nd constructs and of 10 with them. PROGRAM is out/dpj where none is named. The status is 1 where an answer differs.
@@ -55,9 +55,14 @@ class Subject:
         return run
 
     def trace(self, schedule, limits=WIDE):
-        lines = [f"{number} {events}" for number, events in rows(schedule)]
-        head = ["dpj-trace 1", f"arg {self.written.argument} steps {limits[0]} cells {limits[1]}", f"events {len(schedule)}"]
-        return "".join(f"{line}\n" for line in [*head, *lines, "program"]).encode() + self.written.source.encode()
+        return trace_text(self.written.source, self.written.argument, schedule, limits)
+
+
+def trace_text(source, argument, schedule, limits):
+    """The bytes of a trace."""
+    lines = [f"{number} {events}" for number, events in rows(schedule)]
+    head = ["dpj-trace 1", f"arg {argument} steps {limits[0]} cells {limits[1]}", f"events {len(schedule)}"]
+    return "".join(f"{line}\n" for line in [*head, *lines, "program"]).encode() + source.encode()
 
 
 def rows(schedule):
@@ -150,6 +155,8 @@ def schedules(subject, number, chance):
     yield subject.trace(run.schedule), (run.outcome.output, run.outcome.status)
     if subject.written.kind != "free" and run.outcome != subject.written.outcome:
         yield subject.trace(run.schedule), f"(the elision, which is {subject.written.outcome}, and not {run.outcome})"
+    if subject.written.kind != "plain":
+        yield subject.trace(tasks.gather(subject.run(), run.schedule)), (run.outcome.output, run.outcome.status)
     if number % 10 == 0:
         yield chance.choice((cut, broken, broken, limited))(subject, run.schedule, chance)
 
@@ -207,7 +214,7 @@ def campaign(dpj, plain=PLAIN, with_nd=WITH_ND, many=SCHEDULES, seed=SEED):
 
 
 def main():
-    options = argparse.ArgumentParser()
+    options = argparse.ArgumentParser(description=__doc__, formatter_class=argparse.RawDescriptionHelpFormatter)
     options.add_argument("--all", action="store_true")
     options.add_argument("--plain", type=int)
     options.add_argument("--nd", type=int)

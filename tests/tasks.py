@@ -239,6 +239,35 @@ class Run:
             self.outcome = Outcome("".join(f"{line}\n" for line in [*task.output, last]).encode(), status, self.steps, self.cells)
 
 
+@dataclasses.dataclass
+class Made:
+    """An event of a run: its task, the open block that it stands in, if any, and the task that it has begun, if any."""
+
+    task: Task
+    block: Open
+    begun: Task
+
+
+def made_by(run, schedule):
+    """The events that a schedule makes."""
+    for number in schedule:
+        task, before = run.tasks[number], run.begun
+        inside = task.inside
+        run.step(number)
+        yield Made(task, inside or task.inside, run.tasks[before] if run.begun > before else None)
+
+
+def gather(run, schedule):
+    """The schedule of the run in which the events of each block, from its entry on, stand together at that entry, and all else keeps its order. Tasks
+    are numbered anew, as they begin there. The run that is given is at its beginning, and is made."""
+    gathered = []
+    for made in made_by(run, schedule):
+        same = [place for place, other in enumerate(gathered) if made.block and other.block is made.block]
+        gathered.insert(same[-1] + 1 if same else len(gathered), made)
+    numbers = {task: number for number, task in enumerate([run.root, *(made.begun for made in gathered if made.begun)])}
+    return [numbers[made.task] for made in gathered]
+
+
 def entered(member, this, actuals, depth, task):
     frame = Frame(this, dict(zip(member.formal_names(), actuals)), depth)
     returned = yield from all_of(member.body, task, frame)
