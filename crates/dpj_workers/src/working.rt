@@ -1,4 +1,4 @@
-ghost use Rattle.std.specs.Prelude.{◌≡◌, ◌≤◌, [], IfOk, length, sum};
+ghost use Rattle.std.specs.Prelude.{◌≡◌, ◌≤◌, [], IfOk, length, sum, vec_len};
 ghost use Rattle.dpj_machine.specs.Keeping.{IsReplayed};
 
 use crate::gate::Gate;
@@ -10,7 +10,7 @@ use std::marker::Brand;
 use std::sync::Wait;
 use std::sync::ledger::Blank;
 use std::thread;
-use std::thread::Threads;
+use std::thread::{Threads, join_mut};
 
 /// What the workers made together.
 #[derive(Drop)]
@@ -64,11 +64,21 @@ fn work_at<L: Run + Send + Sync, R: Threads + Wait + Sync, G: Gate + Sync>(
 {
     let (desk, mut seats) = Desk::<L>::open(alloc, blank, machine, workers)?;
     let shared = &desk;
-    thread::for_each_mut(
+    // The first in a thread of its own, from which the other workers' start: this one waits.
+    join_mut(
         rt,
-        seats.as_mut_slice(),
-        workers as usize,
-        &|_, seat: &mut Seat<L>| step_on(rt, shared, gate, seat),
+        &mut ||
+            requires { 1 ≤ workers }
+            ensures { vec_len seats.exit ≡ vec_len seats.entry }
+        {
+            thread::for_each_mut(
+                rt,
+                seats.as_mut_slice(),
+                workers as usize,
+                &|_, seat: &mut Seat<L>| step_on(rt, shared, gate, seat),
+            )
+        },
+        &mut || (),
     );
     let (machine, shares) = desk.close(alloc, seats)?;
     Ok(Worked { machine, shares })
