@@ -61,7 +61,7 @@ turn_grows a _ k (finished some) = omega arith
 turn_grows a _ k (not_ready not) = omega arith
 turn_grows a _ k (made b unfinished ready after) = omega (arith, longer a.schedule b.schedule k after.schedule)
 
-turns_grow : (a b : Played) (ks : List ℕ) → HadTurns a ks b → length a.schedule ≤ length b.schedule
+pub turns_grow : (a b : Played) (ks : List ℕ) → HadTurns a ks b → length a.schedule ≤ length b.schedule
 turns_grow a b [] same = omega (arith, ap (λ (p : Played). length p.schedule) same)
 turns_grow a b (k ∷ ks) turns = omega (arith, turn_grows a turns.0 k turns.1, turns_grow turns.0 b ks turns.2)
 

@@ -1,9 +1,9 @@
 -- What a round of a machine makes.
-use Rattle.std.specs.Prelude.{◌≡◌, ◌↔◌, ℕ, List, [], ◌∷◌, ◌++◌, Contains, None, IsSome}
+use Rattle.std.specs.Prelude.{◌≡◌, ◌↔◌, ℕ, ◌+◌, List, [], ◌∷◌, ◌++◌, Contains, None, IsSome}
 use Rattle.std.specs.List.Sorted.{IsStrictlyIncreasing}
 use Rattle.dpj_world.specs.Ready.{IsReady}
 use Rattle.dpj_world.specs.declared.world.World.{World}
-use Rattle.dpj_machine.specs.Keeping.{Played, IsAfter, WhyHaltedAt}
+use Rattle.dpj_machine.specs.Keeping.{Played, IsAfter, HasEnded, WhyHaltedAt}
 use Rattle.dpj_machine.specs.declared.halted.Halted.{Halted}
 use Rattle.dpj_machine.specs.declared.halted.Halted.TheVariants.{NoMemory}
 
@@ -30,10 +30,11 @@ pub record IsRound (before after : Played) : Type 0 where
   pub ready : AreReady before.world tasks
   pub turns : HadTurns before tasks after
 
--- any number of rounds, one after another
-pub data RoundsOn (before : Played) : Played → Type 0 where
-  here : RoundsOn before before
-  further : (middle after : Played) → RoundsOn before middle → IsRound middle after → RoundsOn before after
+-- so many rounds, one after another, each of a machine that hasn't ended
+pub data RoundsOn (before : Played) : ℕ → Played → Type 0 where
+  here : RoundsOn before 0 before
+  further : (rounds : ℕ) (middle after : Played) → RoundsOn before rounds middle → (HasEnded middle → ⊥) → IsRound middle after
+      → RoundsOn before (rounds + 1) after
 
 -- the event of one of these tasks is not made when its turn comes
 pub record TurnsBreakOff (before : Played) (tasks : List ℕ) (after : Played) (h : Halted) : Type 0 where
@@ -52,5 +53,6 @@ pub data BreaksOff (before : Played) : Played → Halted → Type 0 where
 -- some rounds were made, and the next one breaks off
 pub record RoundsBreakOff (before after : Played) (h : Halted) : Type 0 where
   pub middle : Played
-  pub rounds : RoundsOn before middle
+  pub count : ℕ
+  pub rounds : RoundsOn before count middle
   pub breaks : BreaksOff middle after h

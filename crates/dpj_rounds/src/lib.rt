@@ -3,7 +3,8 @@
 //!
 //! `round` makes one, and `run_rounds` one after another until the machine has finished, or no task is ready, or more events were made
 //! than are in a run. What they promise (`specs/Rounds.antt`): the events that were made are exactly those of the rounds, in their
-//! order. Where an event can't be made, and after want of memory, the machine is where the events before lead.
+//! order. `round` answers how many they are, and `run_rounds` how many rounds there were. Where an event can't be made, and after want of
+//! memory, the machine is where the events before lead.
 //!
 //! What a task does up to its event touches nothing but the task, so the legs of a round are computed side by side before the turns, where
 //! they are long: in at most as many pieces as there may be threads, one leg after the other in each. That can't be told from a round

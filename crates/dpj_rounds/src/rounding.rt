@@ -1,4 +1,5 @@
-ghost use Rattle.std.specs.Prelude.{◌≡◌, ◌↔◌, None, reverse, IsTrue, IfErr, OnOk, OnErr};
+ghost use Rattle.std.specs.Prelude.{◌≡◌, ◌↔◌, ◌+◌, None, length, reverse, IsTrue, IfOk, IfErr, OnOk, OnErr};
+ghost use Rattle.dpj_world.specs.Ready.{NoneReady};
 ghost use Rattle.dpj_machine.specs.Keeping.{HasEnded, WhyHaltedAt};
 ghost use Rattle.dpj_rounds.specs.Rounds.{IsTurn, HadTurns, IsRound, RoundsOn, BreaksOff, RoundsBreakOff, TurnsBreakOff};
 
@@ -14,24 +15,26 @@ const MOST_EVENTS: usize = 40000002;
 
 /// Makes rounds until the machine has finished, or no task is ready, or 40000002 events were made. Where it breaks off, the machine is
 /// where its schedule leaves it. What the tasks do up to their events is computed in at most so many threads, side by side, wherever it
-/// was long in the round before.
+/// was long in the round before. The answer is the number of rounds.
 pub fn run_rounds<R: Threads + Sync>(
     rt: &R,
     alloc: Global,
     machine: &mut Machine,
     threads: usize,
-) -> Result<(), Halted>
-    ensures rounds { OnOk result (RoundsOn machine.old machine.new) }
+) -> Result<u64, Halted>
+    ensures rounds { IfOk result (λ rounds. RoundsOn machine.old rounds machine.new) }
     ensures done { OnOk result (HasEnded machine.new) }
     ensures why { IfErr result (RoundsBreakOff machine.old machine.new) }
 {
     let mut useful = 1;
+    let mut rounds = 0;
     while !has_ended(machine) {
         let begun = Mark::of(machine);
         round(rt, alloc, machine, useful)?;
+        rounds += 1;
         useful = begun.useful_threads(machine, threads);
     }
-    Ok(())
+    Ok(rounds)
 }
 
 /// Whether the machine has finished, or no task is ready, or 40000002 events were made.
@@ -41,20 +44,24 @@ fn has_ended(machine: &Machine) -> bool
     machine.finished() || machine.next_ready().is_none() || MOST_EVENTS <= machine.schedule().len()
 }
 
-/// Makes a round.
+/// Makes a round. The answer is its length, the number of events: 0 only where no task is ready.
 pub fn round<R: Threads + Sync>(
     rt: &R,
     alloc: Global,
     machine: &mut Machine,
     threads: usize,
-) -> Result<(), Halted>
+) -> Result<usize, Halted>
     requires unfinished { machine.old.outcome ≡ None }
     ensures round { OnOk result (IsRound machine.old machine.new) }
+    ensures length { IfOk result (λ made. length machine.new.schedule ≡ length machine.old.schedule + made) }
+    ensures idle { IfOk result (λ made. made ≡ 0 → NoneReady machine.old.world) }
     ensures why { IfErr result (BreaksOff machine.old machine.new) }
 {
+    let begun = machine.schedule().len();
     let tasks = ready_tasks(alloc, machine)?;
     prepare(rt, machine, threads, &tasks);
-    turns(machine, tasks)
+    turns(machine, tasks)?;
+    Ok(machine.schedule().len() - begun)
 }
 
 /// Takes the tasks towards their events, where there are threads and tasks for them.

@@ -33,16 +33,17 @@ after_turns : (a b : Played) (ks : List ℕ) → HadTurns a ks b → IsSameJob a
 after_turns a b [] same = subst (IsSameJob a) (sym same) (unmoved a)
 after_turns a b (k ∷ ks) turns = moved a turns.0 b (after_turn a turns.0 k turns.1) (after_turns turns.0 b ks turns.2)
 
-after_rounds : (a b : Played) → RoundsOn a b → IsSameJob a b
-after_rounds a _ here = unmoved a
-after_rounds a _ (further middle b rounds round) = moved a middle b (after_rounds a middle rounds) (after_turns middle b round.tasks round.turns)
+after_rounds : (a b : Played) (n : ℕ) → RoundsOn a n b → IsSameJob a b
+after_rounds a _ _ here = unmoved a
+after_rounds a _ _ (further n middle b rounds goes_on round) =
+    moved a middle b (after_rounds a middle n rounds) (after_turns middle b round.tasks round.turns)
 
 after_part : (a b : Played) (h : Halted) → BreaksOff a b h → IsSameJob a b
 after_part a _ _ at_once = unmoved a
 after_part a _ _ (within b h tasks ready off) = after_turns a b off.done off.turns
 
 after_broken : (a b : Played) (h : Halted) → RoundsBreakOff a b h → IsSameJob a b
-after_broken a b h broken = moved a broken.middle b (after_rounds a broken.middle broken.rounds) (after_part broken.middle b h broken.breaks)
+after_broken a b h broken = moved a broken.middle b (after_rounds a broken.middle broken.count broken.rounds) (after_part broken.middle b h broken.breaks)
 
 -- a run comes out as its last moment says, or there is none
 module _ (P : PlainProgram) (L : Limits) (argument : ℤ) (workers : ℕ) where
@@ -53,14 +54,14 @@ module _ (P : PlainProgram) (L : Limits) (argument : ℤ) (workers : ℕ) where
     run_on : IsSameJob a b → IsRunOf P L argument b
     run_on same = still P L argument a b is (record { code = same.code; limits = same.limits; argument = same.argument; replayed = replayed })
 
-    whole : RoundsOn a b → IsByRounds P L argument b
-    whole rounds = record { is_run = run_on (after_rounds a b rounds); start = a; nothing = nothing; rounds = rounds }
+    whole : (n : ℕ) → RoundsOn a n b → IsByRounds P L argument b
+    whole n rounds = record { is_run = run_on (after_rounds a b n rounds); start = a; nothing = nothing; count = n; rounds = rounds }
 
-    pub came_by_rounds : RoundsOn a b → HasEnded b → (result : Result (Option Recorded) NoMemory)
+    pub came_by_rounds : (n : ℕ) → RoundsOn a n b → HasEnded b → (result : Result (Option Recorded) NoMemory)
         → IfOk result (λ made. MatchOption made (b.outcome ≡ None) (IsMadeAlone workers b)) → IfOk result (ComesByRounds P L argument workers)
-    came_by_rounds rounds ended (Ok (Some r)) alone = by_rounds r b (whole rounds) alone
-    came_by_rounds rounds ended (Ok None) none = no_rounds (unfinished b (whole rounds) none ended)
-    came_by_rounds rounds ended (Err e) alone = tt
+    came_by_rounds n rounds ended (Ok (Some r)) alone = by_rounds r b (whole n rounds) alone
+    came_by_rounds n rounds ended (Ok None) none = no_rounds (unfinished b (whole n rounds) none ended)
+    came_by_rounds n rounds ended (Err e) alone = tt
 
     pub came_to_nothing : RoundsBreakOff a b Stuck → ComesByRounds P L argument workers None
     came_to_nothing broken =

@@ -13,7 +13,8 @@ pub record IsByRounds (P : PlainProgram) (L : Limits) (argument : ℤ) (p : Play
   pub is_run : IsRunOf P L argument p
   pub start : Played
   pub nothing : start.schedule ≡ []
-  pub rounds : RoundsOn start p
+  pub count : ℕ
+  pub rounds : RoundsOn start count p
 
 -- a run from its start on, with a round in which a task can't make its next event
 pub record IsBrokenOff (P : PlainProgram) (L : Limits) (argument : ℤ) (p : Played) : Type 0 where

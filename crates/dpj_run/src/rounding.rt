@@ -36,7 +36,7 @@ pub fn run_rounds<R: Threads + Sync>(
     let made = dpj_rounds::run_rounds(rt, alloc, &mut machine, workers as usize);
     let _ = machine.schedule();
     match made {
-        Ok(()) => recorded(alloc, machine, workers),
+        Ok(_) => recorded(alloc, machine, workers),
         Err(Halted::Stuck) => Ok(None),
         Err(Halted::NoMemory) => Err(NoMemory),
     }

@@ -1,10 +1,11 @@
-use Rattle.std.proofs.Common.{◌-◌, length}
+use Rattle.std.proofs.Common.{◌-◌, ◌+◌, ◌≤◌, length}
 use Rattle.dpj_machine.specs.Keeping.{most_events}
 use Rattle.dpj_rounds.specs.Rounds.{RoundsOn}
 use Rattle.dpj_rounds.proofs.rounding.run_rounds.Given as goal
 
 abbrev pub invariant-loop-alloc : goal.invariant-loop-alloc
-invariant-loop-alloc g l = RoundsOn l.fn.machine l.machine
+invariant-loop-alloc g l =
+    RoundsOn l.fn.machine l.rounds l.machine × (l.rounds + length l.fn.machine.schedule ≤ length l.machine.schedule)
 
 abbrev pub decreases-loop-alloc : goal.decreases-loop-alloc
 decreases-loop-alloc g l = most_events - length l.machine.schedule
