@@ -8,7 +8,8 @@ use std::sync::Wait;
 use std::thread::Threads;
 
 /// Two branches that print.
-const TEXT: &str = "class Main { int main(int n) { cobegin { print(1); print(2); } return 0; } }";
+pub const TEXT: &str =
+    "class Main { int main(int n) { cobegin { print(1); print(2); } return 0; } }";
 
 /// The record of a run of the text, in words.
 pub fn recorded<R: Threads + Wait + Sync, G: Gate + Sync>(
