@@ -21,7 +21,7 @@ rows_placed : (rows new : List (List Region)) (regions : List Region) (n : ℕ) 
 rows_placed rows new regions n hs cells p all =
     elim p.kept [
       | inl same ↦ ap (λ rs. objects_in rs hs cells) same
-      | inr more ↦ ap (λ rs. objects_in rs hs cells) more ∙ objects_with_rows rows (regions ∷ []) hs cells all
+      | inr more ↦ ap (λ rs. objects_in rs hs cells) more.1 ∙ objects_with_rows rows (regions ∷ []) hs cells all
     ]
 
 pub object_made : (rows new : List (List Region)) (regions : List Region) (hs : List Header) (h : Header) (cells values : List Value)
@@ -56,7 +56,7 @@ all_with : (rows new : List (List Region)) (regions : List Region) (hs : List He
 all_with rows new regions hs h p fits all =
     let kept : All (HasRow new) hs = elim p.kept [
       | inl same ↦ subst (λ rs. All (HasRow rs) hs) (sym same) all
-      | inr more ↦ subst (λ rs. All (HasRow rs) hs) (sym more) (all_rows_kept rows (regions ∷ []) hs all)
+      | inr more ↦ subst (λ rs. All (HasRow rs) hs) (sym more.1) (all_rows_kept rows (regions ∷ []) hs all)
     ] in
     let there : h.row < length new = slice_get_within new h.row regions p.found in
     let one : FitsKind h.kind (get_or new h.row []) = subst (FitsKind h.kind) (sym (row_placed rows new regions h.row p)) fits in
@@ -70,7 +70,7 @@ few_with : (rows new : List (List Region)) (regions : List Region) (n row : ℕ)
 few_with rows new regions n row p le =
     elim p.kept [
       | inl same ↦ omega (arith, ap length same)
-      | inr more ↦ omega (arith, ap length more, length-append rows (regions ∷ []))
+      | inr more ↦ omega (arith, ap length more.1, length-append rows (regions ∷ []))
     ]
 
 pub flat_grown : (cells values room_cells new_cells : List Value) (hs room_hs new_hs : List Header) (h : Header) (rows new : List (List Region))

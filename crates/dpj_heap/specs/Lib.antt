@@ -1,3 +1,4 @@
 pub mod Heap
 pub mod Flat
 pub mod Rows
+pub mod Keys

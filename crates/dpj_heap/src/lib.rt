@@ -13,6 +13,7 @@
 
 mod header;
 mod heap;
+mod row;
 mod rows;
 mod stop;
 
