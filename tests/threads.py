@@ -20,7 +20,7 @@ RUNS = ((1, 4000000), (2, 9000000), (4, 4000000))
 TURNS_BY = 2
 TRIES = 3
 # How much of the time of all threads the main one may use while they work: to start the first of them, and to wait.
-WAITING = 0.02
+WAITING = 0.05
 
 
 def tasks(process):
@@ -44,7 +44,7 @@ class Watched:
     """What is seen of a run: in which order the threads used time, a thread once for each time that it goes on after another, and how much."""
 
     def __init__(self, program, workers, turns):
-        self.order, self.used, self.main_before = [], {}, 0
+        self.order, self.used, self.main_before, self.main_after = [], {}, 0, 0
         with tempfile.TemporaryFile() as text:
             text.write(LOOP)
             text.seek(0)
@@ -55,6 +55,7 @@ class Watched:
                 time.sleep(0.005)
 
     def look(self):
+        before_all = self.others()
         for task in tasks(self.main):
             before, now = self.used.get(task.name, 0), ticks(task)
             if now > before and self.order[-1:] != [task.name]:
@@ -62,6 +63,8 @@ class Watched:
             self.used[task.name] = max(now, before)
         if not self.others():
             self.main_before = self.used.get(self.main, 0)
+        elif self.others() > before_all:
+            self.main_after = self.used.get(self.main, 0)
 
     def others(self):
         return sum(self.used.values()) - self.used.get(self.main, 0)
@@ -72,7 +75,7 @@ class Watched:
 
     def of_main(self):
         """How much time the main thread used while others were at work."""
-        return self.used.get(self.main, 0) - self.main_before
+        return max(0, self.main_after - self.main_before)
 
     def main_waits(self):
         """Whether another thread was seen at work, and the main thread used no time from then on."""
