@@ -20,7 +20,8 @@ PR_SET_PDEATHSIG = 1
 MAX_TEXT = 1048576
 MAX_TRACE = 67108864
 
-READ_FAULT, WRITE_FAULT, KILLED = 5, 6, 128
+# A program that a signal ended counts as ended with this and the signal's number.
+KILLED = 128
 
 # What the program wrote, and its status.
 Answer = collections.namedtuple("Answer", "report status")
@@ -37,13 +38,6 @@ def read_text(command):
         pieces.append(piece)
         size += len(piece)
     return b"".join(pieces)
-
-
-def write_all(descriptor, data):
-    """Writes all bytes, or raises OSError."""
-    left = memoryview(data)
-    while left:
-        left = left[os.write(descriptor, left):]
 
 
 def takes_signals():

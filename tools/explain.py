@@ -6,31 +6,13 @@ The names are those that the program writes, in small or capital letters; withou
 and docs/TRAPS.md. The status is 1 where a name isn't known, 127 where a document is missing, and 6 where standard output takes nothing.
 """
 import argparse
-import os
 import sys
-import textwrap
 
 import sections
-from asking import WRITE_FAULT, write_all
+from screen import bold, columns_of, has_colours, keep_closed, printable, tell, wrapped, write_all
 
-USAGE, NO_DOCUMENT = 1, 127
-
-
-def has_colours(stream):
-    """Whether colours are wanted on a stream: on a terminal, but for one that has none or for people who want none."""
-    return stream is not None and stream.isatty() and not os.environ.get("NO_COLOR") and os.environ.get("TERM", "dumb") != "dumb"
-
-
-def bold(text, is_coloured):
-    return f"\x1b[1m{text}\x1b[m" if is_coloured else text
-
-
-def wrapped(text, columns, after="", **indents):
-    """A paragraph as lines of a screen, and after it a text that stays on one line."""
-    lines = textwrap.wrap(text, columns, break_long_words=False, break_on_hyphens=False, **indents)
-    if len(lines[-1]) + len(after) > columns:
-        return [*lines, after.lstrip()]
-    return [*lines[:-1], lines[-1] + after]
+USAGE, WRITE_FAULT, NO_DOCUMENT = 1, 6, 127
+WIDEST = 100
 
 
 def lines_of(section, columns, is_coloured):
@@ -51,39 +33,30 @@ def listing(known, columns):
         yield from wrapped(section.sentence(), columns, initial_indent=f"{name:15} ", subsequent_indent=" " * 16)
 
 
-def columns_of(stream):
-    """How wide the terminal is on which a stream is shown."""
-    try:
-        return max(40, min(100, os.get_terminal_size(stream.fileno()).columns or 80))
-    except (AttributeError, OSError, ValueError):
-        return 80
-
-
 def unknown(known, word):
-    """What is said of a name that isn't known. What a terminal would take for a command isn't repeated."""
-    word = "".join(character if character.isprintable() else "?" for character in word)
+    """What is said of a name that isn't known."""
     near = sections.nearest(known, word)
     guess = f"; did you mean `{near}`?" if near else ""
-    return f"dpj: no refusal, trap or status is named `{word}`{guess}; the names are {', '.join(known)}"
+    return f"dpj: no refusal, trap or status is named `{printable(word)}`{guess}; the names are {', '.join(known)}"
 
 
 def main():
     options = argparse.ArgumentParser(description=__doc__, formatter_class=argparse.RawDescriptionHelpFormatter)
     options.add_argument("names", nargs="*", metavar="NAME")
     names = options.parse_args().names
+    keep_closed()
     known, missing = sections.load()
     if missing:
-        print(f"dpj: {' and '.join(missing)} {'is' if len(missing) == 1 else 'are'} missing in {sections.TOP}, so not every name can be explained",
-              file=sys.stderr)
-    columns, status = columns_of(sys.stdout), USAGE if missing else 0
+        tell([f"dpj: not every name can be explained, since {sections.TOP} has no {' and no '.join(missing)}"])
+    columns, status = min(WIDEST, columns_of(1)), NO_DOCUMENT if missing else 0
     lines = [] if names else list(listing(known, columns))
     for word in names:
         section = sections.found(known, word)
         if section:
-            lines += [*([""] if lines else []), *lines_of(section, columns, has_colours(sys.stdout))]
-        else:
-            status = NO_DOCUMENT if missing else USAGE
-            print(unknown(known, word), file=sys.stderr)
+            lines += [*([""] if lines else []), *lines_of(section, columns, has_colours(1))]
+        elif not missing:
+            status = USAGE
+            tell([unknown(known, word)])
     try:
         write_all(1, "".join(f"{line}\n" for line in lines).encode("utf-8"))
     except OSError:

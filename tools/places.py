@@ -97,7 +97,7 @@ class Place:
         if self.is_after:
             filled = [number for number, line_bytes in enumerate(lines, 1) if line_bytes.strip()]
             self.number = filled[-1] if filled else 0
-            self.remark = "at the end of the text" if filled else "the text is empty"
+            self.remark = "at the end of the text" if filled else "the text is blank" if text else "the text is empty"
         self.line = lines[self.number - 1] if self.number else b""
         if self.is_after:
             self.column = len(self.line.rstrip()) + 1
@@ -115,8 +115,13 @@ class Place:
         margin = f"{self.number} | "
         pieces, at = laid_out(self.line, self.column)
         line, before = window(pieces, at, max(NARROWEST, columns - len(margin)))
-        caret = " " * (len(margin) + before) + "^"
-        return [margin + line, f"{caret} {self.remark}".rstrip()]
+        return [(margin + line).rstrip(), self.caret(len(margin) + before, columns)]
+
+    def caret(self, at, columns):
+        """The line with the caret at a column, and the remark on that side of it where there is room."""
+        if self.remark and at + 2 + len(self.remark) > columns and at > len(self.remark):
+            return f"{self.remark} ^".rjust(at + 1)
+        return f"{' ' * at}^ {self.remark}".rstrip()
 
 
 def mark_of(text):

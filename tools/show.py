@@ -24,21 +24,12 @@ import sys
 
 import limits
 import sections
-from asking import READ_FAULT, WRITE_FAULT, ask, read_text, takes_signals, write_all
-from explain import bold, has_colours, wrapped
+from asking import KILLED, ask, read_text, takes_signals
 from places import Place, mark_of
+from screen import bold, columns_of, has_colours, keep_closed, printable, tell, wrapped, write_all
 from verdicts import Verdict, counted
 
-ENDINGS = {1: "usage", READ_FAULT: "read-fault", WRITE_FAULT: "write-fault", 7: "out-of-memory"}
-UNSUITED = "no-program"
-
-
-def screen_columns():
-    """How wide the terminal is, or 80 where it doesn't say."""
-    try:
-        return os.get_terminal_size(2).columns or 80
-    except OSError:
-        return 80
+READ_FAULT, WRITE_FAULT = 5, 6
 
 
 class Showing:
@@ -47,10 +38,20 @@ class Showing:
     def __init__(self, options, text, answer):
         self.options, self.text, self.answer = options, text, answer
         self.command = options.words[0]
-        self.verdict = Verdict(self.command, answer)
+        self.verdict = self.verdict_of(answer)
         self.place = self.place_of(self.verdict)
         known, self.missing = sections.load()
         self.section = known.get("limit" if self.verdict.kind == "limit" else self.verdict.name or self.verdict.kind)
+
+    def verdict_of(self, answer):
+        """The verdict of an answer. A trace doesn't say which trap it ends with, but its replay does."""
+        verdict = Verdict(self.command, answer)
+        if self.command == "trace" and verdict.kind == "trap" and self.options.form != "editor":
+            again = ask(self.options.program, ["replay"], answer.report, limits.SECONDS)
+            if again and again.status == answer.status:
+                verdict = Verdict("replay", again)
+                verdict.output = answer.report
+        return verdict
 
     def place_of(self, verdict):
         """The place that is shown of a verdict; none where it has none, or stands for the whole text."""
@@ -58,36 +59,34 @@ class Showing:
             return None
         return Place(counted(self.command, verdict, self.text), verdict.line, verdict.column)
 
-    def sentence(self):
-        """What the verdict means; None where no document says it."""
-        if self.verdict.kind == "limit":
-            self.verdict.name, sentence = limits.explained(self.options, self.text)
-            return sentence
-        if self.verdict.name == "syntax" and (self.verdict.line, self.verdict.column) == (1, 1):
-            mark = mark_of(counted(self.command, self.verdict, self.text))
-            if mark:
-                return mark
-        return self.section.sentence() if self.section else None
+    def explanation(self):
+        """The name in the verdict, of a limit which it was, and what it means; None for what isn't known."""
+        verdict = self.verdict
+        if verdict.kind == "limit":
+            return limits.explained(self.options, self.text)
+        mark = ""
+        if (verdict.name, verdict.line, verdict.column) == ("syntax", 1, 1):
+            mark = mark_of(counted(self.command, verdict, self.text))
+        return verdict.name, mark or (self.section.sentence() if self.section else None)
 
     def screen(self):
         """The lines for people."""
-        if self.verdict.kind == "killed":
-            return [f"dpj: the program was ended by signal {self.answer.status - 128}"]
-        if self.verdict.kind not in ("refused", "trap", "limit"):
-            return []
-        is_coloured = has_colours(sys.stderr)
-        columns = screen_columns() - 1
-        lines = self.place.screen(columns) if self.place else []
-        if lines and "^" in lines[-1]:
-            lines[-1] = lines[-1].replace("^", bold("^", is_coloured))
-        name = "limit" if self.verdict.kind == "limit" else self.verdict.name
-        if self.verdict.kind == "trap" and not self.verdict.line:
+        kind, is_coloured, columns = self.verdict.kind, has_colours(2), columns_of(2) - 1
+        if kind == "killed":
+            return [f"dpj: the program was ended by signal {self.answer.status - KILLED}"]
+        if kind == "trap" and not self.place:
             return ["dpj: the run trapped; a replay of this trace says where"]
-        sentence = self.sentence()
+        if kind not in ("refused", "trap", "limit"):
+            return []
+        lines = self.place.screen(columns) if self.place else []
+        if len(lines) > 1:
+            lines[-1] = lines[-1].replace("^", bold("^", is_coloured))
+        name = "limit" if kind == "limit" else self.verdict.name
+        _, sentence = self.explanation()
         if sentence is None:
-            return [*lines, f"dpj: {name} is not explained: {' and '.join(self.missing)} missing in {sections.TOP}"]
-        lines += wrapped(f"{name}: {sentence}", columns, after=f" ({self.options.called} explain {name})")
-        return [line.replace(name, bold(name, is_coloured), 1) if line.startswith(f"{name}: ") else line for line in lines]
+            return [*lines, f"dpj: {name} isn't explained, since {sections.TOP} has no {' and no '.join(self.missing)}"]
+        first, *more = wrapped(f"{name}: {sentence}", columns, after=f" ({self.options.called} explain {name})")
+        return [*lines, bold(name, is_coloured) + first.removeprefix(name), *more]
 
     def editor(self):
         """The report with its verdict as editors read it."""
@@ -99,28 +98,26 @@ class Showing:
 
     def json(self):
         """The answer as an object."""
-        verdict, sentence = self.verdict, None
-        if verdict.kind not in ("accepted", "result", "listing", "effects", "trace", "demo"):
-            sentence = self.sentence()
-        return {
-            "command": self.command, "file": self.options.name, "status": self.answer.status, "verdict": verdict.kind, "name": verdict.name,
-            "line": verdict.line, "column": verdict.column, "text": self.place.text() if self.place else None, "sentence": sentence,
-            "mend": self.section.mend() if self.section else None, "output": verdict.output.decode("utf-8", errors="replace"),
-            "result": verdict.result, "proved": self.options.proved == "yes",
-        }
+        verdict = self.verdict
+        name, sentence = self.explanation()
+        return answer_object(
+            self.options, self.answer.status, verdict.kind, name=name, line=verdict.line, column=verdict.column,
+            text=self.place.text() if self.place else None, sentence=sentence, mend=self.section.mend() if self.section else None,
+            output=verdict.output.decode("utf-8", errors="replace"), result=verdict.result, proved=self.options.proved == "yes")
 
 
-def unasked(options):
-    """The object where the program wasn't asked, for a reason that the launcher gives."""
-    kind = ENDINGS.get(options.status, UNSUITED)
-    return {
-        "command": (options.words or [None])[0] or None, "file": options.name, "status": options.status, "verdict": kind, "name": None,
-        "line": None, "column": None, "text": None, "sentence": options.sentence, "mend": None, "output": "", "result": None, "proved": None,
-    }
+FIELDS = ("command", "file", "status", "verdict", "name", "line", "column", "text", "sentence", "mend", "output", "result", "proved")
 
 
-def write_report(data, status):
-    """Writes to standard output, and gives the status that this leads to."""
+def answer_object(options, status, kind, **known):
+    """The bytes of an object with all fields, null where nothing is known."""
+    command = next(iter(options.words), None) or None
+    fields = {"command": command and printable(command), "file": printable(options.name), "status": status, "verdict": kind, **known}
+    return (json.dumps({field: fields.get(field) for field in FIELDS}) + "\n").encode("ascii")
+
+
+def written(data, status):
+    """Writes a report, and gives the status that this leads to."""
     try:
         write_all(1, data)
     except OSError:
@@ -128,28 +125,27 @@ def write_report(data, status):
     return status
 
 
-def as_line(found):
-    return (json.dumps(found) + "\n").encode("ascii")
+def unasked(options):
+    """Says why the program isn't asked, and gives the status."""
+    if options.form != "json":
+        tell([f"dpj: {options.sentence}"])
+        return options.status
+    return written(answer_object(options, options.status, options.verdict, sentence=printable(options.sentence)), options.status)
 
 
 def answered(options):
-    """Asks the program, and shows what it answers."""
+    """Asks the program, shows what it answers, and gives the status."""
     try:
         text = b"" if options.words[0] == "demo" else read_text(options.words[0])
     except OSError as error:
-        options.status, options.sentence = READ_FAULT, f"{options.name} cannot be read: {error.strerror}"
-        if options.form == "json":
-            return write_report(as_line(unasked(options)), READ_FAULT)
-        print(f"dpj: {options.sentence}", file=sys.stderr)
-        return READ_FAULT
+        options.status, options.verdict = READ_FAULT, "read-fault"
+        options.sentence = f"{'standard input' if options.name == '-' else options.name} cannot be read: {error.strerror}"
+        return unasked(options)
     showing = Showing(options, text, ask(options.program, options.words, text))
-    if options.form == "json":
-        return write_report(as_line(showing.json()), showing.answer.status)
-    if options.form == "editor":
-        return write_report(showing.editor(), showing.answer.status)
-    status = write_report(showing.answer.report, showing.answer.status)
-    if status == showing.answer.status:
-        print("".join(f"{line}\n" for line in showing.screen()), end="", file=sys.stderr, flush=True)
+    reports = {"json": showing.json, "editor": showing.editor, "screen": lambda: showing.answer.report}
+    status = written(reports[options.form](), showing.answer.status)
+    if options.form == "screen" and status == showing.answer.status:
+        tell(showing.screen())
     return status
 
 
@@ -161,19 +157,18 @@ def parsed():
     options.add_argument("--keys", default="", help="the launcher's table of keys")
     options.add_argument("--program", help="the program")
     options.add_argument("--proved", choices=("yes", "no"), default="no", help="whether it is the proved one")
-    options.add_argument("--status", type=int, help="the status, where the program is not to be asked")
-    options.add_argument("--sentence", help="and the reason for that")
+    options.add_argument("--verdict", help="the verdict, where the program is not to be asked")
+    options.add_argument("--status", type=int, help="and the status")
+    options.add_argument("--sentence", help="and the reason")
     options.add_argument("words", nargs="*", help="the words for the program")
     return options.parse_args()
 
 
 def main():
     takes_signals()
-    sys.stderr.reconfigure(errors="replace")
+    keep_closed()
     options = parsed()
-    if options.status is not None:
-        return write_report(as_line(unasked(options)), options.status)
-    return answered(options)
+    return unasked(options) if options.verdict else answered(options)
 
 
 if __name__ == "__main__":
