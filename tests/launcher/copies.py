@@ -66,7 +66,7 @@ def parted(tally):
         "", f"dpj: there is no program in {alone.path}, nor the sources to make it of; a link to the dpj of a whole folder works, and so does a copy "
             "of the folder\n", 127))
     tally.equal("help of dpj alone", alone.run("help").status, 0)
-    tally.equal("explain of dpj alone", alone.run("explain", "cycle"), ("", f"dpj: explanations need tools/explain.py, which is not in {alone.path}\n", 127))
+    tally.equal("explain of dpj alone", alone.run("explain", "cycle"), ("", f"dpj: explain needs tools/explain.py, which is not in {alone.path}\n", 127))
     tally.equal("version of dpj alone", alone.run("version").out.split("\n")[0], "dpj, of no repository")
     installed = Desk(PROVED, parts=("dpj",))
     tally.equal("dpj and a program", installed.run("check"), ("the proved one: check\n", "", 0))

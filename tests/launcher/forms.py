@@ -100,11 +100,12 @@ def explained(tally, desk):
     listed = desk.run("explain")
     tally.equal("the names that are listed", ({line.split(" ")[0] for line in listed.out.splitlines()} - {""}, listed.status), (names, 0))
 
-    def of(name):
-        seen = desk.run("explain", name.upper().replace("-", "_"))
-        return seen.out.split("\n\n")[0], len(seen.out) > 100, re.findall(r"\]\(|```|\*\*|##", seen.out), seen.screen, seen.status
-
-    tally.all_equal(of, {name: (name, True, [], "", 0) for name in names})
+    order = sorted(names)
+    seen = desk.run("explain", *(name.upper().replace("-", "_") for name in order))
+    # A section begins with its name, and goes on with a blank line and a sentence.
+    begun = [line for line, after, text in zip(*(seen.out.split("\n")[at:] for at in range(3))) if line in names and not after and text[:1].strip()]
+    tally.equal("each name in capital letters", (begun, seen.screen, seen.status), (order, "", 0))
+    tally.equal("marks of markdown", re.findall(r"\]\(|```|\*\*|##", seen.out), [])
     seen = desk.run("explain", "interfers")
     tally.equal("a name with a slip", (seen.out, seen.screen.split(";")[:2], seen.status),
                 ("", ["dpj: no refusal, trap or status is named `interfers`", " did you mean `interferes`?"], 1))

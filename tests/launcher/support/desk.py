@@ -21,6 +21,8 @@ SECONDS = 60
 # What the launcher itself needs of the system, but for Python.
 NEEDED = "sh awk basename cat cut dirname git paste readlink sed setsid sleep tr".split()
 
+MAKERS = ("sources", "unproved", "proved")
+
 # Sums that name the two programs of a desk, as tools/sources would write them.
 SOURCES = "#!/bin/sh\necho unproved U\necho proved P\n"
 
@@ -58,7 +60,8 @@ class Desk:
             if part == "crates":
                 (self.path / "crates").mkdir()
             elif (TOP / part).is_dir():
-                shutil.copytree(TOP / part, self.path / part, ignore=shutil.ignore_patterns("__pycache__"))
+                # What makes programs is left out: a desk has its own.
+                shutil.copytree(TOP / part, self.path / part, ignore=shutil.ignore_patterns("__pycache__", *MAKERS))
             else:
                 shutil.copy(TOP / part, self.path / part)
         if "tools" in parts:
