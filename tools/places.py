@@ -15,7 +15,7 @@ UNSHOWN = "\N{REPLACEMENT CHARACTER}"
 # Controls, formats (those that turn the direction of writing among them), surrogates, private and unassigned ones, and ends of lines.
 HIDDEN_KINDS = {"Cc", "Cf", "Cs", "Co", "Cn", "Zl", "Zp"}
 COMBINING_KINDS = {"Mn", "Me"}
-NARROWEST = 20
+NARROWEST = 8
 # How many bytes of a line on each side of a place are looked at.
 NEAR = 4096
 
