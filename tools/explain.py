@@ -43,7 +43,8 @@ def unknown(known, word):
 def main():
     options = argparse.ArgumentParser(description=__doc__, formatter_class=argparse.RawDescriptionHelpFormatter)
     options.add_argument("names", nargs="*", metavar="NAME")
-    names = options.parse_args().names
+    given, others = options.parse_known_args()
+    names = given.names + others
     keep_closed()
     known, missing = sections.load()
     if missing:

@@ -63,7 +63,7 @@ def parted(tally):
     """Where parts are missing it works as far as it can, and says what is missing."""
     alone = Desk(None, parts=("dpj",))
     tally.equal("dpj alone", alone.run("check"), (
-        "", f"dpj: there is no program in {alone.path}, nor the sources to make it of; a link to the dpj of a whole folder works, and so does a copy "
+        "", f"dpj: there is no single program in {alone.path}, nor the sources to make it of; a link to the dpj of a whole folder works, and so does a copy "
             "of the folder\n", 127))
     tally.equal("help of dpj alone", alone.run("help").status, 0)
     tally.equal("explain of dpj alone", alone.run("explain", "cycle"), ("", f"dpj: explain needs tools/explain.py, which is not in {alone.path}\n", 127))

@@ -109,6 +109,8 @@ def explained(tally, desk):
     seen = desk.run("explain", "interfers")
     tally.equal("a name with a slip", (seen.out, seen.screen.split(";")[:2], seen.status),
                 ("", ["dpj: no refusal, trap or status is named `interfers`", " did you mean `interferes`?"], 1))
+    seen = desk.run("explain", "--mend")
+    tally.equal("an option", (seen.out, seen.screen.split(";")[0], seen.status), ("", "dpj: no refusal, trap or status is named `--mend`", 1))
     seen = desk.run("explain", "cycle")
     tally.equal("a section", seen.out, """cycle
 
