@@ -192,6 +192,6 @@ def keep(program, room, folder, name, most):
         os.fsync(it.fileno())
     shutil.rmtree(folder / name, ignore_errors=True)
     os.rename(made, folder / name)
-    kept = sorted((it for it in folder.iterdir() if is_kept(folder, it.name)), key=lambda it: it.stat().st_mtime_ns, reverse=True)
-    for old in [it for it in kept if it.name != name][most - 1 :]:
+    others = [it for it in folder.iterdir() if it.is_dir() and it.name not in (name, room.name)]
+    for old in sorted(others, key=lambda it: it.stat().st_mtime_ns, reverse=True)[most - 1 :]:
         shutil.rmtree(old, ignore_errors=True)
