@@ -1,4 +1,7 @@
-"""What tools/unproved and tools/proved share: the sums of the sources, a lock, commands that end with their caller, and a line that shows that a build goes on."""
+"""What tools/unproved and tools/proved share.
+
+These are the sums of the sources, a lock, commands that end with their caller, and a line that shows that a build goes on.
+"""
 import contextlib
 import ctypes
 import fcntl
@@ -67,7 +70,7 @@ def end_on_signals():
 
 
 class Progress:
-    """Shows on standard error that a build goes on: on a terminal by one line that is rewritten in place, else by a line for each phase and each minute."""
+    """Shows on standard error that a build goes on: on a terminal a line that is rewritten in place, else one for each phase and minute."""
 
     def __init__(self, name):
         self.name, self.text, self.is_terminal = name, "", sys.stderr.isatty()
