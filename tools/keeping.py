@@ -58,7 +58,10 @@ def end_with_parent():
 
 def end_on_signals():
     """Turns the signals that end a build into an exit, so that its commands end and its folder goes."""
-    asked = (signal.SIGINT, signal.SIGTERM, signal.SIGHUP)
+    asked = [signal.SIGINT, signal.SIGTERM]
+    # (nohup has it ignored.)
+    if signal.getsignal(signal.SIGHUP) is signal.SIG_DFL:
+        asked.append(signal.SIGHUP)
 
     def end(number, _):
         for it in asked:
