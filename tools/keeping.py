@@ -13,6 +13,7 @@ import subprocess
 import sys
 import time
 
+PROGRAM = "dpj_cli"
 TOP = pathlib.Path(__file__).resolve().parent.parent
 OUT = TOP / "out"
 LIBC = ctypes.CDLL(None)
@@ -42,6 +43,26 @@ def kit_folder():
     if rt is None:
         raise Refusal("the Rattle toolchain's command rt is not on the PATH", 127)
     return pathlib.Path(rt).resolve().parent.parent
+
+
+def crates_of_program():
+    """The crates of which the program is made, each behind those that it stands on: by its name its line of crates.txt, and what it stands on."""
+    listed, found = {}, {}
+    for line in (TOP / "crates.txt").read_text(encoding="utf-8").splitlines():
+        head, colon, below = line.partition("#")[0].partition(":")
+        if colon:
+            listed[head.split()[0]] = line, below.split()
+
+    def add(name):
+        for below in listed[name][1]:
+            if below in listed and below not in found:
+                add(below)
+        found[name] = listed[name]
+
+    if PROGRAM not in listed:
+        raise Refusal(f"crates.txt has no line for the program, {PROGRAM}")
+    add(PROGRAM)
+    return found
 
 
 def note_kit(kit):
@@ -98,13 +119,13 @@ class Progress:
         self.shown = 0 if self.is_terminal else time.monotonic()
         self.tick()
 
-    def tick(self):
-        """Shows the phase and its seconds, where it is time to."""
+    def tick(self, more=""):
+        """Shows the phase, its seconds and what more there is to tell, where it is time to."""
         now = time.monotonic()
         if now - self.shown < (1 if self.is_terminal else 60):
             return
         self.shown = now
-        line = f"{self.name}: {self.text}: {now - self.phase_began:.0f} s"
+        line = f"{self.name}: {self.text}: {now - self.phase_began:.0f} s{more}"
         columns = shutil.get_terminal_size().columns - 1
         self.write(CLEAR_LINE + line[:columns] if self.is_terminal else line + "\n")
 
