@@ -42,7 +42,10 @@ def kit_folder():
     rt = shutil.which("rt")
     if rt is None:
         raise Refusal("the Rattle toolchain's command rt is not on the PATH", 127)
-    return pathlib.Path(rt).resolve().parent.parent
+    kit = pathlib.Path(rt).resolve().parent.parent
+    if not (kit / "KIT-ID").is_file():
+        raise Refusal(f"{rt} isn't the command of a Rattle toolchain: {kit} has no KIT-ID", 127)
+    return kit
 
 
 def crates_of_program():
