@@ -211,8 +211,8 @@ def is_kept(folder, name):
     return os.access(folder / name / "dpj", os.X_OK)
 
 
-def keep(program, room, folder, name, most):
-    """Puts a copy of the program in place, as `dpj` of the folder `name`, by one rename, and leaves `most` kept programs, the newest."""
+def keep(program, room, folder, name):
+    """Puts a copy of the program in place, as `dpj` of the folder `name`, by one rename, and removes those of older sources."""
     made = room / "kept"
     made.mkdir()
     shutil.copyfile(program, made / "dpj")
@@ -222,6 +222,6 @@ def keep(program, room, folder, name, most):
         os.fsync(it.fileno())
     shutil.rmtree(folder / name, ignore_errors=True)
     os.rename(made, folder / name)
-    others = [it for it in folder.iterdir() if it.is_dir() and it.name not in (name, room.name)]
-    for old in sorted(others, key=lambda it: it.stat().st_mtime_ns, reverse=True)[most - 1 :]:
-        shutil.rmtree(old, ignore_errors=True)
+    for it in folder.iterdir():
+        if it.is_dir() and it.name not in (name, room.name):
+            shutil.rmtree(it, ignore_errors=True)
