@@ -1,0 +1,187 @@
+"""Why a summary doesn't cover a body or another summary: the statements, and a summary that is accepted."""
+
+from .alone import Alone, summary_for, summary_text
+from .branches import method_at
+from .leaving import Edit, Leaving, headers_of, instead, quiet
+from .typed import Body
+from .world import heads_of
+
+STATEMENTS_AT_MOST = 8
+
+
+def explain_summary(report, world):
+    """Fills in a report on `summary`."""
+    class_node, method = method_at(world, report.answer.offset)
+    if method is None:
+        return
+    body = Body(world, class_node, method)
+    found = uncovered(report, body)
+    for access in found:
+        shown = world.show(access.path, class_node.name, body.heads)
+        role = f"{access.kind} {shown}" + (f", {access.says}" if access.says else "") + ", which the summary doesn't cover"
+        report.name(*head_span(access.statement), role, access.node)
+    for access in found:
+        if access.says.endswith("has no summary"):
+            report.say(f"{access.says}, so calling it counts as `writes Root:*`. Give it one first.")
+        elif access.path == ("Root",):
+            report.say(f"`{report.source.text[access.node.start : access.node.end]}` lies in Root, as what is declared without `in R` does.")
+    if callee_mend(report, world, found):
+        return
+    summary_mend(report, body, found)
+
+
+def head_span(node):
+    """A statement, of one with a body its head."""
+    for part in ("then", "body"):
+        if part in node.parts:
+            return node.start, node.parts[part].start
+    return node.start, node.end
+
+
+def uncovered(report, body):
+    """The accesses that aren't covered: each that is refused when it stands alone in the body."""
+    source, method = report.source, body.method
+    alone = Alone(source.text, body)
+    found, asked = [], {}
+    for access in body.accesses:
+        key = (access.kind, access.path, access.marked)
+        if key not in asked:
+            asked[key] = is_refused_alone(report, body, alone, access)
+        if asked[key]:
+            found.append(access)
+    if found:
+        return one_each(found)
+    return least(report, body)
+
+
+def one_each(accesses):
+    """One access for each node, writes before reads."""
+    kept = {}
+    for access in accesses:
+        kept.setdefault(id(access.node), access)
+    return list(kept.values())[:STATEMENTS_AT_MOST]
+
+
+def is_refused_alone(report, body, alone, access):
+    """Whether a body with this access alone is refused as well, by asking."""
+    leaving = Leaving(report.asker, report.source.text, report.answer)
+    statement = alone.statement(access)
+    if statement is None:
+        return False
+    if access.marked:
+        statement = f"atomic {statement}"
+    edits = []
+    replaced = access.statement
+    for node in body.method.body.walk():
+        edits += without(node, replaced, statement)
+    text, offset = leaving.with_edits(edits)
+    answer = report.asker.check(text)
+    return answer.name == report.answer.name and answer.offset == offset
+
+
+def without(node, kept, statement):
+    """Edits that leave out what a statement does, and put one in place of the kept one."""
+    if node is not kept:
+        return quiet(node)
+    if node.kind in ("local", "return"):
+        return [Edit(node.start, node.start, statement + " ")] + quiet(node)
+    if headers_of(node):
+        return [Edit(node.start, node.start, "{ " + statement), Edit(node.end, node.end, " }")] + quiet(node)
+    return [instead(node, statement)]
+
+
+def least(report, body):
+    """The accesses of the least statements that are refused, by leaving out."""
+    leaving = Leaving(report.asker, report.source.text, report.answer)
+    leaving.reduce(body.method.body)
+    return [access for access in body.accesses if leaving.lives(access.node)][:STATEMENTS_AT_MOST]
+
+
+def callee_mend(report, world, found):
+    """Methods without a summary that are called: theirs are tried."""
+    edits, names = [], []
+    for access in found:
+        if access.says.endswith("has no summary"):
+            owner_name, _, name = access.says.split(" ")[0].rpartition(".")
+            owner = world.classes[owner_name]
+            method = next(member for member in owner.members if member.kind == "method" and member.name == name)
+            body = Body(world, owner, method)
+            summary = summary_text(*summary_for(world, body, body.accesses))
+            edits.append(Edit(method.summary.end, method.summary.end, " " + summary))
+            names.append(f"`{summary}` for {owner_name}.{name}")
+    if not edits:
+        return False
+    return report.mends("Write a summary: " + ", ".join(dict.fromkeys(names)) + ".", list(dict.fromkeys(edits)))
+
+
+def written_items(world, body):
+    """The items of a method's summary as they are written: reads and writes."""
+    reads, writes = [], []
+    for kind, path, marked in body.method.summary.items or []:
+        shown = ("atomic " if marked else "") + ":".join(path.elements)
+        (writes if kind == "writes" else reads).append(shown)
+    return reads, writes
+
+
+def summary_mend(report, body, found):
+    """The written summary with what is missing, and if that doesn't do, with all that the body does."""
+    world, method, source = body.world, body.method, report.source
+    heads = heads_of(body.class_node, method)
+    reads, writes = written_items(world, body)
+    more_reads, more_writes = summary_for(world, body, found)
+    writes_now = writes + [item for item in more_writes if item not in writes]
+    reads_now = [item for item in reads + more_reads if item not in writes_now]
+    wanted = [summary_text(list(dict.fromkeys(reads_now)), writes_now)]
+    wanted.append(summary_text(*summary_for(world, body, body.accesses)))
+    wanted.append("writes " + ", ".join(sorted(f"{head}:*" for head in heads)) if heads else "writes Root:*")
+    wanted.append("writes Root:*")
+    old = source.text[method.summary.start : method.summary.end].strip()
+    for summary in dict.fromkeys(wanted):
+        text = f"`{summary}` in place of `{old}`." if old else f"Write the summary `{summary}`."
+        edit = instead(method.summary, summary) if old else Edit(method.summary.end, method.summary.end, " " + summary)
+        if report.mends(text, [edit]):
+            return True
+    return False
+
+
+def explain_override(report, world):
+    """Fills in a report on `override-effect`."""
+    class_node, method = method_at(world, report.answer.offset)
+    met = world.overridden(class_node.name, method.name) if method else None
+    if not met:
+        return
+    owner, top = met
+    source = report.source
+    mine, theirs = (source.text[node.summary.start : node.summary.end].strip() for node in (method, top))
+    report.name(method.start, method.body.start, f"the overriding method: {written(mine)}")
+    report.name(top.start, top.body.start, f"the method of {owner.name} that it overrides: {written(theirs)}")
+    report.say("Who calls the overridden method counts on its summary, so the overriding one does no more.")
+    edit = Edit(method.summary.start, method.summary.end, " " + theirs) if not mine else instead(method.summary, theirs)
+    if theirs and report.mends(f"`{theirs}` for {class_node.name}.{method.name} as well.", [edit]):
+        if report.mend["answer"] == "accepted":
+            return
+    widened(report, world, (class_node, method), (owner, top))
+
+
+def written(summary):
+    return f"`{summary}`" if summary else "no summary, which is `writes Root:*`"
+
+
+def widened(report, world, overriding, overridden):
+    """The summary of the overridden method with what the overriding one does."""
+    body = Body(world, *overriding)
+    for access in body.accesses:
+        shown = world.show(access.path, overriding[0].name, body.heads)
+        report.name(*head_span(access.statement), f"{access.kind} {shown} in the overriding method", access.node)
+    owner, top = overridden
+    top_body = Body(world, owner, top)
+    reads, writes = written_items(world, top_body)
+    names = dict(zip([name for name, _ in overriding[0].params], [name for name, _ in owner.params]))
+    mapped = [access._replace(path=(names.get(access.path[0], access.path[0]),) + access.path[1:]) for access in body.accesses]
+    more_reads, more_writes = summary_for(world, top_body, mapped)
+    writes = writes + [item for item in more_writes if item not in writes]
+    summary = summary_text([item for item in dict.fromkeys(reads + more_reads) if item not in writes], writes)
+    if top.summary.items is not None:
+        report.mends(f"Or `{summary}` for {owner.name}.{top.name}.", [instead(top.summary, summary)])
+
+

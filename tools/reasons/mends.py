@@ -1,0 +1,249 @@
+"""Mends of branches that interfere, each tried."""
+
+from .alone import summary_for, summary_text
+from .leaving import Edit, instead
+from .typed import Body
+from .world import heads_of, is_named
+
+
+def branch_mends(report, found):
+    """Says what may be done about two accesses, and keeps the first mend that helps."""
+    if found.pair is None:
+        return
+    is_nd = found.fork.keyword.endswith("_nd")
+    forms = [atomic_blocks] if is_nd else []
+    forms += [missing_summaries, link_before, other_region, constraint, own_index]
+    for form in forms:
+        if form(report, found):
+            return
+
+
+def called(found, access):
+    """The class and method that an access calls or creates by."""
+    node, world = access.node, found.world
+    if node.kind == "call":
+        met = world.member(found.body.types.get(id(node.of)), "method", node.name)
+        return (met[0], met[1]) if met else None
+    if node.kind == "new" and world.constructor(node.type.base):
+        return world.classes[node.type.base], world.constructor(node.type.base)
+    return None
+
+
+def missing_summaries(report, found):
+    """A method without a summary writes everything: one that its body fits is tried."""
+    edits, names = [], []
+    for access in dict.fromkeys(found.pair):
+        met = called(found, access)
+        if not met or met[1].summary.items is not None:
+            continue
+        owner, method = met
+        body = Body(found.world, owner, method)
+        summary = summary_text(*summary_for(found.world, body, body.accesses))
+        edits.append(Edit(method.summary.end, method.summary.end, " " + summary))
+        names.append(f"`{summary}` for {owner.name}.{method.name}")
+    if not edits:
+        return False
+    edits = list(dict.fromkeys(edits))
+    report.say("A method without a summary is taken to write everything (`writes Root:*`), so it interferes with whatever touches a region.")
+    return report.mends("Write a summary: " + ", ".join(dict.fromkeys(names)) + ".", edits)
+
+
+def parents(root):
+    """Each node below a root with the node that holds it."""
+    return {id(kid): node for node in root.walk() for kid in node.kids()}
+
+
+def link_before(report, found):
+    """A branch that only reads a link on its way to something else: the link is taken into a local before the construct."""
+    holders = parents(found.fork)
+    for access in dict.fromkeys(found.pair):
+        node, holder = access.node, holders.get(id(access.node))
+        is_link = holder is not None and holder.kind in ("call", "field_of", "element") and holder.parts.get("of") is node
+        if access.kind == "reads" and node.kind in ("field_of", "element") and is_link:
+            other = found.pair[1] if access is found.pair[0] else found.pair[0]
+            link = found.text[node.start : node.end]
+            report.say(
+                f"To get at `{found.text[holder.start : holder.end]}` the branch reads the link `{link}` itself, which lies in"
+                f" {found.region(access)}; {'another iteration' if found.is_loop else 'the other branch'} writes"
+                f" {found.region(other)}. A local that takes the link before the construct needs no read in the branch."
+            )
+            if take_link(report, found, node, link):
+                return True
+    return False
+
+
+def take_link(report, found, node, link):
+    """Tries a local for a link in front of the construct."""
+    scope, fork = found.body.scopes.get(id(found.fork), {}), found.fork
+    names = {part.name for part in node.walk() if part.kind == "name"}
+    its_type = found.body.types.get(id(node))
+    if its_type is None or not names <= set(scope):
+        return False
+    name = node.name if node.kind == "field_of" else "link"
+    while name in scope or any(token.text == name and node.kind != "field_of" for token in report.source.tokens):
+        name += "Link"
+    shown = found.world.show_type(its_type, found.body.class_node.name, found.body.heads)
+    start = report.source.starts[report.source.place(fork.start)[0] - 1]
+    indent = found.text[start : fork.start]
+    gap = "\n" + indent if not indent.strip() else " "
+    edits = [Edit(fork.start, fork.start, f"{shown} {name} = {link};{gap}")]
+    edits += [instead(part, name) for part in fork.walk() if part.kind == node.kind and found.text[part.start : part.end] == link and part.parts.get("at")
+              and not is_written(fork, part)]  # fmt: skip
+    return report.mends(f"Take `{link}` into a local before the {fork.keyword}.", edits)
+
+
+def is_written(fork, part):
+    return any(node.kind == "assign" and node.target is part for node in fork.walk())
+
+
+def fields_of(found):
+    """The declarations of the fields that the two accesses touch, with their classes."""
+    fields = []
+    for access in found.pair:
+        if access.node.kind == "field_of":
+            met = found.world.member(found.body.types.get(id(access.node.of)), "field", access.node.name)
+            if met:
+                fields.append((met[0], met[1]))
+    return fields
+
+
+def other_region(report, found):
+    """Two fields of one region: another region of the class for one of them, or a new one."""
+    fields = fields_of(found)
+    if len(fields) < 2 or fields[0][1] is fields[1][1] or found.pair[0].path != found.pair[1].path:
+        return same_object(report, found)
+    owner, field = fields[1]
+    world, place = found.world, field.region
+    shown = found.region(found.pair[1])
+    report.say(f"`{fields[0][1].name}` and `{field.name}` both lie in {shown}.")
+    names = [token.text for member in owner.members if member.kind == "regions" for token in member.names]
+    mine = place.elements[-1] if place else None
+    for name in names:
+        if name != mine and place is not None and (len(place.elements) == 1) and place.elements[0] in names:
+            text = f"Put `{field.name}` into the region {name}."
+            if report.mends(text, [instead(place, name)], quiet=True):
+                return True
+    if place is None or world is None:
+        report.say("Put what the branches write into regions of their own.")
+        return False
+    new = fresh_region(report.source, field.name)
+    path = f"{place.elements[0]}:{new}" if place.elements[0] in heads_of(owner) else new
+    edits = [Edit(field.start, field.start, f"region {new}; "), instead(place, path)]
+    return report.mends(f"Put `{field.name}` into a region of its own.", edits)
+
+
+def fresh_region(source, name):
+    """A region name that the text doesn't have yet."""
+    made = name[:1].upper() + name[1:]
+    names = {token.text for token in source.tokens}
+    while made in names:
+        made += "Region"
+    return made
+
+
+def same_object(report, found):
+    """One region for what may be two objects: a word on region parameters."""
+    one, two = found.pair
+    if one.node.kind == "field_of" and two.node.kind == "field_of" or "call" in (one.node.kind, two.node.kind):
+        first, second = (found.text[part.node.of.start : part.node.of.end] if "of" in part.node.parts else "" for part in (one, two))
+        if first and second and first != second and one.path == two.path and first != "this":
+            report.say(
+                f"A region name is one region for all objects of a class, so `{first}` and `{second}` aren't told apart. Let the class take a"
+                " region parameter, and give each object a region of its own."
+            )
+    return False
+
+
+def constraint(report, found):
+    """Two region parameters that may be the same: a constraint is tried."""
+    one, two = (access.path for access in found.pair)
+    class_node, method = found.body.class_node, found.body.method
+    heads = heads_of(class_node, method)
+    if one[0] == two[0] or not heads & {one[0], two[0]}:
+        return False
+    of_method = {name for name, _ in method.params}
+    holder = method if of_method & {one[0], two[0]} else class_node
+    end = params_end(report.source, holder)
+    if end is None:
+        return False
+    report.say(f"{found.region(found.pair[0])} and {found.region(found.pair[1])} may be one region, since a parameter may stand for any.")
+    for tail in ("", ":*"):
+        sides = [found.world.show((path[0],) if path[0] in heads else path, class_node.name, heads) for path in (one, two)]
+        asked = f"{sides[0]}{tail} # {sides[1]}{tail}"
+        lead = ", " if holder.constraints else " | "
+        if report.mends(f"Ask for a constraint: `{asked}`.", [Edit(end, end, lead + asked)], quiet=True):
+            return True
+    return False
+
+
+def params_end(source, holder):
+    """Where the list of region parameters of a class or method ends."""
+    if not holder.params:
+        return None
+    number = source.token_at(holder.start)
+    tokens = source.tokens[number:]
+    return next(token.start for token in tokens if token.text == ">")
+
+
+def own_index(report, found):
+    """Elements of an array at other indices than the variable of the loop."""
+    for access in dict.fromkeys(found.pair):
+        node = access.node
+        if node.kind != "element":
+            continue
+        index = found.text[node.index.start : node.index.end]
+        of = found.body.types.get(id(node.of))
+        if of and of[0] == "array" and of[3] is None and not any(element[0] == "[" for element in of[2]):
+            report.say(
+                f"All elements of `{found.text[node.of.start : node.of.end]}` lie in {found.region(access)}. An array whose region has an index,"
+                " `T[]<R:[i]>#i`, tells its elements apart."
+            )
+        elif "[?]" in access.path and found.is_loop:
+            report.say(
+                f"The index `{index}` isn't the variable of the loop itself, so the element may be any: {found.region(access)}. Only"
+                f" `[{found.fork.name}]` is told apart in two iterations."
+            )
+    if found.is_loop and found.pair[0] is found.pair[1] and not any(is_named(element) is False for element in found.pair[0].path):
+        report.say(
+            f"Nothing in {found.region(found.pair[0])} depends on `{found.fork.name}`, so all iterations touch the same. Put results into an array"
+            " by index and put them together after the loop, or use foreach_nd with an atomic block."
+        )
+    return False
+
+
+def atomic_blocks(report, found):
+    """The accesses of an nd construct: blocks around them, and regions that are atomic."""
+    plain = [access for access in dict.fromkeys(found.pair) if not access.marked]
+    edits = []
+    for statement in dict.fromkeys(access.statement for access in plain):
+        if statement.kind == "local" or "then" in statement.parts or "body" in statement.parts:
+            continue
+        edits += [Edit(statement.start, statement.start, "atomic { "), Edit(statement.end, statement.end, " }")]
+    declared = [edit for access in dict.fromkeys(found.pair) for edit in made_atomic(found, access)]
+    what = []
+    if plain:
+        listed = ", ".join(f"`{found.text[access.node.start : access.node.end]}`" for access in plain)
+        report.say(f"Not every access that interferes is inside an atomic block: {listed}.")
+        what.append("put an atomic block around it")
+    if declared:
+        what.append("declare its region `atomic region`")
+        report.say(f"{found.region(found.pair[0])} isn't an atomic region.")
+    declared = list(dict.fromkeys(declared))
+    if edits + declared:
+        return report.mends(" and ".join(what).capitalize() + ".", edits + declared)
+    return False
+
+
+def made_atomic(found, access):
+    """The edit by which the region name at the end of a path is declared atomic."""
+    names = [element for element in access.path if is_named(element)]
+    if len(names) < 2:
+        return []
+    owner, _, region = names[-1].rpartition(".")
+    node = found.world.classes.get(owner)
+    for member in node.members if node else []:
+        if member.kind == "regions" and not member.atomic and region in [token.text for token in member.names]:
+            return [Edit(member.start, member.start, "atomic ")]
+    return []
+
+

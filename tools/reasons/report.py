@@ -1,0 +1,177 @@
+"""What is found of a refusal, and how it is written: for people, or as one JSON object."""
+
+import json
+import os
+import re
+import textwrap
+
+from .leaving import applied
+from .source import marked, shown
+
+EARLY = ("too-long", "syntax", "number", "nest")
+WIDTH = 110
+
+
+class Report:
+    """Statements, sentences, a mend and what was tried."""
+
+    def __init__(self, source, answer, asker):
+        self.source = source
+        self.answer = answer
+        self.asker = asker
+        self.statements = []
+        self.says = []
+        self.mend = None
+        self.tried = []
+
+    def name(self, start, end, role, access=None):
+        """Names a statement, with the access in it where there is one."""
+        entry = self.piece(start, end)
+        entry["role"] = role
+        if access is not None:
+            entry["access"] = self.piece(access.start, access.end)
+        if entry not in self.statements:
+            self.statements.append(entry)
+
+    def piece(self, start, end):
+        line, column = self.source.place(start)
+        return {"line": line, "column": column, "text": shown(self.source.text[start:end])}
+
+    def say(self, text):
+        if text and text not in self.says:
+            self.says.append(text)
+
+    def attempt(self, change, edits):
+        """Tries edits; what came out is kept."""
+        text, offset = applied(self.source.text, edits, self.answer.offset)
+        answer = self.asker.check(text)
+        self.tried.append({"change": change, "answer": str(answer), "edits": [self.edit(edit) for edit in edits]})
+        return answer, offset
+
+    def mends(self, text, edits, quiet=False):
+        """Tries edits as a mend, which they are where the text is accepted or the fault isn't there any more."""
+        answer, offset = self.attempt(text, edits)
+        if not self.is_gone(answer, offset):
+            if quiet:
+                self.tried.pop()
+            return False
+        self.mend = {"text": text, **self.covering(edits), "answer": str(answer)}
+        return True
+
+    def is_gone(self, answer, offset):
+        """Whether an answer to a changed text doesn't say the fault again, nor one that is found earlier."""
+        if answer.accepted:
+            return True
+        if self.answer.name in EARLY:
+            return answer.name not in EARLY or answer.offset > offset
+        if answer.name in EARLY or (answer.name == self.answer.name and answer.offset == offset):
+            return False
+        return answer.offset > offset or answer.name != self.answer.name
+
+    def edit(self, edit):
+        line, column = self.source.place(edit.start)
+        text = self.source.text
+        return {"line": line, "column": column, "old": utf8(text[edit.start : edit.end]), "new": utf8(edit.new)}
+
+    def covering(self, edits):
+        """One edit that does what several do."""
+        start, end = min(edit.start for edit in edits), max(edit.end for edit in edits)
+        moved = [edit._replace(start=edit.start - start, end=edit.end - start) for edit in edits]
+        old = self.source.text[start:end]
+        made, last = [], 0
+        for edit in sorted(moved):
+            made += [old[last : edit.start], edit.new]
+            last = edit.end
+        line, column = self.source.place(start)
+        return {"line": line, "column": column, "old": utf8(old), "new": utf8("".join(made) + old[last:])}
+
+    def as_json(self):
+        answer = self.answer
+        refused = None if answer.accepted else {"name": answer.name, "line": answer.line, "column": answer.column}
+        return json.dumps(
+            {"file": self.source.name, "refused": refused, "statements": self.statements, "says": self.says,
+             "mend": self.mend, "tried": self.tried},
+            ensure_ascii=True,
+        )  # fmt: skip
+
+    def as_text(self, sentence, colours):
+        """The report for people."""
+        answer, bold, plain = self.answer, *(("\033[1m", "\033[0m") if colours else ("", ""))
+        name = shown(self.source.name)
+        if answer.accepted:
+            return f"{name}: accepted\n"
+        lines = [f"{bold}{name}:{answer.line}:{answer.column}: refused: {answer.name}{plain}"]
+        line, mark = marked(self.source, answer.line, answer.column)
+        lines += ["  " + line, "  " + mark, *wrapped(sentence, "")]
+        for entry in self.statements:
+            lines.append(f"  {bold}{entry['line']}:{entry['column']}{plain}  {entry['text']}")
+            lines += wrapped(entry["role"], "      ")
+        for text in self.says:
+            lines += wrapped(text, "")
+        lines += self.mend_lines(bold, plain)
+        confirmed = [entry for entry in self.tried if self.mend is None or entry["change"] != self.mend["text"]]
+        if confirmed:
+            lines.append("Tried:")
+            lines += [f"  {shown(entry['change'])}: {entry['answer']}" for entry in confirmed]
+        return "\n".join(lines) + "\n"
+
+    def mend_lines(self, bold, plain):
+        """The mend with what it replaces."""
+        if self.mend is None:
+            return []
+        mend = self.mend
+        lines = wrapped(f"{bold}Mend:{plain} {mend['text']}", "", "  ")
+        at = f"{mend['line']}:{mend['column']}"
+        old, new = (shown(mend[key].encode("utf-8").decode("latin-1")) for key in ("old", "new"))
+        what = f"`{new}` in place of `{old}`" if old and new else f"`{new}` put in" if new else f"`{old}` left out"
+        answer = mend["answer"]
+        after = "with it the text is accepted" if answer == "accepted" else f"with it the next fault is: {answer}"
+        return lines + wrapped(f"at {at} {what}: {after}", "  ")
+
+    def as_brief(self):
+        """The statements, the first sentence and the mend, for a terminal that shows the refusal already."""
+        lines = [f"  {entry['line']}:{entry['column']}  {entry['text']}: {entry['role']}" for entry in self.statements[:2]]
+        lines += [f"  {text}" for text in self.says[:1]]
+        lines += ["  " + line.strip() for line in self.mend_lines("", "")[:3]]
+        return "".join(cut(line) + "\n" for line in lines[:6])
+
+
+def utf8(text):
+    """A piece of a text as UTF-8 reads it."""
+    return text.encode("latin-1", "replace").decode("utf-8", "replace")
+
+
+def cut(line):
+    return line if len(line) <= WIDTH + 40 else line[: WIDTH + 36] + " ..."
+
+
+def wrapped(text, indent, more=None):
+    """A sentence in lines of a terminal's width."""
+    if not text:
+        return []
+    further = indent if more is None else more
+    return textwrap.wrap(text, WIDTH, initial_indent=indent, subsequent_indent=further, break_long_words=False, break_on_hyphens=False)
+
+
+def use_colours(stream):
+    """Colours are for terminals whose user doesn't refuse them."""
+    return stream.isatty() and not os.environ.get("NO_COLOR") and os.environ.get("TERM") != "dumb"
+
+
+def sentences(folder):
+    """The section of each refusal in docs/REFUSALS.md: its first sentence, and what is said between its texts."""
+    path = os.path.join(folder, "docs", "REFUSALS.md")
+    if not os.path.exists(path):
+        return {}
+    with open(path, encoding="utf-8") as file:
+        parts = re.split(r"^## ([a-z-]+)\n", file.read(), flags=re.M)
+    return {name: section(body) for name, body in zip(parts[1::2], parts[2::2])}
+
+
+def section(body):
+    """The first sentence of a section, and the first paragraph after its first text, which says the mend."""
+    body = re.sub(r"\[([^\]]*)\]\([^)]*\)", r"\1", body)
+    pieces = [piece for piece in re.split(r"```.*?```", body, flags=re.S)]
+    paragraphs = [" ".join(piece.split()) for piece in pieces if piece.strip()]
+    first = re.split(r"(?<=[.;]) ", paragraphs[0], maxsplit=1)[0]
+    return first, paragraphs[1] if len(paragraphs) > 1 else ""
