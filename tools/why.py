@@ -47,7 +47,7 @@ def main(words):
         return 5
     asker = Asker(program, 60 if brief else 400, 0.35 if brief else 10.0)
     try:
-        report = explain(source, asker)
+        report = explain(source, asker, brief)
     except NoAnswer as fault:
         print(f"why: {fault}", file=sys.stderr)
         return 126
@@ -56,8 +56,8 @@ def main(words):
     elif brief:
         sys.stdout.write(report.as_brief())
     else:
-        first, _ = sentences(TOP).get(report.answer.name, ("", ""))
-        sys.stdout.write(report.as_text(first, use_colours(sys.stdout)))
+        general = sentences(TOP).get(report.answer.name, ("", ""))
+        sys.stdout.write(report.as_text(general, use_colours(sys.stdout)))
     return 0 if report.answer.accepted else 2
 
 

@@ -18,14 +18,14 @@ def explain_summary(report, world):
     found = uncovered(report, body)
     for access in found:
         shown = world.show(access.path, class_node.name, body.heads)
-        role = f"{access.kind} {shown}" + (f", {access.says}" if access.says else "") + ", which the summary doesn't cover"
+        role = f"{access.kind} {shown}" + (f" ({access.says})" if access.says else "") + ", which the summary doesn't cover"
         report.name(*head_span(access.statement), role, access.node)
     for access in found:
         if access.says.endswith("has no summary"):
             report.say(f"{access.says}, so calling it counts as `writes Root:*`. Give it one first.")
         elif access.path == ("Root",):
             report.say(f"`{report.source.text[access.node.start : access.node.end]}` lies in Root, as what is declared without `in R` does.")
-    if callee_mend(report, world, found):
+    if callee_mend(report, world, found) or field_mend(report, body, found):
         return
     summary_mend(report, body, found)
 
@@ -55,10 +55,12 @@ def uncovered(report, body):
 
 
 def one_each(accesses):
-    """One access for each node, writes before reads."""
+    """One access for each node, without reads of what the same statement writes."""
+    written_there = {(id(access.statement), access.path) for access in accesses if access.kind == "writes"}
     kept = {}
     for access in accesses:
-        kept.setdefault(id(access.node), access)
+        if access.kind == "writes" or (id(access.statement), access.path) not in written_there:
+            kept.setdefault(id(access.node), access)
     return list(kept.values())[:STATEMENTS_AT_MOST]
 
 
@@ -112,6 +114,27 @@ def callee_mend(report, world, found):
     if not edits:
         return False
     return report.mends("Write a summary: " + ", ".join(dict.fromkeys(names)) + ".", list(dict.fromkeys(edits)))
+
+
+def field_mend(report, body, found):
+    """Fields without a region, where the summary names one: they may have been meant to lie there."""
+    paths = [":".join(path.elements) for _, path, _ in body.method.summary.items or []]
+    fields = []
+    for access in found:
+        if access.node.kind == "field_of" and access.path == ("Root",):
+            met = body.world.member(body.types.get(id(access.node.of)), "field", access.node.name)
+            if met and met[1].region is None and met[0] is body.class_node and met[1] not in fields:
+                fields.append(met[1])
+    if not fields or len(fields) != len({access.node.name for access in found}):
+        return False
+    for path in dict.fromkeys(paths):
+        edits = [Edit(field.end - 1, field.end - 1, f" in {path}") for field in fields]
+        names = ", ".join(f"`{field.name}`" for field in fields)
+        if report.mends(f"Put {names} into {path}, as the summary says.", edits, quiet=True):
+            for field in fields:
+                report.name(field.start, field.end, "declared without a region, so it lies in Root")
+            return True
+    return False
 
 
 def written_items(world, body):

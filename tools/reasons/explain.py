@@ -1,7 +1,8 @@
 """From a refusal to its report."""
 
-from . import branches, covers
+from . import branches, covers, kinds, locals, names, others, syntax
 from .asking import Spent
+from .leaving import Edit
 from .nodes import NoTree
 from .report import Report
 from .tree import parse
@@ -12,23 +13,63 @@ BY_NAME = {
     "interferes-nd": branches.explain,
     "summary": covers.explain_summary,
     "override-effect": covers.explain_override,
+    "unknown": names.explain_unknown,
+    "duplicate": names.explain_duplicate,
+    "type": kinds.explain,
+    "assign": locals.explain_assign,
+    "return": locals.explain_return,
+    "main": others.explain_main,
+    "region-args": others.explain_region_args,
+    "partial-write": others.explain_partial_write,
+    "atomic-body": others.explain_atomic_body,
+    "override": others.explain_override,
+    "cycle": others.explain_cycle,
+    "constraint": others.explain_constraint,
 }
+LEAST = "2147483648"
 
 
-def explain(source, asker):
+def explain(source, asker, brief=False):
     """The report on a text."""
     report = Report(source, asker.check(source.text), asker)
     if report.answer.accepted:
         return report
     try:
-        by_name(report)
-    except (Spent, NoTree):
+        by_name(report, brief)
+    except Spent:
         report.say("The questions or the time that were granted are used up; there may be more to say.")
+    except NoTree:
+        others.explain_place(report, None)
     return report
 
 
-def by_name(report):
+def by_name(report, brief):
     """Fills in a report by the name of the refusal."""
-    form = BY_NAME.get(report.answer.name)
-    if form:
+    if report.answer.name in ("syntax", "nest"):
+        syntax.explain(report, brief)
+    elif report.answer.name == "number":
+        number(report)
+    elif report.answer.name == "too-long":
+        report.name(0, 0, "the whole text")
+    else:
+        form = BY_NAME.get(report.answer.name, others.explain_place)
         form(report, World(parse(report.source.text)))
+
+
+def number(report):
+    """A literal that is too great or begins with 0."""
+    source = report.source
+    token = source.tokens[source.token_at(report.answer.offset)]
+    start, end = syntax.statement_around(source, token.start)
+    report.name(start, end, f"`{token.text}` is no int literal")
+    before = source.text[: token.start].rstrip()
+    if token.text == LEAST and before.endswith("-"):
+        alone = before[:-1].rstrip().endswith(("return", "=", "(", ","))
+        new = "-2147483647 - 1" if alone else "(-2147483647 - 1)"
+        report.mends("The least int is written as a difference.", [Edit(len(before) - 1, token.end, new)])
+    elif token.text.startswith("0") and token.text.isdigit():
+        report.say("A literal has no leading 0, and there are no octal numbers.")
+        eight = int(token.text, 8) if set(token.text) <= set("01234567") else int(token.text)
+        report.mends("Write it in decimal, as Java reads it.", [Edit(token.start, token.end, str(eight))])
+    else:
+        report.say("An int has 32 bits: its greatest value is 2147483647.")

@@ -9,6 +9,7 @@ from .leaving import applied
 from .source import marked, shown
 
 EARLY = ("too-long", "syntax", "number", "nest")
+OF_ONE_NAME = ("unknown", "duplicate", "type", "region-args", "local-region", "main", "cycle")
 WIDTH = 110
 
 
@@ -66,7 +67,7 @@ class Report:
             return answer.name not in EARLY or answer.offset > offset
         if answer.name in EARLY or (answer.name == self.answer.name and answer.offset == offset):
             return False
-        return answer.offset > offset or answer.name != self.answer.name
+        return answer.offset > offset or self.answer.name in OF_ONE_NAME
 
     def edit(self, edit):
         line, column = self.source.place(edit.start)
@@ -94,26 +95,38 @@ class Report:
             ensure_ascii=True,
         )  # fmt: skip
 
-    def as_text(self, sentence, colours):
-        """The report for people."""
+    def as_text(self, sentences_of, colours):
+        """The report for people; the general sentences come where there is nothing better."""
         answer, bold, plain = self.answer, *(("\033[1m", "\033[0m") if colours else ("", ""))
         name = shown(self.source.name)
         if answer.accepted:
             return f"{name}: accepted\n"
         lines = [f"{bold}{name}:{answer.line}:{answer.column}: refused: {answer.name}{plain}"]
-        line, mark = marked(self.source, answer.line, answer.column)
-        lines += ["  " + line, "  " + mark, *wrapped(sentence, "")]
-        for entry in self.statements:
-            lines.append(f"  {bold}{entry['line']}:{entry['column']}{plain}  {entry['text']}")
-            lines += wrapped(entry["role"], "      ")
+        lines += ["  " + line for line in marked(self.source, answer.line, answer.column)]
+        if not self.says and self.mend is None:
+            lines += wrapped(sentences_of[0], "")
+        lines += self.statement_lines(bold, plain)
         for text in self.says:
             lines += wrapped(text, "")
         lines += self.mend_lines(bold, plain)
+        if self.mend is None:
+            lines += wrapped(sentences_of[1], "")
         confirmed = [entry for entry in self.tried if self.mend is None or entry["change"] != self.mend["text"]]
         if confirmed:
             lines.append("Tried:")
             lines += [f"  {shown(entry['change'])}: {entry['answer']}" for entry in confirmed]
         return "\n".join(lines) + "\n"
+
+    def statement_lines(self, bold, plain):
+        """Each statement once, with what it does."""
+        lines, last = [], None
+        for entry in self.statements:
+            here = (entry["line"], entry["column"], entry["text"])
+            if here != last:
+                lines.append(f"  {bold}{entry['line']}:{entry['column']}{plain}  {entry['text']}")
+            last = here
+            lines += wrapped(entry["role"], "      ")
+        return lines
 
     def mend_lines(self, bold, plain):
         """The mend with what it replaces."""

@@ -30,7 +30,7 @@ class Parser(Cursor):
         opened = self.take("{").start
         members = []
         while not self.took("}"):
-            members.append(self.member(name.text))
+            members.append(self.member())
         return self.closed(
             Node("class", start, name=name.text, name_at=name.start, params=params, constraints=constraints, parent=parent,
                  parent_at=parent_at, parent_args=parent_args, members=members, opened=opened)
@@ -111,7 +111,7 @@ class Parser(Cursor):
     def type(self):
         return self.suffixed(self.base())
 
-    def member(self, class_name):
+    def member(self):
         start = self.here()
         if self.peek() == "region" or (self.peek() == "atomic" and self.peek(1) == "region"):
             atomic = self.took("atomic")
@@ -119,7 +119,7 @@ class Parser(Cursor):
             names = self.listed(self.name)
             self.take(";")
             return self.closed(Node("regions", start, names=names, atomic=atomic))
-        if self.peek() == class_name and self.peek(1) == "(":
+        if self.kind() == "name" and self.peek(1) == "(":
             return self.method(start, [], [], None, True)
         params, constraints = self.params()
         if self.took("void"):

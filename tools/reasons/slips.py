@@ -1,0 +1,168 @@
+"""Slips of the grammar: a token too much, too little or misspelt, and a brace that isn't closed."""
+
+import re
+
+from .leaving import Edit
+from .source import KEYWORDS
+
+INSERTED = (";", ")", "}", "]", "(", "{", "=", ",", ">", "this.", "int", "0")
+TRIALS_AT_MOST = 60
+
+
+def slip_mend(report, expected, has_habit):
+    """Tries small changes at the place and before it; keeps the one after which the text is right the farthest."""
+    if has_habit:
+        return None
+    best = None
+    for text, edits, rank, *about in candidates(report, expected)[:TRIALS_AT_MOST]:
+        answer, offset = report.attempt(text, edits)
+        report.tried.pop()
+        if not report.is_gone(answer, offset):
+            continue
+        reach = float("inf") if answer.accepted or answer.name not in ("syntax", "number", "nest") else answer.offset - offset
+        if best is None or (reach, -rank) > best[0]:
+            best = ((reach, -rank), text, edits, about)
+    if best and report.mends(best[1], best[2]) and best[3]:
+        return best[3][0]
+    return None
+
+
+def candidates(report, expected):
+    """Changes with a word on each and a rank, the likely ones first."""
+    source, at = report.source, report.answer.offset
+    number = source.token_at(at)
+    tokens = source.tokens
+    found = []
+    found += missing_braces(source, number)
+    found += misspelt(source, number)
+    found += calls_without_object(source, number)
+    end = tokens[number - 1].end if number else 0
+    for rank, token in enumerate(INSERTED):
+        if token in expected or token == "this.":
+            place = end if token in (";", ")", "]", ",") or number == len(tokens) else tokens[number].start
+            gap = " " if token[0].isalnum() else ""
+            found.append((f"Put a `{token.strip()}` there.", [Edit(place, place, token + gap)], 3 + rank / 20))
+    if number < len(tokens):
+        here = tokens[number]
+        found.append((f"Leave the `{here.text}` out.", [Edit(here.start, here.end, "")], 4))
+        for token in expected:
+            if token in INSERTED:
+                found.append((f"Write `{token}`.", [Edit(here.start, here.end, token)], 5))
+    found += missing_parentheses(source, number)
+    found += extra_braces(source, number)
+    return sorted(found, key=lambda item: item[2])
+
+
+def misspelt(source, number):
+    """Names near the place that are nearly keywords."""
+    found = []
+    for token in source.tokens[max(0, number - 4) : number + 1]:
+        if token.kind != "name" or token.text in KEYWORDS:
+            continue
+        for keyword in sorted(KEYWORDS):
+            away = distance(token.text.lower(), keyword)
+            if away <= 2 and away * 2 < len(keyword):
+                text = f"Write `{keyword}` for `{token.text}`."
+                found.append((text, [Edit(token.start, token.end, keyword)], 1 + away / 10))
+    return found
+
+
+def distance(one, two):
+    """How many letters are put in, left out, changed, or swapped with their neighbour."""
+    rows = [list(range(len(two) + 1))]
+    for place, letter in enumerate(one, 1):
+        row = [place]
+        for other, wanted in enumerate(two, 1):
+            row.append(min(rows[-1][other] + 1, row[-1] + 1, rows[-1][other - 1] + (letter != wanted)))
+            if place > 1 and other > 1 and letter == two[other - 2] and one[place - 2] == wanted:
+                row[-1] = min(row[-1], rows[-2][other - 2] + 1)
+        rows.append(row)
+    return rows[-1][-1]
+
+
+def calls_without_object(source, number):
+    """`f(..)` for `this.f(..)`."""
+    tokens = source.tokens
+    if not 0 < number < len(tokens) or tokens[number].text != "(":
+        return []
+    name = tokens[number - 1]
+    if name.kind != "name" or name.text in KEYWORDS or (number > 1 and tokens[number - 2].text == "."):
+        return []
+    declared = re.search(rf"\b{re.escape(name.text)}\s*\([^()]*\)\s*(?:pure\b|reads\b|writes\b|\{{)", source.text)
+    text = f"A method is called on its object: `this.{name.text}(..)`."
+    return [(text, [Edit(name.start, name.start, "this.")], 0.5 if declared else 2.5)]
+
+
+def indent_of(source, offset):
+    """The blanks at the beginning of the line of an offset."""
+    line = source.line(source.place(offset)[0])
+    return len(line) - len(line.lstrip())
+
+
+def open_braces(source, number):
+    """The tokens `{` that are open before a token."""
+    waiting = []
+    for token in source.tokens[:number]:
+        if token.text == "{":
+            waiting.append(token)
+        elif token.text == "}" and waiting:
+            waiting.pop()
+    return waiting
+
+
+def missing_braces(source, number):
+    """Braces that indentation says are missing, before the place."""
+    found, waiting, last_line = [], [], 0
+    for token in source.tokens[: number + 1]:
+        line = source.place(token.start)[0]
+        if line != last_line and token.text != "}":
+            while waiting and source.place(waiting[-1].start)[0] < line and indent_of(source, token.start) <= indent_of(source, waiting[-1].start):
+                found.append(brace_before(source, token, waiting.pop()))
+        last_line = line
+        if token.text == "{":
+            waiting.append(token)
+        elif token.text == "}" and waiting:
+            opened = waiting.pop()
+            if waiting and starts_line(source, token) and indent_of(source, token.start) < indent_of(source, opened.start):
+                found.append(brace_before(source, token, opened))
+    if number >= len(source.tokens) and source.tokens:
+        end = source.tokens[-1].end
+        count = len(open_braces(source, number))
+        if count:
+            opened = open_braces(source, number)[-1]
+            found.append((f"Close what is open: {count} `}}` at the end.", [Edit(end, end, "\n" + "}" * count)], 1.9, opened.start))
+    return found
+
+
+def starts_line(source, token):
+    return not source.text[source.starts[source.place(token.start)[0] - 1] : token.start].strip()
+
+
+def brace_before(source, token, opened):
+    """A brace in a line of its own before the line of a token."""
+    line = source.place(token.start)[0]
+    place = source.tokens[source.token_at(source.starts[line - 1]) - 1].end
+    at = "{}:{}".format(*source.place(opened.start))
+    edit = Edit(place, place, "\n" + " " * indent_of(source, opened.start) + "}")
+    return f"Close the `{{` of {at}, by the look of the lines before line {line}.", [edit], 0.2, opened.start
+
+
+def missing_parentheses(source, number):
+    """A condition that isn't in parentheses."""
+    tokens = source.tokens
+    if not 0 < number < len(tokens) or tokens[number - 1].text not in ("if", "while"):
+        return []
+    found = []
+    for other in range(number + 1, min(number + 14, len(tokens))):
+        edits = [Edit(tokens[number].start, tokens[number].start, "("), Edit(tokens[other].start, tokens[other].start, ") ")]
+        found.append(("Put the condition in parentheses.", edits, 1 + other / 1000))
+    return found
+
+
+def extra_braces(source, number):
+    """A brace that closes too much."""
+    found = []
+    for token in source.tokens[max(0, number - 60) : number + 1]:
+        if token.text == "}":
+            found.append(("Leave this `}` out.", [Edit(token.start, token.end, "")], 4.5 - token.start / (10 * len(source.text))))
+    return found

@@ -1,0 +1,164 @@
+"""Why a text isn't one of the grammar: what stands there, what may, and the habit or the slip behind it."""
+
+
+from .habits import HABITS
+from .leaving import Edit
+from .slips import slip_mend
+from .source import TOKEN
+
+WINDOW = 2000
+STATEMENT = ("if", "while", "return", "print", "cobegin", "foreach", "int", "{", "final", "boolean")
+EXPRESSION = ("true", "1", "this", "new", "(", "-", "!", "x", "null")
+OPERATORS = ("%", "*", "/", "+", "-", "<", "==", "&&", "||")
+OTHERS = ("x", '"t"', "class", "extends", "region", "in", "reads", "writes", "pure", "void", "int", "atomic", "else", "Root", "new", "[", "]", "(", ")")
+OTHERS += ("{", "}", "<", ">", ".", ",", ";", ":", "=", "#", "|", "*", "1")
+GROUPS = (("a statement", STATEMENT), ("an expression", EXPRESSION), ("an operator", OPERATORS))
+
+
+def explain(report, brief=False):
+    """Fills in a report on `syntax` or `number`."""
+    source, at = report.source, report.answer.offset
+    plain = without_comments(source.text)
+    habit = find_habit(report, plain, at)
+    opened = None
+    if report.mend is None:
+        opened = slip_mend(report, expected_tokens(report) if not habit else [], habit is not None)
+    if opened is not None:
+        report.name(*statement_around(source, opened), "its `{` isn't closed")
+    else:
+        name_statement(report, at, habit)
+    say_what_stands(report, brief)
+
+
+def without_comments(text):
+    """The text with blanks in place of its comments."""
+    made = list(text)
+    for match in TOKEN.finditer(text):
+        if match.lastgroup == "blank":
+            made[match.start() : match.end()] = [letter if letter.isspace() else " " for letter in match.group()]
+    return "".join(made)
+
+
+def matches(plain, at):
+    """The habits whose pattern holds a place, with their matches, in the order of the table."""
+    low, high = max(0, at - WINDOW), min(len(plain), at + WINDOW)
+    for habit in HABITS:
+        for match in habit.pattern.finditer(plain, low, high):
+            if match.start() <= at <= match.end():
+                yield habit, match
+                break
+            if match.start() > at:
+                break
+
+
+def edits_of(habit, match, source):
+    """The edits of a habit's mend."""
+    if habit.mend is None:
+        return None
+    if callable(habit.mend):
+        return habit.mend(match, source)
+    return [Edit(match.start(), match.end(), match.expand(habit.mend))]
+
+
+def find_habit(report, plain, at):
+    """The first habit whose mend helps, or else the first one without a mend; what it says is said."""
+    silent = None
+    for habit, match in matches(plain, at):
+        edits = edits_of(habit, match, report.source)
+        if edits is None:
+            silent = silent or (habit, match)
+            if habit.mend is None:
+                break
+            continue
+        if report.mends(mend_text(edits, report.source), edits, quiet=True):
+            report.say(habit.says)
+            return habit
+    if silent:
+        report.say(silent[0].says)
+    return silent[0] if silent else None
+
+
+def mend_text(edits, source):
+    """What a mend of a habit does, in a word."""
+    if all(not edit.new.strip() for edit in edits):
+        return "Leave it out."
+    return "Write it without." if not any(source.text[edit.start : edit.end] for edit in edits) else "Write instead:"
+
+
+def statement_around(source, at):
+    """The span of the statement or declaration that holds an offset, as far as tokens tell."""
+    tokens = source.tokens
+    if not tokens:
+        return 0, 0
+    here = min(source.token_at(at), len(tokens) - 1)
+    first = here
+    while first > 0 and tokens[first - 1].text not in (";", "{", "}"):
+        first -= 1
+    last = here
+    while last < len(tokens) - 1 and tokens[last].text not in (";", "{", "}"):
+        last += 1
+    if tokens[last].text in ("{", "}") and last > first:
+        last -= 1
+    return tokens[first].start, tokens[last].end
+
+
+def name_statement(report, at, habit):
+    """Names the statement that a person has to change: that of the mend, or of the place."""
+    source = report.source
+    where = at
+    if report.mend is not None:
+        where = source.offset(report.mend["line"], report.mend["column"])
+        if not report.mend["old"].strip() and where > 0 and source.text[where - 1 : where] not in (";", "{", "}", " ", "\n"):
+            where -= 1
+    elif at >= len(source.text):
+        where = source.tokens[-1].start if source.tokens else 0
+    start, end = statement_around(source, where)
+    if report.mend is not None and not report.mend["old"].strip() and where < at < end:
+        end = where + 1
+    role = "here" if start <= at < end or habit else "here, though it's noticed only at what follows"
+    report.name(start, end, role)
+
+
+def expected_tokens(report):
+    """The tokens with which the text may go on at the place, each asked; of a group of tokens only the first one is."""
+    prefix = report.source.text[: report.answer.offset] + " "
+
+    def fits(sample):
+        answer = report.asker.check(prefix + sample)
+        return answer.accepted or answer.offset > len(prefix) or answer.name not in ("syntax", "number", "nest")
+
+    found = []
+    for _, samples in GROUPS:
+        if samples[0] not in found and fits(samples[0]):
+            found += samples
+    return found + [sample for sample in OTHERS if sample not in found and fits(sample)]
+
+
+def say_what_stands(report, brief):
+    """What stands at the place, and what may."""
+    source, at = report.source, report.answer.offset
+    number = source.token_at(at)
+    stands = f"`{source.tokens[number].text}`" if number < len(source.tokens) else "the end of the text"
+    if at == 0 and source.text.startswith("\xef\xbb\xbf"):
+        stands = "a byte order mark"
+    before = f" after `{source.tokens[number - 1].text}`" if 0 < number <= len(source.tokens) else ""
+    if brief:
+        return
+    found = expected_tokens(report)
+    if found:
+        report.say(f"There stands {stands}{before}; there may stand {listed(found)}.")
+
+
+def listed(samples):
+    """Tokens in few words."""
+    words, left = [], list(samples)
+    for name, group in GROUPS:
+        if set(group) <= set(left) and not (name == "an expression" and "a statement" in words):
+            words.append(name)
+        if set(group) <= set(samples):
+            left = [sample for sample in left if sample not in group]
+    names = {"x": "a name", "1": "a number", '"t"': "a text"}
+    if "a statement" in words:
+        left = [sample for sample in left if sample not in ("x", "region", "atomic", "<")]
+    words += [names.get(sample, f"`{sample}`") for sample in left]
+    return words[0] if len(words) == 1 else ", ".join(words[:-1]) + " or " + words[-1]
