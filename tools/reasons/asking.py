@@ -43,11 +43,14 @@ class Asker:
     def check(self, text):
         """The answer to a text, with the offset of its place."""
         if text not in self.known:
-            if self.left <= 0 or time.monotonic() > self.end:
+            if self.left <= 0 or self.is_late():
                 raise Spent
             self.left -= 1
             self.known[text] = self.asked(text)
         return self.known[text]
+
+    def is_late(self):
+        return time.monotonic() > self.end
 
     def asked(self, text):
         """The answer of the program itself."""

@@ -7,14 +7,16 @@ from .source import KEYWORDS
 
 INSERTED = (";", ")", "}", "]", "(", "{", "=", ",", ">", "this.", "int", "0")
 TRIALS_AT_MOST = 60
+LIKELY = 2.5
 
 
-def slip_mend(report, expected, has_habit):
+def slip_mend(report, has_habit):
     """Tries small changes at the place and before it; keeps the one after which the text is right the farthest."""
     if has_habit:
         return None
     best = None
-    for text, edits, rank, *about in candidates(report, expected)[:TRIALS_AT_MOST]:
+    lines_here = report.source.place(report.answer.offset)[0]
+    for text, edits, rank, *about in candidates(report)[:TRIALS_AT_MOST]:
         answer, offset = report.attempt(text, edits)
         report.tried.pop()
         if not report.is_gone(answer, offset):
@@ -22,12 +24,14 @@ def slip_mend(report, expected, has_habit):
         reach = float("inf") if answer.accepted or answer.name not in ("syntax", "number", "nest") else answer.offset - offset
         if best is None or (reach, -rank) > best[0]:
             best = ((reach, -rank), text, edits, about)
+        if reach == float("inf") or (rank < LIKELY and answer.line >= lines_here + 2):
+            break
     if best and report.mends(best[1], best[2]) and best[3]:
         return best[3][0]
     return None
 
 
-def candidates(report, expected):
+def candidates(report):
     """Changes with a word on each and a rank, the likely ones first."""
     source, at = report.source, report.answer.offset
     number = source.token_at(at)
@@ -38,16 +42,13 @@ def candidates(report, expected):
     found += calls_without_object(source, number)
     end = tokens[number - 1].end if number else 0
     for rank, token in enumerate(INSERTED):
-        if token in expected or token == "this.":
-            place = end if token in (";", ")", "]", ",") or number == len(tokens) else tokens[number].start
-            gap = " " if token[0].isalnum() else ""
-            found.append((f"Put a `{token.strip()}` there.", [Edit(place, place, token + gap)], 3 + rank / 20))
+        place = end if token in (";", ")", "]", ",") or number == len(tokens) else tokens[number].start
+        gap = " " if token[0].isalnum() and token[-1] != "." else ""
+        found.append((f"Put a `{token.strip()}` there.", [Edit(place, place, token + gap)], 3 + rank / 20))
     if number < len(tokens):
         here = tokens[number]
         found.append((f"Leave the `{here.text}` out.", [Edit(here.start, here.end, "")], 4))
-        for token in expected:
-            if token in INSERTED:
-                found.append((f"Write `{token}`.", [Edit(here.start, here.end, token)], 5))
+        found += [(f"Write `{token}`.", [Edit(here.start, here.end, token)], 5) for token in INSERTED]
     found += missing_parentheses(source, number)
     found += extra_braces(source, number)
     return sorted(found, key=lambda item: item[2])

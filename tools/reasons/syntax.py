@@ -22,7 +22,7 @@ def explain(report, brief=False):
     habit = find_habit(report, plain, at)
     opened = None
     if report.mend is None:
-        opened = slip_mend(report, expected_tokens(report) if not habit else [], habit is not None)
+        opened = slip_mend(report, habit is not None)
     if opened is not None:
         report.name(*statement_around(source, opened), "its `{` isn't closed")
     else:
@@ -160,5 +160,7 @@ def listed(samples):
     names = {"x": "a name", "1": "a number", '"t"': "a text"}
     if "a statement" in words:
         left = [sample for sample in left if sample not in ("x", "region", "atomic", "<")]
+    if "an operator" in words:
+        left = [sample for sample in left if sample not in ("[", ".", "<", ">")]
     words += [names.get(sample, f"`{sample}`") for sample in left]
     return words[0] if len(words) == 1 else ", ".join(words[:-1]) + " or " + words[-1]
