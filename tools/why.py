@@ -26,6 +26,7 @@ from reasons.source import read, shown
 
 TOP = os.path.dirname(os.path.dirname(os.path.abspath(__file__)))
 FLAGS = ("--json", "--brief")
+BRIEF_SECONDS = 0.4
 
 
 def main(words):
@@ -45,7 +46,7 @@ def main(words):
     except OSError as fault:
         print(f"why: {shown(path)} can't be read: {fault.strerror}", file=sys.stderr)
         return 5
-    asker = Asker(program, 60 if brief else 400, 0.35 if brief else 10.0)
+    asker = Asker(program, 60 if brief else 400, BRIEF_SECONDS if brief else 10.0)
     try:
         report = explain(source, asker, brief)
     except NoAnswer as fault:

@@ -1,30 +1,34 @@
 """From a refusal to its report."""
 
-from . import branches, covers, kinds, locals, names, others, syntax
+import importlib
+
 from .asking import Spent
 from .leaving import Edit
 from .nodes import NoTree
 from .report import Report
+from .source import statement_around
 from .tree import parse
 from .world import World
 
 BY_NAME = {
-    "interferes": branches.explain,
-    "interferes-nd": branches.explain,
-    "summary": covers.explain_summary,
-    "override-effect": covers.explain_override,
-    "unknown": names.explain_unknown,
-    "duplicate": names.explain_duplicate,
-    "type": kinds.explain,
-    "assign": locals.explain_assign,
-    "return": locals.explain_return,
-    "main": others.explain_main,
-    "region-args": others.explain_region_args,
-    "partial-write": others.explain_partial_write,
-    "atomic-body": others.explain_atomic_body,
-    "override": others.explain_override,
-    "cycle": others.explain_cycle,
-    "constraint": others.explain_constraint,
+    "syntax": ("syntax", "explain"),
+    "nest": ("syntax", "explain"),
+    "interferes": ("branches", "explain"),
+    "interferes-nd": ("branches", "explain"),
+    "summary": ("covers", "explain_summary"),
+    "override-effect": ("covers", "explain_override"),
+    "unknown": ("names", "explain_unknown"),
+    "duplicate": ("names", "explain_duplicate"),
+    "type": ("kinds", "explain"),
+    "assign": ("locals", "explain_assign"),
+    "return": ("locals", "explain_return"),
+    "main": ("others", "explain_main"),
+    "region-args": ("others", "explain_region_args"),
+    "partial-write": ("others", "explain_partial_write"),
+    "atomic-body": ("others", "explain_atomic_body"),
+    "override": ("others", "explain_override"),
+    "cycle": ("others", "explain_cycle"),
+    "constraint": ("others", "explain_constraint"),
 }
 LEAST = "2147483648"
 
@@ -37,30 +41,31 @@ def explain(source, asker, brief=False):
     try:
         by_name(report, brief)
     except Spent:
-        report.say("The questions or the time that were granted are used up; there may be more to say.")
+        if not brief:
+            report.say("The questions or the time that were granted are used up; there may be more to say.")
     except NoTree:
-        others.explain_place(report, None)
+        pass
+    if not report.statements:
+        report.name(*statement_around(source, report.answer.offset), "here")
     return report
 
 
 def by_name(report, brief):
-    """Fills in a report by the name of the refusal."""
-    if report.answer.name in ("syntax", "nest"):
-        syntax.explain(report, brief)
-    elif report.answer.name == "number":
+    """Fills in a report by the name of the refusal; a module is loaded when it is asked for, since the table of habits takes its time."""
+    name = report.answer.name
+    if name == "number":
         number(report)
-    elif report.answer.name == "too-long":
-        report.name(0, 0, "the whole text")
-    else:
-        form = BY_NAME.get(report.answer.name, others.explain_place)
-        form(report, World(parse(report.source.text)))
+    elif name in BY_NAME:
+        module, form = BY_NAME[name]
+        explain_it = getattr(importlib.import_module(f"{__package__}.{module}"), form)
+        explain_it(report, brief if module == "syntax" else World(parse(report.source.text)))
 
 
 def number(report):
     """A literal that is too great or begins with 0."""
     source = report.source
     token = source.tokens[source.token_at(report.answer.offset)]
-    start, end = syntax.statement_around(source, token.start)
+    start, end = statement_around(source, token.start)
     report.name(start, end, f"`{token.text}` is no int literal")
     before = source.text[: token.start].rstrip()
     if token.text == LEAST and before.endswith("-"):

@@ -168,35 +168,3 @@ class Renamed:
 
     def start(self, *name):
         return self.match.start(*name)
-
-
-NAMES_OF_JAVA = {
-    "String": ("There is no String: a text is a literal that is printed, `print(\"..\")`. Number what is to be told apart.", None),
-    "long": ("There is no `long`; an int has 32 bits, and sums, differences and products wrap around.", "int"),
-    "short": ("There is no `short`.", "int"),
-    "byte": ("There is no `byte`.", "int"),
-    "char": ("There are no characters, but numbers.", "int"),
-    "double": ("There is no floating point. Count in fixed parts, say thousandths.", "int"),
-    "float": ("There is no floating point. Count in fixed parts, say thousandths.", "int"),
-    "Integer": ("There is no class Integer; an int is no object.", "int"),
-    "bool": ("The type is written `boolean`.", "boolean"),
-    "Boolean": ("There is no class Boolean; a boolean is no object.", "boolean"),
-    "var": ("A local is declared with its type.", "int"),
-    "let": ("A local is declared with its type.", "int"),
-    "auto": ("A local is declared with its type.", "int"),
-    "Object": ("There is no class above all others. A class `Object` may be declared.", None),
-    "List": ("There is no library. A list is a class with a link to the next one, or an array.", None),
-    "ArrayList": ("There is no library. A list is a class with a link to the next one, or an array.", None),
-    "Map": ("There is no library.", None),
-    "HashMap": ("There is no library.", None),
-    "Math": ("There is no library. Write the method, as `int max(int a, int b) pure { if (a > b) return a; return b; }`.", None),
-    "System": ("There is no library. What is printed is an int, a boolean or a text: `print(e);`.", None),
-    "Random": ("There is no library, and no random number but one that a program makes itself.", None),
-    "Thread": ("There are no threads to be made: `cobegin` and `foreach` run branches side by side.", None),
-    "super": ("There is no `super`. A method that a subclass needs beside its own has a name of its own.", "this"),
-    "static": ("There is no `static`: everything belongs to an object.", ""),
-    "public": ("There is no `public`: everything is visible.", ""),
-    "private": ("There is no `private`: everything is visible.", ""),
-    "protected": ("There is no `protected`: everything is visible.", ""),
-    "abstract": ("There is no `abstract`.", ""),
-}  # fmt: skip

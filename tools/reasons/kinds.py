@@ -4,7 +4,7 @@ import itertools
 
 from .branches import method_at
 from .leaving import Edit, instead
-from .syntax import statement_around
+from .source import statement_around
 from .typed import Body
 from .world import BOOLEAN, INT, default_of, heads_of, put_in_type
 
@@ -211,7 +211,8 @@ class Asked:
         formals = [(formal.name, put_in_type(self.world.type(formal.type, owner.name, heads), given)) for formal in method.formals]
         shown = ", ".join(f"{self.shown(its_type)} {formal}" for formal, its_type in formals)
         if len(formals) != len(node.actuals):
-            self.report.say(f"{name} takes {len(formals)} actual{'s' * (len(formals) != 1)} ({shown}); here it gets {len(node.actuals)}.")
+            takes = f"{len(formals)} actual{'s' * (len(formals) != 1)} ({shown})" if formals else "no actuals"
+            self.report.say(f"{name} takes {takes}; here it gets {len(node.actuals)}.")
             self.report.name(method.start, method.body.start, "the declaration")
             return True
         for actual, (formal, its_type) in zip(node.actuals, formals):

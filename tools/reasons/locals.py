@@ -2,7 +2,7 @@
 
 from .branches import method_at
 from .leaving import Edit, instead, is_around, quiet
-from .syntax import statement_around
+from .source import statement_around
 from .typed import Body
 from .world import default_of
 

@@ -3,7 +3,7 @@
 from .alone import summary_for, summary_text
 from .leaving import Edit, instead
 from .typed import Body
-from .world import heads_of, is_named
+from .world import default_of, heads_of, is_named
 
 
 def branch_mends(report, found):
@@ -216,7 +216,10 @@ def atomic_blocks(report, found):
     plain = [access for access in dict.fromkeys(found.pair) if not access.marked]
     edits = []
     for statement in dict.fromkeys(access.statement for access in plain):
-        if statement.kind == "local" or "then" in statement.parts or "body" in statement.parts:
+        if "then" in statement.parts or "body" in statement.parts:
+            continue
+        if statement.kind == "local":
+            edits += declared_before(statement, found)
             continue
         edits += [Edit(statement.start, statement.start, "atomic { "), Edit(statement.end, statement.end, " }")]
     declared = [edit for access in dict.fromkeys(found.pair) for edit in made_atomic(found, access)]
@@ -230,8 +233,15 @@ def atomic_blocks(report, found):
         report.say(f"{found.region(found.pair[0])} isn't an atomic region.")
     declared = list(dict.fromkeys(declared))
     if edits + declared:
-        return report.mends(" and ".join(what).capitalize() + ".", edits + declared)
+        text = " and ".join(what) + "."
+        return report.mends(text[0].upper() + text[1:], edits + declared)
     return False
+
+
+def declared_before(node, found):
+    """Edits by which a local gets its value in an atomic block after its declaration."""
+    value = found.text[node.value.start : node.value.end]
+    return [instead(node.value, default_of(found.body.type(node.type))), Edit(node.end, node.end, f" atomic {{ {node.name} = {value}; }}")]
 
 
 def made_atomic(found, access):

@@ -1,10 +1,11 @@
 """Names that aren't declared, or twice: the nearest names in scope, each tried."""
 
+import re
+
 from .branches import method_at
-from .habits import NAMES_OF_JAVA
+from .java_names import NAMES_OF_JAVA
 from .leaving import Edit, is_around
-from .slips import distance
-from .syntax import find_habit, statement_around, without_comments
+from .source import statement_around, without_comments
 from .typed import Body
 from .world import heads_of
 
@@ -28,8 +29,7 @@ def explain_unknown(report, world):
     name_here(report, f"`{token.text}` isn't declared")
     if token.text in NAMES_OF_JAVA and token.text not in world.classes:
         says, instead = NAMES_OF_JAVA[token.text]
-        habit = find_habit(report, without_comments(report.source.text), report.answer.offset) if token.text == "System" else None
-        if not habit:
+        if token.text != "System" or not println(report):
             report.say(says)
         if report.mend is None and instead is not None:
             what = f"Write `{instead}`." if instead else "Leave it out."
@@ -41,14 +41,35 @@ def explain_unknown(report, world):
             return
 
 
+def println(report):
+    """`System.out.println(..)` and its like, by the table of habits."""
+    from .syntax import find_habit
+
+    return find_habit(report, without_comments(report.source.text), report.answer.offset)
+
+
 def near(name, others):
     """Names that are nearly the same, the nearest first."""
-    found = []
+    found, plain = [], name.lower().replace("_", "")
     for other in dict.fromkeys(others):
-        away = distance(name.lower(), other.lower())
-        if other != name and (away <= max(1, len(name) // 3) or other.lower().replace("_", "") == name.lower().replace("_", "")):
+        away, shorter = distance(name.lower(), other.lower()), min(len(name), len(other))
+        is_short = len(plain) > 1 and re.match(".*".join(map(re.escape, plain)), other.lower()) and other[0].lower() == plain[0]
+        if other != name and (away <= max(1, len(name) // 3) and away < shorter or is_short or other.lower().replace("_", "") == plain):
             found.append((away, other))
     return [other for _, other in sorted(found)]
+
+
+def distance(one, two):
+    """How many letters are put in, left out, changed, or swapped with their neighbour."""
+    rows = [list(range(len(two) + 1))]
+    for place, letter in enumerate(one, 1):
+        row = [place]
+        for other, wanted in enumerate(two, 1):
+            row.append(min(rows[-1][other] + 1, row[-1] + 1, rows[-1][other - 1] + (letter != wanted)))
+            if place > 1 and other > 1 and letter == two[other - 2] and one[place - 2] == wanted:
+                row[-1] = min(row[-1], rows[-2][other - 2] + 1)
+        rows.append(row)
+    return rows[-1][-1]
 
 
 class Place:
@@ -154,7 +175,7 @@ class Place:
         ]
         if len(places) < 2:
             return []
-        edits = [Edit(place, place, "this.") for place in places]
+        edits = [Edit(place, place + len(name), f"this.{name}") for place in places]
         return [(f"Write `this.{name}` for `{name}`, {len(places)} times.", edits)]
 
     def of_class(self):

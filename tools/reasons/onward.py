@@ -7,7 +7,7 @@ from .leaving import Edit, applied, headers_of, instead, is_around, quiet
 from .nodes import NoTree
 from .report import EARLY
 from .rewrites import closing
-from .syntax import statement_around
+from .source import statement_around
 from .tree import parse
 from .world import World, default_of
 

@@ -2,7 +2,7 @@
 
 from .branches import method_at
 from .leaving import Edit, instead, is_around
-from .syntax import statement_around
+from .source import statement_around
 from .typed import Body
 
 
@@ -231,8 +231,3 @@ def explain_constraint(report, world):
             listed = ", ".join(report.source.text[part.start : part.end] for part in owner.constraints)
             report.name(owner.start, owner.opened, f"asks that {listed}")
             return
-
-
-def explain_place(report, _):
-    """Fills in a report of which no more is known than the place."""
-    around(report, "here")

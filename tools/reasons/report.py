@@ -11,6 +11,7 @@ from .source import marked, shown
 EARLY = ("too-long", "syntax", "number", "nest")
 OF_ONE_NAME = ("unknown", "duplicate", "type", "region-args", "local-region", "main", "cycle")
 WIDTH = 110
+EDITS_AT_MOST = 6
 
 
 class Report:
@@ -56,7 +57,7 @@ class Report:
             if quiet:
                 self.tried.pop()
             return False
-        self.mend = {"text": text, **self.covering(edits), "answer": str(answer)}
+        self.mend = {"text": text, **self.covering(edits), "answer": str(answer), "edits": [self.edit(edit) for edit in sorted(edits)]}
         return True
 
     def is_gone(self, answer, offset):
@@ -132,21 +133,31 @@ class Report:
         """The mend with what it replaces."""
         if self.mend is None:
             return []
-        mend = self.mend
-        lines = wrapped(f"{bold}Mend:{plain} {mend['text']}", "", "  ")
-        at = f"{mend['line']}:{mend['column']}"
-        old, new = (shown(mend[key].encode("utf-8").decode("latin-1")) for key in ("old", "new"))
-        what = f"`{new}` in place of `{old}`" if old and new else f"`{new}` put in" if new else f"`{old}` left out"
-        answer = mend["answer"]
-        after = "with it the text is accepted" if answer == "accepted" else f"with it the next fault is: {answer}"
-        return lines + wrapped(f"at {at} {what}: {after}", "  ")
+        lines = wrapped(f"{bold}Mend:{plain} {self.mend['text']}", "", "  ")
+        for edit in self.mend["edits"][:EDITS_AT_MOST]:
+            lines += wrapped(f"{edit['line']}:{edit['column']}  {change_of(edit)}", "  ", "        ")
+        if len(self.mend["edits"]) > EDITS_AT_MOST:
+            lines.append("  ..")
+        answer = self.mend["answer"]
+        lines.append("  With it the text is accepted." if answer == "accepted" else f"  With it the next fault is: {answer}")
+        return lines
 
     def as_brief(self):
-        """The statements, the first sentence and the mend, for a terminal that shows the refusal already."""
-        lines = [f"  {entry['line']}:{entry['column']}  {entry['text']}: {entry['role']}" for entry in self.statements[:2]]
-        lines += [f"  {text}" for text in self.says[:1]]
-        lines += ["  " + line.strip() for line in self.mend_lines("", "")[:3]]
-        return "".join(cut(line) + "\n" for line in lines[:6])
+        """The statements, the first sentence and the mend in at most six lines, for a terminal that shows the refusal already."""
+        lines = [f"{entry['line']}:{entry['column']}  {entry['text']}  ({entry['role']})" for entry in self.statements[:2]]
+        if self.statements and self.statements[0]["role"] == "here":
+            lines = []
+        lines += self.says[:1]
+        lines += [line.strip() for line in self.mend_lines("", "")[:3]]
+        return "".join("  " + cut(line) + "\n" for line in lines[:6])
+
+
+def change_of(edit):
+    """An edit in words."""
+    old, new = (shown(edit[key].encode("utf-8").decode("latin-1")) for key in ("old", "new"))
+    if old and new:
+        return f"`{new}` in place of `{old}`"
+    return f"`{new}` put in" if new else f"`{old}` left out"
 
 
 def utf8(text):
@@ -187,4 +198,5 @@ def section(body):
     pieces = [piece for piece in re.split(r"```.*?```", body, flags=re.S)]
     paragraphs = [" ".join(piece.split()) for piece in pieces if piece.strip()]
     first = re.split(r"(?<=[.;]) ", paragraphs[0], maxsplit=1)[0]
-    return first, paragraphs[1] if len(paragraphs) > 1 else ""
+    mend = paragraphs[1] if len(paragraphs) > 1 else ""
+    return first, mend[:-1] + "." if mend.endswith(":") else mend

@@ -3,6 +3,7 @@
 import re
 
 from .leaving import Edit
+from .names import distance
 from .source import KEYWORDS
 
 INSERTED = (";", ")", "}", "]", "(", "{", "=", ",", ">", "this.", "int", "0")
@@ -66,19 +67,6 @@ def misspelt(source, number):
                 text = f"Write `{keyword}` for `{token.text}`."
                 found.append((text, [Edit(token.start, token.end, keyword)], 1 + away / 10))
     return found
-
-
-def distance(one, two):
-    """How many letters are put in, left out, changed, or swapped with their neighbour."""
-    rows = [list(range(len(two) + 1))]
-    for place, letter in enumerate(one, 1):
-        row = [place]
-        for other, wanted in enumerate(two, 1):
-            row.append(min(rows[-1][other] + 1, row[-1] + 1, rows[-1][other - 1] + (letter != wanted)))
-            if place > 1 and other > 1 and letter == two[other - 2] and one[place - 2] == wanted:
-                row[-1] = min(row[-1], rows[-2][other - 2] + 1)
-        rows.append(row)
-    return rows[-1][-1]
 
 
 def calls_without_object(source, number):

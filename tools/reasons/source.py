@@ -108,3 +108,29 @@ def show_letter(letter):
     if letter in "\t\f":
         return " "
     return letter if letter.isprintable() else "?"
+
+
+def statement_around(source, at):
+    """The span of the statement or declaration that holds an offset, as far as tokens tell."""
+    tokens = source.tokens
+    if not tokens:
+        return 0, 0
+    here = min(source.token_at(at), len(tokens) - 1)
+    first = here
+    while first > 0 and tokens[first - 1].text not in (";", "{", "}"):
+        first -= 1
+    last = here
+    while last < len(tokens) - 1 and tokens[last].text not in (";", "{", "}"):
+        last += 1
+    if tokens[last].text in ("{", "}") and last > first:
+        last -= 1
+    return tokens[first].start, tokens[last].end
+
+
+def without_comments(text):
+    """The text with blanks in place of its comments."""
+    made = list(text)
+    for match in TOKEN.finditer(text):
+        if match.lastgroup == "blank":
+            made[match.start() : match.end()] = [letter if letter.isspace() else " " for letter in match.group()]
+    return "".join(made)

@@ -4,7 +4,7 @@
 from .habits import HABITS
 from .leaving import Edit
 from .slips import slip_mend
-from .source import TOKEN
+from .source import statement_around, without_comments
 
 WINDOW = 2000
 STATEMENT = ("if", "while", "return", "print", "cobegin", "foreach", "int", "{", "final", "boolean")
@@ -28,15 +28,6 @@ def explain(report, brief=False):
     else:
         name_statement(report, at, habit)
     say_what_stands(report, brief)
-
-
-def without_comments(text):
-    """The text with blanks in place of its comments."""
-    made = list(text)
-    for match in TOKEN.finditer(text):
-        if match.lastgroup == "blank":
-            made[match.start() : match.end()] = [letter if letter.isspace() else " " for letter in match.group()]
-    return "".join(made)
 
 
 def matches(plain, at):
@@ -85,23 +76,6 @@ def mend_text(edits, source):
     return "Write it without." if not any(source.text[edit.start : edit.end] for edit in edits) else "Write instead:"
 
 
-def statement_around(source, at):
-    """The span of the statement or declaration that holds an offset, as far as tokens tell."""
-    tokens = source.tokens
-    if not tokens:
-        return 0, 0
-    here = min(source.token_at(at), len(tokens) - 1)
-    first = here
-    while first > 0 and tokens[first - 1].text not in (";", "{", "}"):
-        first -= 1
-    last = here
-    while last < len(tokens) - 1 and tokens[last].text not in (";", "{", "}"):
-        last += 1
-    if tokens[last].text in ("{", "}") and last > first:
-        last -= 1
-    return tokens[first].start, tokens[last].end
-
-
 def name_statement(report, at, habit):
     """Names the statement that a person has to change: that of the mend, or of the place."""
     source = report.source
@@ -137,16 +111,17 @@ def expected_tokens(report):
 def say_what_stands(report, brief):
     """What stands at the place, and what may."""
     source, at = report.source, report.answer.offset
+    if at == 0 and source.text.startswith("\xef\xbb\xbf"):
+        return
     number = source.token_at(at)
     stands = f"`{source.tokens[number].text}`" if number < len(source.tokens) else "the end of the text"
-    if at == 0 and source.text.startswith("\xef\xbb\xbf"):
-        stands = "a byte order mark"
     before = f" after `{source.tokens[number - 1].text}`" if 0 < number <= len(source.tokens) else ""
     if brief:
+        if not report.says:
+            report.say(f"There stands {stands}{before}.")
         return
     found = expected_tokens(report)
-    if found:
-        report.say(f"There stands {stands}{before}; there may stand {listed(found)}.")
+    report.say(f"There stands {stands}{before}" + (f"; there may stand {listed(found)}." if found else "."))
 
 
 def listed(samples):
