@@ -33,6 +33,15 @@ def row(name, pattern, says, mend=None):
 HABITS = [
     row("byte-order-mark", r"\A\xef\xbb\xbf", "The text begins with a byte order mark, three bytes that some editors put there and don't show."
         " Save it as UTF-8 without one.", ""),
+    row("open-comment", r"/\*(?!.*\*/)", "A comment `/*` goes on to the next `*/`, and this one has none.", None),
+    row("open-literal", r"\"(?:\\[^\n]|[^\"\\\n])*(?=\n|\Z)\n?", "A text literal ends on its line, with a `\"`.", rewrites.close_literal),
+    row("escape", r"\\[^nt\"\\]", "In a text literal `\\` stands before `n`, `t`, `\"` or another `\\`.", lambda match, _: [
+        rewrites.Edit(match.start(), match.start(), "\\")]),
+    row("blank", r"\xc2\xa0|\xe2\x80[\x80-\x8f\xaf]|\xef\xbb\xbf", "Here stands a blank or mark that isn't ASCII, and looks like a blank or like nothing.",
+        " "),
+    row("quotes", r"\xe2\x80[\x9c-\x9f]", "Here stands a quotation mark as in print; a text literal is written between `\"`.", '"'),
+    row("dash", r"\xe2\x80[\x90-\x95]|\xe2\x88\x92", "Here stands a dash as in print; a minus is `-`.", "-"),
+    row("not-ascii", r"[\x80-\xff]+", "Outside of comments and text literals a text is ASCII, names as well.", None),
     row("import", r"\b(?:import|package)\b[^;{}]*;", "There are no packages and no library: a program is one text with all its classes.", ""),
     row("annotation", r"@\s*\w+(?:\s*\([^()]*\))?", "There are no annotations.", ""),
     row("implements", r"\bimplements\b[^{]*(?=\{)", "There are no interfaces; a class may extend one class.", ""),
@@ -51,7 +60,7 @@ HABITS = [
     row("super", r"\bsuper\s*\([^()]*\)\s*;", "There is no `super`, and a superclass has no constructor: what it would do goes into a method.", ""),
     row("this-call", r"\bthis\s*\([^()]*\)\s*;", "A class has one constructor, and doesn't call it.", ""),
     row("nested-class", r"\bclass\s+\w+", "Classes stand side by side in a text, not inside each other; a missing `}` before it looks the same.", None),
-    row("foreach-like-for", r"\bforeach(?:_nd)?\s*\((?=[^;{}]*;)", "`foreach (int i in start, count)` takes a start and a count.",
+    row("foreach-like-for", r"\bforeach(?:_nd)?\s*\([^;{}()]*;[^{}]*?\)", "`foreach (int i in start, count)` takes a start and a count.",
         rewrites.parallel_loop),
     row("foreach-of", r"\bforeach(?:_nd)?\s*\(\s*[^;:(){}]*:[^;{}]*?\)", "`foreach (int i in start, count)` goes through a start and a count of numbers;"
         " the elements of an array `a` are `a[i]` with `i` in `0, a.length`.", None),
@@ -98,7 +107,7 @@ HABITS = [
     row("at-least", r"=>", "Written `>=`.", ">="),
     row("at-most", r"=<", "Written `<=`.", "<="),
     row("step", rf"(?P<step>{PLAIN}\s*(?:\+\+|--)|(?:\+\+|--)\s*{PLAIN})\s*;", "There is no `++` and no `--`.", rewrites.whole_step),
-    row("step-inside", rf"(?P<step>(?P<name>{PLAIN})\s*(?:\+\+|--))", "There is no `++` and no `--`; an assignment is a statement of its own.",
+    row("step-inside", rf"(?P<step>(?P<name>{PLAIN})\s*(?:\+\+|--))\s*", "There is no `++` and no `--`; an assignment is a statement of its own.",
         rewrites.step_in_expression),
     row("step-inside", rf"(?P<step>(?:\+\+|--)\s*(?P<name>{PLAIN}))", "There is no `++` and no `--`; an assignment is a statement of its own.",
         rewrites.step_in_expression),
@@ -147,12 +156,16 @@ HABITS = [
         r"\g<one> \g<first> \g<two> && \g<two> \g<second>"),
     row("words", r"\band\b", "Conditions are joined by `&&`.", "&&"),
     row("words", r"\bor\b", "Conditions are joined by `||`.", "||"),
-    row("words", r"\bnot\b", "A condition is turned round by `!`.", "!"),
+    row("words", r"\bnot\b\s*", "A condition is turned round by `!`.", "!"),
+    row("power", r"\*\*", "There is no power; multiply in a loop.", None),
+    row("result-behind", r"\)\s*(?::|->)\s*\w+(?=\s*(?:\{|reads|writes|pure))", "The type of a result stands in front of the method's name.", None),
     row("else-if", r"\b(?:elif|elseif|elsif)\b", "Written `else if`.", "else if"),
     row("summary-comma", r",\s*(?=writes\b)", "No comma stands between the reads and the writes of a summary.", " "),
     row("summary-order", r"(?P<writes>\bwrites\b[\w\s.,:*?\[\]]*?)\s+(?P<reads>\breads\b[\w\s.,:*?\[\]]*?)\s*(?=\{)", "In a summary the reads come before the"
         " writes.", r"\g<reads> \g<writes> "),
     row("delete", r"\b(?:delete|free|goto|synchronized|let|def|func|function)\b", "There is no such statement.", None),
+    row("keyword", rf"(?:\b(?:int|boolean|void)|\w[>\]])\s+(?P<word>\b(?:in|class|reads|writes|pure|atomic|region|print|foreach|cobegin|extends|Root|int|boolean|new|void)\b)\s*(?=[=;,)(])",
+        "This name is a keyword here.", lambda match, _: [rewrites.Edit(match.end("word"), match.end("word"), "1")]),
     row("value-alone", rf"(?<=[;{{}}])\s*(?:{PLAIN}|[0-9]+)\s*;", "A statement is an assignment, a call or a creation; a value alone does nothing.", ""),
 ]  # fmt: skip
 

@@ -9,6 +9,8 @@ NAMES_OF_JAVA = {
     "double": ("There is no floating point. Count in fixed parts, say thousandths.", "int"),
     "float": ("There is no floating point. Count in fixed parts, say thousandths.", "int"),
     "Integer": ("There is no class Integer; an int is no object.", "int"),
+    "integer": ("The type is written `int`.", "int"),
+    "string": ("There is no String: a text is a literal that is printed, `print(\"..\")`. Number what is to be told apart.", None),
     "bool": ("The type is written `boolean`.", "boolean"),
     "Boolean": ("There is no class Boolean; a boolean is no object.", "boolean"),
     "var": ("A local is declared with its type.", "int"),

@@ -68,7 +68,8 @@ class Asked:
         if not self.report.is_gone(answer, offset):
             self.report.tried.pop()
             return False
-        self.report.say(f"{where} a value of type {self.shown(wanted)} is wanted, and `{self.source(node)}` has type {found}.")
+        has = "gives no result" if found == "void" else f"has type {found}"
+        self.report.say(f"{where} a value of type {self.shown(wanted)} is wanted, and `{self.source(node)}` {has}.")
         return True
 
     def on_local(self, node):

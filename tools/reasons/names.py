@@ -161,7 +161,16 @@ class Place:
                 self.report.say(f"The local `{node.name}` of {line} isn't in scope here: its block {after}; each branch and each body is a block.")
                 self.report.name(other.start, other.end, "the declaration, whose scope doesn't reach here")
         found += self.instead(near(node.name, locals_)) + self.instead(near(node.name, fields), "this.")
-        return found
+        return found + self.declaration(node)
+
+    def declaration(self, node):
+        """The first assignment of a name as its declaration."""
+        for other in self.method.body.walk():
+            if other.kind == "assign" and other.target is node:
+                its_type = self.body.types.get(id(other.value))
+                shown = self.world.show_type(its_type, self.class_node.name, self.body.heads) if its_type and its_type != ("null",) else None
+                return [(f"Declare the local `{node.name}`.", [Edit(node.start, node.start, f"{shown} ")])] if shown else []
+        return []
 
     def everywhere(self, name):
         """`this.` in front of all uses of a field's name in the method, where no local has that name."""
@@ -189,10 +198,11 @@ class Place:
     def of_constructor(self, node):
         """A constructor of another name than that of its class, or a method without a result."""
         self.report.say("A constructor has the name of its class; a method has a result, or `void`, in front of its name.")
-        return [
-            ("Give it the name of its class.", self.edit(self.class_node.name)),
-            ("As a method it has a result or `void`.", [Edit(node.start, node.start, "void ")]),
-        ][:: 1 if near(node.name, [self.class_node.name]) else -1]
+        if any(other.kind == "return" and other.value for other in node.body.walk()):
+            return [("It returns something, so as a method it has that type in front.", [Edit(node.start, node.start, "int ")])]
+        found = [("Give it the name of its class.", self.edit(self.class_node.name))]
+        found.append(("As a method it has `void` in front.", [Edit(node.start, node.start, "void ")]))
+        return found if distance(node.name.lower(), self.class_node.name.lower()) < 3 else found[::-1]
 
     def of_region(self, node):
         """A region name, a parameter or an index variable in a path."""

@@ -33,6 +33,9 @@ def explain_main(report, world):
         report.mends("Write one.", [Edit(end, end, "int main(int n) { return 0; } ")], quiet=True)
         return
     method = methods[0]
+    types = [formal.type.base + "[]" * len(formal.type.suffixes) for formal in method.formals]
+    if method.result is not None and method.result.base == "int" and types == ["int"] and not method.params:
+        return
     report.name(method.start, method.body.start, "`main` isn't declared as `int main(int n)`")
     head = [Edit(method.start, (method.summary.start if method.summary.items is not None else method.body.start), "int main(int n) ")]
     end = method.body.end - 1

@@ -68,8 +68,8 @@ def step_in_expression(match, source):
     start += len(text[start:]) - len(text[start:].lstrip())
     name, alone = match["name"], step(match["step"])
     if match["step"].startswith(name):
-        return [Edit(match.start(), match.end(), name), Edit(end + 1, end + 1, f" {alone};")]
-    return [Edit(start, start, f"{alone}; "), Edit(match.start(), match.end(), name)]
+        return [Edit(match.start("step"), match.end("step"), name), Edit(end + 1, end + 1, f" {alone};")]
+    return [Edit(start, start, f"{alone}; "), Edit(match.start("step"), match.end("step"), name)]
 
 
 def body_after(text, offset):
@@ -108,7 +108,7 @@ def counting_loop(match, source):
     parts = split_at(head, ";")
     if len(parts) != 3:
         return None
-    first = f"{parts[0]}; " if parts[0] else ""
+    first = loop_start(parts[0])
     updates = " ".join(f"{step(part)};" for part in split_at(parts[2], ",") if part)
     text = source.text
     if text[start] == "{":
@@ -117,6 +117,14 @@ def counting_loop(match, source):
         tail = Edit(last, last + 1, f"{gap}{updates} }} }}")
         return [Edit(match.start(), start + 1, f"{{ {first}while ({parts[1] or 'true'}) {{"), tail]
     return [Edit(match.start(), start, f"{{ {first}while ({parts[1] or 'true'}) {{ "), Edit(end, end, f" {updates} }} }}")]
+
+
+def loop_start(text):
+    """What stands before the first semicolon of a `for`, as statements."""
+    names = split_at(text, ",")
+    declared = re.match(r"[A-Za-z_]\w*(?:\[\])*\s+(?=\w+\s*=)", names[0])
+    lead = declared.group() if declared else ""
+    return "".join(f"{lead if number else ''}{step(name)}; " for number, name in enumerate(names) if name)
 
 
 def each_loop(match, source):
@@ -191,9 +199,9 @@ def depth_at(text, offset):
 
 
 def no_value(match, source):
-    """`T a;` with a value."""
+    """`T a;` with a value; no edits where it declares a field."""
     if depth_at(source.text, match.start()) < 2:
-        return None
+        return []
     its_type = match["type"]
     return [Edit(match.start(), match.end(), f"{its_type} {match['name']} = {value_of(its_type.removeprefix('final ').strip())};")]
 
@@ -279,3 +287,11 @@ def masked(match, _):
     if mask & (mask + 1):
         return None
     return [Edit(match.start("sign"), match.end("mask"), f"% {mask + 1}")]
+
+
+def close_literal(match, source):
+    """A quotation mark before what ends a print, or at the end of the line."""
+    line = match.group().rstrip("\n")
+    tail = re.search(r"\s*\)\s*;[^\"]*$", line)
+    place = match.start() + (tail.start() if tail else len(line))
+    return [Edit(place, place, '"')]

@@ -4,11 +4,15 @@ import re
 
 from .leaving import Edit
 from .names import distance
-from .source import KEYWORDS
+from .source import KEYWORDS, statement_around
 
-INSERTED = (";", ")", "}", "]", "(", "{", "=", ",", ">", "this.", "int", "0")
+INSERTED = (";", ")", "}", "]", "=", ",", ">", "(", "{", "int")
+REPLACING = (";", ")", "}", "]", "=", ",", ">", ":", ".", "in")
+DROPPED = (";", ")", "]", ",", "}", ">")
+BEFORE_A_BLOCK = ("cobegin", "cobegin_nd", "atomic", ")", "pure")
 TRIALS_AT_MOST = 60
 LIKELY = 2.5
+ONLY_ALONE = 6
 
 
 def slip_mend(report, has_habit):
@@ -16,13 +20,17 @@ def slip_mend(report, has_habit):
     if has_habit:
         return None
     best = None
-    lines_here = report.source.place(report.answer.offset)[0]
+    at = report.answer.offset
+    lines_here = report.source.place(at)[0]
+    enough = max(2, statement_around(report.source, at)[1] - at)
     for text, edits, rank, *about in candidates(report)[:TRIALS_AT_MOST]:
         answer, offset = report.attempt(text, edits)
         report.tried.pop()
         if not report.is_gone(answer, offset):
             continue
         reach = float("inf") if answer.accepted or answer.name not in ("syntax", "number", "nest") else answer.offset - offset
+        if reach < (float("inf") if rank >= ONLY_ALONE else enough):
+            continue
         if best is None or (reach, -rank) > best[0]:
             best = ((reach, -rank), text, edits, about)
         if reach == float("inf") or (rank < LIKELY and answer.line >= lines_here + 2):
@@ -41,18 +49,38 @@ def candidates(report):
     found += missing_braces(source, number)
     found += misspelt(source, number)
     found += calls_without_object(source, number)
-    end = tokens[number - 1].end if number else 0
-    for rank, token in enumerate(INSERTED):
-        place = end if token in (";", ")", "]", ",") or number == len(tokens) else tokens[number].start
-        gap = " " if token[0].isalnum() and token[-1] != "." else ""
-        found.append((f"Put a `{token.strip()}` there.", [Edit(place, place, token + gap)], 3 + rank / 20))
-    if number < len(tokens):
-        here = tokens[number]
-        found.append((f"Leave the `{here.text}` out.", [Edit(here.start, here.end, "")], 4))
-        found += [(f"Write `{token}`.", [Edit(here.start, here.end, token)], 5) for token in INSERTED]
+    found += one_token(source, number)
+    found += statement_in_braces(source, number)
     found += missing_parentheses(source, number)
     found += extra_braces(source, number)
     return sorted(found, key=lambda item: item[2])
+
+
+def one_token(source, number):
+    """A token put in, left out or replaced; ranks from ONLY_ALONE on count only where no other fault of the grammar is left."""
+    tokens, found = source.tokens, []
+    end = tokens[number - 1].end if number else 0
+    for rank, token in enumerate(INSERTED):
+        place = end if token in (";", ")", "]", ",") or number == len(tokens) else tokens[number].start
+        gap = " " if token[0].isalnum() else ""
+        found.append((f"Put a `{token}` there.", [Edit(place, place, token + gap)], 3 + rank / 20 + (ONLY_ALONE if token in ("(", "{") else 0)))
+    if number and tokens[number - 1].kind == "name":
+        place = tokens[number - 1].start
+        found.append((f"Declare `{tokens[number - 1].text}` with its type.", [Edit(place, place, "int ")], 3.9))
+    if number == len(tokens):
+        return found
+    here = tokens[number]
+    is_double = number > 0 and tokens[number - 1].text == here.text
+    found.append((f"Leave the `{here.text}` out.", [Edit(here.start, here.end, "")], 4 if is_double or here.text in DROPPED else 4 + ONLY_ALONE))
+    return found + [(f"Write `{token}`.", [Edit(here.start, here.end, token)], 5) for token in REPLACING]
+
+
+def statement_in_braces(source, number):
+    """A statement where a block has to stand."""
+    if not 0 < number < len(source.tokens) or source.tokens[number - 1].text not in BEFORE_A_BLOCK:
+        return []
+    start, end = source.tokens[number].start, statement_around(source, source.tokens[number].start)[1]
+    return [("Put the statement in braces.", [Edit(start, start, "{ "), Edit(end, end, " }")], 2)]
 
 
 def misspelt(source, number):

@@ -51,6 +51,7 @@ class Source:
         self.text = text
         self.starts = [0] + [match.end() for match in re.finditer("\n", text)]
         self.tokens = tokens_of(text)
+        self.ends = ends_of(self.tokens)
 
     def place(self, offset):
         """The line and the column of an offset, both from 1."""
@@ -115,16 +116,31 @@ def statement_around(source, at):
     tokens = source.tokens
     if not tokens:
         return 0, 0
+    ends = source.ends
     here = min(source.token_at(at), len(tokens) - 1)
     first = here
-    while first > 0 and tokens[first - 1].text not in (";", "{", "}"):
+    while first > 0 and not ends[first - 1]:
         first -= 1
     last = here
-    while last < len(tokens) - 1 and tokens[last].text not in (";", "{", "}"):
+    while last < len(tokens) - 1 and not ends[last]:
         last += 1
     if tokens[last].text in ("{", "}") and last > first:
         last -= 1
     return tokens[first].start, tokens[last].end
+
+
+def ends_of(tokens):
+    """For each token whether a statement ends with it: a brace, or a semicolon that isn't in the head of a loop."""
+    found, depth = [], 0
+    for number, token in enumerate(tokens):
+        if token.text == "(" and (depth or (number and tokens[number - 1].text in ("for", "foreach", "foreach_nd"))):
+            depth += 1
+        elif token.text == ")" and depth:
+            depth -= 1
+        elif token.text in ("{", "}"):
+            depth = 0
+        found.append(token.text in ("{", "}") or (token.text == ";" and not depth))
+    return found
 
 
 def without_comments(text):

@@ -7,6 +7,7 @@ from .slips import slip_mend
 from .source import statement_around, without_comments
 
 WINDOW = 2000
+OF_LETTERS = ("byte-order-mark", "open-comment", "open-literal", "escape", "blank", "quotes", "dash", "not-ascii")
 STATEMENT = ("if", "while", "return", "print", "cobegin", "foreach", "int", "{", "final", "boolean")
 EXPRESSION = ("true", "1", "this", "new", "(", "-", "!", "x", "null")
 OPERATORS = ("%", "*", "/", "+", "-", "<", "==", "&&", "||")
@@ -22,12 +23,13 @@ def explain(report, brief=False):
     habit = find_habit(report, plain, at)
     opened = None
     if report.mend is None:
-        opened = slip_mend(report, habit is not None)
+        opened = slip_mend(report, habit is not None and habit.name != "nested-class")
     if opened is not None:
         report.name(*statement_around(source, opened), "its `{` isn't closed")
     else:
         name_statement(report, at, habit)
-    say_what_stands(report, brief)
+    if habit is None or habit.name not in OF_LETTERS:
+        say_what_stands(report, brief)
 
 
 def matches(plain, at):
@@ -56,6 +58,8 @@ def find_habit(report, plain, at):
     silent = None
     for habit, match in matches(plain, at):
         edits = edits_of(habit, match, report.source)
+        if edits == []:
+            continue
         if edits is None:
             silent = silent or (habit, match)
             if habit.mend is None:
@@ -73,7 +77,7 @@ def mend_text(edits, source):
     """What a mend of a habit does, in a word."""
     if all(not edit.new.strip() for edit in edits):
         return "Leave it out."
-    return "Write it without." if not any(source.text[edit.start : edit.end] for edit in edits) else "Write instead:"
+    return "Write instead:" if any(source.text[edit.start : edit.end] for edit in edits) else "Put in what is missing:"
 
 
 def name_statement(report, at, habit):
@@ -87,7 +91,7 @@ def name_statement(report, at, habit):
     elif at >= len(source.text):
         where = source.tokens[-1].start if source.tokens else 0
     start, end = statement_around(source, where)
-    if report.mend is not None and not report.mend["old"].strip() and where < at < end:
+    if report.mend is not None and not report.mend["old"].strip() and report.mend["new"].strip() in (";", ")", "]", "}", ",") and where < at < end:
         end = where + 1
     role = "here" if start <= at < end or habit else "here, though it's noticed only at what follows"
     report.name(start, end, role)
@@ -111,12 +115,11 @@ def expected_tokens(report):
 def say_what_stands(report, brief):
     """What stands at the place, and what may."""
     source, at = report.source, report.answer.offset
-    if at == 0 and source.text.startswith("\xef\xbb\xbf"):
-        return
     number = source.token_at(at)
     stands = f"`{source.tokens[number].text}`" if number < len(source.tokens) else "the end of the text"
     before = f" after `{source.tokens[number - 1].text}`" if 0 < number <= len(source.tokens) else ""
-    if brief:
+    inside = number < len(source.tokens) and source.tokens[number].start < at
+    if brief or inside:
         if not report.says:
             report.say(f"There stands {stands}{before}.")
         return
