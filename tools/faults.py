@@ -8,9 +8,10 @@ text is changed so that it is gone (by a mend, by a statement that does nothing,
 again: what it says then is written with the changes after which it was found, and may be due to them. At most 200 questions are asked,
 within 10 seconds.
 
---json writes one object: {"file", "faults": [{"name", "line", "column", "text", "says": [text], "mend": as that of why or null,
-"after": the last change before it or null}], "changes": [text], "complete": whether the text was accepted in the end}.
-Places are those of FILE. A mend's place, `old` and `new` are those of the text with the changes before it.
+--json writes one object: {"file", "faults": [{"name", "line", "column", "text", "statements", "says", "mend", "after"}], "changes": [text],
+"complete"}. The first four are a fault's name and place, and its line; the next three as why writes them; "after" is the last change before
+the fault was found, or null; "changes" are all of them; "complete" says whether the text was accepted in the end. Places are those of FILE,
+but for a mend's "edits", whose places are those of the text with the changes before it.
 
 Status: 0 the text is accepted, 1 usage, 2 it is refused, 5 FILE can't be read, 126 PROGRAM gives no answer.
 """
@@ -23,11 +24,12 @@ from reasons.asking import Asker, NoAnswer, Spent
 from reasons.explain import explain
 from reasons.leaving import applied
 from reasons.onward import next_step
-from reasons.report import sentences, use_colours, wrapped
+from reasons.report import change_of, sentences, use_colours, wrapped
 from reasons.source import Source, marked, read, shown
 
 TOP = os.path.dirname(os.path.dirname(os.path.abspath(__file__)))
 QUESTIONS, SECONDS, FAULTS_AT_MOST = 200, 10.0, 60
+PLAIN_ROLES = ("here", "here, though it's noticed only at what follows", "the statement with the value")
 
 
 class Faults:
@@ -38,6 +40,7 @@ class Faults:
         self.asker = asker
         self.found = []
         self.steps = []
+        self.changes = []
         self.complete = False
 
     def search(self):
@@ -53,6 +56,7 @@ class Faults:
                 step = next_step(report)
                 if step is None:
                     return
+                self.changes.append(f"{step.what.what} {self.shown_place(now, step.what.at)}")
                 self.steps.append((now.text, step))
                 now = Source(now.name, applied(now.text, step.edits)[0])
         except Spent:
@@ -60,21 +64,36 @@ class Faults:
 
     def note(self, report):
         """Keeps a fault, at its place in the text as it was given."""
-        offset = report.answer.offset
-        for text, step in reversed(self.steps):
-            offset = step.back(text, offset)
-        line, column = self.source.place(offset)
-        if not self.steps:
-            line, column = report.answer.line, report.answer.column
-        after = self.steps[-1][1].what if self.steps else None
+        line, column = self.back(report.source, report.answer.line, report.answer.column)
+        statements = [{**entry, **self.place(report.source, entry)} for entry in report.statements]
+        mend = {**report.mend, **self.place(report.source, report.mend)} if report.mend else None
+        after = self.changes[-1] if self.changes else None
         self.found.append(
-            {"name": report.answer.name, "line": line, "column": column, "text": shown(self.source.line(line)), "says": report.says,
-             "mend": report.mend, "after": after}
+            {"name": report.answer.name, "line": line, "column": column, "text": shown(self.source.line(line)), "statements": statements,
+             "says": report.says, "mend": mend, "after": after}
         )  # fmt: skip
 
+    def shown_place(self, now, offset):
+        """An offset of the text as it is now, as a place of the text as it was given."""
+        return "{}:{}".format(*self.back(now, *now.place(offset)))
+
+    def place(self, now, entry):
+        """The place of an entry in the text as it was given."""
+        line, column = self.back(now, entry["line"], entry["column"])
+        return {"line": line, "column": column}
+
+    def back(self, now, line, column):
+        """A place of the text as it is now in the text as it was given."""
+        if not self.steps:
+            return line, column
+        offset = now.offset(line, column)
+        for text, step in reversed(self.steps):
+            offset = step.back(text, offset)
+        return self.source.place(offset)
+
     def as_json(self):
-        changes = [step.what for _, step in self.steps]
-        return json.dumps({"file": self.source.name, "faults": self.found, "changes": changes, "complete": self.complete}, ensure_ascii=True)
+        found = {"file": self.source.name, "faults": self.found, "changes": self.changes, "complete": self.complete}
+        return json.dumps(found, ensure_ascii=True)
 
     def as_text(self, general, colours):
         """The faults for people."""
@@ -86,10 +105,13 @@ class Faults:
         for fault in self.found:
             lines.append(f"{bold}{name}:{fault['line']}:{fault['column']}: refused: {fault['name']}{plain}")
             lines += ["  " + line for line in marked(self.source, fault["line"], fault["column"])]
-            says = fault["says"][:1] or [general.get(fault["name"], ("", ""))[0]]
+            named = [entry for entry in fault["statements"] if entry["role"] not in PLAIN_ROLES and fault["name"] != "unknown"]
+            for entry in named[:3]:
+                lines += wrapped(f"{entry['line']}:{entry['column']}  {entry['text']}  ({entry['role']})", "  ", "        ")
+            says = fault["says"][:1] or ([] if named or fault["mend"] else [general.get(fault["name"], ("", ""))[0]])
             lines += [line for text in says for line in wrapped(text, "  ")]
             if fault["mend"]:
-                lines += wrapped("Mend: " + fault["mend"]["text"] + f" `{shown(fault['mend']['new'])}`", "  ")
+                lines += mend_lines(fault["mend"])
             if fault["after"]:
                 lines += wrapped(f"(found after {fault['after']})", "  ")
         count = len(self.found)
@@ -103,6 +125,12 @@ class Faults:
         if self.asker.left <= 0 or self.asker.is_late():
             return "the questions or the time were used up, so there may be more."
         return "there may be more, which can't be told apart from the last one."
+
+
+def mend_lines(mend):
+    """A mend and what it puts."""
+    changes = "; ".join(change_of(edit) for edit in mend["edits"][:3])
+    return wrapped(f"Mend: {mend['text']} {changes}" + (" .." if len(mend["edits"]) > 3 else ""), "  ")
 
 
 def main(words):

@@ -160,7 +160,7 @@ def summary_mend(report, body, found):
     wanted.append("writes Root:*")
     old = source.text[method.summary.start : method.summary.end].strip()
     for summary in dict.fromkeys(wanted):
-        text = f"`{summary}` in place of `{old}`." if old else f"Write the summary `{summary}`."
+        text = "Widen the summary." if old else "Write a summary."
         edit = instead(method.summary, summary) if old else Edit(method.summary.end, method.summary.end, " " + summary)
         if report.mends(text, [edit]):
             return True

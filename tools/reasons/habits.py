@@ -163,7 +163,7 @@ HABITS = [
     row("summary-comma", r",\s*(?=writes\b)", "No comma stands between the reads and the writes of a summary.", " "),
     row("summary-order", r"(?P<writes>\bwrites\b[\w\s.,:*?\[\]]*?)\s+(?P<reads>\breads\b[\w\s.,:*?\[\]]*?)\s*(?=\{)", "In a summary the reads come before the"
         " writes.", r"\g<reads> \g<writes> "),
-    row("delete", r"\b(?:delete|free|goto|synchronized|let|def|func|function)\b", "There is no such statement.", None),
+    row("delete", r"\b(?:delete|free|goto|synchronized|let|def|func|function)\b\s*\w*\s*", "There is no such statement.", None),
     row("keyword", rf"(?:\b(?:int|boolean|void)|\w[>\]])\s+(?P<word>\b(?:in|class|reads|writes|pure|atomic|region|print|foreach|cobegin|extends|Root|int|boolean|new|void)\b)\s*(?=[=;,)(])",
         "This name is a keyword here.", lambda match, _: [rewrites.Edit(match.end("word"), match.end("word"), "1")]),
     row("value-alone", rf"(?<=[;{{}}])\s*(?:{PLAIN}|[0-9]+)\s*;", "A statement is an assignment, a call or a creation; a value alone does nothing.", ""),

@@ -88,7 +88,7 @@ class Place:
         return [Edit(self.token.start, self.token.end, new)]
 
     def instead(self, names, lead=""):
-        return [(f"Write `{lead}{name}` for `{self.token.text}`.", self.edit(lead + name)) for name in names]
+        return [(f"`{lead}{name}` may be meant.", self.edit(lead + name)) for name in names]
 
     def proposals(self):
         """Changes to be tried, the likely ones first."""
@@ -150,7 +150,7 @@ class Place:
         found = []
         if node.name in fields:
             self.report.say("A bare name is a local or a formal; fields are written with their object.")
-            found += self.everywhere(node.name) + self.instead([node.name], "this.")
+            found += self.everywhere(node.name) + [("Write the field with its object.", self.edit(f"this.{node.name}"))]
         if node.name in self.world.classes:
             self.report.say(f"`{node.name}` is a class. Nothing is static: a method is called on an object, as `new {node.name}().f()`.")
             found.append((f"Make an object of {node.name}.", self.edit(f"new {node.name}()")))
@@ -185,7 +185,7 @@ class Place:
         if len(places) < 2:
             return []
         edits = [Edit(place, place + len(name), f"this.{name}") for place in places]
-        return [(f"Write `this.{name}` for `{name}`, {len(places)} times.", edits)]
+        return [(f"Write the field with its object, {len(places)} times in this method.", edits)]
 
     def of_class(self):
         """A class."""
@@ -223,7 +223,7 @@ class Place:
         opened = self.class_node.opened + 1
         if not found:
             self.report.say(f"No region name `{name}` is declared in {self.class_node.name}, and no region parameter.")
-        found.append((f"Declare it: `region {name};`.", [Edit(opened, opened, f" region {name};")]))
+        found.append(("Declare the region name.", [Edit(opened, opened, f" region {name};")]))
         return found
 
 

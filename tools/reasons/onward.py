@@ -1,6 +1,7 @@
 """Going on behind a fault: changes by which a text loses one fault and, as far as can be, gains none."""
 
 import re
+from typing import NamedTuple
 
 from .branches import method_at
 from .leaving import Edit, applied, headers_of, instead, is_around, quiet
@@ -12,6 +13,21 @@ from .tree import parse
 from .world import World, default_of
 
 MENDED = ("syntax", "number", "unknown", "duplicate", "type", "return", "main", "region-args", "constraint", "partial-write")
+
+
+DECLARED = re.compile(r"(?P<base>(?!return\b|new\b|else\b)[A-Za-z_]\w*)\s*(?P<brackets>(?:\[\s*\])*)\s+(?P<name>[A-Za-z_]\w*)\s*=(?!=)")
+
+
+WITH_BLOCK = re.compile(r"(?:switch|try|catch|finally|synchronized|interface|enum|record|do)\b")
+TAIL = re.compile(r"\s*(?:catch\s*\([^()]*\)|finally|else)\s*\{")
+HEAD = re.compile(r"(?P<result>[A-Za-z_]\w*(?:\s*\[\s*\])*)\s+\w+\s*\([^()]*\)[^;{}()]*\{")
+
+
+class Change(NamedTuple):
+    """What a change does, and where."""
+
+    what: str
+    at: int
 
 
 class Step:
@@ -64,7 +80,7 @@ def changes(report):
     if mend is not None and report.answer.name in MENDED:
         start = source.offset(mend["line"], mend["column"])
         old, new = (mend[key].encode("utf-8").decode("latin-1") for key in ("old", "new"))
-        yield [Edit(start, start + len(old), new)], "the mend at {}:{}".format(*source.place(start))
+        yield [Edit(start, start + len(old), new)], Change("the mend at", start)
     if report.answer.name in EARLY:
         yield from by_tokens(report)
         return
@@ -75,24 +91,53 @@ def changes(report):
     yield from by_tree(report, world)
 
 
+def declaration_of(source, declared):
+    """A declaration of the same local without its value; of an int where its class isn't known."""
+    base, brackets, name = declared["base"], declared["brackets"] or "", declared["name"]
+    known = base in ("int", "boolean") or re.search(rf"\bclass\s+{base}\b", source.text)
+    if brackets and known:
+        return f"{base}{brackets} {name} = null;"
+    return f"{base} {name} = {default_of((base,))};" if known else f"int {name} = 0;"
+
+
 def by_tokens(report):
     """Statements and members of a text whose grammar is faulty, by their brackets."""
     source, at = report.source, report.answer.offset
     start, end = statement_around(source, min(at, max(0, len(source.text) - 1)))
-    what = "leaving out the statement at {}:{}".format(*source.place(start))
+    what = Change("leaving out the statement at", start)
+    declared = DECLARED.match(source.text[start:end])
+    if declared:
+        yield [Edit(start, end, declaration_of(source, declared))], Change("leaving out the value at", start)
+    block = with_its_block(source, start, end)
+    if block and WITH_BLOCK.match(source.text, start):
+        yield [Edit(start, block, left_out(source, start, block))], what
     yield [Edit(start, end, "")], what
     yield [Edit(start, end, "{}")], what
-    opened = source.text.find("{", end - 1)
-    closed = closing(source.text, opened) if opened >= 0 else None
-    if closed and not source.text[end:opened].strip():
-        tail = re.compile(r"\s*(?:(?:catch\s*\([^()]*\)|finally|else)\s*\{|while\s*\([^;]*;)").match(source.text, closed)
-        while tail:
-            closed = closing(source.text, tail.end() - 1) if tail.group().endswith("{") else tail.end()
-            tail = re.compile(r"\s*(?:catch\s*\([^()]*\)|finally|else)\s*\{").match(source.text, closed) if closed else None
-        if closed:
-            yield [Edit(start, closed, "")], what
-            yield [Edit(start, closed, "{}")], what
+    if block:
+        yield [Edit(start, block, "")], what
+        yield [Edit(start, block, "{}")], what
     yield from whole_members(source, at)
+
+
+def with_its_block(source, start, end):
+    """A statement by its brackets with the block that follows, and with `catch`, `finally` or `else` and theirs; None without a block."""
+    opened = source.text.find("{", end - 1)
+    closed = closing(source.text, opened) if opened >= 0 and not source.text[end:opened].strip() else None
+    while closed:
+        tail = TAIL.match(source.text, closed)
+        if not tail:
+            break
+        closed = closing(source.text, tail.end() - 1)
+    return closed
+
+
+def left_out(source, start, end):
+    """Nothing for a statement; where it returns and is the last one, a return of a default."""
+    if not re.search(r"\breturn\b", source.text[start:end]) or not source.text[end:].lstrip().startswith("}"):
+        return ""
+    heads = [match for match in HEAD.finditer(source.text, 0, start)]
+    result = heads[-1]["result"] if heads else "int"
+    return {"int": "return 0;", "boolean": "return false;", "void": ""}.get(result, "return null;")
 
 
 def whole_members(source, at):
@@ -108,12 +153,11 @@ def whole_members(source, at):
             depth -= 1
         ends = first is not None and depth == 1 and token.text in ("}", ";")
         if ends and first.start <= at < token.end:
-            place = "{}:{}".format(*source.place(first.start))
             if opened is not None:
                 result = {"int": "return 0;", "boolean": "return false;", "void": ""}.get(first.text, "return null;")
-                yield [Edit(opened.start, token.end, f"{{ {result} }}")], f"leaving out the body at {place}"
-                yield [Edit(opened.start, token.end, "{ }")], f"leaving out the body at {place}"
-            yield [Edit(first.start, token.end, "")], f"leaving out the member at {place}"
+                yield [Edit(opened.start, token.end, f"{{ {result} }}")], Change("leaving out the body at", first.start)
+                yield [Edit(opened.start, token.end, "{ }")], Change("leaving out the body at", first.start)
+            yield [Edit(first.start, token.end, "")], Change("leaving out the member at", first.start)
         if ends:
             first = None
 
@@ -127,16 +171,16 @@ def by_tree(report, world):
         if method.body.start < at:
             yield from quiet_statements(source, method, at)
         yield body_left_out(source, world, class_node, method)
-        yield [Edit(method.start, method.end, "")], "leaving out the member at {}:{}".format(*source.place(method.start))
+        yield [Edit(method.start, method.end, "")], Change("leaving out the member at", method.start)
     for node in world.program.classes:
         for member in node.members:
             if member.start <= at < member.end:
-                yield [Edit(member.start, member.end, "")], "leaving out the member at {}:{}".format(*source.place(member.start))
+                yield [Edit(member.start, member.end, "")], Change("leaving out the member at", member.start)
         if node.parent and node.parent_at == at:
             start = source.text.rindex("extends", 0, at)
-            yield [Edit(start, node.opened, "")], "leaving out what is extended at {}:{}".format(*source.place(at))
+            yield [Edit(start, node.opened, "")], Change("leaving out what is extended at", at)
         if node.start <= at < node.opened:
-            yield [Edit(node.start, node.end, "")], "leaving out the class at {}:{}".format(*source.place(node.start))
+            yield [Edit(node.start, node.end, "")], Change("leaving out the class at", node.start)
 
 
 def in_sequence(source, method, at):
@@ -144,13 +188,13 @@ def in_sequence(source, method, at):
     for node in method.body.walk():
         if node.start != at or node.kind not in ("cobegin", "foreach"):
             continue
-        what = "putting the branches at {}:{} in sequence".format(*source.place(at))
+        what = Change("putting in sequence the branches at", at)
         if node.kind == "cobegin":
             yield [Edit(node.start, node.start + len(node.keyword), "")], what
         elif not node.part:
             edits = [Edit(node.start, node.body.start, f"{{ final int {node.name} = 0; "), Edit(node.end, node.end, " }")]
             yield edits, what
-        yield [instead(node, "{}")], "leaving out the {} at {}:{}".format(node.keyword, *source.place(at))
+        yield [instead(node, "{}")], Change(f"leaving out the {node.keyword} at", at)
 
 
 def quiet_statements(source, method, at):
@@ -159,13 +203,15 @@ def quiet_statements(source, method, at):
     if not held:
         return
     node = held[-1]
-    what = "leaving out what is done at {}:{}".format(*source.place(node.start))
+    what = Change("leaving out what is done at", node.start)
     if headers_of(node):
         heads = [instead(expression, nothing) for expression, nothing in headers_of(node) if not is_around(node.parts.get("body", node.parts.get("then")), Edit(at, at, ""))]
         yield heads, what
     elif node.kind != "local":
         yield [instead(node, "{}")], what
-    elif not node.type.start <= at < node.type.end:
+    elif node.type.start <= at < node.type.end:
+        yield [instead(node, f"int {node.name} = 0;")], what
+    else:
         plain = node.type.base in ("int", "boolean") and not node.type.suffixes
         yield quiet(node) or [instead(node.value, default_of((node.type.base,)) if plain else "null")], what
 
@@ -174,4 +220,4 @@ def body_left_out(source, world, class_node, method):
     """A body that returns a default."""
     value = default_of(world.type(method.result, class_node.name, set())) if method.result else None
     made = f"{{ return {value}; }}" if value else "{ }"
-    return [instead(method.body, made)], "leaving out the body at {}:{}".format(*source.place(method.start))
+    return [instead(method.body, made)], Change("leaving out the body at", method.start)

@@ -291,6 +291,9 @@ def masked(match, _):
 
 def close_literal(match, source):
     """A quotation mark before what ends a print, or at the end of the line."""
+    token = source.tokens[min(source.token_at(match.start()), len(source.tokens) - 1)]
+    if token.start != match.start() or token.kind != "mark":
+        return []
     line = match.group().rstrip("\n")
     tail = re.search(r"\s*\)\s*;[^\"]*$", line)
     place = match.start() + (tail.start() if tail else len(line))

@@ -7,9 +7,10 @@ from .names import distance
 from .source import KEYWORDS, statement_around
 
 INSERTED = (";", ")", "}", "]", "=", ",", ">", "(", "{", "int")
-REPLACING = (";", ")", "}", "]", "=", ",", ">", ":", ".", "in")
+REPLACING = (";", ")", "}", "]", "=", ",", ">", ":", ".")
 DROPPED = (";", ")", "]", ",", "}", ">")
-BEFORE_A_BLOCK = ("cobegin", "cobegin_nd", "atomic", ")", "pure")
+BEFORE_A_BLOCK = ("cobegin", "cobegin_nd", "atomic")
+BEFORE_A_BODY = (")", "pure")
 TRIALS_AT_MOST = 60
 LIKELY = 2.5
 ONLY_ALONE = 6
@@ -63,7 +64,7 @@ def one_token(source, number):
     for rank, token in enumerate(INSERTED):
         place = end if token in (";", ")", "]", ",") or number == len(tokens) else tokens[number].start
         gap = " " if token[0].isalnum() else ""
-        found.append((f"Put a `{token}` there.", [Edit(place, place, token + gap)], 3 + rank / 20 + (ONLY_ALONE if token in ("(", "{") else 0)))
+        found.append((f"A `{token}` is missing.", [Edit(place, place, token + gap)], 3 + rank / 20 + (ONLY_ALONE if token in ("(", "{") else 0)))
     if number and tokens[number - 1].kind == "name":
         place = tokens[number - 1].start
         found.append((f"Declare `{tokens[number - 1].text}` with its type.", [Edit(place, place, "int ")], 3.9))
@@ -71,16 +72,17 @@ def one_token(source, number):
         return found
     here = tokens[number]
     is_double = number > 0 and tokens[number - 1].text == here.text
-    found.append((f"Leave the `{here.text}` out.", [Edit(here.start, here.end, "")], 4 if is_double or here.text in DROPPED else 4 + ONLY_ALONE))
-    return found + [(f"Write `{token}`.", [Edit(here.start, here.end, token)], 5) for token in REPLACING]
+    found.append((f"The `{here.text}` is too much.", [Edit(here.start, here.end, "")], 4 if is_double or here.text in DROPPED else 4 + ONLY_ALONE))
+    return found + [(f"A `{token}` may be meant.", [Edit(here.start, here.end, token)], 5) for token in REPLACING]
 
 
 def statement_in_braces(source, number):
     """A statement where a block has to stand."""
-    if not 0 < number < len(source.tokens) or source.tokens[number - 1].text not in BEFORE_A_BLOCK:
+    before = source.tokens[number - 1].text if 0 < number < len(source.tokens) else ""
+    if before not in BEFORE_A_BLOCK + BEFORE_A_BODY:
         return []
     start, end = source.tokens[number].start, statement_around(source, source.tokens[number].start)[1]
-    return [("Put the statement in braces.", [Edit(start, start, "{ "), Edit(end, end, " }")], 2)]
+    return [("Put the statement in braces.", [Edit(start, start, "{ "), Edit(end, end, " }")], 2 if before in BEFORE_A_BLOCK else ONLY_ALONE)]
 
 
 def misspelt(source, number):
@@ -92,7 +94,7 @@ def misspelt(source, number):
         for keyword in sorted(KEYWORDS):
             away = distance(token.text.lower(), keyword)
             if away <= 2 and away * 2 < len(keyword):
-                text = f"Write `{keyword}` for `{token.text}`."
+                text = f"`{keyword}` may be meant."
                 found.append((text, [Edit(token.start, token.end, keyword)], 1 + away / 10))
     return found
 
@@ -181,5 +183,5 @@ def extra_braces(source, number):
     found = []
     for token in source.tokens[max(0, number - 60) : number + 1]:
         if token.text == "}":
-            found.append(("Leave this `}` out.", [Edit(token.start, token.end, "")], 4.5 - token.start / (10 * len(source.text))))
+            found.append(("This `}` is too much.", [Edit(token.start, token.end, "")], 4.5 - token.start / (10 * len(source.text))))
     return found
