@@ -20,8 +20,10 @@ HERE = Path(__file__).resolve().parent
 TOP = HERE.parent.parent
 EXAMPLES = TOP / "examples" / "check"
 SPARE = 3
+BRIEF_LINES = 6
 sys.path.insert(0, str(TOP / "tools"))
 
+from faults import Faults  # noqa: E402
 from reasons.asking import Asker  # noqa: E402
 from reasons.explain import explain  # noqa: E402
 from reasons.source import read  # noqa: E402
@@ -32,10 +34,10 @@ def check(program, text):
     return subprocess.run([program, "check"], input=text, capture_output=True, timeout=60, check=False).stdout.decode().strip()
 
 
-def table():
-    """Pairs of a name, the words of its line, and the bytes of its text."""
+def table(file):
+    """Triples of a name, the words of its line, and the bytes of its text."""
     cases = []
-    for part in re.split(r"^(?=== |example )", (HERE / "table.txt").read_text(encoding="utf-8"), flags=re.M)[1:]:
+    for part in re.split(r"^(?=== |example )", (HERE / file).read_text(encoding="utf-8"), flags=re.M)[1:]:
         head, _, body = part.partition("\n")
         word, name, *rest = head.split(" ", 2)
         words = rest[0] if rest else ""
@@ -127,13 +129,57 @@ def tried_faults(program, text, report):
 def why_faults(program, case):
     """The failures of one text."""
     name, words, text = case
-    report = json.loads(explain(read("-", io.BytesIO(text)), Asker(program)).as_json())
+    made = explain(read("-", io.BytesIO(text)), Asker(program, 400, 60))
+    report = json.loads(made.as_json())
     refused = report["refused"]
     found = []
     if check(program, text) != f"refused {refused['line']}:{refused['column']} {refused['name']}":
         found.append("the refusal is another one")
     found += table_faults(report, words, text) + tried_faults(program, text, report)
+    if len(made.as_brief().splitlines()) > BRIEF_LINES:
+        found.append("what is told in brief is too long")
     return [f"{name}: {fault}" for fault in found]
+
+
+def many_faults(program, case):
+    """The failures of one text with several faults."""
+    name, words, text = case
+    asked = [part.strip() for part in words.removeprefix("at").split(",") if part.strip()]
+    faults = Faults(read("-", io.BytesIO(text)), Asker(program, 200, 60))
+    faults.search()
+    found = [f"{fault['line']}:{fault['column']} {fault['name']}" for fault in json.loads(faults.as_json())["faults"]]
+    failures = [] if found == asked else [f"found are {', '.join(found)}"]
+    if not faults.complete:
+        failures.append("the text isn't accepted without its faults")
+    return [f"{name}: {fault}" for fault in failures]
+
+
+def called(tool, words, text=b"", **more):
+    """A call of a tool, with its status and what it wrote."""
+    command = [sys.executable, TOP / "tools" / tool, *words]
+    return subprocess.run(command, input=text, capture_output=True, timeout=60, check=False, **more)
+
+
+def call_faults(program, _):
+    """The failures of calls as the launcher makes them: statuses, and no byte that a terminal obeys."""
+    accepted, refused = b"class Main { int main(int n) { return n; } }\n", b"class Main { int main(int n) { \x1b[31m\xc2\x9b return n\x07; } }\n"
+    failures = []
+    for tool in ("why.py", "faults.py"):
+        for words, text, status in (
+            ([program, "-"], accepted, 0),
+            ([program, "-"], refused, 2),
+            ([program, "-", "--json"], refused, 2),
+            ([program, "/no/such/file"], b"", 5),
+            ([program], b"", 1),
+            (["/no/such/program", "-"], accepted, 126),
+        ):
+            done = called(tool, words, text)
+            if done.returncode != status:
+                failures.append(f"{tool} {' '.join(words[1:])}: status {done.returncode} in place of {status}")
+            shown = done.stdout.decode("utf-8", "replace").replace("\n", "")
+            if any(not letter.isprintable() for letter in shown):
+                failures.append(f"{tool} {' '.join(words[1:])}: writes what a terminal obeys")
+    return failures
 
 
 def main(words):
@@ -142,9 +188,11 @@ def main(words):
         print(__doc__.strip())
         return 0 if words else 1
     program, names = words[0], words[1:]
-    cases = [case for case in table() if not names or case[0] in names]
+    work = [(why_faults, program, case) for case in table("table.txt")] + [(many_faults, program, case) for case in table("many.txt")]
+    work.append((call_faults, program, ("calls", "", b"")))
+    work = [item for item in work if not names or item[2][0] in names]
     with ThreadPoolExecutor(4) as pool:
-        results = list(pool.map(lambda case: why_faults(program, case), cases))
+        results = list(pool.map(lambda item: item[0](item[1], item[2]), work))
     for result in results:
         for fault in result:
             print(fault)

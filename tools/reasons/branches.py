@@ -3,7 +3,9 @@
 from .alone import Alone
 from .leaving import Edit, Leaving, default_of, headers_of, instead, is_around, quiet
 from .mends import branch_mends
+from .regions import confirm
 from .typed import Body
+from .world import may_meet
 
 PAIRS_AT_MOST = 40
 
@@ -29,6 +31,10 @@ def explain(report, world):
         found.search()
     finally:
         found.name()
+    if found.pair is not None and not report.brief:
+        for access in dict.fromkeys(found.pair):
+            if confirm(report, body, found.alone, access) is False:
+                report.say(f"That it touches {found.region(access)} wasn't confirmed.")
     branch_mends(report, found)
 
 
@@ -78,6 +84,7 @@ class Interference:
         else:
             return None
         pairs = [pair for pair in pairs if "writes" in (pair[0].kind, pair[1].kind)]
+        pairs.sort(key=lambda pair: not may_meet(pair[0].path, pair[1].path))
         for pair in pairs[:PAIRS_AT_MOST]:
             edits = self.only(pair)
             if edits and self.leaving.holds(edits):
@@ -134,9 +141,9 @@ class Interference:
                         self.report.name(*self.span(leaf), self.role(number, None))
             return
         one, two = self.pair
-        for access in (one,) if one is two else (one, two):
+        for place, access in enumerate((one,) if one is two else (one, two)):
             number = next(number for number, branch in numbers if is_around(branch, access.statement))
-            self.report.name(*self.span(access.statement), self.role(number, access), access.node)
+            self.report.name(*self.span(access.statement), self.role(number, access, place), access.node)
 
     def has_access(self, node):
         return any(access.statement is node for access in self.body.accesses)
@@ -148,11 +155,11 @@ class Interference:
                 return node.start, node.parts[part].start
         return node.start, node.end
 
-    def role(self, number, access):
+    def role(self, number, access, place=0):
         """What a statement does to which region, and where."""
         if self.is_loop:
             both = self.pair and self.pair[0] is self.pair[1]
-            where = "in any two iterations" if both else "in one of two iterations"
+            where = "each of two iterations" if both else ("one iteration", "another iteration")[place]
         else:
             where = f"branch {number} of the {self.fork.keyword}"
         if access is None:

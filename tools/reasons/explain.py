@@ -26,6 +26,7 @@ BY_NAME = {
     "region-args": ("others", "explain_region_args"),
     "partial-write": ("others", "explain_partial_write"),
     "atomic-body": ("others", "explain_atomic_body"),
+    "local-region": ("others", "explain_local_region"),
     "override": ("others", "explain_override"),
     "cycle": ("others", "explain_cycle"),
     "constraint": ("others", "explain_constraint"),
@@ -36,10 +37,11 @@ LEAST = "2147483648"
 def explain(source, asker, brief=False):
     """The report on a text."""
     report = Report(source, asker.check(source.text), asker)
+    report.brief = brief
     if report.answer.accepted:
         return report
     try:
-        by_name(report, brief)
+        by_name(report)
     except Spent:
         if not brief:
             report.say("The questions or the time that were granted are used up; there may be more to say.")
@@ -50,7 +52,7 @@ def explain(source, asker, brief=False):
     return report
 
 
-def by_name(report, brief):
+def by_name(report):
     """Fills in a report by the name of the refusal; a module is loaded when it is asked for, since the table of habits takes its time."""
     name = report.answer.name
     if name == "number":
@@ -58,7 +60,7 @@ def by_name(report, brief):
     elif name in BY_NAME:
         module, form = BY_NAME[name]
         explain_it = getattr(importlib.import_module(f"{__package__}.{module}"), form)
-        explain_it(report, brief if module == "syntax" else World(parse(report.source.text)))
+        explain_it(*((report,) if module == "syntax" else (report, World(parse(report.source.text)))))
 
 
 def number(report):

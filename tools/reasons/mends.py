@@ -11,7 +11,7 @@ def branch_mends(report, found):
     if found.pair is None:
         return
     is_nd = found.fork.keyword.endswith("_nd")
-    forms = [atomic_blocks] if is_nd else []
+    forms = [table_region, atomic_blocks] if is_nd else []
     forms += [missing_summaries, link_before, other_region, constraint, own_index]
     for form in forms:
         if form(report, found):
@@ -142,15 +142,26 @@ def fresh_region(source, name):
 
 
 def same_object(report, found):
-    """One region for what may be two objects: a word on region parameters."""
+    """One region for what may be two objects, or one object for both branches: a word on that."""
     one, two = found.pair
-    if one.node.kind == "field_of" and two.node.kind == "field_of" or "call" in (one.node.kind, two.node.kind):
-        first, second = (found.text[part.node.of.start : part.node.of.end] if "of" in part.node.parts else "" for part in (one, two))
-        if first and second and first != second and one.path == two.path and first != "this":
-            report.say(
-                f"A region name is one region for all objects of a class, so `{first}` and `{second}` aren't told apart. Let the class take a"
-                " region parameter, and give each object a region of its own."
-            )
+    if found.is_loop or one.path != two.path or one.node.kind != two.node.kind:
+        return False
+    if "of" not in one.node.parts:
+        report.say("A region name is one region for all objects of a class. Let the class take a region parameter, and create each object in a region of its own.")
+        return False
+    first, second = (found.text[part.node.of.start : part.node.of.end] for part in (one, two))
+    if first == second:
+        report.say(
+            f"Both branches go to `{first}.{one.node.name}`, so they can't run side by side: do one before or after the {found.fork.keyword}, or let it"
+            " work on something of its own."
+            if one.node.parts.get("name") == two.node.parts.get("name") and "name" in one.node.parts
+            else f"Both branches go to the same object `{first}`."
+        )
+    else:
+        report.say(
+            f"A region name is one region for all objects of a class, so `{first}` and `{second}` aren't told apart. Let the class take a region"
+            " parameter, and give each object a region of its own."
+        )
     return False
 
 
@@ -185,11 +196,32 @@ def params_end(source, holder):
     return next(token.start for token in tokens if token.text == ">")
 
 
+def indexed_array(found, of):
+    """Edits by which the elements of a local array without an index name get one each."""
+    for node in found.body.method.body.walk():
+        if of.kind == "name" and node.kind == "local" and node.name == of.name and node.value.kind == "new_array" and len(node.type.suffixes) == 1:
+            (path, index), value, text = node.type.suffixes[0], node.value, found.text
+            if index is not None or value.index is not None:
+                return []
+            place = f"{text[path.start : path.end] if path else 'Root'}:[{found.fork.name}]"
+            tail = f"<{place}>#{found.fork.name}"
+            args = f"<{', '.join(text[arg.start : arg.end] for arg in node.type.args)}>" if node.type.args else ""
+            created = f"new {text[value.element.start : value.element.end]}[{text[value.length.start : value.length.end]}]{tail}"
+            return [instead(node.type, f"{node.type.base}{args}[]{tail}"), instead(value, created)]
+    return []
+
+
 def own_index(report, found):
     """Elements of an array at other indices than the variable of the loop."""
     for access in dict.fromkeys(found.pair):
         node = access.node
-        if node.kind != "element":
+        if found.is_loop and "of" in node.parts and node.of.kind == "element":
+            report.say(
+                f"`{found.text[node.of.start : node.of.end]}` is an object of {found.region(access)} in every iteration. An array by index, as"
+                " `C<R:[i]>[]<R:[i]>#i`, has an object of a region of its own at each."
+            )
+            return False
+        if node.kind != "element" or not found.is_loop:
             continue
         index = found.text[node.index.start : node.index.end]
         of = found.body.types.get(id(node.of))
@@ -198,7 +230,10 @@ def own_index(report, found):
                 f"All elements of `{found.text[node.of.start : node.of.end]}` lie in {found.region(access)}. An array whose region has an index,"
                 " `T[]<R:[i]>#i`, tells its elements apart."
             )
-        elif "[?]" in access.path and found.is_loop:
+            edits = indexed_array(found, node.of)
+            if edits and report.mends("Let the region of an element depend on its index.", edits, quiet=True):
+                return True
+        elif "[?]" in access.path:
             report.say(
                 f"The index `{index}` isn't the variable of the loop itself, so the element may be any: {found.region(access)}. Only"
                 f" `[{found.fork.name}]` is told apart in two iterations."
@@ -209,6 +244,40 @@ def own_index(report, found):
             " by index and put them together after the loop, or use foreach_nd with an atomic block."
         )
     return False
+
+
+def table_region(report, found):
+    """An array that lies in the atomic region of its objects: another region for the array, which the iterations only read."""
+    for access in dict.fromkeys(found.pair):
+        of = found.body.types.get(id(access.node.of)) if access.node.kind == "element" else None
+        if access.kind != "reads" or not of or of[0] != "array" or of[1][0] != "class" or of[2] not in of[1][2]:
+            continue
+        array = found.text[access.node.of.start : access.node.of.end]
+        report.say(
+            f"`{array}` lies in {found.world.show(of[2], found.body.class_node.name)}, as its objects do, and reading it is no atomic access. Let the"
+            " array lie in a region of its own, which is only read here."
+        )
+        owner = found.body.class_node
+        names = [token.text for member in owner.members if member.kind == "regions" and not member.atomic for token in member.names]
+        new = fresh_region(report.source, "table")
+        for name in [*names, new]:
+            edits = array_moved(found, access.node.of, name)
+            if edits and name == new:
+                edits.append(Edit(owner.opened + 1, owner.opened + 1, f" region {new};"))
+            if edits and report.mends(f"Put the array `{array}` into the region {name}.", edits, quiet=True):
+                return True
+    return False
+
+
+def array_moved(found, of, name):
+    """Edits by which a local array lies in another region, by its declaration."""
+    for node in found.body.method.body.walk():
+        if of.kind == "name" and node.kind == "local" and node.name == of.name and node.value.kind == "new_array" and node.value.path:
+            path, index = node.type.suffixes[-1]
+            if path is None or index is None:
+                return []
+            return [instead(path, f"{name}:[{index}]"), instead(node.value.path, f"{name}:[{node.value.index}]")]
+    return []
 
 
 def atomic_blocks(report, found):

@@ -60,7 +60,7 @@ def is_past(report, answer, offset):
     if answer.accepted:
         return True
     if report.answer.name in EARLY:
-        return answer.name not in EARLY or answer.offset > offset
+        return report.is_gone(answer, offset)
     return answer.name not in EARLY and (answer.name, answer.offset) != (report.answer.name, offset)
 
 

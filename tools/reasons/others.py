@@ -233,4 +233,51 @@ def explain_constraint(report, world):
         if owner is not None and owner.constraints:
             listed = ", ".join(report.source.text[part.start : part.end] for part in owner.constraints)
             report.name(owner.start, owner.opened, f"asks that {listed}")
+            disjoint(report, world, its, owner)
             return
+
+
+def disjoint(report, world, its, owner):
+    """Arguments that are disjoint: by a constraint on the parameters around, or another region for one of them."""
+    at, text = report.answer.offset, report.source.text
+    class_node = next(node for node in world.classes.values() if node.start <= at < node.end)
+    given = {name: text[path.start : path.end] for (name, _), path in zip(owner.params, its.args)}
+    params = {name for name, _ in class_node.params}
+    for part in owner.constraints:
+        sides = []
+        for side in (part.left, part.right):
+            first, *rest = side.elements
+            sides.append(":".join([given.get(first, first), *rest]))
+        if params and sides[0] != sides[1]:
+            end = text.index(">", class_node.start)
+            lead = ", " if class_node.constraints else " | "
+            asked = f"{sides[0]} # {sides[1]}"
+            if report.mends(f"Let {class_node.name} ask for `{asked}` too.", [Edit(end, end, lead + asked)], quiet=True):
+                return
+    for name in declared_regions(class_node):
+        for path in reversed(its.args):
+            if report.mends("Use regions that are disjoint.", [instead(path, name)], quiet=True):
+                return
+
+
+def declared_regions(class_node):
+    """The region names of a class that aren't atomic."""
+    return [token.text for member in class_node.members if member.kind == "regions" and not member.atomic for token in member.names]
+
+
+def explain_local_region(report, world):
+    """Fills in a report on `local-region`."""
+    at = report.answer.offset
+    around(report, "names a local region where it can't be")
+    report.say("A local region is for arrays of ints and booleans that don't leave the method. What is to be kept lies in a region that the class declares.")
+    class_node, method = method_at(world, at)
+    for node in method.body.walk() if method else []:
+        if node.kind == "local_regions" and report.source.text[at : at + len(node.names[0].text)] == node.names[0].text:
+            report.name(node.start, node.end, "the local region")
+    path = next((node for node in class_node.walk() if node.kind == "path" and node.start == at), None) if class_node else None
+    if path is None:
+        return
+    name = path.elements[0]
+    edits = [instead(node, name + "Kept") for node in method.body.walk() if node.kind == "path" and node.elements == [name]]
+    edits.append(Edit(class_node.opened + 1, class_node.opened + 1, f" region {name}Kept;"))
+    report.mends("Declare the region in the class.", edits, quiet=True)

@@ -6,9 +6,10 @@ import re
 import textwrap
 
 from .leaving import applied
-from .source import marked, shown
+from .source import clean, marked, shown
 
 EARLY = ("too-long", "syntax", "number", "nest")
+NO_TOKENS = tuple("'\"@$^~`\\&")
 OF_ONE_NAME = ("unknown", "duplicate", "type", "region-args", "local-region", "main", "cycle")
 WIDTH = 110
 EDITS_AT_MOST = 6
@@ -25,11 +26,12 @@ class Report:
         self.says = []
         self.mend = None
         self.tried = []
+        self.brief = False
 
     def name(self, start, end, role, access=None):
         """Names a statement, with the access in it where there is one."""
         entry = self.piece(start, end)
-        entry["role"] = role
+        entry["role"] = clean(role)
         if access is not None:
             entry["access"] = self.piece(access.start, access.end)
         if entry not in self.statements:
@@ -40,6 +42,7 @@ class Report:
         return {"line": line, "column": column, "text": shown(self.source.text[start:end])}
 
     def say(self, text):
+        text = clean(text)
         if text and text not in self.says:
             self.says.append(text)
 
@@ -47,7 +50,7 @@ class Report:
         """Tries edits; what came out is kept."""
         text, offset = applied(self.source.text, edits, self.answer.offset)
         answer = self.asker.check(text)
-        self.tried.append({"change": change, "answer": str(answer), "edits": [self.edit(edit) for edit in edits]})
+        self.tried.append({"change": clean(change), "answer": str(answer), "edits": [self.edit(edit) for edit in edits]})
         return answer, offset
 
     def mends(self, text, edits, quiet=False):
@@ -57,7 +60,7 @@ class Report:
             if quiet:
                 self.tried.pop()
             return False
-        self.mend = {"text": text, **self.covering(edits), "answer": str(answer), "edits": [self.edit(edit) for edit in sorted(edits)]}
+        self.mend = {"text": clean(text), **self.covering(edits), "answer": str(answer), "edits": [self.edit(edit) for edit in sorted(edits)]}
         return True
 
     def is_gone(self, answer, offset):
@@ -65,10 +68,15 @@ class Report:
         if answer.accepted:
             return True
         if self.answer.name in EARLY:
-            return answer.name not in EARLY or answer.offset > offset
+            return answer.name not in EARLY or answer.offset > offset or (self.is_of_tokens() and answer.offset != offset)
         if answer.name in EARLY or (answer.name == self.answer.name and answer.offset == offset):
             return False
         return answer.offset > offset or self.answer.name in OF_ONE_NAME
+
+    def is_of_tokens(self):
+        """Whether the fault is one of tokens: these are looked for before faults of the grammar, wherever they stand."""
+        here = self.source.text[self.answer.offset : self.answer.offset + 1]
+        return self.answer.name == "number" or here in NO_TOKENS or here > "~"
 
     def edit(self, edit):
         line, column = self.source.place(edit.start)
@@ -110,12 +118,12 @@ class Report:
         for text in self.says:
             lines += wrapped(text, "")
         lines += self.mend_lines(bold, plain)
-        if self.mend is None:
+        if self.mend is None and not self.says:
             lines += wrapped(sentences_of[1], "")
         confirmed = [entry for entry in self.tried if self.mend is None or entry["change"] != self.mend["text"]]
         if confirmed:
             lines.append("Tried:")
-            lines += [f"  {shown(entry['change'])}: {entry['answer']}" for entry in confirmed]
+            lines += dict.fromkeys(f"  {shown(entry['change'])}: {entry['answer']}" for entry in confirmed)
         return "\n".join(lines) + "\n"
 
     def statement_lines(self, bold, plain):

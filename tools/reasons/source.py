@@ -84,11 +84,14 @@ def read(path, stream):
         return Source(path, file.read().decode("latin-1"))
 
 
+def clean(text):
+    """A text as UTF-8 reads it, without what a terminal obeys."""
+    return "".join(show_letter(letter) for letter in text.encode("latin-1", "replace").decode("utf-8", "replace"))
+
+
 def shown(piece):
     """A piece of a text in one line that a terminal takes for no command."""
-    decoded = piece.encode("latin-1", "replace").decode("utf-8", "replace")
-    decoded = re.sub(r"\s+", " ", decoded).strip()
-    decoded = "".join(letter if letter.isprintable() else "?" for letter in decoded)
+    decoded = clean(re.sub(r"\s+", " ", piece).strip())
     return decoded if len(decoded) <= SHOWN_AT_MOST else decoded[: SHOWN_AT_MOST - 4] + " ..."
 
 

@@ -16,7 +16,7 @@ OTHERS += ("{", "}", "<", ">", ".", ",", ";", ":", "=", "#", "|", "*", "1")
 GROUPS = (("a statement", STATEMENT), ("an expression", EXPRESSION), ("an operator", OPERATORS))
 
 
-def explain(report, brief=False):
+def explain(report):
     """Fills in a report on `syntax` or `number`."""
     source, at = report.source, report.answer.offset
     plain = without_comments(source.text)
@@ -29,7 +29,7 @@ def explain(report, brief=False):
     else:
         name_statement(report, at, habit)
     if habit is None or habit.name not in OF_LETTERS:
-        say_what_stands(report, brief)
+        say_what_stands(report)
 
 
 def matches(plain, at):
@@ -112,14 +112,14 @@ def expected_tokens(report):
     return found + [sample for sample in OTHERS if sample not in found and fits(sample)]
 
 
-def say_what_stands(report, brief):
+def say_what_stands(report):
     """What stands at the place, and what may."""
     source, at = report.source, report.answer.offset
     number = source.token_at(at)
     stands = f"`{source.tokens[number].text}`" if number < len(source.tokens) else "the end of the text"
     before = f" after `{source.tokens[number - 1].text}`" if 0 < number <= len(source.tokens) else ""
     inside = number < len(source.tokens) and source.tokens[number].start < at
-    if brief or inside:
+    if report.brief or inside:
         if not report.says:
             report.say(f"There stands {stands}{before}.")
         return

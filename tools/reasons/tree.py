@@ -55,7 +55,7 @@ class Parser(Cursor):
     def constraint(self):
         left = self.path()
         self.take("#")
-        return Node("constraint", left.start, left=left, right=self.path())
+        return self.closed(Node("constraint", left.start, left=left, right=self.path()))
 
     def args(self):
         if not self.took("<"):

@@ -135,6 +135,25 @@ def heads_of(class_node, method=None):
     return {name for name, _ in class_node.params} | ({name for name, _ in method.params} if method else set())
 
 
+def may_meet(one, two):
+    """Whether two paths aren't told apart by their beginnings or their ends, as far as their elements say."""
+    if one[0] == two[0] and any(are_distinct(*pair) for pair in zip(up_to_star(one[1:]), up_to_star(two[1:]))):
+        return False
+    ends = zip(up_to_star(one[:0:-1]), up_to_star(two[:0:-1]))
+    return not any(are_distinct(*pair) for pair in ends)
+
+
+def up_to_star(elements):
+    return elements[: elements.index("*")] if "*" in elements else elements
+
+
+def are_distinct(one, two):
+    """Two different names or numbers, or a name and an index."""
+    if is_named(one) or is_named(two):
+        return one != two
+    return one != two and one[1:-1].isdigit() and two[1:-1].isdigit()
+
+
 def put(path, given):
     """A path with what its first element stands for."""
     return tuple(given[path[0]]) + path[1:] if path[0] in given else path
