@@ -26,7 +26,7 @@ from reasons.source import read, shown
 
 TOP = os.path.dirname(os.path.dirname(os.path.abspath(__file__)))
 FLAGS = ("--json", "--brief")
-BRIEF_SECONDS = 0.4
+BRIEF_SECONDS = 0.25
 
 
 def main(words):

@@ -12,7 +12,7 @@ from . import rewrites
 MODIFIERS = "public|private|protected|static|abstract|synchronized|native|transient|volatile|strictfp|const"
 TYPE = r"(?:final\s+)?\b[A-Za-z_]\w*(?:<[^<>;{}()]*>)?(?:\s*\[\s*\](?:<[^<>;{}()]*>)?(?:#\w+)?)*"
 PLAIN = r"[A-Za-z_]\w*(?:\.[A-Za-z_]\w*|\[[^\[\];]*(?:\[[^\[\];]*\][^\[\];]*)?\])*"
-NAMES = r"[A-Za-z_]\w*(?:\s*=[^;]*?)?(?:\s*,\s*[A-Za-z_]\w*(?:\s*=[^;]*?)?)+"
+NAMES = r"[A-Za-z_]\w*\s*(?:=[^;]*?)?,[^;]*?"
 WORD = r"(?!return\b|new\b|else\b|in\b|reads\b|writes\b|extends\b|class\b|region\b|import\b|package\b|goto\b|throw\b|case\b)"
 Mend = Optional[Union[str, Callable]]
 

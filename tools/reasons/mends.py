@@ -155,7 +155,7 @@ def same_object(report, found):
             f"Both branches go to `{first}.{one.node.name}`, so they can't run side by side: do one before or after the {found.fork.keyword}, or let it"
             " work on something of its own."
             if one.node.parts.get("name") == two.node.parts.get("name") and "name" in one.node.parts
-            else f"Both branches go to the same object `{first}`."
+            else ""
         )
     else:
         report.say(
@@ -215,6 +215,8 @@ def own_index(report, found):
     """Elements of an array at other indices than the variable of the loop."""
     for access in dict.fromkeys(found.pair):
         node = access.node
+        if access.path == ("Root", "*"):
+            return False
         if found.is_loop and "of" in node.parts and node.of.kind == "element":
             report.say(
                 f"`{found.text[node.of.start : node.of.end]}` is an object of {found.region(access)} in every iteration. An array by index, as"

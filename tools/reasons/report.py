@@ -56,7 +56,7 @@ class Report:
     def mends(self, text, edits, quiet=False):
         """Tries edits as a mend, which they are where the text is accepted or the fault isn't there any more."""
         answer, offset = self.attempt(text, edits)
-        if not self.is_gone(answer, offset):
+        if not self.is_gone(answer, offset) or (answer.name not in EARLY and is_put_in(answer.offset, edits)):
             if quiet:
                 self.tried.pop()
             return False
@@ -147,7 +147,7 @@ class Report:
         if len(self.mend["edits"]) > EDITS_AT_MOST:
             lines.append("  ..")
         answer = self.mend["answer"]
-        lines.append("  With it the text is accepted." if answer == "accepted" else f"  With it the next fault is: {answer}")
+        lines.append("  With it the text is accepted." if answer == "accepted" else f"  With it the next fault is, in the changed text: {answer}")
         return lines
 
     def as_brief(self):
@@ -166,6 +166,17 @@ def change_of(edit):
     if old and new:
         return f"`{new}` in place of `{old}`"
     return f"`{new}` put in" if new else f"`{old}` left out"
+
+
+def is_put_in(offset, edits):
+    """Whether an offset of a changed text lies in what an edit put in."""
+    moved = 0
+    for edit in sorted(edits):
+        size = max(len(edit.new), edit.end - edit.start)
+        if edit.new and edit.start + moved <= offset < edit.start + moved + size:
+            return True
+        moved += size - (edit.end - edit.start)
+    return False
 
 
 def utf8(text):

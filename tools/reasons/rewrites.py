@@ -180,8 +180,11 @@ def value_of(its_type):
 def declarators(match, source):
     """`T a = 1, b;` as declarations of their own, of locals with a value."""
     its_type, is_field = match["type"], depth_at(source.text, match.start()) < 2
+    parts = split_at(match["names"], ",")
+    if len(parts) < 2 or not all(re.match(r"[A-Za-z_]\w*\s*(?:=|$)", part) for part in parts):
+        return []
     made = []
-    for part in split_at(match["names"], ","):
+    for part in parts:
         name, _, value = (piece.strip() for piece in part.partition("="))
         if is_field:
             made.append(f"{its_type} {name};")

@@ -6,7 +6,7 @@ from .leaving import Edit
 from .slips import slip_mend
 from .source import statement_around, without_comments
 
-WINDOW = 2000
+WINDOW = 1000
 OF_LETTERS = ("byte-order-mark", "open-comment", "open-literal", "escape", "blank", "quotes", "dash", "not-ascii")
 STATEMENT = ("if", "while", "return", "print", "cobegin", "foreach", "int", "{", "final", "boolean")
 EXPRESSION = ("true", "1", "this", "new", "(", "-", "!", "x", "null")
