@@ -158,7 +158,8 @@ class Asked:
 
     def on_name(self, node):
         if self.type(node) and self.type(node)[0] == "part":
-            self.report.say(f"`{node.name}` is a part of an array: it is used as `{node.name}[e]`, as `{node.name}.length`, or cut again, and is no value.")
+            name = node.name
+            self.report.say(f"`{name}` is a part of an array: it is used as `{name}[e]`, as `{name}.length`, or cut again, and is no value.")
             return True
         return False
 

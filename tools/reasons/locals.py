@@ -71,8 +71,8 @@ def shared_local(report, body, fork):
         report.name(*head(use.statement), role)
         if is_loop:
             report.say(
-                "Its iterations may run side by side, so they have no order in which to assign it. Put what each finds into an array by index, and put"
-                " that together after the loop; or use foreach_nd and a field of an atomic region in atomic blocks."
+                "Its iterations may run side by side, so they have no order in which to assign it. Put what each finds into an array by index,"
+                " and put that together after the loop; or use foreach_nd and a field of an atomic region in atomic blocks."
             )
             for _, use in assigned[1:]:
                 report.name(*head(use.statement), role)

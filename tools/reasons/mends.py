@@ -87,8 +87,8 @@ def take_link(report, found, node, link):
     indent = found.text[start : fork.start]
     gap = "\n" + indent if not indent.strip() else " "
     edits = [Edit(fork.start, fork.start, f"{shown} {name} = {link};{gap}")]
-    edits += [instead(part, name) for part in fork.walk() if part.kind == node.kind and found.text[part.start : part.end] == link and part.parts.get("at")
-              and not is_written(fork, part)]  # fmt: skip
+    same = [part for part in fork.walk() if part.kind == node.kind and found.text[part.start : part.end] == link]
+    edits += [instead(part, name) for part in same if not is_written(fork, part)]
     return report.mends(f"Take `{link}` into a local before the {fork.keyword}.", edits)
 
 
@@ -147,13 +147,16 @@ def same_object(report, found):
     if found.is_loop or one.path != two.path or one.node.kind != two.node.kind:
         return False
     if "of" not in one.node.parts:
-        report.say("A region name is one region for all objects of a class. Let the class take a region parameter, and create each object in a region of its own.")
+        report.say(
+            "A region name is one region for all objects of a class. Let the class take a region parameter, and create each object in a region of"
+            " its own."
+        )
         return False
     first, second = (found.text[part.node.of.start : part.node.of.end] for part in (one, two))
     if first == second:
         report.say(
-            f"Both branches go to `{first}.{one.node.name}`, so they can't run side by side: do one before or after the {found.fork.keyword}, or let it"
-            " work on something of its own."
+            f"Both branches go to `{first}.{one.node.name}`, so they can't run side by side: do one before or after the {found.fork.keyword},"
+            " or let it work on something of its own."
             if one.node.parts.get("name") == two.node.parts.get("name") and "name" in one.node.parts
             else ""
         )

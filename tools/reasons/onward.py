@@ -4,7 +4,7 @@ import re
 from typing import NamedTuple
 
 from .branches import method_at
-from .leaving import Edit, applied, headers_of, instead, is_around, quiet
+from .leaving import Edit, applied, headers_of, instead, quiet
 from .nodes import NoTree
 from .report import EARLY
 from .rewrites import closing
@@ -18,6 +18,7 @@ MENDED = ("syntax", "number", "unknown", "duplicate", "type", "return", "main", 
 DECLARED = re.compile(r"(?P<base>(?!return\b|new\b|else\b)[A-Za-z_]\w*)\s*(?P<brackets>(?:\[\s*\])*)\s+(?P<name>[A-Za-z_]\w*)\s*=(?!=)")
 
 
+ACTING = ("local", "assign", "effect", "print", "if", "while", "foreach")
 WITH_BLOCK = re.compile(r"(?:switch|try|catch|finally|synchronized|interface|enum|record|do)\b")
 TAIL = re.compile(r"\s*(?:catch\s*\([^()]*\)|finally|else)\s*\{")
 HEAD = re.compile(r"(?P<result>[A-Za-z_]\w*(?:\s*\[\s*\])*)\s+\w+\s*\([^()]*\)[^;{}()]*\{")
@@ -199,14 +200,13 @@ def in_sequence(source, method, at):
 
 def quiet_statements(source, method, at):
     """The innermost statement that holds a place, without what it does."""
-    held = [node for node in method.body.walk() if node.kind in ("local", "assign", "effect", "print", "if", "while", "foreach") and node.start <= at < node.end]
+    held = [node for node in method.body.walk() if node.kind in ACTING and node.start <= at < node.end]
     if not held:
         return
     node = held[-1]
     what = Change("leaving out what is done at", node.start)
     if headers_of(node):
-        heads = [instead(expression, nothing) for expression, nothing in headers_of(node) if not is_around(node.parts.get("body", node.parts.get("then")), Edit(at, at, ""))]
-        yield heads, what
+        yield [instead(expression, nothing) for expression, nothing in headers_of(node)], what
     elif node.kind != "local":
         yield [instead(node, "{}")], what
     elif node.type.start <= at < node.type.end:

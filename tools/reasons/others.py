@@ -85,7 +85,8 @@ def call_args(report, world, node):
     met = world.member(body.types.get(id(node.of)), "method", node.name)
     if met:
         params = ", ".join(name for name, _ in met[1].params)
-        report.say(f"{met[0].name}.{node.name} has {len(met[1].params)} region parameters" + (f" ({params})" if params else "") + f"; here {len(node.args)} are given.")
+        count = f"{len(met[1].params)} region parameters" + (f" ({params})" if params else "")
+        report.say(f"{met[0].name}.{node.name} has {count}; here {len(node.args)} are given.")
         report.name(met[1].start, met[1].body.start, "the declaration")
 
 
@@ -111,7 +112,9 @@ def path_of(report, world, node):
             report.mends("Take it into a final local.", edits, quiet=True)
             return
         if formals:
-            report.say("A summary, a formal's type and a result name no index variable: let the method take a region parameter, and call it with the index.")
+            report.say(
+                "A summary, a formal's type and a result name no index variable: let the method take a region parameter, and call it with the index."
+            )
             return
     if "*" in node.elements or "[?]" in node.elements:
         report.say(f"`{shown}` stands for more than one region; here one has to be named exactly, without `*` and `[?]`.")
@@ -180,7 +183,8 @@ def explain_atomic_body(report, world):
                 return
         if node.kind == "call":
             met = world.member(body.types.get(id(node.of)), "method", node.name)
-            answer, offset = report.attempt(f"without the call at {report.source.place(node.at)[0]}:{report.source.place(node.at)[1]}", without_call(block, node))
+            change = "without the call at {}:{}".format(*report.source.place(node.at))
+            answer, offset = report.attempt(change, without_call(block, node))
             if met and report.is_gone(answer, offset):
                 report.name(node.start, node.end, f"{met[0].name}.{node.name}, or a method that overrides it, reaches an nd construct")
             else:
@@ -208,7 +212,8 @@ def explain_override(report, world):
     new = method.name + "2"
     while new in text:
         new += "2"
-    report.mends(f"Give it another name, say `{new}`, where it is meant as another method.", [Edit(method.name_at, method.name_at + len(method.name), new)], quiet=True)
+    edit = Edit(method.name_at, method.name_at + len(method.name), new)
+    report.mends(f"Give it another name, say `{new}`, where it is meant as another method.", [edit], quiet=True)
 
 
 def explain_cycle(report, world):
@@ -269,7 +274,9 @@ def explain_local_region(report, world):
     """Fills in a report on `local-region`."""
     at = report.answer.offset
     around(report, "names a local region where it can't be")
-    report.say("A local region is for arrays of ints and booleans that don't leave the method. What is to be kept lies in a region that the class declares.")
+    report.say(
+        "A local region is for arrays of ints and booleans that don't leave the method. What is to be kept lies in a region that the class declares."
+    )
     class_node, method = method_at(world, at)
     for node in method.body.walk() if method else []:
         if node.kind == "local_regions" and report.source.text[at : at + len(node.names[0].text)] == node.names[0].text:

@@ -6,7 +6,13 @@ from .leaving import Edit
 from .source import tokens_of
 
 CLOSING = {"(": ")", "[": "]", "{": "}"}
-STEP = re.compile(r"^(?:(?P<target>.+?)\s*(?P<after>\+\+|--)|(?P<before>\+\+|--)\s*(?P<other>.+)|(?P<left>.+?)\s*(?P<sign>[-+*/%])=\s*(?P<value>.+))$", re.S)
+STEP = re.compile(
+    r"^(?:(?P<target>.+?)\s*(?P<after>\+\+|--)|(?P<before>\+\+|--)\s*(?P<other>.+)|(?P<left>.+?)\s*(?P<sign>[-+*/%])=\s*(?P<value>.+))$",
+    re.DOTALL,
+)
+LEAD = re.compile(
+    r"(?:(?P<back>return)\b|(?P<type>(?:int|boolean|[A-Za-z_]\w*(?:<[^=;]*>)?)(?:\[\])*)\s+(?P<name>\w+)\s*=|(?P<target>[^=?<>!]+?)=(?!=))"
+)
 
 
 def closing(text, opened):
@@ -244,7 +250,7 @@ def conditional(match, source):
     """`c ? a : b` of a declaration, an assignment or a return as an if."""
     start = match.end() - len(match.group().lstrip())
     text = source.text[start : match.end() - 1]
-    lead = re.match(r"(?:(?P<back>return)\b|(?P<type>(?:int|boolean|[A-Za-z_]\w*(?:<[^=;]*>)?)(?:\[\])*)\s+(?P<name>\w+)\s*=|(?P<target>[^=?<>!]+?)=(?!=))", text)
+    lead = LEAD.match(text)
     question = text.find("?")
     parts = split_at(text[question + 1 :], ":")
     if not lead or len(parts) != 2:

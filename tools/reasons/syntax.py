@@ -11,8 +11,8 @@ OF_LETTERS = ("byte-order-mark", "open-comment", "open-literal", "escape", "blan
 STATEMENT = ("if", "while", "return", "print", "cobegin", "foreach", "int", "{", "final", "boolean")
 EXPRESSION = ("true", "1", "this", "new", "(", "-", "!", "x", "null")
 OPERATORS = ("%", "*", "/", "+", "-", "<", "==", "&&", "||")
-OTHERS = ("x", '"t"', "class", "extends", "region", "in", "reads", "writes", "pure", "void", "int", "atomic", "else", "Root", "new", "[", "]", "(", ")")
-OTHERS += ("{", "}", "<", ">", ".", ",", ";", ":", "=", "#", "|", "*", "1")
+OTHERS = ("x", '"t"', "class", "extends", "region", "in", "reads", "writes", "pure", "void", "int", "atomic", "else", "Root", "new")
+OTHERS += ("[", "]", "(", ")", "{", "}", "<", ">", ".", ",", ";", ":", "=", "#", "|", "*", "1")
 GROUPS = (("a statement", STATEMENT), ("an expression", EXPRESSION), ("an operator", OPERATORS))
 
 
