@@ -1,5 +1,6 @@
 """Statements that have one access of a method's body, and nothing else."""
 
+from .typed import Body
 from .world import default_of, heads_of, put_in_type
 
 
@@ -80,14 +81,32 @@ class Alone:
         return f"{{ new {self.source(node.type)}({self.actuals(constructor, owner, heads_of(owner), {})}); }}"
 
 
-def summary_for(world, body, accesses):
-    """The items of a summary that covers accesses, as texts: reads and writes, with `[?]` for index variables."""
+def summaries_of(world, owner, method, marks=False):
+    """Summaries that a method without one may have, as texts: what its body does but for calls of itself, and that with all below it."""
+    body = Body(world, owner, method)
+    accesses = [access for access in body.accesses if access.path != ("Root", "*") or not calls(body, access.node, method)]
+    exact = summary_for(world, body, accesses, marks)
+    heads = heads_of(owner, method)
+    below = [access._replace(path=access.path[: 1 if access.path[0] in heads else 2] + ("*",)) for access in accesses]
+    return [summary_text(*exact), summary_text(*summary_for(world, body, below))]
+
+
+def calls(body, node, method):
+    """Whether a node calls a method."""
+    met = body.world.member(body.types.get(id(node.of)), "method", node.name) if node.kind == "call" else None
+    return met is not None and met[1] is method
+
+
+def summary_for(world, body, accesses, marks=False):
+    """The items of a summary that covers accesses, as texts: reads and writes, with `[?]` for index variables, and marks if asked."""
     writes, reads = [], []
+    plain = {access.path for access in accesses if not access.marked}
     for access in accesses:
         path = tuple("[?]" if element[0] == "[" and not element[1:-1].isdigit() else element for element in access.path)
         if path[0] in body.heads and path[0] not in heads_of(body.class_node, body.method):
             continue
         shown = world.show(path, body.class_node.name, heads_of(body.class_node, body.method))
+        shown = f"atomic {shown}" if marks and access.path not in plain else shown
         (writes if access.kind == "writes" else reads).append(shown)
     writes = list(dict.fromkeys(writes))
     return [item for item in dict.fromkeys(reads) if item not in writes], writes

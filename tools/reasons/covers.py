@@ -1,8 +1,9 @@
 """Why a summary doesn't cover a body or another summary: the statements, and a summary that is accepted."""
 
-from .alone import Alone, summary_for, summary_text
+from .alone import Alone, summaries_of, summary_for, summary_text
 from .branches import method_at
 from .leaving import Edit, Leaving, headers_of, instead, quiet
+from .mends import sibling_paths
 from .typed import Body
 from .world import heads_of
 
@@ -101,40 +102,42 @@ def least(report, body):
 
 def callee_mend(report, world, found):
     """Methods without a summary that are called: theirs are tried."""
-    edits, names = [], []
+    lacking = []
     for access in found:
         if access.says.endswith("has no summary"):
             owner_name, _, name = access.says.split(" ")[0].rpartition(".")
             owner = world.classes[owner_name]
-            method = next(member for member in owner.members if member.kind == "method" and member.name == name)
-            body = Body(world, owner, method)
-            summary = summary_text(*summary_for(world, body, body.accesses))
-            edits.append(Edit(method.summary.end, method.summary.end, " " + summary))
-            names.append(f"`{summary}` for {owner_name}.{name}")
-    if not edits:
-        return False
-    return report.mends("Write a summary: " + ", ".join(dict.fromkeys(names)) + ".", list(dict.fromkeys(edits)))
+            lacking.append((owner, next(member for member in owner.members if member.kind == "method" and member.name == name)))
+    lacking = list(dict.fromkeys(lacking))
+    for summaries in zip(*(summaries_of(world, *met) for met in lacking)):
+        edits = [Edit(method.summary.end, method.summary.end, f" {summary}") for (_, method), summary in zip(lacking, summaries)]
+        names = ", ".join(f"{owner.name}.{method.name}" for owner, method in lacking)
+        if report.mends(f"Write a summary for {names}.", edits, quiet=True):
+            return True
+    return False
 
 
 def field_mend(report, body, found):
     """Fields without a region, where the summary names one: they may have been meant to lie there."""
     paths = [":".join(path.elements) for _, path, _ in body.method.summary.items or []]
-    fields = []
+    fields, owners = [], []
     for access in found:
         if access.node.kind == "field_of" and access.path == ("Root",):
             met = body.world.member(body.types.get(id(access.node.of)), "field", access.node.name)
-            if met and met[1].region is None and met[0] is body.class_node and met[1] not in fields:
+            if met and met[1].region is None and met[1] not in fields:
                 fields.append(met[1])
+                owners.append(met[0])
     if not fields or len(fields) != len({access.node.name for access in found}):
         return False
-    for path in dict.fromkeys(paths):
-        edits = [Edit(field.end - 1, field.end - 1, f" in {path}") for field in fields]
-        names = ", ".join(f"`{field.name}`" for field in fields)
-        if report.mends(f"Put {names} into {path}, as the summary says.", edits, quiet=True):
-            for field in fields:
-                report.name(field.start, field.end, "declared without a region, so it lies in Root")
-            return True
-    return False
+    paths = paths if all(owner is body.class_node for owner in owners) else []
+    paths += [path for owner in owners for path in sibling_paths(report.source.text, owner)]
+    names = ", ".join(f"`{field.name}`" for field in fields)
+    ways = [[Edit(field.end - 1, field.end - 1, f" in {path}") for field in fields] for path in dict.fromkeys(paths)]
+    if not report.best_of(f"Declare {names} in a region.", ways):
+        return False
+    for field in fields:
+        report.name(field.start, field.end, "declared without a region, so it lies in Root")
+    return True
 
 
 def written_items(world, body):

@@ -4,6 +4,7 @@ import itertools
 
 from .branches import method_at
 from .leaving import Edit, instead
+from .names import near
 from .source import statement_around
 from .typed import Body
 from .world import BOOLEAN, INT, default_of, heads_of, put_in_type
@@ -168,7 +169,7 @@ class Asked:
         if of and of[0] == "class":
             return False
         self.report.say(f"`{self.source(node.of)}` has type {self.shown(of)}, which has no field `{node.name}`.")
-        if of and of[0] in ("array", "part") and node.name in ("size", "len", "count"):
+        if of and of[0] in ("array", "part") and (node.name in ("size", "len", "count") or near(node.name, ["length"])):
             self.report.mends("The length of an array is `.length`.", [Edit(node.at, node.end, "length")])
         return True
 
@@ -199,7 +200,7 @@ class Asked:
                 self.report.mends(f"`new {owner.name}()`, and set its fields then.", [Edit(first, last, "")], quiet=True)
             return bool(node.actuals)
         its_type = self.body.type(node.type)
-        return self.actuals(node, owner, constructor, self.world.given(owner.name, its_type[2]), f"The constructor of {owner.name}")
+        return self.actuals(node, owner, constructor, self.world.given(owner.name, its_type[2]), f"{owner.name}'s constructor")
 
     def no_result(self, node, method):
         if method.result is None:

@@ -1,8 +1,7 @@
 """Mends of branches that interfere, each tried."""
 
-from .alone import summary_for, summary_text
+from .alone import summaries_of
 from .leaving import Edit, instead
-from .typed import Body
 from .world import default_of, heads_of, is_named
 
 
@@ -11,8 +10,9 @@ def branch_mends(report, found):
     if found.pair is None:
         return
     is_nd = found.fork.keyword.endswith("_nd")
-    forms = [table_region, atomic_blocks] if is_nd else []
-    forms += [missing_summaries, link_before, other_region, constraint, own_index]
+    forms = [missing_summaries, unplaced_fields]
+    forms += [table_region, atomic_blocks] if is_nd else []
+    forms += [link_before, other_region, constraint, own_index]
     for form in forms:
         if form(report, found):
             return
@@ -31,21 +31,42 @@ def called(found, access):
 
 def missing_summaries(report, found):
     """A method without a summary writes everything: one that its body fits is tried."""
-    edits, names = [], []
-    for access in dict.fromkeys(found.pair):
-        met = called(found, access)
-        if not met or met[1].summary.items is not None:
-            continue
-        owner, method = met
-        body = Body(found.world, owner, method)
-        summary = summary_text(*summary_for(found.world, body, body.accesses))
-        edits.append(Edit(method.summary.end, method.summary.end, " " + summary))
-        names.append(f"`{summary}` for {owner.name}.{method.name}")
-    if not edits:
+    is_nd = found.fork.keyword.endswith("_nd")
+    lacking = [called(found, access) for access in dict.fromkeys(found.pair)]
+    lacking = list(dict.fromkeys(met for met in lacking if met and met[1].summary.items is None))
+    if not lacking:
         return False
-    edits = list(dict.fromkeys(edits))
     report.say("A method without a summary is taken to write everything (`writes Root:*`), so it interferes with whatever touches a region.")
-    return report.mends("Write a summary: " + ", ".join(dict.fromkeys(names)) + ".", edits)
+    ways = [summaries_of(found.world, *met, marks=is_nd) for met in lacking]
+    for summaries in zip(*ways):
+        edits = [Edit(method.summary.end, method.summary.end, f" {summary}") for (_, method), summary in zip(lacking, summaries)]
+        names = [f"{owner.name}.{method.name}" for owner, method in lacking]
+        if report.mends(f"Write a summary for {', '.join(names)}.", edits, quiet=True):
+            return True
+    return False
+
+
+def unplaced_fields(report, found):
+    """Fields that are declared without a region, where others of their class have one."""
+    fields = [(owner, field) for owner, field in fields_of(found) if field.region is None]
+    edits_by_path = {}
+    for owner, field in dict.fromkeys(fields):
+        for path in sibling_paths(report.source.text, owner):
+            edits_by_path.setdefault(path, []).append(Edit(field.end - 1, field.end - 1, f" in {path}"))
+    names = ", ".join(f"`{field.name}`" for _, field in dict.fromkeys(fields))
+    if not report.best_of(f"Declare {names} in a region.", edits_by_path.values()):
+        return False
+    for _, field in dict.fromkeys(fields):
+        report.name(field.start, field.end, "declared without a region, so it lies in Root")
+    return True
+
+
+def sibling_paths(text, owner):
+    """The regions of the other fields of a class, and then its parameters and region names."""
+    regions = [member.region for member in owner.members if member.kind == "field" and member.region is not None]
+    paths = [text[region.start : region.end] for region in regions] + [name for name, _ in owner.params]
+    paths += [token.text for member in owner.members if member.kind == "regions" for token in member.names]
+    return list(dict.fromkeys(paths))
 
 
 def parents(root):

@@ -160,7 +160,7 @@ class Place:
                 after = "ends before here" if other.start < node.start else "begins later"
                 self.report.say(f"The local `{node.name}` of {line} isn't in scope here: its block {after}; each branch and each body is a block.")
                 self.report.name(other.start, other.end, "the declaration, whose scope doesn't reach here")
-        found += self.instead(near(node.name, locals_)) + self.instead(near(node.name, fields), "this.")
+        found += self.instead(near(node.name, locals_ + ["this", "true", "false", "null"])) + self.instead(near(node.name, fields), "this.")
         return found + self.declaration(node)
 
     def declaration(self, node):

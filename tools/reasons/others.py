@@ -49,9 +49,9 @@ def explain_region_args(report, world):
     around(report, "the region arguments or the path stand here")
     at = report.answer.offset
     for node in world.program.walk():
-        if node.kind == "type" and node.start == at or node.kind == "new" and node.start == at:
-            its = node if node.kind == "type" else node.type
-            if number_of_args(report, world, its):
+        if node.kind in ("type", "new") and node.start == at:
+            args_as_asked(report, world, at)
+            if number_of_args(report, world, node if node.kind == "type" else node.type):
                 return
         if node.kind == "call" and node.at == at:
             call_args(report, world, node)
@@ -59,6 +59,22 @@ def explain_region_args(report, world):
         if node.kind == "path" and node.start <= at < node.end:
             path_of(report, world, node)
             return
+
+
+def args_as_asked(report, world, at):
+    """A creation with the region arguments of the local or the field that it is for."""
+    class_node, method = method_at(world, at)
+    if method is None:
+        return False
+    body = Body(world, class_node, method)
+    for node in method.body.walk():
+        if node.kind not in ("local", "assign") or node.value.kind != "new" or node.value.start != at:
+            continue
+        wanted = body.type(node.type) if node.kind == "local" else body.types.get(id(node.target))
+        shown = world.show_type(wanted, class_node.name, body.heads) if wanted else None
+        if shown and report.mends("Create it with the region arguments that are asked.", [instead(node.value.type, shown)], quiet=True):
+            return True
+    return False
 
 
 def number_of_args(report, world, node):
@@ -238,6 +254,8 @@ def explain_constraint(report, world):
         if owner is not None and owner.constraints:
             listed = ", ".join(report.source.text[part.start : part.end] for part in owner.constraints)
             report.name(owner.start, owner.opened, f"asks that {listed}")
+            if args_as_asked(report, world, at):
+                return
             disjoint(report, world, its, owner)
             return
 

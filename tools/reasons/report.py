@@ -63,6 +63,19 @@ class Report:
         self.mend = {"text": clean(text), **self.covering(edits), "answer": str(answer), "edits": [self.edit(edit) for edit in sorted(edits)]}
         return True
 
+    def best_of(self, text, ways):
+        """Tries several ways of one mend: the first with which the text is accepted, or else the first that helps."""
+        kept = None
+        for edits in ways:
+            if not self.mends(text, edits, quiet=True):
+                continue
+            if self.mend["answer"] == "accepted":
+                return True
+            kept = kept or self.mend
+            self.tried.pop()
+        self.mend = kept
+        return kept is not None
+
     def is_gone(self, answer, offset):
         """Whether an answer to a changed text doesn't say the fault again, nor one that is found earlier."""
         if answer.accepted:

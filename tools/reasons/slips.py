@@ -13,6 +13,8 @@ BEFORE_A_BLOCK = ("cobegin", "cobegin_nd", "atomic")
 BEFORE_A_BODY = (")", "pure")
 TRIALS_AT_MOST = 60
 LIKELY = 2.5
+OPENINGS_AT_MOST = 12
+NO_LINE_END = tuple("{};,=+-*/%<>(|&.:[") + ("&&", "||", "==", "!=", "<=", ">=")
 ONLY_ALONE = 6
 
 
@@ -48,6 +50,7 @@ def candidates(report):
     tokens = source.tokens
     found = []
     found += missing_braces(source, number)
+    found += missing_openings(source, number)
     found += misspelt(source, number)
     found += calls_without_object(source, number)
     found += one_token(source, number)
@@ -151,6 +154,18 @@ def missing_braces(source, number):
             opened = open_braces(source, number)[-1]
             found.append((f"Close what is open: {count} `}}` at the end.", [Edit(end, end, "\n" + "}" * count)], 1.9, opened.start))
     return found
+
+
+def missing_openings(source, number):
+    """Braces that indentation says are missing at the end of a line: the next one is deeper."""
+    found, tokens = [], source.tokens[: number + 1]
+    for token, after in zip(tokens, tokens[1:]):
+        line = source.place(token.start)[0]
+        if token.text in NO_LINE_END or source.place(after.start)[0] == line or indent_of(source, after.start) <= indent_of(source, token.start):
+            continue
+        text = f"A `{{` is missing, by the look of the line after line {line}."
+        found.append((text, [Edit(token.end, token.end, " {")], 0.3 + (number - len(found)) / 100000, token.start))
+    return found[-OPENINGS_AT_MOST:]
 
 
 def starts_line(source, token):

@@ -25,7 +25,8 @@ def explain(report):
     if report.mend is None:
         opened = slip_mend(report, habit is not None and habit.name != "nested-class")
     if opened is not None:
-        report.name(*statement_around(source, opened), "its `{` isn't closed")
+        missing = "missing" if report.mend["new"].strip() == "{" else "not closed"
+        report.name(*statement_around(source, opened), f"its `{{` is {missing}")
     else:
         name_statement(report, at, habit)
     if habit is None or habit.name not in OF_LETTERS:
