@@ -161,6 +161,9 @@ class Asked:
         if self.type(node) and self.type(node)[0] == "part":
             name = node.name
             self.report.say(f"`{name}` is a part of an array: it is used as `{name}[e]`, as `{name}.length`, or cut again, and is no value.")
+            for other in self.body.method.body.walk():
+                if other.kind == "field_of" and other.of is node and other.name != "length":
+                    self.report.mends("`length` may be meant.", [Edit(other.at, other.end, "length")], quiet=True)
             return True
         return False
 

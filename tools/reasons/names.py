@@ -36,9 +36,27 @@ def explain_unknown(report, world):
             report.mends(what, [Edit(token.start, token.end, instead)], quiet=True)
         return
     place = Place(report, world, token)
-    for word, edits in place.proposals()[:TRIALS_AT_MOST]:
+    proposals = place.proposals()
+    for word, edits in (misspelt_declarations(report, token, proposals) + proposals)[:TRIALS_AT_MOST]:
         if report.mends(word, edits, quiet=True):
+            place.name_declaration(edits[0].new.removeprefix("this."))
+            if edits[0].new == token.text:
+                report.name(*statement_around(report.source, edits[0].start), f"declares what is nearly `{token.text}`")
             return
+
+
+def misspelt_declarations(report, token, proposals):
+    """Declarations of nearly the same name that nothing uses, while the name itself is used more than once."""
+    found, tokens = [], report.source.tokens
+    if sum(other.text == token.text for other in tokens) < 2:
+        return []
+    for _, edits in proposals:
+        name = edits[0].new.removeprefix("this.")
+        places = [other for other in tokens if other.text == name]
+        if len(places) == 1 and near(token.text, [name]):
+            declared = places[0]
+            found.append((f"The declaration of `{name}` may be misspelt.", [Edit(declared.start, declared.end, token.text)]))
+    return found
 
 
 def println(report):
@@ -106,6 +124,21 @@ class Place:
                 return self.of_constructor(node)
         return self.of_class()
 
+    def name_declaration(self, name):
+        """Names the declaration of what may be meant, since that may be what is misspelt."""
+        if name == self.token.text or not near(self.token.text, [name]):
+            return
+        for node in self.world.program.walk():
+            end = {"field": node.end, "local": node.end, "formal": node.end, "regions": node.end}.get(node.kind)
+            if node.kind == "method":
+                end = node.body.start
+            names = [token.text for token in node.names] if node.kind == "regions" else [node.parts.get("name")]
+            if node.kind == "class":
+                end = node.opened
+            if end is not None and name in names:
+                self.report.name(node.start, end, f"declares `{name}`")
+                return
+
     def members(self, its_type, kind):
         """The names of the fields or methods of a class type."""
         if not its_type or its_type[0] != "class":
@@ -126,7 +159,7 @@ class Place:
             found.insert(0, ("A method is called with parentheses.", self.edit(node.name + "()")))
         scope = self.scope()
         if node.kind == "field_of" and node.of.kind == "this" and node.name in scope:
-            found.insert(0, (f"`{node.name}` is a local.", [Edit(node.start, node.end, node.name)]))
+            found.append((f"`{node.name}` is a local.", [Edit(node.start, node.end, node.name)]))
         if node.kind == "call":
             homes = [its for its in self.world.classes if node.name in self.members(("class", its, ()), "method")]
             if homes:

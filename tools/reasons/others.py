@@ -2,6 +2,7 @@
 
 from .branches import method_at
 from .leaving import Edit, instead, is_around
+from .names import near
 from .source import statement_around
 from .typed import Body
 
@@ -29,6 +30,11 @@ def explain_main(report, world):
         report.name(constructor.start, constructor.body.start, "Main has a constructor; what it does goes into `main`")
     if not methods:
         report.name(main.start, main.opened, "Main has no method `int main(int n)`")
+        for member in main.members:
+            if member.kind == "method" and near("main", [member.name]):
+                report.name(member.start, member.body.start, "this may be meant")
+                if report.mends("`main` may be meant.", [Edit(member.name_at, member.name_at + len(member.name), "main")], quiet=True):
+                    return
         end = main.end - 1
         report.mends("Write one.", [Edit(end, end, "int main(int n) { return 0; } ")], quiet=True)
         return

@@ -152,7 +152,7 @@ class Parser(Cursor):
 
     def summary(self):
         """What is written as a summary: items as tuples of a kind, a path and whether it is marked; none where nothing is written."""
-        node = Node("summary", self.last(), self.last(), items=None)
+        node = Node("summary", self.last(), self.last(), items=None, paths=[])
         if self.peek() not in ("pure", "reads", "writes"):
             return node
         node.start = self.here()
@@ -161,7 +161,7 @@ class Parser(Cursor):
             for kind in ("reads", "writes"):
                 if self.took(kind):
                     items += [(kind, path, marked) for path, marked in self.listed(self.item)]
-        node.parts["items"] = items
+        node.parts["items"], node.parts["paths"] = items, [path for _, path, _ in items]
         return self.closed(node)
 
     def item(self):
