@@ -55,35 +55,50 @@ def uses_of(body, fork):
 
 
 def shared_local(report, body, fork):
-    """Branches that assign a local which others use, or a loop that assigns one from outside."""
+    """Branches that assign a local which others use, or a loop that assigns locals from outside."""
     is_loop = fork.kind == "foreach"
+    shared = []
     for local, uses in uses_of(body, fork).items():
         assigned = [(number, use) for number, use in uses if use.kind == "assigned"]
         if not is_loop:
             assigned = [(number, use) for number, use in assigned if any(other != number for other, _ in uses)]
-        if not assigned or not is_faulty(report, assigned):
-            continue
+        if assigned:
+            shared.append((local, uses, assigned))
+    faulty = [entry for entry in shared if is_faulty(report, entry, shared)]
+    for local, uses, assigned in faulty:
         where = "the loop" if is_loop else "the construct"
         line = "{}:{}".format(*report.source.place(local.at))
         report.say(f"The local `{local.name}` is declared outside of {where}, at {line}.")
-        number, use = assigned[0]
-        role = f"assigns `{local.name}` in every iteration" if is_loop else f"branch {number} assigns `{local.name}`"
-        report.name(*head(use.statement), role)
-        if is_loop:
-            report.say(
-                "Its iterations may run side by side, so they have no order in which to assign it. Put what each finds into an array by index,"
-                " and put that together after the loop; or use foreach_nd and a field of an atomic region in atomic blocks."
-            )
-            for _, use in assigned[1:]:
-                report.name(*head(use.statement), role)
-            return loop_mend(report, body, fork, local)
-        others = [(other, use) for other, use in uses if other != number]
-        for other, use in others[:3]:
-            does = "assigns it too" if use.kind == "assigned" else "reads it"
-            report.name(*head(use.statement), f"branch {other} {does}")
+        (of_loop if is_loop else of_branches)(report, local, uses, assigned)
+    if faulty and is_loop:
+        report.say(
+            "The iterations may run side by side, so they have no order in which to assign it. Put what each finds into an array by index,"
+            " and put that together after the loop; or use foreach_nd and a field of an atomic region in atomic blocks."
+        )
+    elif faulty:
         report.say("Let each branch assign a local of its own, and put the results together after the construct.")
-        return branch_mend(report, body, fork, local, (number, others))
-    return None
+    if len(faulty) == 1:
+        local, uses, assigned = faulty[0]
+        if is_loop:
+            loop_mend(report, body, fork, local)
+        else:
+            number = assigned[0][0]
+            branch_mend(report, body, fork, local, (number, [(other, use) for other, use in uses if other != number]))
+
+
+def of_loop(report, local, _, assigned):
+    """Names the assignments of a local in a loop."""
+    for _, use in assigned:
+        report.name(*head(use.statement), f"assigns `{local.name}` in every iteration")
+
+
+def of_branches(report, local, uses, assigned):
+    """Names the assignment of a local in one branch, and its uses in others."""
+    number, use = assigned[0]
+    report.name(*head(use.statement), f"branch {number} assigns `{local.name}`")
+    for other, use in [(other, use) for other, use in uses if other != number][:3]:
+        does = "assigns it too" if use.kind == "assigned" else "reads it"
+        report.name(*head(use.statement), f"branch {other} {does}")
 
 
 def head(node):
@@ -94,11 +109,16 @@ def head(node):
     return node.start, node.end
 
 
-def is_faulty(report, assigned):
-    """Whether the fault is gone or another without the assignments, by asking."""
-    edits = [edit for _, use in assigned for edit in quiet(use.statement)]
-    names = ", ".join(f"{report.source.place(use.at)[0]}:{report.source.place(use.at)[1]}" for _, use in assigned)
-    answer, offset = report.attempt(f"without the assignment at {names}", edits)
+def is_faulty(report, entry, shared):
+    """Whether the fault stays without the assignments of all other locals, and goes with this one's too, by asking."""
+    others = [edit for other in shared if other is not entry for _, use in other[2] for edit in quiet(use.statement)]
+    mine = [edit for _, use in entry[2] for edit in quiet(use.statement)]
+    if others:
+        answer, offset = report.attempt(f"of the locals assigned, `{entry[0].name}` alone", others)
+        if report.is_gone(answer, offset):
+            report.tried.pop()
+            return False
+    answer, offset = report.attempt(f"`{entry[0].name}` not assigned" + (", nor the others" if others else ""), others + mine)
     if report.is_gone(answer, offset):
         return True
     report.tried.pop()

@@ -264,7 +264,8 @@ def own_index(report, found):
                 f"The index `{index}` isn't the variable of the loop itself, so the element may be any: {found.region(access)}. Only"
                 f" `[{found.fork.name}]` is told apart in two iterations."
             )
-    if found.is_loop and found.pair[0] is found.pair[1] and not any(is_named(element) is False for element in found.pair[0].path):
+    named = {f"[{found.fork.name}]", "[?]", "*"} if found.is_loop else set()
+    if found.is_loop and found.pair[0] is found.pair[1] and not named & set(found.pair[0].path):
         report.say(
             f"Nothing in {found.region(found.pair[0])} depends on `{found.fork.name}`, so all iterations touch the same. Put results into an array"
             " by index and put them together after the loop, or use foreach_nd with an atomic block."

@@ -5,7 +5,7 @@ import re
 from .branches import method_at
 from .java_names import NAMES_OF_JAVA
 from .leaving import Edit, is_around
-from .source import statement_around, without_comments
+from .source import KEYWORDS, statement_around, without_comments
 from .typed import Body
 from .world import heads_of
 
@@ -223,7 +223,7 @@ class Place:
     def of_class(self):
         """A class."""
         name = self.token.text
-        names = list(self.world.classes) + ["int", "boolean"]
+        names = list(self.world.classes) + sorted(KEYWORDS)
         found = self.instead(near(name, names))
         self.report.say(f"No class `{name}` is declared.")
         return found
