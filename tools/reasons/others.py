@@ -262,29 +262,45 @@ def explain_constraint(report, world):
             report.name(owner.start, owner.opened, f"asks that {listed}")
             if args_as_asked(report, world, at):
                 return
-            disjoint(report, world, its, owner)
+            given = {name: report.source.text[path.start : path.end] for (name, _), path in zip(owner.params, its.args)}
+            disjoint(report, world, owner, given, its.args)
+            return
+        if node.kind == "call" and node.at == at:
+            constraint_of_call(report, world, node)
             return
 
 
-def disjoint(report, world, its, owner):
+def constraint_of_call(report, world, node):
+    """A method whose constraint isn't known to hold at a call."""
+    class_node, method = method_at(world, node.at)
+    met = world.member(Body(world, class_node, method).types.get(id(node.of)), "method", node.name)
+    if met and met[1].constraints:
+        text = report.source.text
+        listed = ", ".join(text[part.start : part.end] for part in met[1].constraints)
+        report.name(met[1].start, met[1].body.start, f"asks that {listed}")
+        given = {name: text[path.start : path.end] for (name, _), path in zip(met[1].params, node.args)}
+        disjoint(report, world, met[1], given, node.args)
+
+
+def disjoint(report, world, owner, given, args):
     """Arguments that are disjoint: by a constraint on the parameters around, or another region for one of them."""
     at, text = report.answer.offset, report.source.text
     class_node = next(node for node in world.classes.values() if node.start <= at < node.end)
-    given = {name: text[path.start : path.end] for (name, _), path in zip(owner.params, its.args)}
-    params = {name for name, _ in class_node.params}
+    method = method_at(world, at)[1]
+    holder = method if method is not None and method.params else class_node
     for part in owner.constraints:
         sides = []
         for side in (part.left, part.right):
             first, *rest = side.elements
             sides.append(":".join([given.get(first, first), *rest]))
-        if params and sides[0] != sides[1]:
-            end = text.index(">", class_node.start)
-            lead = ", " if class_node.constraints else " | "
+        if holder.params and sides[0] != sides[1]:
+            end = text.index(">", holder.start)
+            lead = ", " if holder.constraints else " | "
             asked = f"{sides[0]} # {sides[1]}"
-            if report.mends(f"Let {class_node.name} ask for `{asked}` too.", [Edit(end, end, lead + asked)], quiet=True):
+            if report.mends(f"Let {holder.name} ask for `{asked}` too.", [Edit(end, end, lead + asked)], quiet=True):
                 return
     for name in declared_regions(class_node):
-        for path in reversed(its.args):
+        for path in reversed(args):
             if report.mends("Use regions that are disjoint.", [instead(path, name)], quiet=True):
                 return
 

@@ -10,7 +10,7 @@ from .source import clean, marked, shown
 
 EARLY = ("too-long", "syntax", "number", "nest")
 NO_TOKENS = tuple("'\"@$^~`\\&")
-OF_ONE_NAME = ("unknown", "duplicate", "type", "region-args", "local-region", "main", "cycle")
+OF_ONE_NAME = ("unknown", "duplicate", "type", "region-args", "local-region", "main", "cycle", "constraint", "partial-write")
 WIDTH = 110
 EDITS_AT_MOST = 6
 
@@ -84,7 +84,7 @@ class Report:
             return answer.name not in EARLY or answer.offset > offset or (self.is_of_tokens() and answer.offset != offset)
         if answer.name in EARLY or (answer.name == self.answer.name and answer.offset == offset):
             return False
-        return answer.offset > offset or self.answer.name in OF_ONE_NAME
+        return answer.offset >= offset or self.answer.name in OF_ONE_NAME
 
     def is_of_tokens(self):
         """Whether the fault is one of tokens: these are looked for before faults of the grammar, wherever they stand."""
