@@ -1,6 +1,6 @@
 """Why a text isn't one of the grammar: what stands there, what may, and the habit or the slip behind it."""
 
-
+from .asking import Spent
 from .habits import HABITS
 from .leaving import Edit
 from .slips import slip_mend
@@ -20,7 +20,12 @@ def explain(report):
     """Fills in a report on `syntax` or `number`."""
     source, at = report.source, report.answer.offset
     plain = without_comments(source.text)
-    habit = find_habit(report, plain, at)
+    try:
+        habit = find_habit(report, plain, at)
+    except Spent:
+        likely = next(matches(plain, at), None)
+        report.say(likely[0].says if likely else "")
+        raise
     opened = None
     if report.mend is None:
         opened = slip_mend(report, habit is not None and habit.name != "nested-class")
