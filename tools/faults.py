@@ -13,7 +13,7 @@ within 10 seconds.
 the fault was found, or null; "changes" are all of them; "complete" says whether the text was accepted in the end. Places are those of FILE,
 but for a mend's "edits", whose places are those of the text with the changes before it.
 
-Status: 0 the text is accepted, 1 usage, 2 it is refused, 5 FILE can't be read, 126 PROGRAM gives no answer.
+Status: 0 the text is accepted, 1 usage, 2 it is refused, 5 FILE can't be read, 6 nobody reads what is written, 126 PROGRAM gives no answer.
 """
 
 import json
@@ -24,7 +24,7 @@ from reasons.asking import Asker, NoAnswer, Spent
 from reasons.explain import explain
 from reasons.leaving import applied
 from reasons.onward import next_step
-from reasons.report import change_of, sentences, use_colours, wrapped
+from reasons.report import change_of, run, sentences, use_colours, wrapped
 from reasons.source import Source, marked, read, shown
 
 TOP = os.path.dirname(os.path.dirname(os.path.abspath(__file__)))
@@ -161,4 +161,4 @@ def main(words):
 
 
 if __name__ == "__main__":
-    sys.exit(main(sys.argv[1:]))
+    run(main)

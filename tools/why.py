@@ -13,7 +13,7 @@ written, within half a second, without the place and the line of the refusal, wh
 "tried": [{"change", "answer", "edits": [{"line", "column", "old", "new"}]}]}.
 An edit replaces `old`, which stands at its place, by `new`; the edits of one change go together. Columns count bytes, as those of dpj do.
 
-Status: 0 the text is accepted, 1 usage, 2 it is refused, 5 FILE can't be read, 126 PROGRAM gives no answer.
+Status: 0 the text is accepted, 1 usage, 2 it is refused, 5 FILE can't be read, 6 nobody reads what is written, 126 PROGRAM gives no answer.
 """
 
 import os
@@ -21,7 +21,7 @@ import sys
 
 from reasons.asking import Asker, NoAnswer
 from reasons.explain import explain
-from reasons.report import sentences, use_colours
+from reasons.report import run, sentences, use_colours
 from reasons.source import read, shown
 
 TOP = os.path.dirname(os.path.dirname(os.path.abspath(__file__)))
@@ -63,4 +63,4 @@ def main(words):
 
 
 if __name__ == "__main__":
-    sys.exit(main(sys.argv[1:]))
+    run(main)

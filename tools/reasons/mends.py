@@ -221,18 +221,36 @@ def params_end(source, holder):
 
 
 def indexed_array(found, of):
-    """Edits by which the elements of a local array without an index name get one each."""
-    for node in found.body.method.body.walk():
-        if of.kind == "name" and node.kind == "local" and node.name == of.name and node.value.kind == "new_array" and len(node.type.suffixes) == 1:
-            (path, index), value, text = node.type.suffixes[0], node.value, found.text
-            if index is not None or value.index is not None:
-                return []
-            place = f"{text[path.start : path.end] if path else 'Root'}:[{found.fork.name}]"
-            tail = f"<{place}>#{found.fork.name}"
-            args = f"<{', '.join(text[arg.start : arg.end] for arg in node.type.args)}>" if node.type.args else ""
-            created = f"new {text[value.element.start : value.element.end]}[{text[value.length.start : value.length.end]}]{tail}"
-            return [instead(node.type, f"{node.type.base}{args}[]{tail}"), instead(value, created)]
-    return []
+    """Edits by which each element of an array without an index name, a local or a field, gets a region of its own."""
+    declared, created = None, []
+    if of.kind == "name":
+        for node in found.body.method.body.walk():
+            if node.kind == "local" and node.name == of.name:
+                declared = node.type
+            value = node.parts.get("value") if node.kind in ("local", "assign") else None
+            name = node.name if node.kind == "local" else node.target.parts.get("name") if node.kind == "assign" else None
+            created += [value] if value is not None and name == of.name and value.kind == "new_array" else []
+    elif of.kind == "field_of":
+        met = found.world.member(found.body.types.get(id(of.of)), "field", of.name)
+        declared = met[1].type if met else None
+        assigned = [node for node in found.world.program.walk() if node.kind == "assign" and node.target.kind == "field_of"]
+        created = [node.value for node in assigned if node.target.name == of.name and node.value.kind == "new_array"]
+    if declared is None or len(declared.suffixes) != 1 or declared.suffixes[0][1] is not None:
+        return []
+    return with_index(found, declared, created)
+
+
+def with_index(found, declared, created):
+    """Edits that put an index name into the type of an array and into its creations."""
+    text, name = found.text, found.fork.name
+    path = declared.suffixes[0][0]
+    tail = f"<{text[path.start : path.end] if path else 'Root'}:[{name}]>#{name}"
+    args = f"<{', '.join(text[arg.start : arg.end] for arg in declared.args)}>" if declared.args else ""
+    edits = [instead(declared, f"{declared.base}{args}[]{tail}")]
+    for value in created:
+        element, length = (text[part.start : part.end] for part in (value.element, value.length))
+        edits.append(instead(value, f"new {element}[{length}]{tail}"))
+    return edits
 
 
 def own_index(report, found):

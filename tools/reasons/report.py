@@ -3,6 +3,7 @@
 import json
 import os
 import re
+import sys
 import textwrap
 
 from .leaving import applied
@@ -13,6 +14,7 @@ NO_TOKENS = tuple("'\"@$^~`\\&")
 OF_ONE_NAME = ("unknown", "duplicate", "type", "region-args", "local-region", "main", "cycle", "constraint", "partial-write")
 WIDTH = 110
 EDITS_AT_MOST = 6
+STATUS_WRITE_FAULT, STATUS_INTERRUPTED = 6, 130
 
 
 class Report:
@@ -207,6 +209,19 @@ def wrapped(text, indent, more=None):
         return []
     further = indent if more is None else more
     return textwrap.wrap(text, WIDTH, initial_indent=indent, subsequent_indent=further, break_long_words=False, break_on_hyphens=False)
+
+
+def run(main):
+    """Ends with the status of a call; a reader that has gone counts as a fault of writing."""
+    try:
+        status = main(sys.argv[1:])
+        sys.stdout.flush()
+    except BrokenPipeError:
+        os.dup2(os.open(os.devnull, os.O_WRONLY), sys.stdout.fileno())
+        status = STATUS_WRITE_FAULT
+    except KeyboardInterrupt:
+        status = STATUS_INTERRUPTED
+    sys.exit(status)
 
 
 def use_colours(stream):
