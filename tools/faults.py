@@ -122,6 +122,8 @@ class Faults:
         """How the search ended."""
         if self.complete:
             return "without them the text is accepted."
+        if len(self.found) >= FAULTS_AT_MOST:
+            return "no more were looked for."
         if self.asker.left <= 0 or self.asker.is_late():
             return "the questions or the time were used up, so there may be more."
         return "there may be more, which can't be told apart from the last one."
