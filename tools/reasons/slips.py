@@ -194,8 +194,16 @@ def missing_parentheses(source, number):
 
 
 def extra_braces(source, number):
-    """A brace that closes too much."""
-    found = []
+    """A brace that closes too much: the first that stands deeper than what it closes, or else any of the last ones."""
+    found, waiting = [], []
+    for token in source.tokens[: number + 1]:
+        if token.text == "{":
+            waiting.append(token)
+        elif token.text == "}" and waiting:
+            opened = waiting.pop()
+            if starts_line(source, token) and indent_of(source, token.start) > indent_of(source, opened.start):
+                found.append(("This `}` is too much, by its place in the line.", [Edit(token.start, token.end, "")], 0.4))
+                break
     for token in source.tokens[max(0, number - 60) : number + 1]:
         if token.text == "}":
             found.append(("This `}` is too much.", [Edit(token.start, token.end, "")], 4.5 - token.start / (10 * len(source.text))))
