@@ -1,0 +1,308 @@
+"""Names that aren't declared, or twice: the nearest names in scope, each tried."""
+
+import re
+
+from .branches import method_at
+from .java_names import NAMES_OF_JAVA
+from .leaving import Edit, is_around
+from .source import KEYWORDS, statement_around, without_comments
+from .typed import Body
+from .world import heads_of
+
+TRIALS_AT_MOST = 10
+
+
+def token_here(report):
+    number = report.source.token_at(report.answer.offset)
+    return report.source.tokens[number]
+
+
+def name_here(report, role):
+    """Names the statement around the place."""
+    at = report.answer.offset
+    report.name(*statement_around(report.source, at), role)
+
+
+def explain_unknown(report, world):
+    """Fills in a report on `unknown`."""
+    token = token_here(report)
+    name_here(report, f"`{token.text}` isn't declared")
+    if token.text in NAMES_OF_JAVA and token.text not in world.classes:
+        says, instead = NAMES_OF_JAVA[token.text]
+        if token.text != "System" or not println(report):
+            report.say(says)
+        if report.mend is None and instead is not None:
+            what = f"Write `{instead}`." if instead else "Leave it out."
+            report.mends(what, [Edit(token.start, token.end, instead)], quiet=True)
+        return
+    place = Place(report, world, token)
+    proposals = place.proposals()
+    for word, edits in (misspelt_declarations(report, token, proposals) + proposals)[:TRIALS_AT_MOST]:
+        if report.mends(word, edits, quiet=True):
+            place.name_declaration(edits[0].new.removeprefix("this."))
+            if edits[0].new == token.text:
+                report.name(*statement_around(report.source, edits[0].start), f"declares what is nearly `{token.text}`")
+            return
+
+
+def misspelt_declarations(report, token, proposals):
+    """Declarations of nearly the same name that nothing uses, while the name itself is used more than once."""
+    found, tokens = [], report.source.tokens
+    if sum(other.text == token.text for other in tokens) < 2:
+        return []
+    for _, edits in proposals:
+        name = edits[0].new.removeprefix("this.")
+        places = [other for other in tokens if other.text == name]
+        if len(places) == 1 and near(token.text, [name]):
+            declared = places[0]
+            found.append((f"The declaration of `{name}` may be misspelt.", [Edit(declared.start, declared.end, token.text)]))
+    return found
+
+
+def println(report):
+    """`System.out.println(..)` and its like, by the table of habits."""
+    from .syntax import find_habit
+
+    return find_habit(report, without_comments(report.source.text), report.answer.offset)
+
+
+def near(name, others):
+    """Names that are nearly the same, the nearest first."""
+    found, plain = [], name.lower().replace("_", "")
+    for other in dict.fromkeys(others):
+        away, shorter = distance(name.lower(), other.lower()), min(len(name), len(other))
+        is_short = len(plain) > 1 and re.match(".*".join(map(re.escape, plain)), other.lower()) and other[0].lower() == plain[0]
+        if other != name and (away <= max(1, len(name) // 3) and away < shorter or is_short or other.lower().replace("_", "") == plain):
+            found.append((away, other))
+    return [other for _, other in sorted(found)]
+
+
+def distance(one, two):
+    """How many letters are put in, left out, changed, or swapped with their neighbour."""
+    rows = [list(range(len(two) + 1))]
+    for place, letter in enumerate(one, 1):
+        row = [place]
+        for other, wanted in enumerate(two, 1):
+            row.append(min(rows[-1][other] + 1, row[-1] + 1, rows[-1][other - 1] + (letter != wanted)))
+            if place > 1 and other > 1 and letter == two[other - 2] and one[place - 2] == wanted:
+                row[-1] = min(row[-1], rows[-2][other - 2] + 1)
+        rows.append(row)
+    return rows[-1][-1]
+
+
+class Place:
+    """Where a name that isn't declared stands, and what may have been meant."""
+
+    def __init__(self, report, world, token):
+        self.report = report
+        self.world = world
+        self.token = token
+        self.class_node, self.method = method_at(world, token.start)
+        if self.class_node is None:
+            self.class_node = next(node for node in world.classes.values() if node.start <= token.start < node.end)
+        self.body = Body(world, self.class_node, self.method) if self.method else None
+
+    def edit(self, new):
+        return [Edit(self.token.start, self.token.end, new)]
+
+    def instead(self, names, lead=""):
+        return [(f"`{lead}{name}` may be meant.", self.edit(lead + name)) for name in names]
+
+    def proposals(self):
+        """Changes to be tried, the likely ones first."""
+        at = self.token.start
+        for node in self.class_node.walk():
+            if node.kind in ("field_of", "call") and node.at == at:
+                return self.of_object(node)
+            if node.kind == "name" and node.start == at:
+                return self.of_local(node)
+            if node.kind == "path" and is_around(node, Edit(at, self.token.end, "")):
+                return self.of_region(node)
+            if node.kind == "type" and node.start == at:
+                return self.of_class()
+            if node.kind == "method" and node.name_at == at:
+                return self.of_constructor(node)
+        return self.of_class()
+
+    def name_declaration(self, name):
+        """Names the declaration of what may be meant, since that may be what is misspelt."""
+        if name == self.token.text or not near(self.token.text, [name]):
+            return
+        for node in self.world.program.walk():
+            end = {"field": node.end, "local": node.end, "formal": node.end, "regions": node.end}.get(node.kind)
+            if node.kind == "method":
+                end = node.body.start
+            names = [token.text for token in node.names] if node.kind == "regions" else [node.parts.get("name")]
+            if node.kind == "class":
+                end = node.opened
+            if end is not None and name in names:
+                self.report.name(node.start, end, f"declares `{name}`")
+                return
+
+    def members(self, its_type, kind):
+        """The names of the fields or methods of a class type."""
+        if not its_type or its_type[0] != "class":
+            return []
+        classes = self.world.chain(its_type[1])
+        return [member.name for node in classes for member in node.members if member.kind == kind and not (kind == "method" and member.constructor)]
+
+    def of_object(self, node):
+        """A field or a method of an object."""
+        its_type = self.body.types.get(id(node.of)) if self.body else None
+        mine, other = ("method", "field") if node.kind == "call" else ("field", "method")
+        its_class = its_type[1] if its_type and its_type[0] == "class" else "what stands before the dot"
+        names = list(dict.fromkeys(self.members(its_type, mine)))
+        listed = ", ".join(f"`{name}`" for name in names[:8])
+        self.report.say(f"{its_class} has no {mine} `{node.name}`; it has {listed}." if names else f"{its_class} has no {mine}s.")
+        found = self.instead(near(node.name, names))
+        if node.kind == "field_of" and node.name in self.members(its_type, other):
+            found.insert(0, ("A method is called with parentheses.", self.edit(node.name + "()")))
+        scope = self.scope()
+        if node.kind == "field_of" and node.of.kind == "this" and node.name in scope:
+            found.append((f"`{node.name}` is a local.", [Edit(node.start, node.end, node.name)]))
+        if node.kind == "call":
+            homes = [its for its in self.world.classes if node.name in self.members(("class", its, ()), "method")]
+            if homes:
+                self.report.say(f"A method `{node.name}` is declared in {', '.join(homes)}.")
+        return found
+
+    def scope(self):
+        """The locals in scope at the place."""
+        if not self.body:
+            return {}
+        found, size = {}, None
+        for node in self.method.body.walk():
+            if id(node) in self.body.scopes and node.start <= self.token.start < node.end and (size is None or node.end - node.start <= size):
+                found, size = self.body.scopes[id(node)], node.end - node.start
+        return found
+
+    def of_local(self, node):
+        """A bare name: a field without its object, another local, or a local whose scope has ended."""
+        this = ("class", self.class_node.name, ())
+        fields, locals_ = self.members(this, "field"), list(self.scope())
+        found = []
+        if node.name in fields:
+            self.report.say("A bare name is a local or a formal; fields are written with their object.")
+            found += self.everywhere(node.name) + [("Write the field with its object.", self.edit(f"this.{node.name}"))]
+        if node.name in self.world.classes:
+            self.report.say(f"`{node.name}` is a class. Nothing is static: a method is called on an object, as `new {node.name}().f()`.")
+            found.append((f"Make an object of {node.name}.", self.edit(f"new {node.name}()")))
+        for other in self.method.body.walk():
+            if other.kind == "local" and other.name == node.name:
+                line = "{}:{}".format(*self.report.source.place(other.name_at))
+                after = "ends before here" if other.start < node.start else "begins later"
+                self.report.say(f"The local `{node.name}` of {line} isn't in scope here: its block {after}; each branch and each body is a block.")
+                self.report.name(other.start, other.end, "the declaration, whose scope doesn't reach here")
+        found += self.instead(near(node.name, locals_ + ["this", "true", "false", "null"])) + self.instead(near(node.name, fields), "this.")
+        return found + self.declaration(node)
+
+    def declaration(self, node):
+        """The first assignment of a name as its declaration."""
+        for other in self.method.body.walk():
+            if other.kind == "assign" and other.target is node:
+                its_type = self.body.types.get(id(other.value))
+                shown = self.world.show_type(its_type, self.class_node.name, self.body.heads) if its_type and its_type != ("null",) else None
+                return [(f"Declare the local `{node.name}`.", [Edit(node.start, node.start, f"{shown} ")])] if shown else []
+        return []
+
+    def everywhere(self, name):
+        """`this.` in front of all uses of a field's name in the method, where no local has that name."""
+        tokens = self.report.source.tokens
+        if any(node.kind == "local" and node.name == name for node in self.method.body.walk()):
+            return []
+        places = [
+            token.start
+            for before, token in zip(tokens, tokens[1:])
+            if token.text == name and before.text != "." and self.method.body.start < token.start < self.method.body.end
+        ]
+        if len(places) < 2:
+            return []
+        edits = [Edit(place, place + len(name), f"this.{name}") for place in places]
+        return [(f"Write the field with its object, {len(places)} times in this method.", edits)]
+
+    def of_class(self):
+        """A class."""
+        name = self.token.text
+        names = list(self.world.classes) + sorted(KEYWORDS)
+        found = self.instead(near(name, names))
+        self.report.say(f"No class `{name}` is declared.")
+        return found
+
+    def of_constructor(self, node):
+        """A constructor of another name than that of its class, or a method without a result."""
+        self.report.say("A constructor has the name of its class; a method has a result, or `void`, in front of its name.")
+        if any(other.kind == "return" and other.value for other in node.body.walk()):
+            return [("It returns something, so as a method it has that type in front.", [Edit(node.start, node.start, "int ")])]
+        found = [("Give it the name of its class.", self.edit(self.class_node.name))]
+        found.append(("As a method it has `void` in front.", [Edit(node.start, node.start, "void ")]))
+        return found if distance(node.name.lower(), self.class_node.name.lower()) < 3 else found[::-1]
+
+    def of_region(self, node):
+        """A region name, a parameter or an index variable in a path."""
+        name, at = self.token.text, self.token.start
+        text = self.report.source.text
+        if text[:at].rstrip().endswith("[") and at > node.start:
+            indexes = [local.name for local in self.scope().values() if local.is_index]
+            self.report.say(f"`{name}` is no index variable; " + (f"these are: {', '.join(indexes)}." if indexes else "none is in scope."))
+            return self.instead(near(name, indexes)) + self.instead(["?"])
+        chain = list(self.world.chain(self.class_node.name))
+        declared = [token.text for its in chain for member in its.members if member.kind == "regions" for token in member.names]
+        params = sorted(heads_of(self.class_node, self.method))
+        found = self.instead(near(name, declared + params))
+        for its in self.world.classes.values():
+            if its not in chain and self.world.home(its.name, name) == its.name:
+                self.report.say(f"The region name `{name}` is declared in {its.name}, and is written with that class elsewhere.")
+                found.insert(0, (f"Write `{its.name}.{name}`.", self.edit(f"{its.name}.{name}")))
+        opened = self.class_node.opened + 1
+        if not found:
+            self.report.say(f"No region name `{name}` is declared in {self.class_node.name}, and no region parameter.")
+        found.append(("Declare the region name.", [Edit(opened, opened, f" region {name};")]))
+        return found
+
+
+def explain_duplicate(report, world):
+    """Fills in a report on `duplicate`."""
+    token = token_here(report)
+    name_here(report, f"the second `{token.text}`")
+    first = first_of(report, world, token)
+    if first is not None:
+        report.name(*statement_around(report.source, first), f"the first `{token.text}`, which is visible there")
+    rename(report, world, token)
+
+
+def first_of(report, world, token):
+    """Where the name that is declared once more was declared first."""
+    class_node, method = method_at(world, token.start)
+    if method is not None and method.name_at != token.start:
+        place = Place(report, world, token).scope().get(token.text)
+        if place and place.at != token.start:
+            return place.at
+    for node in world.program.classes:
+        if node.name_at == token.start:
+            return next(other.name_at for other in world.program.classes if other.name == token.text)
+    class_node = class_node or next((node for node in world.program.classes if node.start <= token.start < node.end), None)
+    for node in world.chain(class_node.name) if class_node else []:
+        for member in node.members:
+            names = member.names if member.kind == "regions" else []
+            places = [one.start for one in names if one.text == token.text]
+            if member.kind in ("field", "method") and member.name == token.text:
+                places.append(member.name_at)
+            places = [place for place in places if place != token.start]
+            if places:
+                return places[0]
+    return None
+
+
+def rename(report, world, token):
+    """Another name for a local and its uses; for what else is declared the declaration alone."""
+    class_node, method = method_at(world, token.start)
+    new = token.text + "2"
+    taken = {other.text for other in report.source.tokens}
+    while new in taken:
+        new += "2"
+    edits = [Edit(token.start, token.end, new)]
+    if method is not None and method.name_at != token.start:
+        body = Body(world, class_node, method)
+        places = sorted({use.at for use in body.uses if use.local.at == token.start})
+        edits += [Edit(place, place + len(token.text), new) for place in places]
+    report.mends(f"Give it another name, say `{new}`.", edits, quiet=True)
