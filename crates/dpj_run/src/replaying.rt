@@ -64,5 +64,9 @@ fn recorded(alloc: Global, machine: Machine) -> Result<Recorded, NoMemory>
         shares: Items::new(alloc),
         own,
     };
-    Ok(Recorded { record, outcome })
+    Ok(Recorded {
+        record,
+        outcome,
+        rounds: 0,
+    })
 }

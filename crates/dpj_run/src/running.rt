@@ -58,5 +58,9 @@ fn finished(alloc: Global, worked: Worked) -> Result<Option<Recorded>, NoMemory>
         shares,
         own,
     };
-    Ok(Some(Recorded { record, outcome }))
+    Ok(Some(Recorded {
+        record,
+        outcome,
+        rounds: 0,
+    }))
 }
