@@ -35,7 +35,7 @@ pub record IsMadeAlone (workers count : ℕ) (p : Played) (r : Recorded) : Type 
   pub came : p.outcome ≡ Some r.outcome
   pub no_shares : r.record.shares ≡ replicate workers 0
   pub own : r.record.own ≡ length p.schedule
-  pub rounds : r.rounds ≡ count
+  pub rounds : r.record.rounds ≡ count
 
 -- a run in rounds that has come out, with its record; or there is none
 pub data ComesByRounds (P : PlainProgram) (L : Limits) (argument : ℤ) (workers : ℕ) : Option Recorded → Type 0 where

@@ -12,8 +12,6 @@ use std::alloc::Global;
 pub struct Recorded {
     pub record: Record,
     pub outcome: Outcome,
-    /// How many rounds it was made by, 0 where it wasn't made in rounds.
-    pub rounds: u64,
 }
 
 /// The record of a run that the caller made, by so many rounds, once it has come out.
@@ -34,12 +32,9 @@ pub fn made_alone(
         machine,
         shares,
         own,
-    };
-    Ok(Some(Recorded {
-        record,
-        outcome,
         rounds,
-    }))
+    };
+    Ok(Some(Recorded { record, outcome }))
 }
 
 /// A share of 0 for each worker.

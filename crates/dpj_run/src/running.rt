@@ -57,10 +57,7 @@ fn finished(alloc: Global, worked: Worked) -> Result<Option<Recorded>, NoMemory>
         machine,
         shares,
         own,
-    };
-    Ok(Some(Recorded {
-        record,
-        outcome,
         rounds: 0,
-    }))
+    };
+    Ok(Some(Recorded { record, outcome }))
 }

@@ -112,7 +112,7 @@ module _ (keeps : KeepsPromise) (verdict : OneVerdict) (one : OnePassing) (words
         well_typed = known.well_typed;
         made = known.made;
         is = tells.run_recorded ∙ ap (λ (a : Answered). a.recorded) known.is;
-        reported = verdict_reported (verdict_of asked text known.made.record.machine.schedule known.made.rounds known.made.outcome) (ap (λ (a : Answered). a.verdict) known.is);
+        reported = verdict_reported (verdict_of asked text known.made.record.machine.schedule known.made.record.rounds known.made.outcome) (ap (λ (a : Answered). a.verdict) known.is);
         reduced = known.reduced;
         inside = known.inside;
       }

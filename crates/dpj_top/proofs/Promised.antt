@@ -197,8 +197,8 @@ keeps_promise machines greedy reduce inside never_stuck goes passed with_inferre
         let m = made job typed r ran.run in
         record {
           schedule = r.record.machine.schedule;
-          rounds = r.rounds;
-          is = ap (λ (a : Answered). a.verdict) ran.is ∙ ap (λ o. verdict_of job text r.record.machine.schedule r.rounds o)
+          rounds = r.record.rounds;
+          is = ap (λ (a : Answered). a.verdict) ran.is ∙ ap (λ o. verdict_of job text r.record.machine.schedule r.record.rounds o)
               (reported_elision typed (kept text place typed accepted) (limits_of job) job.arg within.0.steps_most within.1 machines none r.record.machine r.outcome m.0 m.1);
         }
 

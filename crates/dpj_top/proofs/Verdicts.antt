@@ -52,7 +52,7 @@ reported-no-usage command.Cost job text schedule rounds outcome e = ending_statu
 ran-no-usage : (job : Job) (text : List ℕ) (typed : PlainProgram) (answered : Answered) → IsRan job text typed answered
     → status_of answered.verdict ≡ ended.Usage → ⊥
 ran-no-usage job text typed answered r e =
-    reported-no-usage job.command job text r.made.record.machine.schedule r.made.rounds r.made.outcome (ap (λ (a : Answered). status_of a.verdict) (sym r.is) ∙ e)
+    reported-no-usage job.command job text r.made.record.machine.schedule r.made.record.rounds r.made.outcome (ap (λ (a : Answered). status_of a.verdict) (sym r.is) ∙ e)
 
 listed-no-usage : (bytes : List ℕ) (answered : Answered) → answered ≡ only (Listed bytes) → status_of answered.verdict ≡ ended.Usage → ⊥
 listed-no-usage bytes answered is e = let s : status_of (Listed bytes) ≡ ended.Usage = ap (λ (a : Answered). status_of a.verdict) (sym is) ∙ e in cc
@@ -138,9 +138,9 @@ run_in_mode asked made typed L limits a argument workers result is same given ru
 -- the verdict on the run of a program
 pub ran-so : (asked : Job) (text : List ℕ) (typed : PlainProgram) (r : Recorded) (schedule : List ℕ) (verdict : Verdict)
     → IsRunBy asked.mode typed (limits_of asked) asked.arg asked.workers (Some r) → schedule ≡ r.record.machine.schedule
-    → verdict ≡ verdict_of asked text schedule r.rounds r.outcome → IsRan asked text typed (record { verdict = verdict; recorded = Some r.record })
+    → verdict ≡ verdict_of asked text schedule r.record.rounds r.outcome → IsRan asked text typed (record { verdict = verdict; recorded = Some r.record })
 ran-so asked text typed r schedule verdict runs same is =
-    record { made = r; run = runs; is = ap (λ v. record { verdict = v; recorded = Some r.record }) (is ∙ ap (λ ks. verdict_of asked text ks r.rounds r.outcome) same) }
+    record { made = r; run = runs; is = ap (λ v. record { verdict = v; recorded = Some r.record }) (is ∙ ap (λ ks. verdict_of asked text ks r.record.rounds r.outcome) same) }
 
 -- the listing of a code that is the compiled program's, with the titles that its names give
 pub listing-so : (text : List ℕ) (made typed : PlainProgram) (own names : ProgramNames) (code : Code) (listed : List ℕ) (answered : Answered) → TellsPlainCode

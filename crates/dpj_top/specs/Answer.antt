@@ -104,7 +104,7 @@ IsRunBy (mode.Seeded seed) typed limits argument workers = ComesBySeed typed lim
 pub record IsRan (job : Job) (text : List ℕ) (typed : PlainProgram) (answered : Answered) : Type 0 where
   pub made : Recorded
   pub run : IsRunBy job.mode typed (limits_of job) job.arg job.workers (Some made)
-  pub is : answered ≡ record { verdict = verdict_of job text made.record.machine.schedule made.rounds made.outcome; recorded = Some made.record }
+  pub is : answered ≡ record { verdict = verdict_of job text made.record.machine.schedule made.record.rounds made.outcome; recorded = Some made.record }
 
 -- the listing of the code of a program, with the names of the text
 pub record IsListing (text : List ℕ) (typed : PlainProgram) (answered : Answered) : Type 0 where
@@ -142,13 +142,6 @@ pub data IsAnswer (job : Job) (text : List ℕ) : Answered → Type 0 where
   faulty : (refusal : Refusal) → length text ≤ max_text → IsFault text refusal → IsAnswer job text (only (Refused refusal))
   of_program : (place : Place) (typed : PlainProgram) (answered : Answered) → IsAcceptedAs text place typed → IsAnswerOn job text typed answered → IsAnswer job text answered
 
--- the number of rounds, where a verdict tells it
-abbrev pub rounds_told : Verdict → Option ℕ
-rounds_told (Cost outcome figures) = Some figures.rounds
-rounds_told _ = None
-
--- there is one answer at most to a job on a text, for each run that was recorded, and each number of its rounds where that is told
+-- there is one answer at most to a job on a text, for each run that was recorded
 abbrev pub OneAnswer : Type 0
-OneAnswer =
-    (job : Job) (text : List ℕ) (first second : Answered) → IsWithin job → IsAnswer job text first → IsAnswer job text second → first.recorded ≡ second.recorded
-    → rounds_told first.verdict ≡ rounds_told second.verdict → first ≡ second
+OneAnswer = (job : Job) (text : List ℕ) (first second : Answered) → IsWithin job → IsAnswer job text first → IsAnswer job text second → first.recorded ≡ second.recorded → first ≡ second

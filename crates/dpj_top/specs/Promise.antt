@@ -50,7 +50,7 @@ pub record TellsElision (job : Job) (text : List ℕ) (typed : PlainProgram) (an
 pub record TellsReduced (job : Job) (text : List ℕ) (typed : PlainProgram) (answered : Answered) : Type 0 where
   pub well_typed : WellTyped typed
   pub made : Recorded
-  pub is : answered ≡ record { verdict = verdict_of job text made.record.machine.schedule made.rounds made.outcome; recorded = Some made.record }
+  pub is : answered ≡ record { verdict = verdict_of job text made.record.machine.schedule made.record.rounds made.outcome; recorded = Some made.record }
   pub reduced : ComesOutReduced typed well_typed made.record.machine made.outcome
   pub inside : ComesOutElidedInside typed made.record.machine made.outcome
 
@@ -103,7 +103,7 @@ pub record ReportsReduced (job : Job) (text : List ℕ) (typed : PlainProgram) (
   pub well_typed : WellTyped typed
   pub made : Recorded
   pub is : recorded ≡ Some made.record
-  pub reported : IsReported (verdict_of job text made.record.machine.schedule made.rounds made.outcome) before after status
+  pub reported : IsReported (verdict_of job text made.record.machine.schedule made.record.rounds made.outcome) before after status
   pub reduced : ComesOutReduced typed well_typed made.record.machine made.outcome
   pub inside : ComesOutElidedInside typed made.record.machine made.outcome
 

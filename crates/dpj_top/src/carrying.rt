@@ -72,12 +72,15 @@ fn ran<R: Threads + Wait + Sync, G: Gate + Sync>(
     let Some(run) = made(rt, alloc, job, &typed, gate)? else {
         unreachable!("an accepted program goes on until it has come out")
     };
-    let Recorded {
-        record,
+    let Recorded { record, outcome } = run;
+    let verdict = verdict_on(
+        alloc,
+        job,
+        text,
+        record.machine.schedule(),
+        record.rounds,
         outcome,
-        rounds,
-    } = run;
-    let verdict = verdict_on(alloc, job, text, record.machine.schedule(), rounds, outcome)?;
+    )?;
     Ok(Answered {
         verdict,
         recorded: Some(record),
