@@ -57,7 +57,7 @@ module _ (passed : PassedKeeps) (verdict : OneVerdict) (going : CompiledGoesOn) 
     ran : asks_run job.command ≡ true → Answer
     ran asks =
         let r = run_by going some short never_stuck typed kept (limits_of job) job.arg within.0.steps_most within.0.cells_most within.1 job.mode job.workers in (
-          record { verdict = verdict_of job text r.0.record.machine.schedule r.0.outcome; recorded = Some r.0.record },
+          record { verdict = verdict_of job text r.0.record.machine.schedule r.0.rounds r.0.outcome; recorded = Some r.0.record },
           to_run asks (record { made = r.0; run = r.1; is = refl }),
         )
 
@@ -91,6 +91,7 @@ module _ (passed : PassedKeeps) (verdict : OneVerdict) (going : CompiledGoesOn) 
     by_command command.Trace is never = ran (ap asks_run is)
     by_command command.Replay is never = absurd (never refl)
     by_command command.Effects is never = told is
+    by_command command.Cost is never = ran (ap asks_run is)
 
   abbrev Answers : Job → List ℕ → Type 0
   Answers job text = (answered : Answered) × IsAnswer job text answered

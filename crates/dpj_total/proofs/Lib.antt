@@ -7,6 +7,7 @@ pub mod Events
 pub mod Finishing
 pub mod Readiness
 pub mod Rounds
+pub mod Seeds
 pub mod Effects
 pub mod Runs
 pub mod Answers

@@ -38,16 +38,17 @@ some_same : {A : Type 0} {x y : A} → Some x ≡ Some y → x ≡ y
 some_same e = cc
 
 -- a verdict that is a trace is one of a run
-traced_by : (c : Command) (job : Job) (text schedule : List ℕ) (o outcome : Outcome) (bytes : List ℕ) → asks_run c ≡ true → verdict_by c job text schedule o ≡ Traced outcome bytes
+traced_by : (c : Command) (job : Job) (text schedule : List ℕ) (rounds : ℕ) (o outcome : Outcome) (bytes : List ℕ) → asks_run c ≡ true → verdict_by c job text schedule rounds o ≡ Traced outcome bytes
     → (o ≡ outcome) × (bytes ≡ trace_text job.arg (limits_of job) schedule text)
-traced_by command.Trace job text schedule o outcome bytes run e = ((let same : o ≡ outcome = cc in same), (let same : bytes ≡ trace_text job.arg (limits_of job) schedule text = cc in same))
-traced_by command.Run job text schedule o outcome bytes run e = absurd (cc)
-traced_by command.Demo job text schedule o outcome bytes run e = absurd (cc)
-traced_by command.Check job text schedule o outcome bytes run e = absurd (cc)
-traced_by command.Elide job text schedule o outcome bytes run e = absurd (cc)
-traced_by command.«List» job text schedule o outcome bytes run e = absurd (cc)
-traced_by command.Replay job text schedule o outcome bytes run e = absurd (cc)
-traced_by command.Effects job text schedule o outcome bytes run e = absurd (cc)
+traced_by command.Trace job text schedule rounds o outcome bytes run e = ((let same : o ≡ outcome = cc in same), (let same : bytes ≡ trace_text job.arg (limits_of job) schedule text = cc in same))
+traced_by command.Run job text schedule rounds o outcome bytes run e = absurd (cc)
+traced_by command.Demo job text schedule rounds o outcome bytes run e = absurd (cc)
+traced_by command.Check job text schedule rounds o outcome bytes run e = absurd (cc)
+traced_by command.Elide job text schedule rounds o outcome bytes run e = absurd (cc)
+traced_by command.«List» job text schedule rounds o outcome bytes run e = absurd (cc)
+traced_by command.Replay job text schedule rounds o outcome bytes run e = absurd (cc)
+traced_by command.Effects job text schedule rounds o outcome bytes run e = absurd (cc)
+traced_by command.Cost job text schedule rounds o outcome bytes run e = absurd (cc)
 
 -- the text of a trace in front of its program
 head_text : ℤ → Limits → List ℕ → List ℕ
@@ -108,7 +109,7 @@ module _ (short : SchedulesAreShort) (keeps : EachKeeps) (going : CompiledGoesOn
 
     -- the run as a replay records it, by the caller alone
     abbrev alone : Recorded
-    alone = record { «record» = record { machine = r.record.machine; shares = []; own = length r.record.machine.schedule }; outcome = r.outcome }
+    alone = record { «record» = record { machine = r.record.machine; shares = []; own = length r.record.machine.schedule }; outcome = r.outcome; rounds = 0 }
 
     by_caller : IsRecordOf typed (limits_of job) job.arg 0 alone
     by_caller = record { is_run = run; came = come; seats = refl; counted = omega arith }
@@ -155,7 +156,7 @@ module _ (short : SchedulesAreShort) (keeps : EachKeeps) (going : CompiledGoesOn
   told job text place typed answered outcome bytes within accepted asks ran is =
       let r = ran.made in
       let m = made_run job.mode typed (limits_of job) job.arg job.workers r ran.run in
-      let w = traced_by job.command job text r.record.machine.schedule r.outcome outcome bytes asks (sym (ap (λ (a : Answered). a.verdict) ran.is) ∙ is) in record {
+      let w = traced_by job.command job text r.record.machine.schedule r.rounds r.outcome outcome bytes asks (sym (ap (λ (a : Answered). a.verdict) ran.is) ∙ is) in record {
         made = r.record;
         recorded = ap (λ (a : Answered). a.recorded) ran.is;
         came = m.1 ∙ ap Some w.0;

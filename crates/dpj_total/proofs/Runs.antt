@@ -1,4 +1,4 @@
--- Each accepted program has a run, in either mode.
+-- Each accepted program has a run, in each mode.
 use Rattle.std.proofs.Common.{◌≡◌, ◌+◌, ◌*◌, ◌≤◌, ℕ, ℤ, FitsSigned, List, [], length, replicate, Some, None, refl, arith}
 use Rattle.std.specs.Int.{w32}
 use Rattle.std.specs.List.{sum}
@@ -18,6 +18,8 @@ use Rattle.dpj_recorded.specs.Laws.{SchedulesAreShort, SomeTaskIsReady}
 use Rattle.dpj_run.specs.Rounding.{ComesByRounds}
 use Rattle.dpj_run.specs.Rounding.{by_rounds as comes_by_rounds}
 use Rattle.dpj_run.specs.Run.{IsRun, IsRunOf, recorded_so}
+use Rattle.dpj_run.specs.Seeding.{ComesBySeed}
+use Rattle.dpj_run.specs.Seeding.{by_seed as comes_by_seed}
 use Rattle.dpj_run.specs.declared.recorded.Recorded.{Recorded}
 use Rattle.dpj_typed.specs.Plain.{PlainProgram}
 use Rattle.dpj_words.specs.declared.key.Mode.{Mode}
@@ -27,6 +29,7 @@ use Rattle.dpj_top.specs.Answer.{IsRunBy}
 use Rattle.dpj_total.proofs.Codes.{code_back, code_for}
 use Rattle.dpj_total.proofs.Finishing.{Finishes, finishes, played, replayed, starts}
 use Rattle.dpj_total.proofs.Rounds.{ByRounds, by_rounds}
+use Rattle.dpj_total.proofs.Seeds.{BySeed, by_seed_drawn}
 
 no_sum : (n : ℕ) → sum (replicate n 0) ≡ 0
 no_sum n = let product = sum_by-replicate (λ (x : ℕ). x) n 0 in omega (arith, product)
@@ -60,10 +63,13 @@ module _ (going : CompiledGoesOn) (some : SomeTaskIsReady) (short : SchedulesAre
   rounds : ByRounds code L arg goes unstuck some_ready (2 * L.steps + 2) few_events (omega (arith, few))
   rounds = by_rounds code L arg goes unstuck some_ready (2 * L.steps + 2) few_events (omega (arith, few))
 
+  drawn : (seed : ℕ) → BySeed code L arg goes unstuck some_ready (2 * L.steps + 2) few_events seed
+  drawn seed = by_seed_drawn code L arg goes unstuck some_ready (2 * L.steps + 2) few_events seed
+
   by_steps : (workers : ℕ) → (r : Recorded) × IsRun typed L arg workers (Some r)
   by_steps workers =
       let p : Played = played code L arg finished.schedule finished.moment in
-      let r : Recorded = record { «record» = record { machine = p; shares = replicate workers 0; own = length p.schedule }; outcome = finished.outcome } in (
+      let r : Recorded = record { «record» = record { machine = p; shares = replicate workers 0; own = length p.schedule }; outcome = finished.outcome; rounds = 0 } in (
         r,
         recorded_so r (record {
           is_run = run_of finished.schedule finished.moment finished.leads;
@@ -76,7 +82,7 @@ module _ (going : CompiledGoesOn) (some : SomeTaskIsReady) (short : SchedulesAre
   in_rounds : (workers : ℕ) → (r : Recorded) × ComesByRounds typed L arg workers (Some r)
   in_rounds workers =
       let p : Played = played code L arg rounds.schedule rounds.moment in
-      let r : Recorded = record { «record» = record { machine = p; shares = replicate workers 0; own = length p.schedule }; outcome = rounds.outcome } in (
+      let r : Recorded = record { «record» = record { machine = p; shares = replicate workers 0; own = length p.schedule }; outcome = rounds.outcome; rounds = rounds.count } in (
         r,
         comes_by_rounds r p (record {
           is_run = run_of rounds.schedule rounds.moment rounds.leads;
@@ -84,9 +90,24 @@ module _ (going : CompiledGoesOn) (some : SomeTaskIsReady) (short : SchedulesAre
           nothing = refl;
           count = rounds.count;
           rounds = rounds.rounds;
-        }) (record { machine = refl; came = rounds.came; no_shares = refl; own = refl }),
+        }) (record { machine = refl; came = rounds.came; no_shares = refl; own = refl; rounds = refl }),
+      )
+
+  by_seed : (workers seed : ℕ) → (r : Recorded) × ComesBySeed typed L arg workers seed (Some r)
+  by_seed workers seed =
+      let s = drawn seed in
+      let p : Played = played code L arg s.schedule s.moment in
+      let r : Recorded = record { «record» = record { machine = p; shares = replicate workers 0; own = length p.schedule }; outcome = s.outcome; rounds = 0 } in (
+        r,
+        comes_by_seed r p (record {
+          is_run = run_of s.schedule s.moment s.leads;
+          start = played code L arg [] (starts code L arg).0;
+          nothing = refl;
+          seeded = record { state = s.state; steps = s.steps };
+        }) (record { machine = refl; came = s.came; no_shares = refl; own = refl; rounds = refl }),
       )
 
   pub run_by : (m : Mode) (workers : ℕ) → (r : Recorded) × IsRunBy m typed L arg workers (Some r)
   run_by mode.Steps workers = by_steps workers
   run_by mode.Rounds workers = in_rounds workers
+  run_by (mode.Seeded seed) workers = by_seed workers seed
