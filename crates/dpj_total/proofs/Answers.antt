@@ -57,7 +57,7 @@ module _ (passed : PassedKeeps) (verdict : OneVerdict) (going : CompiledGoesOn) 
     ran : asks_run job.command ≡ true → Answer
     ran asks =
         let r = run_by going some short never_stuck typed kept (limits_of job) job.arg within.0.steps_most within.0.cells_most within.1 job.mode job.workers in (
-          record { verdict = verdict_of job text r.0.record.machine.schedule r.0.rounds r.0.outcome; recorded = Some r.0.record },
+          record { verdict = verdict_of job text r.0.record.machine.schedule r.0.record.rounds r.0.outcome; recorded = Some r.0.record },
           to_run asks (record { made = r.0; run = r.1; is = refl }),
         )
 

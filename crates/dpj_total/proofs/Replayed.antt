@@ -78,7 +78,7 @@ module _ (going : CompiledGoesOn) (some : SomeTaskIsReady) (short : SchedulesAre
 
   came_out : (js : List ℕ) (m : Moment) → Leads js m → (xs : List ℕ) → trace.schedule ≡ xs ++ [] → reverse js ≡ xs → (o : Outcome) → m.outcome ≡ Some o → Followed
   came_out js m leads xs all made o come =
-      let r : Recorded = record { «record» = record { machine = played C trace.limits trace.arg js m; shares = []; own = length (reverse js) }; outcome = o; rounds = 0 } in (
+      let r : Recorded = record { «record» = record { machine = played C trace.limits trace.arg js m; shares = []; own = length (reverse js); rounds = 0 }; outcome = o } in (
         record { verdict = Ran o; recorded = Some r.record },
         replay.ran r (following.ran r (record {
           is_run = run_of going some short never_stuck typed kept trace.limits trace.arg allowed.steps_most allowed.cells_most fits js m leads;

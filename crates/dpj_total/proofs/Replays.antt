@@ -109,7 +109,7 @@ module _ (short : SchedulesAreShort) (keeps : EachKeeps) (going : CompiledGoesOn
 
     -- the run as a replay records it, by the caller alone
     abbrev alone : Recorded
-    alone = record { «record» = record { machine = r.record.machine; shares = []; own = length r.record.machine.schedule }; outcome = r.outcome; rounds = 0 }
+    alone = record { «record» = record { machine = r.record.machine; shares = []; own = length r.record.machine.schedule; rounds = 0 }; outcome = r.outcome }
 
     by_caller : IsRecordOf typed (limits_of job) job.arg 0 alone
     by_caller = record { is_run = run; came = come; seats = refl; counted = omega arith }
@@ -156,7 +156,7 @@ module _ (short : SchedulesAreShort) (keeps : EachKeeps) (going : CompiledGoesOn
   told job text place typed answered outcome bytes within accepted asks ran is =
       let r = ran.made in
       let m = made_run job.mode typed (limits_of job) job.arg job.workers r ran.run in
-      let w = traced_by job.command job text r.record.machine.schedule r.rounds r.outcome outcome bytes asks (sym (ap (λ (a : Answered). a.verdict) ran.is) ∙ is) in record {
+      let w = traced_by job.command job text r.record.machine.schedule r.record.rounds r.outcome outcome bytes asks (sym (ap (λ (a : Answered). a.verdict) ran.is) ∙ is) in record {
         made = r.record;
         recorded = ap (λ (a : Answered). a.recorded) ran.is;
         came = m.1 ∙ ap Some w.0;

@@ -69,7 +69,7 @@ module _ (going : CompiledGoesOn) (some : SomeTaskIsReady) (short : SchedulesAre
   by_steps : (workers : ℕ) → (r : Recorded) × IsRun typed L arg workers (Some r)
   by_steps workers =
       let p : Played = played code L arg finished.schedule finished.moment in
-      let r : Recorded = record { «record» = record { machine = p; shares = replicate workers 0; own = length p.schedule }; outcome = finished.outcome; rounds = 0 } in (
+      let r : Recorded = record { «record» = record { machine = p; shares = replicate workers 0; own = length p.schedule; rounds = 0 }; outcome = finished.outcome } in (
         r,
         recorded_so r (record {
           is_run = run_of finished.schedule finished.moment finished.leads;
@@ -82,7 +82,7 @@ module _ (going : CompiledGoesOn) (some : SomeTaskIsReady) (short : SchedulesAre
   in_rounds : (workers : ℕ) → (r : Recorded) × ComesByRounds typed L arg workers (Some r)
   in_rounds workers =
       let p : Played = played code L arg rounds.schedule rounds.moment in
-      let r : Recorded = record { «record» = record { machine = p; shares = replicate workers 0; own = length p.schedule }; outcome = rounds.outcome; rounds = rounds.count } in (
+      let r : Recorded = record { «record» = record { machine = p; shares = replicate workers 0; own = length p.schedule; rounds = rounds.count }; outcome = rounds.outcome } in (
         r,
         comes_by_rounds r p (record {
           is_run = run_of rounds.schedule rounds.moment rounds.leads;
@@ -97,7 +97,7 @@ module _ (going : CompiledGoesOn) (some : SomeTaskIsReady) (short : SchedulesAre
   by_seed workers seed =
       let s = drawn seed in
       let p : Played = played code L arg s.schedule s.moment in
-      let r : Recorded = record { «record» = record { machine = p; shares = replicate workers 0; own = length p.schedule }; outcome = s.outcome; rounds = 0 } in (
+      let r : Recorded = record { «record» = record { machine = p; shares = replicate workers 0; own = length p.schedule; rounds = 0 }; outcome = s.outcome } in (
         r,
         comes_by_seed r p (record {
           is_run = run_of s.schedule s.moment s.leads;
