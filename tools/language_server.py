@@ -1,0 +1,245 @@
+#!/usr/bin/env python3
+"""A language server for texts of dpj, over standard input and standard output.
+
+usage: tools/language_server.py [PROGRAM]
+
+PROGRAM is the path of the program dpj; without it that is asked which ./dpj would take. Editors start this, and talk to it as the language
+server protocol says: messages are JSON, each behind a header with its length, and whole texts are handed over when they change.
+
+Diagnostics: the refusal of a text, a tenth of a second after its last change, with what tools/why.py finds within a quarter of a second. Hover: on
+a refused place what docs/REFUSALS.md says of it, on a keyword a sentence of docs/LANGUAGE.md. Completion: the declared regions, also as CLASS.REGION,
+and the keywords. Code actions: the mend of a refusal, where one was found.
+
+Status: 0 after `shutdown` and `exit`, 1 where the client ends without them.
+"""
+import os
+import pathlib
+import subprocess
+import sys
+import time
+
+from reasons.asking import NoAnswer
+from serving.framing import Bad, Closed, Reader, Writer
+from serving.paper import Paper
+from serving.refusals import refusal
+from serving.words import explained, offered, word_at
+
+TOP = pathlib.Path(__file__).resolve().parent.parent
+DELAY, ALIVE_SECONDS = 0.1, 3
+ERROR_SHOWN = 1
+FULL_TEXT = 1
+NO_REQUEST, NO_METHOD, NO_PARAMETERS, INTERNAL, TOO_EARLY = -32600, -32601, -32602, -32603, -32002
+CAPABILITIES = {
+    "positionEncoding": "utf-16",
+    "textDocumentSync": {"openClose": True, "change": FULL_TEXT},
+    "hoverProvider": True,
+    "completionProvider": {"triggerCharacters": [".", ":"]},
+    "codeActionProvider": True,
+}
+
+
+class Refused(Exception):
+    """A request that gets an error, with its code."""
+
+    def __init__(self, code, text):
+        super().__init__(text)
+        self.code = code
+
+
+def kept():
+    """The program that ./dpj would take; None where it would make one."""
+    try:
+        made = subprocess.run([TOP / "tools" / "sources"], stdin=subprocess.DEVNULL, capture_output=True, text=True, check=False)
+    except OSError:
+        return None
+    sums = dict(line.split(None, 1) for line in made.stdout.splitlines() if " " in line)
+    found = (TOP / "out" / kind / sums.get(kind, "none") / "dpj" for kind in ("proved", "unproved"))
+    return next((str(path) for path in found if os.access(path, os.X_OK)), None)
+
+
+class Server:
+    """The texts that are open, and what is answered to messages."""
+
+    def __init__(self, program, reader, writer):
+        self.program, self.reader, self.writer = program, reader, writer
+        self.is_ready = self.is_shut = False
+        self.client = None
+        self.texts, self.versions, self.refusals = {}, {}, {}
+        self.changed = {}
+        self.shown = set()
+        self.requests = {
+            "initialize": self.initialize, "shutdown": self.shutdown, "textDocument/hover": self.hover,
+            "textDocument/completion": self.completion, "textDocument/codeAction": self.actions,
+        }  # fmt: skip
+        self.notes = {"textDocument/didOpen": self.opened, "textDocument/didChange": self.changes, "textDocument/didClose": self.closed}
+
+    def serve(self):
+        """Serves until it is told to end; gives the status."""
+        while True:
+            try:
+                message = self.reader.next(self.patience())
+                if message is None:
+                    self.idle()
+                elif message.get("method") == "exit":
+                    return 0 if self.is_shut else 1
+                else:
+                    self.take(message)
+            except Bad as bad:
+                self.writer.write({"id": None, "error": {"code": bad.code, "message": str(bad)}})
+
+    def patience(self):
+        """How long to wait for a message before something is to be done."""
+        if not self.changed:
+            return ALIVE_SECONDS
+        return max(0, min(self.changed.values()) + DELAY - time.monotonic())
+
+    def idle(self):
+        """Diagnoses what has changed; without a client that lives this ends."""
+        if self.client is not None and not is_alive(self.client):
+            raise Closed
+        now = time.monotonic()
+        for uri in [uri for uri, when in self.changed.items() if when + DELAY <= now]:
+            self.diagnose(uri)
+
+    def take(self, message):
+        """Answers a request, or takes a note."""
+        method, number = message.get("method"), message.get("id")
+        if not isinstance(method, str):
+            if "result" not in message and "error" not in message:
+                self.writer.write({"id": number, "error": {"code": NO_REQUEST, "message": "no method"}})
+            return
+        try:
+            result = self.called(method, message.get("params"), "id" in message)
+            error = None
+        except Refused as refused:
+            error = {"code": refused.code, "message": str(refused)}
+        except (KeyError, TypeError, AttributeError, ValueError, IndexError) as fault:
+            error = {"code": NO_PARAMETERS, "message": f"the parameters of {method}: {fault!r}"}
+        if "id" in message:
+            self.writer.write({"id": number, **({"error": error} if error else {"result": result})})
+
+    def called(self, method, parameters, is_request):
+        """The result of a message."""
+        if not is_request:
+            if self.is_ready and not self.is_shut and method in self.notes:
+                self.notes[method](parameters)
+            return None
+        if method not in self.requests:
+            raise Refused(NO_METHOD, f"{method} is unknown")
+        if self.is_shut:
+            raise Refused(NO_REQUEST, "the server is shut down")
+        if not self.is_ready and method != "initialize":
+            raise Refused(TOO_EARLY, "initialize comes first")
+        return self.requests[method](parameters)
+
+    def initialize(self, parameters):
+        self.is_ready = True
+        process = parameters.get("processId")
+        self.client = process if isinstance(process, int) and process > 0 else None
+        return {"capabilities": CAPABILITIES, "serverInfo": {"name": "dpj"}}
+
+    def shutdown(self, _):
+        self.is_shut = True
+
+    def opened(self, parameters):
+        document = parameters["textDocument"]
+        self.put(document["uri"], document["text"], document.get("version"))
+
+    def changes(self, parameters):
+        document, changes = parameters["textDocument"], parameters["contentChanges"]
+        if document["uri"] not in self.texts or any("range" in change for change in changes):
+            raise ValueError("whole texts of open documents are wanted")
+        self.put(document["uri"], changes[-1]["text"], document.get("version"))
+
+    def put(self, uri, text, version):
+        self.texts[uri], self.versions[uri] = Paper(text), version
+        self.changed[uri] = time.monotonic()
+
+    def closed(self, parameters):
+        uri = parameters["textDocument"]["uri"]
+        for table in (self.texts, self.versions, self.refusals, self.changed):
+            table.pop(uri, None)
+        self.publish(uri, [])
+
+    def diagnose(self, uri):
+        """Asks about a text, and tells what came out."""
+        self.changed.pop(uri, None)
+        self.refusals[uri] = None
+        try:
+            self.program = self.program or kept()
+            if not self.program:
+                raise NoAnswer(f"there is no program yet: call {TOP / 'dpj'} check once, which makes it")
+            self.refusals[uri] = refusal(self.program, self.texts[uri], uri)
+        except NoAnswer as fault:
+            self.show(str(fault))
+        found = self.refusals[uri]
+        self.publish(uri, [found.diagnostic()] if found else [])
+
+    def publish(self, uri, diagnostics):
+        parameters = {"uri": uri, "diagnostics": diagnostics}
+        if isinstance(self.versions.get(uri), int):
+            parameters["version"] = self.versions[uri]
+        self.writer.write({"method": "textDocument/publishDiagnostics", "params": parameters})
+
+    def show(self, text):
+        """Shows the user a text, once."""
+        if text not in self.shown:
+            self.shown.add(text)
+            self.writer.write({"method": "window/showMessage", "params": {"type": ERROR_SHOWN, "message": f"dpj: {text}"}})
+
+    def current(self, parameters):
+        """The open text that parameters name, with its refusal."""
+        uri = parameters["textDocument"]["uri"]
+        if uri in self.changed:
+            self.diagnose(uri)
+        return uri, self.texts[uri], self.refusals.get(uri)
+
+    def hover(self, parameters):
+        _, paper, found = self.current(parameters)
+        position = parameters["position"]
+        word = word_at(paper, position)
+        if found and found.holds(paper.offset(position)):
+            return {"contents": {"kind": "markdown", "value": found.markdown()}, "range": paper.span(found.start, found.end)}
+        told = explained(word[0]) if word else None
+        return {"contents": {"kind": "markdown", "value": told}} if told else None
+
+    def completion(self, parameters):
+        paper = self.texts[parameters["textDocument"]["uri"]]
+        return {"isIncomplete": False, "items": offered(paper, parameters["position"])}
+
+    def actions(self, parameters):
+        """The mend of a refusal that lies in the range."""
+        uri, paper, found = self.current(parameters)
+        start, end = (paper.offset(parameters["range"][side]) for side in ("start", "end"))
+        if not found or not found.report["mend"] or end < found.start or found.end < start:
+            return []
+        return [{"title": found.report["mend"]["text"], "kind": "quickfix", "diagnostics": [found.diagnostic()], "edit": {"changes": {uri: list(found.edits())}}}]
+
+
+def is_alive(process):
+    """Whether there is a process."""
+    try:
+        os.kill(process, 0)
+    except ProcessLookupError:
+        return False
+    except OSError:
+        return True
+    return True
+
+
+def main(words):
+    """Serves one client; gives the status."""
+    if "--help" in words or "-h" in words:
+        print(__doc__.strip())
+        return 0
+    if len(words) > 1:
+        print(__doc__.splitlines()[2], file=sys.stderr)
+        return 1
+    try:
+        return Server(words[0] if words else None, Reader(0), Writer(1)).serve()
+    except (Closed, KeyboardInterrupt):
+        return 1
+
+
+if __name__ == "__main__":
+    sys.exit(main(sys.argv[1:]))

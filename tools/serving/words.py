@@ -1,0 +1,103 @@
+"""Keywords and names: what the documents say of a keyword, and what may be written at a place."""
+import pathlib
+import re
+
+import sections
+from reasons.source import KEYWORDS, tokens_of
+
+DOCUMENT = pathlib.Path(__file__).resolve().parents[2] / "docs" / "LANGUAGE.md"
+HEADING = re.compile(r"^#{2,3} (.*)$", re.M)
+LINK = re.compile(r"\]\(#([a-z0-9-]+)\)")
+KEYWORD, REGION = 14, 20
+CLASS_BEFORE = re.compile(r"([A-Za-z_]\w*)\.\w*$")
+
+
+def anchor_of(heading):
+    """The anchor of a heading in a document."""
+    return re.sub(r"[^a-z0-9 -]", "", heading.lower()).replace(" ", "-")
+
+
+def documented():
+    """The sections of the language's document, by their anchors; none where it isn't there."""
+    try:
+        text = DOCUMENT.read_text(encoding="utf-8")
+    except OSError:
+        return {}
+    parts = HEADING.split(text)
+    return {anchor_of(name): sections.Section(name, body.split("\n")) for name, body in zip(parts[1::2], parts[2::2])}
+
+
+def sentence_of(section, keyword):
+    """The first sentence of a section that begins with a keyword, or else its first one."""
+    prose = [sections.plain(paragraph[0]) for paragraph in section.paragraphs() if not paragraph[0].startswith(("```", "|"))]
+    found = [sentence for paragraph in prose for sentence in re.split(r"(?<=\.) (?=[A-Z`])", paragraph)]
+    of_keyword = [sentence for sentence in found if re.match(rf"`{keyword}\b", sentence)]
+    return (of_keyword or found)[0]
+
+
+def explained(word):
+    """What the document says of a keyword, as markdown; None of what is no keyword, or isn't in its table."""
+    known = documented()
+    table = known.get("keywords")
+    for row in table.lines if table else ():
+        cells = row.split("|")
+        anchor = LINK.search(row)
+        if len(cells) > 2 and f"`{word}`" in cells[1] and anchor and anchor[1] in known:
+            section = known[anchor[1]]
+            return f"**`{word}`**: {sentence_of(section, word)}\n\n[{section.name}]({DOCUMENT.as_uri()}#{anchor[1]})"
+    return None
+
+
+def word_at(paper, position):
+    """The word at a position, with the numbers of its first character and of the one behind it; None where there is none."""
+    index = paper.index(position)
+    start, end = index, index
+    while start and re.match(r"\w", paper.text[start - 1]):
+        start -= 1
+    while end < len(paper.text) and re.match(r"\w", paper.text[end]):
+        end += 1
+    return (paper.text[start:end], start, end) if start < end else None
+
+
+def regions_of(text):
+    """The region names that a text declares, each with the class that does; None is the class of parameters and of local regions."""
+    found, holder, depth = [], None, 0
+    tokens = tokens_of(text)
+    for number, token in enumerate(tokens):
+        depth += (token.text == "{") - (token.text == "}")
+        after = tokens[number + 1 :]
+        if token.text == "class" and after and after[0].kind == "name":
+            holder = after[0].text
+        elif token.text == "region":
+            is_class_name = depth == 1 and (number == 0 or tokens[number - 1].text not in ("<", ",") and not is_parameter(tokens, number))
+            found += [(name, holder if is_class_name else None) for name in names_in(after)]
+    return list(dict.fromkeys(found))
+
+
+def is_parameter(tokens, number):
+    """Whether `region` at a number is a region parameter, behind `atomic`."""
+    return number > 1 and tokens[number - 1].text == "atomic" and tokens[number - 2].text in ("<", ",")
+
+
+def names_in(tokens):
+    """The names of a list at the beginning of tokens."""
+    for token in tokens:
+        if token.kind == "name" and token.text not in KEYWORDS:
+            yield token.text
+        elif token.text != ",":
+            return
+
+
+def offered(paper, position):
+    """What may be written at a position: regions of a class after its name and a dot, or else all regions and the keywords."""
+    found = regions_of(paper.latin())
+    before = CLASS_BEFORE.search(paper.text[: paper.index(position)])
+    own = [name for name, holder in found if before and holder == before[1]]
+    if own:
+        return [{"label": name, "kind": REGION, "detail": f"a region of {before[1]}"} for name in own]
+    items = {}
+    for name, holder in found:
+        items.setdefault(name, {"label": name, "kind": REGION, "detail": f"a region of {holder}" if holder else "a region"})
+        if holder:
+            items[f"{holder}.{name}"] = {"label": f"{holder}.{name}", "kind": REGION, "detail": f"a region of {holder}"}
+    return [*items.values(), *({"label": word, "kind": KEYWORD} for word in sorted(KEYWORDS))]
