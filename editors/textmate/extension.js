@@ -17,9 +17,17 @@ function send(message) {
 }
 
 function ask(method, params) {
+  if (!server) return Promise.resolve(null);
   const id = ++requests;
   send({ id, method, params });
   return new Promise((resolve) => waiting.set(id, resolve));
+}
+
+// What is asked of a server that has ended has no answer.
+function ended() {
+  server = undefined;
+  waiting.forEach((resolve) => resolve(null));
+  waiting.clear();
 }
 
 function takeBytes(bytes) {
@@ -111,6 +119,7 @@ async function activate(context) {
   const [program, ...words] = command();
   server = spawn(program, words, { stdio: ['pipe', 'pipe', 'ignore'] });
   server.on('error', (error) => vscode.window.showErrorMessage(`dpj: the language server doesn't start: ${error.message}`));
+  server.on('exit', ended);
   server.stdin.on('error', () => {});
   server.stdout.on('data', takeBytes);
   const starting = ask('initialize', { processId: process.pid, rootUri: null, capabilities: {} });

@@ -1,0 +1,1 @@
+def try_server(tally, program): pass
