@@ -1,17 +1,16 @@
 #!/usr/bin/env python3
 """A language server for texts of dpj, over standard input and standard output.
 
-usage: tools/language_server.py [PROGRAM]
+Editors start this, and talk to it as the language server protocol says: messages are JSON, each behind a header with its length, and whole texts
+are handed over when they change.
 
-PROGRAM is the path of the program dpj; without it that is asked which ./dpj would take. Editors start this, and talk to it as the language
-server protocol says: messages are JSON, each behind a header with its length, and whole texts are handed over when they change.
+Diagnostics: the refusal of a text, a tenth of a second after its last change, with what tools/why.py finds in short time. Hover: on a refused
+place what docs/REFUSALS.md says of it, on a keyword a sentence of docs/LANGUAGE.md. Completion: the declared regions, also as CLASS.REGION, and
+the keywords. Code actions: the mend of a refusal, where one was found.
 
-Diagnostics: the refusal of a text, a tenth of a second after its last change, with what tools/why.py finds within a quarter of a second. Hover: on
-a refused place what docs/REFUSALS.md says of it, on a keyword a sentence of docs/LANGUAGE.md. Completion: the declared regions, also as CLASS.REGION,
-and the keywords. Code actions: the mend of a refusal, where one was found.
-
-Status: 0 after `shutdown` and `exit`, 1 where the client ends without them.
+Status: 0 after `shutdown` and `exit`, 1 where the client ends without them, 2 for words that are no call.
 """
+import argparse
 import os
 import pathlib
 import subprocess
@@ -25,7 +24,7 @@ from serving.refusals import refusal
 from serving.words import explained, offered, word_at
 
 TOP = pathlib.Path(__file__).resolve().parent.parent
-DELAY, ALIVE_SECONDS = 0.1, 3
+DELAY, ALIVE_SECONDS, WHY_SECONDS = 0.1, 1, 0.25
 ERROR_SHOWN = 1
 FULL_TEXT = 1
 NO_REQUEST, NO_METHOD, NO_PARAMETERS, INTERNAL, TOO_EARLY = -32600, -32601, -32602, -32603, -32002
@@ -60,8 +59,8 @@ def kept():
 class Server:
     """The texts that are open, and what is answered to messages."""
 
-    def __init__(self, program, reader, writer):
-        self.program, self.reader, self.writer = program, reader, writer
+    def __init__(self, program, seconds, reader, writer):
+        self.program, self.seconds, self.reader, self.writer = program, seconds, reader, writer
         self.is_ready = self.is_shut = False
         self.client = None
         self.texts, self.versions, self.refusals = {}, {}, {}
@@ -169,7 +168,7 @@ class Server:
             self.program = self.program or kept()
             if not self.program:
                 raise NoAnswer(f"there is no program yet: call {TOP / 'dpj'} check once, which makes it")
-            self.refusals[uri] = refusal(self.program, self.texts[uri], uri)
+            self.refusals[uri] = refusal(self.program, self.texts[uri], uri, self.seconds)
         except NoAnswer as fault:
             self.show(str(fault))
         found = self.refusals[uri]
@@ -229,14 +228,12 @@ def is_alive(process):
 
 def main(words):
     """Serves one client; gives the status."""
-    if "--help" in words or "-h" in words:
-        print(__doc__.strip())
-        return 0
-    if len(words) > 1:
-        print(__doc__.splitlines()[2], file=sys.stderr)
-        return 1
+    options = argparse.ArgumentParser(description=__doc__, formatter_class=argparse.RawDescriptionHelpFormatter)
+    options.add_argument("program", nargs="?", help="the path of the program dpj; without it that is asked which ./dpj would take")
+    options.add_argument("--why", type=float, default=WHY_SECONDS, metavar="SECONDS", help="how long reasons are looked for; %(default)s without it")
+    given = options.parse_args(words)
     try:
-        return Server(words[0] if words else None, Reader(0), Writer(1)).serve()
+        return Server(given.program, given.why, Reader(0), Writer(1)).serve()
     except (Closed, KeyboardInterrupt):
         return 1
 

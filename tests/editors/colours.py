@@ -66,7 +66,7 @@ def placed(text, words):
         at = found.end()
 
 
-def try_textmate(tally):
+def try_textmate(tally, _):
     """The TextMate grammar over the table, and each keyword by itself."""
     grammar = Grammar(json.loads((EDITORS / "textmate" / "dpj.tmLanguage.json").read_text(encoding="utf-8")))
     for text, words in examples():
@@ -80,9 +80,10 @@ def try_textmate(tally):
     for path in sorted((TOP / "examples").rglob("*.dpj")):
         wrong = {name for names in grammar.scopes(path.read_text(encoding="utf-8")) for name in names if name.startswith("invalid.")}
         tally.sees(f"nothing of {path.name} is wrong", wrong, set())
+    return tally
 
 
-def try_package(tally):
+def try_package(tally, _):
     """What VS Code reads points at files that are there, and they can be read."""
     folder = EDITORS / "textmate"
     package = json.loads((folder / "package.json").read_text(encoding="utf-8"))
@@ -92,6 +93,7 @@ def try_package(tally):
     scope = json.loads((folder / gives["grammars"][0]["path"]).read_text(encoding="utf-8"))["scopeName"]
     tally.sees("the grammar's scope", gives["grammars"][0]["scopeName"], scope)
     json.loads((folder / gives["languages"][0]["configuration"]).read_text(encoding="utf-8"))
+    return tally
 
 
 def vim(lines, room, *commands):
@@ -110,11 +112,12 @@ def try_vim(tally, program):
         text = (EDITORS / "vim" / "syntax" / "dpj.vim").read_text(encoding="utf-8")
         known = {word for line in re.findall(r"^syntax keyword \w+ (.*)", text, re.M) for word in line.split() if word != "contained"}
         tally.sees("the keywords of the Vim file", known, keywords())
-        return
+        return tally
     with tempfile.TemporaryDirectory() as name:
         try_vim_groups(tally, pathlib.Path(name))
     with tempfile.TemporaryDirectory() as name:
         try_vim_compiler(tally, pathlib.Path(name), program)
+    return tally
 
 
 def try_vim_groups(tally, room):

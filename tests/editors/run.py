@@ -7,6 +7,7 @@ PROGRAM is the path of the program dpj. The TextMate grammar is tried over a tab
 installed, the language server over pipes, and the client for VS Code in node where that is installed, with a module in place of the editor. Writes a line for
 each failure, and then `N passed, N failed`.
 """
+import concurrent.futures
 import pathlib
 import sys
 
@@ -33,13 +34,13 @@ def main(words):
     if len(words) != 1 or words[0] in ("-h", "--help"):
         print(__doc__.strip())
         return 0 if words else 1
-    program, tally = str(pathlib.Path(words[0]).resolve()), Tally()
-    colours.try_textmate(tally)
-    colours.try_package(tally)
-    colours.try_vim(tally, program)
-    talking.try_server(tally, program)
-    print(f"{tally.passed} passed, {tally.failed} failed")
-    return 1 if tally.failed else 0
+    program = str(pathlib.Path(words[0]).resolve())
+    parts = (colours.try_textmate, colours.try_package, colours.try_vim, talking.try_server, talking.try_ends, talking.try_client)
+    with concurrent.futures.ThreadPoolExecutor(len(parts)) as pool:
+        tallies = list(pool.map(lambda part: part(Tally(), program), parts))
+    passed, failed = sum(tally.passed for tally in tallies), sum(tally.failed for tally in tallies)
+    print(f"{passed} passed, {failed} failed")
+    return 1 if failed or not passed else 0
 
 
 if __name__ == "__main__":

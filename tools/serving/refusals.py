@@ -6,7 +6,7 @@ from reasons.asking import Asker, NoAnswer, Spent
 from reasons.explain import explain
 from reasons.source import Source
 
-QUESTIONS, SECONDS = 60, 0.25
+QUESTIONS = 60
 ERROR = 1
 HERE = "here"
 
@@ -69,9 +69,9 @@ class Refusal:
         return f"**{self.name}**: {self.section.sentence()}" + (f"\n\n{mend}" if mend else "")
 
 
-def refusal(program, paper, uri):
-    """The refusal of a text; None where it is accepted."""
-    source, asker = Source("", paper.latin()), Asker(program, QUESTIONS, SECONDS)
+def refusal(program, paper, uri, seconds):
+    """The refusal of a text, with the reasons that are found in so many seconds; None where it is accepted."""
+    source, asker = Source("", paper.latin()), Asker(program, QUESTIONS, seconds)
     try:
         answer = asker.check(source.text)
     except Spent:
