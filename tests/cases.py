@@ -12,7 +12,7 @@ writes NAME.ran on 40, elided, by 1, 4 and 64 workers, and by rounds; every prog
 and examples/README.md, which stands in a fence that begins with ```dpj check: ANSWER, ```dpj run: LINE, LINE or ```dpj elide: LINE, LINE;
 and prefixes of accepted programs (tests/prefixes.py), of three examples where the program is unproved. Where it is proved, random
 programs follow (tests/random_programs.py), programs with random schedules (tests/schedules.py), a few in orders that were worked out
-(tests/worked_orders.py), and the accepted texts with their inferred summaries (tests/inferred.py), each of which passes or fails; `--only random` asks for these alone. It is an error, and no pass, where a fence isn't understood or no case is left.
+(tests/worked_orders.py), programs with seeds and their costs (tests/seeds.py), and the accepted texts with their inferred summaries (tests/inferred.py), each of which passes or fails; `--only random` asks for these alone. It is an error, and no pass, where a fence isn't understood or no case is left.
 
 The program is out/dpj where ./build or the gate made it of these sources; else it is built once, unproved, by `rt try`.
 """
@@ -31,6 +31,7 @@ import inferred
 import prefixes
 import random_programs
 import schedules
+import seeds
 import worked_orders
 
 TOP = pathlib.Path(__file__).resolve().parent.parent
@@ -241,7 +242,9 @@ def wants_campaigns(options, is_proved):
 
 def campaigns(sources, shows):
     """How many random programs, programs with random schedules and texts with inferred summaries passed, and how many failed."""
-    counts = random_programs.campaign(PROVED, shows=shows), schedules.campaign(PROVED), worked_orders.campaign(PROVED), inferred.campaign(PROVED, sources)
+    counts = (
+        random_programs.campaign(PROVED, shows=shows), schedules.campaign(PROVED), worked_orders.campaign(PROVED), seeds.campaign(PROVED),
+        inferred.campaign(PROVED, sources))
     return tuple(map(sum, zip(*counts)))
 
 

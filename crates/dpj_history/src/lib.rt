@@ -1,6 +1,7 @@
 //! What is kept of a run, and a run made again.
 //!
-//! A `Record` is the machine that made a run, with who made its events: each worker's share, and what the caller made itself.
+//! A `Record` is the machine that made a run, with who made its events: each worker's share, and what the caller made itself;
+//! and the number of rounds, where it was made in rounds.
 //!
 //! `replay` makes the run that a schedule says, on a machine that was just opened. What it promises: where it answers Ok, the machine has
 //! finished with exactly this schedule; and else, but for want of memory, it tells the first number of the schedule that can't be made, and what

@@ -13,6 +13,8 @@ pub struct Record {
     pub shares: Items<u64>,
     /// How many events the caller made itself.
     pub own: u64,
+    /// How many rounds it was made by, 0 where it wasn't made in rounds.
+    pub rounds: u64,
 }
 
 /// How many events the workers made.

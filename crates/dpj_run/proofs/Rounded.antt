@@ -54,11 +54,11 @@ module _ (P : PlainProgram) (L : Limits) (argument : ℤ) (workers : ℕ) where
     run_on : IsSameJob a b → IsRunOf P L argument b
     run_on same = still P L argument a b is (record { code = same.code; limits = same.limits; argument = same.argument; replayed = replayed })
 
-    whole : (n : ℕ) → RoundsOn a n b → IsByRounds P L argument b
+    abbrev whole : (n : ℕ) → RoundsOn a n b → IsByRounds P L argument b
     whole n rounds = record { is_run = run_on (after_rounds a b n rounds); start = a; nothing = nothing; count = n; rounds = rounds }
 
     pub came_by_rounds : (n : ℕ) → RoundsOn a n b → HasEnded b → (result : Result (Option Recorded) NoMemory)
-        → IfOk result (λ made. MatchOption made (b.outcome ≡ None) (IsMadeAlone workers b)) → IfOk result (ComesByRounds P L argument workers)
+        → IfOk result (λ made. MatchOption made (b.outcome ≡ None) (IsMadeAlone workers n b)) → IfOk result (ComesByRounds P L argument workers)
     came_by_rounds n rounds ended (Ok (Some r)) alone = by_rounds r b (whole n rounds) alone
     came_by_rounds n rounds ended (Ok None) none = no_rounds (unfinished b (whole n rounds) none ended)
     came_by_rounds n rounds ended (Err e) alone = tt

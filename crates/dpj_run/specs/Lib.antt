@@ -1,3 +1,4 @@
 pub mod Run
 pub mod Replays
 pub mod Rounding
+pub mod Seeding

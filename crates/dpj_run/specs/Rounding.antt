@@ -29,14 +29,15 @@ pub data HasNoRounds (P : PlainProgram) (L : Limits) (argument : ℤ) : Type 0 w
   unfinished : (p : Played) → IsByRounds P L argument p → p.outcome ≡ None → HasEnded p → HasNoRounds P L argument
   never_begun : IsTooWide P → HasNoRounds P L argument
 
--- the record of a machine that has finished, of which the caller made all events, and so many workers none
-pub record IsMadeAlone (workers : ℕ) (p : Played) (r : Recorded) : Type 0 where
+-- the record of a machine that has finished, of which the caller made all events, by so many rounds, and so many workers none
+pub record IsMadeAlone (workers count : ℕ) (p : Played) (r : Recorded) : Type 0 where
   pub machine : r.record.machine ≡ p
   pub came : p.outcome ≡ Some r.outcome
   pub no_shares : r.record.shares ≡ replicate workers 0
   pub own : r.record.own ≡ length p.schedule
+  pub rounds : r.record.rounds ≡ count
 
 -- a run in rounds that has come out, with its record; or there is none
 pub data ComesByRounds (P : PlainProgram) (L : Limits) (argument : ℤ) (workers : ℕ) : Option Recorded → Type 0 where
-  by_rounds : (r : Recorded) (p : Played) → IsByRounds P L argument p → IsMadeAlone workers p r → ComesByRounds P L argument workers (Some r)
+  by_rounds : (r : Recorded) (p : Played) (is : IsByRounds P L argument p) → IsMadeAlone workers is.count p r → ComesByRounds P L argument workers (Some r)
   no_rounds : HasNoRounds P L argument → ComesByRounds P L argument workers None

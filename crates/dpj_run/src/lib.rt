@@ -1,5 +1,5 @@
 //! Runs typed programs: the program is compiled, a machine is opened on its code, and the machine is stepped until the run
-//! has come out, by workers (`run`), in rounds (`run_rounds`), or as a schedule says (`replay`).
+//! has come out, by workers (`run`), in rounds (`run_rounds`), in an order that a seed draws (`run_seeded`), or as a schedule says (`replay`).
 //!
 //! What it promises (`specs/Run.antt`): an outcome is that of a run of the program's code within the limits, which the
 //! schedule leads to that was made. Where there is no outcome, the run is at a moment at which no task can go on, or the
@@ -7,13 +7,16 @@
 //! above (`law_goes_on` of `dpj_promise`).
 #![tactic(auto)]
 
+mod drawing;
 mod few;
 mod finish;
+pub mod laws;
 mod opening;
 mod recorded;
 mod replaying;
 mod rounding;
 mod running;
+mod seeding;
 
 pub use finish::came_out;
 pub use opening::open;
@@ -21,3 +24,4 @@ pub use recorded::Recorded;
 pub use replaying::{Replayed, replay};
 pub use rounding::run_rounds;
 pub use running::run;
+pub use seeding::run_seeded;

@@ -63,6 +63,7 @@ fn recorded(alloc: Global, machine: Machine) -> Result<Recorded, NoMemory>
         machine,
         shares: Items::new(alloc),
         own,
+        rounds: 0,
     };
     Ok(Recorded { record, outcome })
 }

@@ -1,15 +1,13 @@
-ghost use Rattle.std.specs.Prelude.{◌≡◌, ◌≤◌, replicate, None, IfOk, MatchOption};
+ghost use Rattle.std.specs.Prelude.{◌≤◌, IfOk};
 ghost use Rattle.dpj_gen.specs.Resolved.{Resolved};
 ghost use Rattle.dpj_going.specs.Going.{HasMain};
 ghost use Rattle.dpj_typed.specs.Plain.{plain_program};
-ghost use Rattle.dpj_run.specs.Rounding.{ComesByRounds, IsMadeAlone};
+ghost use Rattle.dpj_run.specs.Rounding.{ComesByRounds};
 
-use crate::finish::came_out;
 use crate::opening::open;
-use crate::recorded::Recorded;
-use dpj_base::{Items, Limits, NoMemory};
-use dpj_history::Record;
-use dpj_machine::{Halted, Machine};
+use crate::recorded::{Recorded, made_alone};
+use dpj_base::{Limits, NoMemory};
+use dpj_machine::Halted;
 use dpj_typed::Program;
 use std::alloc::Global;
 use std::thread::Threads;
@@ -36,32 +34,8 @@ pub fn run_rounds<R: Threads + Sync>(
     let made = dpj_rounds::run_rounds(rt, alloc, &mut machine, workers as usize);
     let _ = machine.schedule();
     match made {
-        Ok(_) => recorded(alloc, machine, workers),
+        Ok(rounds) => made_alone(alloc, machine, workers, rounds),
         Err(Halted::Stuck) => Ok(None),
         Err(Halted::NoMemory) => Err(NoMemory),
     }
-}
-
-/// The record of a run that the caller made, once it has come out.
-fn recorded(alloc: Global, machine: Machine, workers: u32) -> Result<Option<Recorded>, NoMemory>
-    ensures { IfOk result (λ made. MatchOption made (machine.outcome ≡ None) (IsMadeAlone workers machine)) }
-{
-    let Some(outcome) = came_out(alloc, &machine)? else {
-        return Ok(None);
-    };
-    let shares = no_shares(alloc, workers)?;
-    let own = machine.schedule().len() as u64;
-    let record = Record {
-        machine,
-        shares,
-        own,
-    };
-    Ok(Some(Recorded { record, outcome }))
-}
-
-/// A share of 0 for each worker.
-fn no_shares(alloc: Global, workers: u32) -> Result<Items<u64>, NoMemory>
-    ensures { IfOk result (λ shares. shares ≡ replicate workers 0) }
-{
-    Ok(Items::from_vec(vec![in alloc; 0; workers as usize]?))
 }

@@ -57,6 +57,7 @@ fn finished(alloc: Global, worked: Worked) -> Result<Option<Recorded>, NoMemory>
         machine,
         shares,
         own,
+        rounds: 0,
     };
     Ok(Some(Recorded { record, outcome }))
 }

@@ -34,8 +34,8 @@ ran_once job text typed first second a b same =
     let come = (made_run job.mode typed (limits_of job) job.arg job.workers r a.run).1 in
     let came = (made_run job.mode typed (limits_of job) job.arg job.workers q b.run).1 in
     let outcome_same : r.outcome ≡ q.outcome = some_same (sym come ∙ ap (λ (k : Record). k.machine.outcome) record_same ∙ came) in
-    a.is ∙ ap (λ (k : Record). record { verdict = verdict_of job text k.machine.schedule r.outcome; recorded = Some k }) record_same
-    ∙ ap (λ (o : Outcome). record { verdict = verdict_of job text q.record.machine.schedule o; recorded = Some q.record }) outcome_same ∙ sym b.is
+    a.is ∙ ap (λ (k : Record). record { verdict = verdict_of job text k.machine.schedule k.rounds r.outcome; recorded = Some k }) record_same
+    ∙ ap (λ (o : Outcome). record { verdict = verdict_of job text q.record.machine.schedule q.record.rounds o; recorded = Some q.record }) outcome_same ∙ sym b.is
 
 listed_once : OneNaming → (text : List ℕ) (typed : PlainProgram) (first second : Answered) → IsListing text typed first → IsListing text typed second → first ≡ second
 listed_once naming text typed first second a b =

@@ -44,6 +44,7 @@ asked_of_program command.«List» asked text answered never a = a
 asked_of_program command.Demo asked text answered never a = a
 asked_of_program command.Trace asked text answered never a = a
 asked_of_program command.Effects asked text answered never a = a
+asked_of_program command.Cost asked text answered never a = a
 
 true_false : true ≡ false → ⊥
 true_false e = cc
@@ -89,18 +90,19 @@ module _ (keeps : KeepsPromise) (verdict : OneVerdict) (one : OnePassing) (words
       by (to_list c is) = absurd (cc (sym elide ∙ c))
       by (to_effects c is) = absurd (cc (sym elide ∙ c))
 
-  reported_elided : (c : Command) → c ≡ command.Elide → verdict_by c asked text [] (elision_for asked typed) ≡ Ran (elision_for asked typed)
-  reported_elided c e = ap (λ d. verdict_by d asked text [] (elision_for asked typed)) e
+  reported_elided : (c : Command) → c ≡ command.Elide → verdict_by c asked text [] 0 (elision_for asked typed) ≡ Ran (elision_for asked typed)
+  reported_elided c e = ap (λ d. verdict_by d asked text [] 0 (elision_for asked typed)) e
 
   pub owed_elision : AsksElision asked typed → ReportsElision asked text typed before after status
   owed_elision (inl run) =
       let known = keeps.run asked text gives.place typed tells.answered within gives.accepted run.1 (ran_so run.0) in
-      record { schedule = known.schedule; reported = verdict_reported (verdict_of asked text known.schedule (elision_for asked typed)) known.is }
+      record { schedule = known.schedule; rounds = known.rounds; reported = verdict_reported (verdict_of asked text known.schedule known.rounds (elision_for asked typed)) known.is }
   owed_elision (inr elide) =
       let known = keeps.elide asked text gives.place typed tells.answered within gives.accepted (elided_so elide) in
       record {
         schedule = [];
-        reported = verdict_reported (verdict_of asked text [] (elision_for asked typed)) (ap (λ (a : Answered). a.verdict) known ∙ sym (reported_elided asked.command elide));
+        rounds = 0;
+        reported = verdict_reported (verdict_of asked text [] 0 (elision_for asked typed)) (ap (λ (a : Answered). a.verdict) known ∙ sym (reported_elided asked.command elide));
       }
 
   pub owed_reduction : asks_run asked.command ≡ true → ReportsReduced asked text typed before after status recorded
@@ -110,7 +112,7 @@ module _ (keeps : KeepsPromise) (verdict : OneVerdict) (one : OnePassing) (words
         well_typed = known.well_typed;
         made = known.made;
         is = tells.run_recorded ∙ ap (λ (a : Answered). a.recorded) known.is;
-        reported = verdict_reported (verdict_of asked text known.made.record.machine.schedule known.made.outcome) (ap (λ (a : Answered). a.verdict) known.is);
+        reported = verdict_reported (verdict_of asked text known.made.record.machine.schedule known.made.record.rounds known.made.outcome) (ap (λ (a : Answered). a.verdict) known.is);
         reduced = known.reduced;
         inside = known.inside;
       }

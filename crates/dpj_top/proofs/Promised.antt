@@ -32,6 +32,8 @@ use Rattle.dpj_code.specs.Plain.{plain_code}
 use Rattle.dpj_gen.specs.Whole.{compiled}
 use Rattle.dpj_run.specs.Rounding.{HasNoRounds, by_rounds, no_rounds}
 use Rattle.dpj_run.specs.Rounding.{HasNoRounds as rounds}
+use Rattle.dpj_run.specs.Seeding.{HasNoSeeded, by_seed, no_seeded}
+use Rattle.dpj_run.specs.Seeding.{HasNoSeeded as seeded}
 use Rattle.dpj_run.specs.declared.recorded.Recorded.{Recorded}
 use Rattle.dpj_words.specs.declared.key.Mode.{Mode}
 use Rattle.dpj_words.specs.declared.key.Mode.TheVariants as mode
@@ -111,15 +113,23 @@ module _ (typed : PlainProgram) (keeps : Keeps typed) (L : Limits) (argument : �
     goes_on_in_rounds (rounds.unfinished p is none ended) = (going p is.is_run).1 none ended
     goes_on_in_rounds (rounds.broken_off p is) = no_break is.broken.middle p halt.Stuck refl is.is_run is.broken.breaks
 
+    pub goes_on_by_seed : (seed : ℕ) → HasNoSeeded typed L argument seed → ⊥
+    goes_on_by_seed seed (seeded.never_begun wide) = wide.wide (keeps.narrow wide.code wide.is_code)
+    goes_on_by_seed seed (seeded.unfinished p is none ended) = (going p is.is_run).1 none ended
+    goes_on_by_seed seed (seeded.broken_off p is) = not_stuck p is.is_run is.broken.task is.broken.why
+
     pub goes_on_by : (m : Mode) (workers : ℕ) → IsRunBy m typed L argument workers None → ⊥
     goes_on_by mode.Steps workers (no_record halts) = goes_on halts
     goes_on_by mode.Rounds workers (no_rounds halts) = goes_on_in_rounds halts
+    goes_on_by (mode.Seeded seed) workers (no_seeded halts) = goes_on_by_seed seed halts
 
--- what was made by workers or in rounds is a run
+-- what was made by workers, in rounds or by a seed is a run
 pub made_run : (m : Mode) (typed : PlainProgram) (L : Limits) (argument : ℤ) (workers : ℕ) (r : Recorded) → IsRunBy m typed L argument workers (Some r)
     → IsRunOf typed L argument r.record.machine × (r.record.machine.outcome ≡ Some r.outcome)
 made_run mode.Steps typed L argument workers r (recorded_so _ is) = (is.is_run, is.came)
 made_run mode.Rounds typed L argument workers r (by_rounds _ p is alone) =
+    (subst (λ q. IsRunOf typed L argument q) (sym alone.machine) is.is_run, ap (λ (q : Played). q.outcome) alone.machine ∙ alone.came)
+made_run (mode.Seeded seed) typed L argument workers r (by_seed _ p is alone) =
     (subst (λ q. IsRunOf typed L argument q) (sym alone.machine) is.is_run, ap (λ (q : Played). q.outcome) alone.machine ∙ alone.came)
 
 -- the walker's outcome is that of the promise
@@ -187,7 +197,8 @@ keeps_promise machines greedy reduce inside never_stuck goes passed with_inferre
         let m = made job typed r ran.run in
         record {
           schedule = r.record.machine.schedule;
-          is = ap (λ (a : Answered). a.verdict) ran.is ∙ ap (λ o. verdict_of job text r.record.machine.schedule o)
+          rounds = r.record.rounds;
+          is = ap (λ (a : Answered). a.verdict) ran.is ∙ ap (λ o. verdict_of job text r.record.machine.schedule r.record.rounds o)
               (reported_elision typed (kept text place typed accepted) (limits_of job) job.arg within.0.steps_most within.1 machines none r.record.machine r.outcome m.0 m.1);
         }
 

@@ -100,7 +100,7 @@ given_all command (Some workers) (Some steps) (Some cells) (Some arg) (Some n) N
 
 fields_within : (words : List (List ℕ)) (command : Command) (asked : Job) → fields_job words command ≡ Some asked → IsInRange asked × FitsSigned w32 asked.arg
 fields_within words command asked e =
-    let g = given_all command (workers_of words) (steps_of words) (cells_of words) (argument_of words) (classes_of words) (made_by words) asked e in
+    let g = given_all command (workers_of words) (steps_of words) (cells_of words) (argument_of words) (classes_of words) (made_by command words) asked e in
     let workers = one_within 1 64 4 (omega arith) (omega arith) (values_for key.Workers words) asked.workers g.workers in
     let steps = one_within 1 20000000 5000000 (omega arith) (omega arith) (values_for key.Steps words) asked.steps g.steps in
     let cells = one_within 1 16777216 1048576 (omega arith) (omega arith) (values_for key.Cells words) asked.cells g.cells in

@@ -28,6 +28,7 @@ by-no-usage command.«List» asked text answered is e = answer-no-usage asked te
 by-no-usage command.Demo asked text answered is e = answer-no-usage asked text answered is e
 by-no-usage command.Trace asked text answered is e = answer-no-usage asked text answered is e
 by-no-usage command.Effects asked text answered is e = answer-no-usage asked text answered is e
+by-no-usage command.Cost asked text answered is e = answer-no-usage asked text answered is e
 
 pub answers-no-usage : (asked : Job) (text : List ℕ) (answered : Answered) → Answers asked text answered → status_of answered.verdict ≡ ended.Usage → ⊥
 answers-no-usage asked text answered is e = by-no-usage asked.command asked text answered is e
@@ -46,6 +47,7 @@ by-too-long command.«List» asked bytes answered is long = long-answer asked by
 by-too-long command.Demo asked bytes answered is long = long-answer asked bytes answered is long
 by-too-long command.Trace asked bytes answered is long = long-answer asked bytes answered is long
 by-too-long command.Effects asked bytes answered is long = long-answer asked bytes answered is long
+by-too-long command.Cost asked bytes answered is long = long-answer asked bytes answered is long
 
 pub source-too-long : (asked : Job) (text : Option (List ℕ)) (most : ℕ) (answered : Answered) → most ≡ most_bytes asked.command → answered ≡ only (refused_at_start TooLong)
     → IfSome text (λ bytes. most < length bytes) → IfSome text (λ bytes. Answers asked bytes answered)
@@ -62,6 +64,7 @@ not-made command.«List» demo = refl
 not-made command.Trace demo = refl
 not-made command.Replay demo = refl
 not-made command.Effects demo = refl
+not-made command.Cost demo = refl
 
 pub made-no-replay : (c : Command) → makes_text c ≡ true → c ≢ command.Replay
 made-no-replay command.Replay made = absurd (false≢true made)
@@ -72,6 +75,7 @@ made-no-replay command.Elide made = λ e. cc
 made-no-replay command.«List» made = λ e. cc
 made-no-replay command.Trace made = λ e. cc
 made-no-replay command.Effects made = λ e. cc
+made-no-replay command.Cost made = λ e. cc
 
 module _ (words : List (List ℕ)) (given : Job) (is_job : Some given ≡ job words) (read : makes_text given.command ≡ false) where
   of-text : (left : Option (List ℕ)) (answered : Answered) (made : Bool) (demo : Option (List ℕ)) → made ≡ false → IfSome left (λ text. Answers given text answered)

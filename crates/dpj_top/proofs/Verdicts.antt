@@ -38,20 +38,21 @@ ending_status-no-usage (Done value) e = cc
 ending_status-no-usage (Trapped trap place) e = cc
 ending_status-no-usage Limited e = cc
 
-reported-no-usage : (c : Command) (job : Job) (text schedule : List ℕ) (outcome : Outcome) → status_of (verdict_by c job text schedule outcome) ≡ ended.Usage → ⊥
-reported-no-usage command.Demo job text schedule outcome e = ending_status-no-usage outcome.ending e
-reported-no-usage command.Trace job text schedule outcome e = ending_status-no-usage outcome.ending e
-reported-no-usage command.Check job text schedule outcome e = ending_status-no-usage outcome.ending e
-reported-no-usage command.Run job text schedule outcome e = ending_status-no-usage outcome.ending e
-reported-no-usage command.Elide job text schedule outcome e = ending_status-no-usage outcome.ending e
-reported-no-usage command.«List» job text schedule outcome e = ending_status-no-usage outcome.ending e
-reported-no-usage command.Replay job text schedule outcome e = ending_status-no-usage outcome.ending e
-reported-no-usage command.Effects job text schedule outcome e = ending_status-no-usage outcome.ending e
+reported-no-usage : (c : Command) (job : Job) (text schedule : List ℕ) (rounds : ℕ) (outcome : Outcome) → status_of (verdict_by c job text schedule rounds outcome) ≡ ended.Usage → ⊥
+reported-no-usage command.Demo job text schedule rounds outcome e = ending_status-no-usage outcome.ending e
+reported-no-usage command.Trace job text schedule rounds outcome e = ending_status-no-usage outcome.ending e
+reported-no-usage command.Check job text schedule rounds outcome e = ending_status-no-usage outcome.ending e
+reported-no-usage command.Run job text schedule rounds outcome e = ending_status-no-usage outcome.ending e
+reported-no-usage command.Elide job text schedule rounds outcome e = ending_status-no-usage outcome.ending e
+reported-no-usage command.«List» job text schedule rounds outcome e = ending_status-no-usage outcome.ending e
+reported-no-usage command.Replay job text schedule rounds outcome e = ending_status-no-usage outcome.ending e
+reported-no-usage command.Effects job text schedule rounds outcome e = ending_status-no-usage outcome.ending e
+reported-no-usage command.Cost job text schedule rounds outcome e = ending_status-no-usage outcome.ending e
 
 ran-no-usage : (job : Job) (text : List ℕ) (typed : PlainProgram) (answered : Answered) → IsRan job text typed answered
     → status_of answered.verdict ≡ ended.Usage → ⊥
 ran-no-usage job text typed answered r e =
-    reported-no-usage job.command job text r.made.record.machine.schedule r.made.outcome (ap (λ (a : Answered). status_of a.verdict) (sym r.is) ∙ e)
+    reported-no-usage job.command job text r.made.record.machine.schedule r.made.record.rounds r.made.outcome (ap (λ (a : Answered). status_of a.verdict) (sym r.is) ∙ e)
 
 listed-no-usage : (bytes : List ℕ) (answered : Answered) → answered ≡ only (Listed bytes) → status_of answered.verdict ≡ ended.Usage → ⊥
 listed-no-usage bytes answered is e = let s : status_of (Listed bytes) ≡ ended.Usage = ap (λ (a : Answered). status_of a.verdict) (sym is) ∙ e in cc
@@ -96,16 +97,17 @@ effects-answer asked text typed (Ok answered) is tells = to_effects is tells
 effects-answer asked text typed (Err none) is tells = tt
 
 -- any other command than these that is no replay is to check
-pub is-check : (c : Command) → c ≢ command.Run → c ≢ command.Demo → c ≢ command.Trace → c ≢ command.Elide → c ≢ command.«List» → c ≢ command.Effects → c ≢ command.Replay
+pub is-check : (c : Command) → c ≢ command.Run → c ≢ command.Demo → c ≢ command.Trace → c ≢ command.Cost → c ≢ command.Elide → c ≢ command.«List» → c ≢ command.Effects → c ≢ command.Replay
     → c ≡ command.Check
-is-check command.Check run demo trace elide list effects replay = refl
-is-check command.Run run demo trace elide list effects replay = absurd (run refl)
-is-check command.Demo run demo trace elide list effects replay = absurd (demo refl)
-is-check command.Trace run demo trace elide list effects replay = absurd (trace refl)
-is-check command.Elide run demo trace elide list effects replay = absurd (elide refl)
-is-check command.«List» run demo trace elide list effects replay = absurd (list refl)
-is-check command.Effects run demo trace elide list effects replay = absurd (effects refl)
-is-check command.Replay run demo trace elide list effects replay = absurd (replay refl)
+is-check command.Check run demo trace cost elide list effects replay = refl
+is-check command.Run run demo trace cost elide list effects replay = absurd (run refl)
+is-check command.Demo run demo trace cost elide list effects replay = absurd (demo refl)
+is-check command.Trace run demo trace cost elide list effects replay = absurd (trace refl)
+is-check command.Elide run demo trace cost elide list effects replay = absurd (elide refl)
+is-check command.«List» run demo trace cost elide list effects replay = absurd (list refl)
+is-check command.Effects run demo trace cost elide list effects replay = absurd (effects refl)
+is-check command.Cost run demo trace cost elide list effects replay = absurd (cost refl)
+is-check command.Replay run demo trace cost elide list effects replay = absurd (replay refl)
 
 -- the answer on an accepted program is an answer
 pub program-answer : (asked : Job) (text : List ℕ) (place : Place) (typed : PlainProgram) (result : Result Answered NoMemory) → IsAcceptedAs text place typed
@@ -114,10 +116,11 @@ program-answer asked text place typed (Ok answered) accepted is = of_program pla
 program-answer asked text place typed (Err none) accepted is = tt
 
 -- which commands ask for a run
-pub asks : (c : Command) → (c ≡ command.Run) ⊎ (c ≡ command.Demo) ⊎ (c ≡ command.Trace) → asks_run c ≡ true
+pub asks : (c : Command) → (c ≡ command.Run) ⊎ (c ≡ command.Demo) ⊎ (c ≡ command.Trace) ⊎ (c ≡ command.Cost) → asks_run c ≡ true
 asks c (inl run) = ap asks_run run
 asks c (inr (inl demo)) = ap asks_run demo
-asks c (inr (inr trace)) = ap asks_run trace
+asks c (inr (inr (inl trace))) = ap asks_run trace
+asks c (inr (inr (inr cost))) = ap asks_run cost
 
 -- so is the first fault of a text
 pub faulty-answer : (asked : Job) (text : List ℕ) (found reported : Refusal) (answered : Answered) → found ≡ reported → answered ≡ only (Refused reported) → length text ≤ max_text
@@ -135,9 +138,9 @@ run_in_mode asked made typed L limits a argument workers result is same given ru
 -- the verdict on the run of a program
 pub ran-so : (asked : Job) (text : List ℕ) (typed : PlainProgram) (r : Recorded) (schedule : List ℕ) (verdict : Verdict)
     → IsRunBy asked.mode typed (limits_of asked) asked.arg asked.workers (Some r) → schedule ≡ r.record.machine.schedule
-    → verdict ≡ verdict_of asked text schedule r.outcome → IsRan asked text typed (record { verdict = verdict; recorded = Some r.record })
+    → verdict ≡ verdict_of asked text schedule r.record.rounds r.outcome → IsRan asked text typed (record { verdict = verdict; recorded = Some r.record })
 ran-so asked text typed r schedule verdict runs same is =
-    record { made = r; run = runs; is = ap (λ v. record { verdict = v; recorded = Some r.record }) (is ∙ ap (λ ks. verdict_of asked text ks r.outcome) same) }
+    record { made = r; run = runs; is = ap (λ v. record { verdict = v; recorded = Some r.record }) (is ∙ ap (λ ks. verdict_of asked text ks r.record.rounds r.outcome) same) }
 
 -- the listing of a code that is the compiled program's, with the titles that its names give
 pub listing-so : (text : List ℕ) (made typed : PlainProgram) (own names : ProgramNames) (code : Code) (listed : List ℕ) (answered : Answered) → TellsPlainCode

@@ -1,6 +1,6 @@
 -- What the tool answers to a job and a text, and what it records.
 use Rattle.std.specs.Int.{w32}
-use Rattle.std.specs.Prelude.{ℕ, ℤ, FitsSigned, ◌≡◌, ◌<◌, ◌≤◌, Bool, true, false, min, List, length, Option, Some, None}
+use Rattle.std.specs.Prelude.{ℕ, ℤ, FitsSigned, ◌≡◌, ◌+◌, ◌<◌, ◌≤◌, Bool, true, false, min, max, List, fold, length, Option, Some, None}
 use Rattle.dpj_base.specs.declared.outcome.Limits.{Limits}
 use Rattle.dpj_base.specs.declared.outcome.Outcome.{Outcome}
 use Rattle.dpj_base.specs.declared.place.Place.{Place}
@@ -18,6 +18,7 @@ use Rattle.dpj_infer.specs.Lines.{lines_of}
 use Rattle.dpj_listing.specs.Listing.{plain_listing}
 use Rattle.dpj_run.specs.Run.{IsRun}
 use Rattle.dpj_run.specs.Rounding.{ComesByRounds}
+use Rattle.dpj_run.specs.Seeding.{ComesBySeed}
 use Rattle.dpj_run.specs.declared.recorded.Recorded.{Recorded}
 use Rattle.dpj_trace.specs.Text.{trace_text}
 use Rattle.dpj_front.specs.Front.{AreNames, IsPassed, IsFault}
@@ -27,8 +28,9 @@ use Rattle.dpj_words.specs.Jobs.{IsInRange}
 use Rattle.dpj_words.specs.declared.job.Job.{Job}
 use Rattle.dpj_words.specs.declared.key.Mode.{Mode}
 use Rattle.dpj_words.specs.declared.key.Mode.TheVariants as mode
+use Rattle.dpj_words.specs.declared.verdict.Figures.{Figures}
 use Rattle.dpj_words.specs.declared.verdict.Verdict.{Verdict}
-use Rattle.dpj_words.specs.declared.verdict.Verdict.TheVariants.{Refused, Ran, Listed, Accepted, Demo, Traced, Effects}
+use Rattle.dpj_words.specs.declared.verdict.Verdict.TheVariants.{Refused, Ran, Listed, Accepted, Demo, Traced, Effects, Cost}
 use Rattle.dpj_top.specs.declared.answered.Answered.{Answered}
 
 -- the most bytes that a text may have
@@ -64,6 +66,7 @@ abbrev pub asks_run : Command → Bool
 asks_run command.Run = true
 asks_run command.Demo = true
 asks_run command.Trace = true
+asks_run command.Cost = true
 asks_run _ = false
 
 -- the elision of an accepted program, of which nothing is recorded
@@ -72,25 +75,36 @@ pub record IsElided (job : Job) (typed : PlainProgram) (answered : Answered) : T
   pub comes : IsElisionOf typed job.arg (limits_of job) outcome
   pub is : answered ≡ only (Ran outcome)
 
--- the verdict on a run of a text, by its schedule and how it came out: a demo tells what it made, and a trace is reported in place of a report
-abbrev pub verdict_by : Command → Job → List ℕ → List ℕ → Outcome → Verdict
-verdict_by command.Demo job text schedule outcome = Demo job.n (length text) outcome
-verdict_by command.Trace job text schedule outcome = Traced outcome (trace_text job.arg (limits_of job) schedule text)
-verdict_by _ job text schedule outcome = Ran outcome
+-- how many tasks there are up to the greatest of a schedule: in a run that has ended these are all that have begun
+abbrev pub tasks_of : List ℕ → ℕ
+tasks_of schedule = fold (λ most task. max most (task + 1)) 0 schedule
 
-abbrev pub verdict_of : Job → List ℕ → List ℕ → Outcome → Verdict
-verdict_of job text schedule outcome = verdict_by job.command job text schedule outcome
+-- what a run is made of, by its schedule and the number of its rounds
+abbrev pub figures_of : List ℕ → ℕ → Figures
+figures_of schedule rounds = record { events = length schedule; tasks = tasks_of schedule; rounds = rounds }
 
--- the run that a mode asks for, with its record: by workers, or in rounds, of which the caller makes all events; or that there is none
+-- The verdict on a run of a text, by its schedule, the number of its rounds, and how it came out: a demo tells what it made, a trace is reported in place
+-- of a report, and its cost beside it
+abbrev pub verdict_by : Command → Job → List ℕ → List ℕ → ℕ → Outcome → Verdict
+verdict_by command.Demo job text schedule rounds outcome = Demo job.n (length text) outcome
+verdict_by command.Trace job text schedule rounds outcome = Traced outcome (trace_text job.arg (limits_of job) schedule text)
+verdict_by command.Cost job text schedule rounds outcome = Cost outcome (figures_of schedule rounds)
+verdict_by _ job text schedule rounds outcome = Ran outcome
+
+abbrev pub verdict_of : Job → List ℕ → List ℕ → ℕ → Outcome → Verdict
+verdict_of job text schedule rounds outcome = verdict_by job.command job text schedule rounds outcome
+
+-- the run that a mode asks for, with its record: by workers, or of which the caller makes all events, in rounds or by a seed; or that there is none
 abbrev pub IsRunBy : Mode → PlainProgram → Limits → ℤ → ℕ → Option Recorded → Type 0
-IsRunBy mode.Steps = IsRun
-IsRunBy mode.Rounds = ComesByRounds
+IsRunBy mode.Steps typed limits argument workers = IsRun typed limits argument workers
+IsRunBy mode.Rounds typed limits argument workers = ComesByRounds typed limits argument workers
+IsRunBy (mode.Seeded seed) typed limits argument workers = ComesBySeed typed limits argument workers seed
 
 -- the run of an accepted program by the job's mode, with its record
 pub record IsRan (job : Job) (text : List ℕ) (typed : PlainProgram) (answered : Answered) : Type 0 where
   pub made : Recorded
   pub run : IsRunBy job.mode typed (limits_of job) job.arg job.workers (Some made)
-  pub is : answered ≡ record { verdict = verdict_of job text made.record.machine.schedule made.outcome; recorded = Some made.record }
+  pub is : answered ≡ record { verdict = verdict_of job text made.record.machine.schedule made.record.rounds made.outcome; recorded = Some made.record }
 
 -- the listing of the code of a program, with the names of the text
 pub record IsListing (text : List ℕ) (typed : PlainProgram) (answered : Answered) : Type 0 where

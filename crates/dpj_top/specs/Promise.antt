@@ -39,17 +39,18 @@ use Rattle.dpj_top.specs.Replaying.{program_of}
 abbrev pub elision_for : Job → PlainProgram → Outcome
 elision_for job typed = elision typed (limits_of job) job.arg
 
--- the verdict is on the program's sequential elision, whatever schedule was made
+-- the verdict is on the program's sequential elision, whatever schedule was made, by however many rounds
 pub record TellsElision (job : Job) (text : List ℕ) (typed : PlainProgram) (answered : Answered) : Type 0 where
   pub schedule : List ℕ
-  pub is : answered.verdict ≡ verdict_of job text schedule (elision_for job typed)
+  pub rounds : ℕ
+  pub is : answered.verdict ≡ verdict_of job text schedule rounds (elision_for job typed)
 
 -- the recorded run is one of the source, in which values have their types and tasks keep to their effects, whose unordered events that conflict lie in atomic blocks; gathered by blocks it
 -- comes out as the verdict says, and so it does with its deterministic constructs in sequence, where it isn't over a limit
 pub record TellsReduced (job : Job) (text : List ℕ) (typed : PlainProgram) (answered : Answered) : Type 0 where
   pub well_typed : WellTyped typed
   pub made : Recorded
-  pub is : answered ≡ record { verdict = verdict_of job text made.record.machine.schedule made.outcome; recorded = Some made.record }
+  pub is : answered ≡ record { verdict = verdict_of job text made.record.machine.schedule made.record.rounds made.outcome; recorded = Some made.record }
   pub reduced : ComesOutReduced typed well_typed made.record.machine made.outcome
   pub inside : ComesOutElidedInside typed made.record.machine made.outcome
 
@@ -91,17 +92,18 @@ pub record KeepsPromise : Type 0 where
 abbrev pub IsReported : Verdict → Option (List ℕ) → Option (List ℕ) → Status → Type 0
 IsReported verdict before after status = (status ≡ status_of verdict) × Appends before after (report_of verdict)
 
--- a run is reported by the elision, whatever schedule was made
+-- a run is reported by the elision, whatever schedule was made, by however many rounds
 pub record ReportsElision (job : Job) (text : List ℕ) (typed : PlainProgram) (before after : Option (List ℕ)) (status : Status) : Type 0 where
   pub schedule : List ℕ
-  pub reported : IsReported (verdict_of job text schedule (elision_for job typed)) before after status
+  pub rounds : ℕ
+  pub reported : IsReported (verdict_of job text schedule rounds (elision_for job typed)) before after status
 
 -- a run is recorded that is reduced, and what is reported is how it came out
 pub record ReportsReduced (job : Job) (text : List ℕ) (typed : PlainProgram) (before after : Option (List ℕ)) (status : Status) (recorded : Option Record) : Type 0 where
   pub well_typed : WellTyped typed
   pub made : Recorded
   pub is : recorded ≡ Some made.record
-  pub reported : IsReported (verdict_of job text made.record.machine.schedule made.outcome) before after status
+  pub reported : IsReported (verdict_of job text made.record.machine.schedule made.record.rounds made.outcome) before after status
   pub reduced : ComesOutReduced typed well_typed made.record.machine made.outcome
   pub inside : ComesOutElidedInside typed made.record.machine made.outcome
 

@@ -8,6 +8,7 @@ ghost use Rattle.dpj_words.specs.declared.command.Command.TheVariants.{Replay};
 ghost use Rattle.dpj_top.specs.Answer.{IsAcceptedAs, IsAnswer, IsElided, IsListing, IsRan, IsRunBy, TellsEffects, limits_of, verdict_of};
 
 use crate::answered::{Answered, limits};
+use crate::figures::figures;
 use crate::laws::promise;
 use dpj_base::{NoMemory, Outcome};
 use dpj_compile::compile;
@@ -16,7 +17,7 @@ use dpj_front::Passed;
 use dpj_infer::{infer, lines};
 use dpj_listing::laws::law_plain;
 use dpj_listing::listing;
-use dpj_run::{Recorded, run, run_rounds};
+use dpj_run::{Recorded, run, run_rounds, run_seeded};
 use dpj_trace::trace_text;
 use dpj_typed::Program;
 use dpj_words::{Command, Job, Mode, Verdict};
@@ -42,7 +43,9 @@ pub fn carry_out<R: Threads + Wait + Sync, G: Gate + Sync>(
     ensures { IfOk result (IsAnswer job.now text.now) }
 {
     match job.command {
-        Command::Run | Command::Demo | Command::Trace => ran(rt, alloc, job, text, passed, gate),
+        Command::Run | Command::Demo | Command::Trace | Command::Cost => {
+            ran(rt, alloc, job, text, passed, gate)
+        }
         Command::Elide => elided(alloc, job, passed),
         Command::List => listed(alloc, text, passed),
         Command::Effects => inferred(alloc, text, passed),
@@ -70,14 +73,21 @@ fn ran<R: Threads + Wait + Sync, G: Gate + Sync>(
         unreachable!("an accepted program goes on until it has come out")
     };
     let Recorded { record, outcome } = run;
-    let verdict = verdict_on(alloc, job, text, record.machine.schedule(), outcome)?;
+    let verdict = verdict_on(
+        alloc,
+        job,
+        text,
+        record.machine.schedule(),
+        record.rounds,
+        outcome,
+    )?;
     Ok(Answered {
         verdict,
         recorded: Some(record),
     })
 }
 
-/// The run that the job's mode asks for: by workers, or in rounds; none where it can't go on.
+/// The run that the job's mode asks for: by workers, in rounds, or by a seed; none where it can't go on.
 fn made<R: Threads + Wait + Sync, G: Gate + Sync>(
     rt: &R,
     alloc: Global,
@@ -93,18 +103,20 @@ fn made<R: Threads + Wait + Sync, G: Gate + Sync>(
     match job.mode {
         Mode::Steps => run(rt, alloc, typed, limits(job), job.arg, job.workers, gate),
         Mode::Rounds => run_rounds(rt, alloc, typed, limits(job), job.arg, job.workers),
+        Mode::Seeded(seed) => run_seeded(alloc, typed, limits(job), job.arg, job.workers, seed),
     }
 }
 
-/// The verdict on a run of a text, by its schedule and how it came out.
+/// The verdict on a run of a text, by its schedule, the number of its rounds, and how it came out.
 fn verdict_on(
     alloc: Global,
     job: &Job,
     text: &[u8],
     schedule: &[u32],
+    rounds: u64,
     outcome: Outcome,
 ) -> Result<Verdict, NoMemory>
-    ensures { IfOk result (λ verdict. verdict ≡ verdict_of job.now text.now schedule.now outcome) }
+    ensures { IfOk result (λ verdict. verdict ≡ verdict_of job.now text.now schedule.now rounds outcome) }
 {
     Ok(match job.command {
         Command::Demo => Verdict::Demo {
@@ -115,6 +127,10 @@ fn verdict_on(
         Command::Trace => Verdict::Traced {
             outcome,
             text: trace_text(alloc, job.arg, limits(job), schedule, text)?,
+        },
+        Command::Cost => Verdict::Cost {
+            outcome,
+            figures: figures(schedule, rounds),
         },
         _ => Verdict::Ran(outcome),
     })

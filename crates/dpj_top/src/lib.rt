@@ -10,6 +10,7 @@ mod answered;
 mod answers;
 mod call;
 mod carrying;
+mod figures;
 mod laws;
 mod replays;
 

@@ -8,8 +8,7 @@ use std::sync::Wait;
 use std::thread::Threads;
 
 /// Two branches that print.
-pub const TEXT: &str =
-    "class Main { int main(int n) { cobegin { print(1); print(2); } return 0; } }";
+const TEXT: &str = "class Main { int main(int n) { cobegin { print(1); print(2); } return 0; } }";
 
 /// The record of a run of the text, in words.
 pub fn recorded<R: Threads + Wait + Sync, G: Gate + Sync>(
@@ -37,7 +36,14 @@ fn reported(alloc: Global, ended: Ended) -> Result<String, anyhow::Error> {
 /// What a record tells. The record goes before any of it can fail.
 fn reported_by(alloc: Global, made: Record) -> Result<String, anyhow::Error> {
     let schedule = made.machine.schedule().to_vec(alloc);
-    let Record { shares, own, .. } = made;
+    let Record {
+        shares,
+        own,
+        rounds,
+        ..
+    } = made;
     let (schedule, shares) = (schedule?, shares.into_vec());
-    Ok(format!(in alloc; "schedule {schedule:?}, shares {shares:?}, {own} by the caller")?)
+    Ok(format!(in alloc;
+        "{rounds} rounds, schedule {schedule:?}, shares {shares:?}, {own} by the caller"
+    )?)
 }

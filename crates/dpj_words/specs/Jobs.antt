@@ -2,8 +2,9 @@
 use Rattle.std.specs.Prelude.{ℕ, ℤ, pos, ◌≤◌, List, [], ◌∷◌, Option, Some, None, if◌then◌else◌}
 use Rattle.std.specs.List.{list_all}
 use Rattle.std.specs.Option.{option_and_then}
-use Rattle.dpj_words.specs.Words.{command_named, sets_key_of, values_for, number_in, arg_of, mode_of}
+use Rattle.dpj_words.specs.Words.{command_named, sets_key_of, values_for, number_in, arg_of, mode_of, seeded_by}
 use Rattle.dpj_words.specs.declared.command.Command.{Command}
+use Rattle.dpj_words.specs.declared.command.Command.TheVariants as command
 use Rattle.dpj_words.specs.declared.key.Key.TheVariants as key
 use Rattle.dpj_words.specs.declared.key.Mode.{Mode}
 use Rattle.dpj_words.specs.declared.key.Mode.TheVariants as mode
@@ -35,9 +36,26 @@ argument_of words = one_of arg_of (pos 0) (values_for key.Arg words)
 abbrev pub classes_of : List (List ℕ) → Option ℕ
 classes_of words = one_of (number_in 1 200) 8 (values_for key.Number words)
 
+-- how the run of a command is made where neither `mode` nor `seed` says it
+abbrev pub own_mode : Command → Mode
+own_mode command.Cost = mode.Rounds
+own_mode _ = mode.Steps
+
+-- a mode where neither `mode` nor `workers` is given a value
+abbrev pub alone : List (List ℕ) → List (List ℕ) → Option Mode → Option Mode
+alone [] [] mode = mode
+alone (name ∷ names) workers mode = None
+alone [] (number ∷ numbers) mode = None
+
+-- the mode by the values of `mode`, `workers` and `seed`: a seed stands without the others
+abbrev pub mode_by : Mode → List (List ℕ) → List (List ℕ) → List (List ℕ) → Option Mode
+mode_by own names workers [] = one_of mode_of own names
+mode_by own names workers (seed ∷ []) = alone names workers (seeded_by seed)
+mode_by own names workers (first ∷ second ∷ others) = None
+
 -- how the run is made
-abbrev pub made_by : List (List ℕ) → Option Mode
-made_by words = one_of mode_of mode.Steps (values_for key.Mode words)
+abbrev pub made_by : Command → List (List ℕ) → Option Mode
+made_by command words = mode_by (own_mode command) (values_for key.Mode words) (values_for key.Workers words) (values_for key.Seed words)
 
 -- a job where each of its fields is given
 abbrev pub job_with : Command → Option ℕ → Option ℕ → Option ℕ → Option ℤ → Option ℕ → Option Mode → Option Job
@@ -47,7 +65,7 @@ job_with _ _ _ _ _ _ _ = None
 
 -- the job of a command, each field by the words that set it
 abbrev pub fields_job : List (List ℕ) → Command → Option Job
-fields_job words command = job_with command (workers_of words) (steps_of words) (cells_of words) (argument_of words) (classes_of words) (made_by words)
+fields_job words command = job_with command (workers_of words) (steps_of words) (cells_of words) (argument_of words) (classes_of words) (made_by command words)
 
 -- the job of a command with the words after it, each of which sets one of its keys
 abbrev pub settings_job : List (List ℕ) → Command → Option Job

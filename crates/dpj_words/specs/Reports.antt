@@ -5,6 +5,7 @@ use Rattle.dpj_base.specs.declared.outcome.Outcome.{Outcome}
 use Rattle.dpj_base.specs.declared.outcome.Ending.{Ending}
 use Rattle.dpj_base.specs.declared.outcome.Ending.TheVariants as ending
 use Rattle.dpj_base.specs.Text.{place_text, trap_name, refusal_text}
+use Rattle.dpj_words.specs.declared.verdict.Figures.{Figures}
 use Rattle.dpj_words.specs.declared.verdict.Verdict.{Verdict}
 use Rattle.dpj_words.specs.declared.verdict.Verdict.TheVariants as verdict
 use Rattle.dpj_words.specs.declared.verdict.Status.{Status}
@@ -24,6 +25,12 @@ ending_report out ending.Limited = line (codes "limit")
 abbrev pub run_report : Outcome → List ℕ
 run_report outcome = ending_report outcome.out outcome.ending
 
+-- the report of a run, what it has cost, and what it is made of
+abbrev pub cost_report : Outcome → Figures → List ℕ
+cost_report outcome figures =
+    run_report outcome ++ line (codes "steps " ++ decimal outcome.steps) ++ line (codes "cells " ++ decimal outcome.cells)
+    ++ line (codes "events " ++ decimal figures.events) ++ line (codes "tasks " ++ decimal figures.tasks) ++ line (codes "rounds " ++ decimal figures.rounds)
+
 -- the report of a demo of so many classes and bytes, which took so many steps
 abbrev pub demo_ending_report : ℕ → ℕ → ℕ → Ending → List ℕ
 demo_ending_report classes bytes steps (ending.Done value) =
@@ -42,6 +49,7 @@ report_of (verdict.Listed listing) = listing
 report_of (verdict.Demo classes bytes outcome) = demo_ending_report classes bytes outcome.steps outcome.ending
 report_of (verdict.Traced outcome text) = text
 report_of (verdict.Effects lines) = lines
+report_of (verdict.Cost outcome figures) = cost_report outcome figures
 
 -- the status of an ending
 abbrev pub ending_status : Ending → Status
@@ -59,6 +67,7 @@ status_of (verdict.Listed listing) = status.Done
 status_of (verdict.Demo classes bytes outcome) = ending_status outcome.ending
 status_of (verdict.Traced outcome text) = ending_status outcome.ending
 status_of (verdict.Effects lines) = status.Done
+status_of (verdict.Cost outcome figures) = ending_status outcome.ending
 
 -- the number of a status
 abbrev pub status_number : Status → ℕ

@@ -22,10 +22,11 @@ command_name command.Demo = codes "demo"
 command_name command.Trace = codes "trace"
 command_name command.Replay = codes "replay"
 command_name command.Effects = codes "effects"
+command_name command.Cost = codes "cost"
 
 -- every command
 abbrev pub commands : List Command
-commands = command.Check ∷ command.Run ∷ command.Elide ∷ command.«List» ∷ command.Demo ∷ command.Trace ∷ command.Replay ∷ command.Effects ∷ []
+commands = command.Check ∷ command.Run ∷ command.Elide ∷ command.«List» ∷ command.Demo ∷ command.Trace ∷ command.Replay ∷ command.Effects ∷ command.Cost ∷ []
 
 -- the command that a word asks for
 abbrev pub command_named : List ℕ → Option Command
@@ -39,17 +40,19 @@ key_name key.Cells = codes "cells"
 key_name key.Arg = codes "arg"
 key_name key.Number = codes "n"
 key_name key.Mode = codes "mode"
+key_name key.Seed = codes "seed"
 
 -- the keys that may stand after a command
 abbrev pub keys_of : Command → List Key
 keys_of command.Check = []
-keys_of command.Run = key.Workers ∷ key.Steps ∷ key.Cells ∷ key.Arg ∷ key.Mode ∷ []
+keys_of command.Run = key.Workers ∷ key.Steps ∷ key.Cells ∷ key.Arg ∷ key.Mode ∷ key.Seed ∷ []
 keys_of command.Elide = key.Steps ∷ key.Cells ∷ key.Arg ∷ []
 keys_of command.«List» = []
 keys_of command.Demo = key.Workers ∷ key.Steps ∷ key.Cells ∷ key.Number ∷ []
-keys_of command.Trace = key.Workers ∷ key.Steps ∷ key.Cells ∷ key.Arg ∷ []
+keys_of command.Trace = key.Workers ∷ key.Steps ∷ key.Cells ∷ key.Arg ∷ key.Seed ∷ []
 keys_of command.Replay = []
 keys_of command.Effects = []
+keys_of command.Cost = key.Steps ∷ key.Cells ∷ key.Arg ∷ []
 
 -- what stands after a prefix
 abbrev pub following : List ℕ → List ℕ → Option (List ℕ)
@@ -78,6 +81,10 @@ abbrev pub arg_of : List ℕ → Option ℤ
 arg_of text = if starts_with nat_eq text (codes "-")
     then option_map (λ n. neg_ℤ (pos n)) (number_in 1 2147483648 (drop 1 text))
     else option_map pos (number_in 0 2147483647 text)
+
+-- the mode of a seed
+abbrev pub seeded_by : List ℕ → Option Mode
+seeded_by text = option_map mode.Seeded (number_in 0 4294967295 text)
 
 -- the mode of a name
 abbrev pub mode_of : List ℕ → Option Mode

@@ -21,9 +21,11 @@ pub enum Command {
     Replay,
     /// Checks, and writes the inferred summaries.
     Effects,
+    /// Checks, runs in rounds, and tells what the run has cost.
+    Cost,
 }
 
-const COMMANDS: [Command; 8] = [
+const COMMANDS: [Command; 9] = [
     Command::Check,
     Command::Run,
     Command::Elide,
@@ -32,6 +34,7 @@ const COMMANDS: [Command; 8] = [
     Command::Trace,
     Command::Replay,
     Command::Effects,
+    Command::Cost,
 ];
 
 impl Command {
@@ -50,6 +53,7 @@ impl Command {
             Command::Trace => "trace",
             Command::Replay => "replay",
             Command::Effects => "effects",
+            Command::Cost => "cost",
         }
     }
 
@@ -68,9 +72,16 @@ impl Command {
         ensures { result.now ≡ keys_of self }
     {
         match self {
-            Command::Run => &[Key::Workers, Key::Steps, Key::Cells, Key::Arg, Key::Mode],
-            Command::Trace => &[Key::Workers, Key::Steps, Key::Cells, Key::Arg],
-            Command::Elide => &[Key::Steps, Key::Cells, Key::Arg],
+            Command::Run => &[
+                Key::Workers,
+                Key::Steps,
+                Key::Cells,
+                Key::Arg,
+                Key::Mode,
+                Key::Seed,
+            ],
+            Command::Trace => &[Key::Workers, Key::Steps, Key::Cells, Key::Arg, Key::Seed],
+            Command::Elide | Command::Cost => &[Key::Steps, Key::Cells, Key::Arg],
             Command::Demo => &[Key::Workers, Key::Steps, Key::Cells, Key::Number],
             Command::Check | Command::List | Command::Replay | Command::Effects => &[],
         }

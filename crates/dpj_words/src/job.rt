@@ -85,6 +85,6 @@ fn read_settings(command: Command, settings: &[String]) -> Result<Job, Usage>
         cells: number_set(settings, Key::Cells, 1, 16777216, 1048576)?,
         arg: arg_set(settings)?,
         n: number_set(settings, Key::Number, 1, 200, 8)? as u32,
-        mode: mode_set(settings)?,
+        mode: mode_set(command, settings)?,
     })
 }

@@ -16,6 +16,8 @@ pub enum Key {
     Number,
     /// Who makes the events of a run.
     Mode,
+    /// What the order of the events is drawn by.
+    Seed,
 }
 
 /// How a run is made.
@@ -25,6 +27,8 @@ pub enum Mode {
     Steps,
     /// The caller makes an event of each ready task in turn.
     Rounds,
+    /// The caller makes each event, of a ready task that is drawn, by this seed.
+    Seeded(u32),
 }
 
 impl Key {
@@ -41,6 +45,7 @@ impl Key {
             Key::Arg => "arg=",
             Key::Number => "n=",
             Key::Mode => "mode=",
+            Key::Seed => "seed=",
         }
     }
 

@@ -21,4 +21,4 @@ pub use job::{Job, Usage, read_words};
 pub use key::{Key, Mode};
 pub use laws::law_values;
 pub use reports::{report, status};
-pub use verdict::{Status, Verdict};
+pub use verdict::{Figures, Status, Verdict};

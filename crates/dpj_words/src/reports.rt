@@ -1,8 +1,8 @@
 ghost use Rattle.std.specs.Prelude.{◌≡◌, ◌++◌, [], IfOk, OnOk, OnErr};
 ghost use Rattle.std.specs.Fmt.{decimal, signed_decimal};
-ghost use Rattle.dpj_words.specs.Reports.{report_of, status_of, ending_report, run_report, demo_ending_report, ending_status};
+ghost use Rattle.dpj_words.specs.Reports.{report_of, status_of, ending_report, run_report, cost_report, demo_ending_report, ending_status};
 
-use crate::verdict::{Status, Verdict};
+use crate::verdict::{Figures, Status, Verdict};
 use dpj_base::{Bytes, Ending, NoMemory, Outcome, Plain};
 use std::alloc::Global;
 
@@ -18,6 +18,7 @@ pub fn report(alloc: Global, verdict: &Verdict) -> Result<Bytes, NoMemory>
         }
         Verdict::Accepted => text(alloc, "accepted\n"),
         Verdict::Ran(outcome) => run_report(alloc, outcome),
+        Verdict::Cost { outcome, figures } => cost_report(alloc, outcome, *figures),
         Verdict::Demo {
             classes,
             bytes,
@@ -37,8 +38,10 @@ pub fn status(verdict: &Verdict) -> Status
         Verdict::Usage => Status::Usage,
         Verdict::Refused(_) => Status::Refused,
         Verdict::Accepted | Verdict::Listed(_) | Verdict::Effects(_) => Status::Done,
-        Verdict::Ran(outcome) | Verdict::Demo { outcome, .. } | Verdict::Traced { outcome, .. } =>
-            ending_status(outcome.ending),
+        Verdict::Ran(outcome)
+        | Verdict::Demo { outcome, .. }
+        | Verdict::Traced { outcome, .. }
+        | Verdict::Cost { outcome, .. } => ending_status(outcome.ending),
     }
 }
 
@@ -62,6 +65,25 @@ fn run_report(alloc: Global, outcome: &Outcome) -> Result<Bytes, NoMemory>
     ensures { IfOk result (λ bytes. bytes ≡ run_report outcome.now) }
 {
     ending_report(alloc, outcome.out.as_slice(), outcome.ending)
+}
+
+// The report of a run, and a line for each of its costs and figures.
+fn cost_report(alloc: Global, outcome: &Outcome, figures: Figures) -> Result<Bytes, NoMemory>
+    ensures { IfOk result (λ bytes. bytes ≡ cost_report outcome.now figures) }
+{
+    let Figures {
+        events,
+        tasks,
+        rounds,
+    } = figures;
+    let (steps, cells) = (outcome.steps, outcome.cells);
+    let mut bytes = run_report(alloc, outcome)?;
+    bytes.extend(format!(in alloc; "steps {steps}\n")?.as_bytes())?;
+    bytes.extend(format!(in alloc; "cells {cells}\n")?.as_bytes())?;
+    bytes.extend(format!(in alloc; "events {events}\n")?.as_bytes())?;
+    bytes.extend(format!(in alloc; "tasks {tasks}\n")?.as_bytes())?;
+    bytes.extend(format!(in alloc; "rounds {rounds}\n")?.as_bytes())?;
+    Ok(bytes)
 }
 
 // What a run printed, and the line of its ending.

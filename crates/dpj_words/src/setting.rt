@@ -2,9 +2,10 @@ ghost use Rattle.std.specs.Prelude.{◌≡◌, ◌≢◌, ◌↔◌, ◌≤◌, 
 ghost use Rattle.std.specs.Result.{result_ok};
 ghost use Rattle.std.specs.Option.{option_map, option_to_list};
 ghost use Rattle.std.specs.String.{string_bytes};
-ghost use Rattle.dpj_words.specs.Words.{value_for, values_for, number_in, arg_of, mode_of};
-ghost use Rattle.dpj_words.specs.Jobs.{one_of, argument_of, made_by};
+ghost use Rattle.dpj_words.specs.Words.{value_for, values_for, number_in, arg_of, mode_of, seeded_by};
+ghost use Rattle.dpj_words.specs.Jobs.{one_of, argument_of, alone, own_mode, made_by};
 
+use crate::command::Command;
 use crate::job::Usage;
 use crate::key::{Key, Mode};
 
@@ -39,16 +40,57 @@ pub fn arg_set(settings: &[String]) -> Result<i32, Usage>
     }
 }
 
-/// What the words set the mode to, or its default.
-pub fn mode_set(settings: &[String]) -> Result<Mode, Usage>
-    ensures { result_ok result ≡ made_by (map string_bytes settings.now) }
+/// What the words set the mode to, by its name or by a seed, or the command's own. A seed stands with neither a name nor workers.
+pub fn mode_set(command: Command, settings: &[String]) -> Result<Mode, Usage>
+    ensures { result_ok result ≡ made_by command (map string_bytes settings.now) }
+{
+    match value_set(settings, Key::Seed)? {
+        None => mode_named(command, settings),
+        Some(seed) => mode_seeded(seed, settings),
+    }
+}
+
+// What the words set the mode to by its name, or the command's own.
+fn mode_named(command: Command, settings: &[String]) -> Result<Mode, Usage>
+    ensures { result_ok result
+        ≡ one_of mode_of (own_mode command) (values_for Key.Mode (map string_bytes settings.now)) }
 {
     match value_set(settings, Key::Mode)? {
-        None => Ok(Mode::Steps),
+        None => Ok(own_mode(command)),
         Some("steps") => Ok(Mode::Steps),
         Some("rounds") => Ok(Mode::Rounds),
         Some(_) => Err(Usage),
     }
+}
+
+// The mode of a seed, where the words set neither the mode by its name nor the workers.
+fn mode_seeded(seed: &str, settings: &[String]) -> Result<Mode, Usage>
+    ensures { result_ok result
+        ≡ alone (values_for Key.Mode (map string_bytes settings.now)) (values_for Key.Workers (map string_bytes settings.now)) (seeded_by seed.now) }
+{
+    let name = value_set(settings, Key::Mode)?;
+    let workers = value_set(settings, Key::Workers)?;
+    match (name, workers) {
+        (None, None) => seeded(seed).ok_or(Usage),
+        _ => Err(Usage),
+    }
+}
+
+// How the run of a command is made where the words don't say it.
+fn own_mode(command: Command) -> Mode
+    ensures { result ≡ own_mode command }
+{
+    match command {
+        Command::Cost => Mode::Rounds,
+        _ => Mode::Steps,
+    }
+}
+
+// The mode of a seed.
+fn seeded(seed: &str) -> Option<Mode>
+    ensures { result ≡ seeded_by seed.now }
+{
+    number(seed, 0, 4294967295).map(|seed| Mode::Seeded(seed as u32))
 }
 
 // The value that one of the words gives to a key, if any does; Usage where more than one does.

@@ -28,6 +28,22 @@ pub enum Verdict {
     },
     /// The inferred summaries, a line for each.
     Effects(Bytes),
+    /// A run, with what it is made of.
+    Cost {
+        outcome: Outcome,
+        figures: Figures,
+    },
+}
+
+/// What a run is made of.
+#[derive(Clone, Copy, Debug, PartialEq, Eq)]
+pub struct Figures {
+    /// Its events.
+    pub events: u64,
+    /// The tasks that have begun in it.
+    pub tasks: u64,
+    /// The rounds that it was made by, 0 where it wasn't made in rounds.
+    pub rounds: u64,
 }
 
 /// How the program ended, for the system. The statuses from `Done` to `Limited` tell of a verdict, and the

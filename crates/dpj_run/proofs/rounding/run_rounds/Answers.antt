@@ -26,7 +26,7 @@ returns-in-Ok g c =
     (subst (λ m. IsOpened P c.args.limits c.args.argument m) c.in-Some.is
     (subst (λ a. IsOpened P c.args.limits a c.in_ok-machine.field-0) (to_z-of_z fits) c.in_ok-machine.ensures)) in
     came_by_rounds P c.args.limits c.args.argument c.args.workers c.in-Some.machine c.run_rounds-made.new.machine o.0 o.1 c.schedule.ensures.replayed
-    _ c.in-Ok.ensures.rounds c.in-Ok.ensures.done c.recorded.result c.recorded.ensures
+    c.in-Ok.rounds c.in-Ok.ensures.rounds c.in-Ok.ensures.done c.made_alone.result c.made_alone.ensures
 
 pub returns-in-Err-Stuck : goal.returns-in-Err-Stuck
 returns-in-Err-Stuck g c =

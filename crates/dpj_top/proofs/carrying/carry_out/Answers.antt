@@ -27,6 +27,6 @@ pub returns-in_default : goal.returns-in_default
 returns-in_default g c =
     of_program c.args.passed.place (typed_of c.args.passed) c.only.result c.requires.accepted
     (to_check
-    (is-check c.args.job.now.command c.in_default.not-Run c.in_default.not-Demo c.in_default.not-Trace c.in_default.not-Elide c.in_default.not-List
+    (is-check c.args.job.now.command c.in_default.not-Run c.in_default.not-Demo c.in_default.not-Trace c.in_default.not-Cost c.in_default.not-Elide c.in_default.not-List
     c.in_default.not-Effects c.requires.no_replay)
     c.only.ensures)

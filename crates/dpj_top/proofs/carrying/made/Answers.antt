@@ -31,3 +31,15 @@ returns-in-Rounds-clause-run g c =
     let fits : SFits w32 c.args.job.now.arg = search rules in
     run_in_mode c.args.job.now.mode mode.Rounds (plain_program c.args.typed.now) c.limits-in-Rounds.result (limits_of c.args.job.now) _ c.args.job.now.arg c.args.job.now.workers
     c.run_rounds.result c.in-Rounds.is c.limits-in-Rounds.ensures (to_z-of_z fits) c.run_rounds.ensures
+
+pub run_seeded-requires-clause-resolved : goal.run_seeded-requires-clause-resolved
+run_seeded-requires-clause-resolved g c κs within = c.requires.can_run.0
+
+pub run_seeded-requires-clause-main : goal.run_seeded-requires-clause-main
+run_seeded-requires-clause-main g c κs within = c.requires.can_run.1
+
+pub returns-in-Seeded-clause-run : goal.returns-in-Seeded-clause-run
+returns-in-Seeded-clause-run g c =
+    let fits : SFits w32 c.args.job.now.arg = search rules in
+    run_in_mode c.args.job.now.mode (mode.Seeded c.in-Seeded.seed) (plain_program c.args.typed.now) c.limits-in-Seeded.result (limits_of c.args.job.now) _ c.args.job.now.arg c.args.job.now.workers
+    c.run_seeded.result c.in-Seeded.is c.limits-in-Seeded.ensures (to_z-of_z fits) c.run_seeded.ensures

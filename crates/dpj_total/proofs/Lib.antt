@@ -1,0 +1,16 @@
+pub mod Lists
+pub mod Numbers
+pub mod Replays
+pub mod Codes
+pub mod Sayings
+pub mod Events
+pub mod Finishing
+pub mod Readiness
+pub mod Rounds
+pub mod Seeds
+pub mod Effects
+pub mod Runs
+pub mod Answers
+pub mod Deciding
+pub mod Reading
+pub mod Replayed
