@@ -45,8 +45,9 @@ def takes_signals():
     signal.signal(signal.SIGINT, signal.SIG_DFL)
 
 
-def ask(program, words, text, seconds=None, memory=None):
-    """The answer of the program to words and a text; None where it takes longer than so many seconds. `memory` bounds its bytes."""
+def ask(program, words, text, seconds=None, memory=None, errors=None):
+    """The answer of the program to words and a text; None where it takes longer than so many seconds. `memory` bounds its bytes,
+    and `errors` takes its standard error."""
     parent = os.getpid()
 
     def before():
@@ -59,7 +60,7 @@ def ask(program, words, text, seconds=None, memory=None):
 
     try:
         done = subprocess.run(
-            [program, *words], input=text, stdout=subprocess.PIPE, timeout=seconds, preexec_fn=before, check=False)
+            [program, *words], input=text, stdout=subprocess.PIPE, stderr=errors, timeout=seconds, preexec_fn=before, check=False)
     except subprocess.TimeoutExpired:
         return None
     return Answer(done.stdout, done.returncode if done.returncode >= 0 else KILLED - done.returncode)

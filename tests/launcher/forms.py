@@ -19,7 +19,7 @@ TEXT = b"""class Main {
 }
 """
 REFUSED = TEXT.replace(b"6 / n", b"m")
-NOTHING = dict.fromkeys(("name", "line", "column", "text", "sentence", "mend", "output", "result", "proved"))
+NOTHING = dict.fromkeys(("name", "line", "column", "text", "sentence", "mend", "reason", "output", "result", "proved"))
 
 # Words, the text or the file's name, and the object; what isn't said here is null.
 OBJECTS = {
@@ -152,7 +152,7 @@ def status_unread(desk, words):
 
 
 def main():
-    tally, desk = Tally("forms"), desk_of(program())
+    tally, desk = Tally("forms"), desk_of(program()).without_reasons()
     formed(tally, desk)
     explained(tally, desk)
     failing(tally, desk)

@@ -2,7 +2,7 @@
 
     python3 tests/launcher/screens.py
 
-The screens are written here by hand.
+The screens are written here by hand. What else is said of the reason of a refusal is tried in reasons.py, and left away here.
 """
 import re
 import sys
@@ -211,7 +211,7 @@ def laid_out(tally, desk):
     typed = desk.show("check", typed=b"class\n\x04").screen
     tally.equal("a text that is typed", typed, (
         "dpj: the program is read from standard input, up to Ctrl-D\nclass\n1 | class\n         ^ at the end of the text\n" + SYNTAX))
-    unproved = Desk(program(), kind="unproved")
+    unproved = Desk(program(), kind="unproved").without_reasons()
     said = "dpj: this program is unproved; ./build makes the proved one\n"
     tally.equal("an unproved program", unproved.show("check", text=text), ("refused 2:21 unknown\n", said + screen, 2))
     tally.equal("no terminal", desk.run("check", "a.dpj"), ("refused 2:21 unknown\n", "", 2))
@@ -221,7 +221,7 @@ def laid_out(tally, desk):
 
 
 def main():
-    tally, desk = Tally("screens"), Desk(program())
+    tally, desk = Tally("screens"), Desk(program()).without_reasons()
     shown(tally, desk)
     replayed(tally, desk)
     laid_out(tally, desk)

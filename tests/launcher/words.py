@@ -11,8 +11,8 @@ import sys
 from support.desk import Desk, Tally, program
 
 USAGE = "usage: dpj COMMAND [NAME=VALUE]...\n"
-COMMANDS = "check, run, elide, effects, list, trace, replay, demo, explain, help, version"
-OPTIONS = "--json, --editor, --help, --version"
+COMMANDS = "check, why, run, elide, effects, list, trace, replay, demo, explain, help, version"
+OPTIONS = "--all, --json, --editor, --help, --version"
 
 LISTS = 80
 
@@ -46,7 +46,14 @@ WRONG = [
     ("check - a.dpj", "`a.dpj`: a second file; `-` is read already"),
     ("demo a.dpj", "`a.dpj`: demo reads nothing; the settings of demo are workers, steps, cells, n"),
     ("help chekc", f"`chekc` is no command; did you mean `check`?; the commands are {COMMANDS}"),
+    ("why arg=5", "`arg=5`: why has no arg, but run, elide, trace; why has no settings"),
+    ("why --editor a.dpj", "`--editor`: why has no --editor, but --json"),
+    ("run --all a.dpj", "`--all`: run has no --all, but check"),
+    ("--all why", "`--all`: why has no --all, but check"),
+    ("whi", f"`whi` is no command; did you mean `why`?; the commands are {COMMANDS}"),
+    ("check --al", f"`--al`: no such option; did you mean `--all`?; the options are {OPTIONS}, and a file's name may begin with ./"),
     # The first of several faults is told.
+    ("run --all frob=1", "`frob=1`: no setting is named `frob`; the settings of run are workers, steps, cells, arg, mode"),
     ("run mode=x workers=0", "`mode=x`: mode takes steps or rounds"),
 ]
 
@@ -94,6 +101,10 @@ def helped(tally):
         "  steps=1..20000000            the most steps that a run may cost; 5000000 without it\n"
         "  cells=1..16777216            the most cells that a run may cost; 1048576 without it\n"
         "  arg=-2147483648..2147483647  the argument of `main`; 0 without it\n"))
+    tally.equal("help why", desk.run("help", "why").out, "usage: dpj why [FILE] [--json]\n\n  why   says why a program is refused, and what mends it\n")
+    tally.equal("help check", desk.run("help", "check").out, (
+        "usage: dpj check [FILE] [--all] [--json | --editor]\n\n  check   checks a program: `accepted`, or its first fault\n\n"
+        "  --all   every fault, each with the change after which it was found\n"))
     wanted = dict.fromkeys(("--help", "-h", "help help"), seen)
     wanted.update(dict.fromkeys(("elide --help", "elide -h", "elide arg=5 --help", "--help elide"), of_elide))
     tally.all_equal(lambda words: desk.run(*words.split()), wanted)
@@ -102,7 +113,7 @@ def helped(tally):
         seen = desk.run(command, "--help")
         return seen.out.split()[:3], re.findall("faster|sooner|speed", seen.out, re.I), seen.screen, seen.status
 
-    tally.all_equal(of_command, {command: (["usage:", "dpj", command], [], "", 0) for command in COMMANDS.split(", ")[:8]})
+    tally.all_equal(of_command, {command: (["usage:", "dpj", command], [], "", 0) for command in COMMANDS.split(", ")[:9]})
 
 
 KEYS = {
