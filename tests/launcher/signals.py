@@ -91,6 +91,8 @@ def main():
         cases[f"{number.name}, a terminal"] = number, lambda number=number: signalled(number, desk, "run", "a.dpj", is_on_terminal=True)
         cases[f"{number.name}, no Python"] = number, lambda number=number: signalled(number, desk, "run", is_on_terminal=True, env=bare)
         cases[f"{number.name}, --json"] = number, lambda number=number: signalled(number, desk, "run", "--json")
+        cases[f"{number.name}, why"] = number, lambda number=number: signalled(number, desk, "why")
+        cases[f"{number.name}, check --all, a terminal"] = number, lambda number=number: signalled(number, desk, "check", "--all", "a.dpj", is_on_terminal=True)
         cases[f"{number.name} while a program is made"] = number, lambda number=number: signalled(number, making, "run")
     # What can't be caught ends the program where it is called directly, or by Python.
     kill = signal.SIGKILL
