@@ -24,6 +24,7 @@ import json
 import os
 import pathlib
 import shlex
+import signal
 import subprocess
 import sys
 
@@ -105,7 +106,9 @@ class Showing:
         """What tools/why.py writes of the refusal in one of its forms; nothing where it finds nothing, or not in time."""
         if self.verdict.kind != "refused" or not self.place or self.command not in REASONED:
             return b""
-        told = ask(sys.executable, ["-BEsS", WHY, self.options.program, "-", form], self.text, REASON_SECONDS, errors=subprocess.DEVNULL)
+        words = ["-BEsS", WHY, self.options.program, "-", form]
+        # It is asked to end, and not killed, since it ends what it has started.
+        told = ask(sys.executable, words, self.text, REASON_SECONDS, errors=subprocess.DEVNULL, end=signal.SIGTERM)
         return told.report if told and told.status == self.answer.status else b""
 
     def first_reason(self):

@@ -1,5 +1,6 @@
 """What the tools on refusals have in common as commands: their words, the text, what they write and their status."""
 
+import contextlib
 import os
 import signal
 import sys
@@ -14,25 +15,31 @@ from .source import read
 ACCEPTED, USAGE, REFUSED, READ_FAULT, WRITE_FAULT, NO_ANSWER = 0, 1, 2, 5, 6, 126
 
 
-class Ended(BaseException):
-    """A signal that ends the tool, and before that what it has started."""
-
-
 def end_by(number, _):
-    raise Ended(number)
+    """Ends what the tool has started, and then the tool, by the signal that it got."""
+    for child in children():
+        with contextlib.suppress(ProcessLookupError):
+            os.kill(child, signal.SIGKILL)
+    signal.signal(number, signal.SIG_DFL)
+    os.kill(os.getpid(), number)
+
+
+def children():
+    """The processes that the tool has started; none where the kernel doesn't say."""
+    try:
+        with open(f"/proc/self/task/{os.getpid()}/children", encoding="ascii") as file:
+            return [int(child) for child in file.read().split()]
+    except OSError:
+        return []
 
 
 def run(name, document, forms):
-    """Ends with the status of a call of a tool, or by a signal; see `called`."""
+    """Ends with the status of a call of a tool; see `called`."""
     for number in (signal.SIGINT, signal.SIGTERM, signal.SIGHUP):
         # (nohup has one ignored.)
         if signal.getsignal(number) is not signal.SIG_IGN:
             signal.signal(number, end_by)
-    try:
-        sys.exit(called(name, document, forms, sys.argv[1:]))
-    except Ended as ended:
-        signal.signal(ended.args[0], signal.SIG_DFL)
-        os.kill(os.getpid(), ended.args[0])
+    sys.exit(called(name, document, forms, sys.argv[1:]))
 
 
 def called(name, document, forms, words):
