@@ -10,7 +10,6 @@ import sys
 import time
 
 from support.desk import Desk, Tally, plain, program
-from support.desk import SECONDS as PATIENCE
 
 BRANCHES = b"class Main {\n  region A, B;\n  int x in A;\n  int y in A;\n  int main(int n) {\n    cobegin { this.x = n; this.y = n; }\n    return 0;\n  }\n}\n"
 UNKNOWN = b"class Main { int all;\n  int main(int n) { all = n; return 0; } }\n"
@@ -85,8 +84,9 @@ FAILING = {
     "why u.dpj >/dev/full": 6, "why u.dpj >&-": 6, "why --json u.dpj >/dev/full": 6, "check --all u.dpj >/dev/full": 6, "check --all >&-": 6,
     "why <&-": 5, "why </": 5, "check --all <&-": 5, "check --all --json </": 5}
 
-# A program that answers once, and then sleeps.
-SLOW = 'cat >/dev/null; [ -e asked ] && exec sleep 5\n: >asked\necho refused 1:1 unknown\nexit 2\n'
+# A program that answers once, and then sleeps; and how long why by itself would wait for it at least.
+SLOW = 'cat >/dev/null; [ -e asked ] && exec sleep 20\n: >asked\necho refused 1:1 unknown\nexit 2\n'
+WAITED = 15
 
 
 def filled(desk):
@@ -114,12 +114,12 @@ def shown(tally, desk):
 def bounded(tally):
     """A reason that takes too long isn't waited for."""
     desk = Desk(SLOW)
-    began = time.monotonic()
     seen = desk.show("check", text=b"x")
     tally.equal("a slow reason", ([line for line in seen.screen.splitlines() if "why" in line], seen.out, seen.status), ([], "refused 1:1 unknown\n", 2))
     (desk.path / "asked").unlink()
+    began = time.monotonic()
     tally.equal("a slow reason in an object", json.loads(desk.run("check", "--json", text=b"x").out)["reason"], None)
-    tally.equal("neither was waited for", time.monotonic() - began < PATIENCE, True)
+    tally.equal("it isn't waited for", time.monotonic() - began < WAITED, True)
 
 
 def called(tally, desk):
