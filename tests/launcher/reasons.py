@@ -34,6 +34,17 @@ UNKNOWN_REASON = """\
 """
 # A statement that is the whole line that is shown isn't written again.
 ALONE_REASON = "  3:3  `m` isn't declared (./dpj why)\n"
+LITERAL = b'class Main { int main(int n) {\r\n  print("one\r\n  two"); return n; } }\r\n'
+# What is put in stands before the end of the line, which is CR LF.
+LITERAL_REASON = """\
+  A text literal ends on its line, with a `"`.
+  Mend: Put in what is missing:
+  2:13  `"` put in
+  With it the next fault is, in the changed text: refused 3:24 syntax
+  (./dpj why)
+"""
+LATIN = b"class Main { int main(int n) {\n  /* fa\xe7on */ return 0; } }\n"
+LATIN_REASON = "  The byte E7 begins no character of UTF-8: save the file as UTF-8. (./dpj why)\n"
 TRACE = b"dpj-trace 1\narg 0 steps 5000000 cells 1048576\nevents 2\n0 2\nprogram\n"
 
 # Words and a text, and what follows the sentence on the screen.
@@ -44,6 +55,8 @@ SHOWN = {
     "a name, elided": ("elide", UNKNOWN, UNKNOWN_REASON),
     "a name alone on its line, traced": ("trace", ALONE, ALONE_REASON),
     "a name alone on its line, effects": ("effects", ALONE, ALONE_REASON),
+    "a literal over two lines": ("check", LITERAL, LITERAL_REASON),
+    "a byte that isn't UTF-8": ("check", LATIN, LATIN_REASON),
     "a replay": ("replay", TRACE + UNKNOWN, ""),
     "a byte order mark": ("check", b"\xef\xbb\xbf" + ACCEPTED, ""),
     "a trap": ("run", ACCEPTED, ""),
@@ -132,7 +145,8 @@ def called(tally, desk):
     tally.equal("the object of why", [reason[key] for key in ("file", "refused")] + [reason["mend"]["new"]], [
         "u.dpj", {"name": "unknown", "line": 2, "column": 21}, "this.all"])
     tally.equal("the reason in an object of check", json.loads(desk.run("check", "--json", "u.dpj").out)["reason"], reason)
-    tally.equal("the reason in an object of replay", json.loads(desk.run("replay", "--json", text=TRACE + UNKNOWN).out)["reason"], None)
+    replayed = json.loads(desk.run("replay", "--json", text=TRACE + UNKNOWN).out)
+    tally.equal("the reason in an object of replay", (replayed["name"], replayed["reason"]), ("unknown", None))
     faults = json.loads(desk.run("check", "--json", "t.dpj", "--all").out)
     tally.equal("the object of check --all", [(it["name"], it["line"]) for it in faults["faults"]] + [faults["complete"]], [
         ("unknown", 3), ("type", 4), True])
@@ -146,7 +160,8 @@ def failing(tally, desk):
     tally.all_equal(lambda words: desk.run("-c", f"./dpj {words} 2>/dev/null", launcher="sh").status, FAILING)
     bare = desk.without_python()
     for words in ("why", "check --all"):
-        tally.equal(f"{words} without Python", desk.run(*words.split(), "a.dpj", env=bare), ("", f"dpj: {words} needs python3, which is not on the PATH\n", 127))
+        seen = desk.run(*words.split(), "a.dpj", env=bare)
+        tally.equal(f"{words} without Python", seen, ("", f"dpj: {words} needs python3, which is not on the PATH\n", 127))
     alone = Desk("exit 9\n", parts=("dpj",))
     tally.equal("without its tool", alone.run("why"), ("", f"dpj: why needs tools/why.py, which is not in {alone.path}\n", 127))
     silent = Desk("exit 9\n")
