@@ -191,6 +191,17 @@ def replayed(tally, desk):
     tally.all_equal(lambda what: desk.show("replay", text=texts[what]).screen, {what: screen for what, (_, screen) in TRACES.items()})
 
 
+# A program whose `cost` traps where its argument is 1, and else meets a limit, which its `run` doesn't with higher ones.
+COSTLY = 'cat >/dev/null\ncase $* in cost*arg=1*) echo "trap divide 1:41"; exit 3 ;; cost*) echo limit; exit 4 ;; esac\n'
+
+
+def costly(tally):
+    """What `cost` answers is shown as what `run` does."""
+    desk = Desk(COSTLY)
+    tally.equal("a trap of cost", desk.show("cost", "arg=1", text=ACCEPTED), ("trap divide 1:41\n", TRACES["a trace of a run that traps"][1], 3))
+    tally.equal("a limit of cost", desk.show("cost", "steps=9", text=LOOP), ("limit\n", LIMIT_STEPS, 4))
+
+
 def narrow(line, columns, desk):
     """How a line is shown by a terminal of so many columns."""
     return desk.show("check", text=line, columns=columns).screen.split("\n")[:2]
@@ -225,6 +236,7 @@ def main():
     shown(tally, desk)
     replayed(tally, desk)
     laid_out(tally, desk)
+    costly(tally)
     return tally.close()
 
 
