@@ -6,7 +6,7 @@ TRAPPED = re.compile(rb"trap ([a-z]+) (\d+):(\d+)\n")
 RESULT = re.compile(rb"result (-?\d+)\n")
 
 OF_STATUS = {1: "usage", 2: "refused", 3: "trap", 4: "limit", 5: "read-fault", 6: "write-fault", 7: "out-of-memory"}
-OF_COMMAND = {"check": "accepted", "list": "listing", "effects": "effects", "trace": "trace", "demo": "demo"}
+OF_COMMAND = {"check": "accepted", "list": "listing", "effects": "effects", "trace": "trace", "cost": "cost", "demo": "demo"}
 
 
 class Verdict:
@@ -29,7 +29,7 @@ class Verdict:
         elif self.kind == "result" and result:
             self.result = int(result[1])
             self.output = report.removesuffix(last)
-        elif command in ("list", "effects", "trace", "demo"):
+        elif command in ("list", "effects", "trace", "cost", "demo"):
             self.output = report
 
 
