@@ -192,14 +192,20 @@ def replayed(tally, desk):
 
 
 # A program whose `cost` traps where its argument is 1, and else meets a limit, which its `run` doesn't with higher ones.
-COSTLY = 'cat >/dev/null\ncase $* in cost*arg=1*) echo "trap divide 1:41"; exit 3 ;; cost*) echo limit; exit 4 ;; esac\n'
+FIGURES = "steps 9\ncells 1\nevents 4\ntasks 1\nrounds 4\n"
+COSTLY = f"""cat >/dev/null
+case $* in
+    cost*arg=1*) printf '%s' 'trap divide 1:41\n{FIGURES}'; exit 3 ;;
+    cost*) printf '%s' 'limit\n{FIGURES}'; exit 4 ;;
+esac
+"""
 
 
 def costly(tally):
     """What `cost` answers is shown as what `run` does."""
     desk = Desk(COSTLY)
-    tally.equal("a trap of cost", desk.show("cost", "arg=1", text=ACCEPTED), ("trap divide 1:41\n", TRACES["a trace of a run that traps"][1], 3))
-    tally.equal("a limit of cost", desk.show("cost", "steps=9", text=LOOP), ("limit\n", LIMIT_STEPS, 4))
+    tally.equal("a trap of cost", desk.show("cost", "arg=1", text=ACCEPTED), (f"trap divide 1:41\n{FIGURES}", TRACES["a trace of a run that traps"][1], 3))
+    tally.equal("a limit of cost", desk.show("cost", "steps=9", text=LOOP), (f"limit\n{FIGURES}", LIMIT_STEPS, 4))
 
 
 def narrow(line, columns, desk):

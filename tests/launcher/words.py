@@ -127,12 +127,13 @@ def helped(tally):
 
 
 KEYS = {
-    "check": (), "list": (), "effects": (), "replay": (), "run": ("workers", "steps", "cells", "arg", "mode"), "elide": ("steps", "cells", "arg"),
-    "trace": ("workers", "steps", "cells", "arg"), "demo": ("workers", "steps", "cells", "n")}
+    "check": (), "list": (), "effects": (), "replay": (), "run": ("workers", "steps", "cells", "arg", "mode", "seed"), "elide": ("steps", "cells", "arg"),
+    "trace": ("workers", "steps", "cells", "arg", "seed"), "cost": ("steps", "cells", "arg"), "demo": ("workers", "steps", "cells", "n")}
 # Values of each key, those that it takes first.
 VALUES = {
     "workers": (["1", "2", "64"], ["0", "65", "01", "+1", "1x"]), "steps": (["1", "20000000"], ["0", "20000001", "", "-1"]),
     "cells": (["1", "16777216"], ["0", "16777217", "1e3"]), "n": (["1", "200"], ["0", "201"]), "mode": (["steps", "rounds"], ["step", "", "Rounds"]),
+    "seed": (["0", "4294967295"], ["4294967296", "-1", "01", ""]),
     "arg": (["0", "-1", "-2147483648", "2147483647"], ["2147483648", "-2147483649", "-0", "00", "-", "--1", "1-", "-01"]),
     "m": (["1"], ["x"]), "Arg": (["1"], ["x"]), "": (["1"], [""])}
 
