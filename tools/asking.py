@@ -1,6 +1,6 @@
 """Asks the program: hands it a text, and waits for its answer.
 
-It ends with the tool that asked, whatever ends that: the kernel kills it then.
+It ends with the tool that asked, whatever ends that: the kernel sends it a signal then.
 """
 import collections
 import os
@@ -45,13 +45,14 @@ def takes_signals():
     signal.signal(signal.SIGINT, signal.SIG_DFL)
 
 
-def ask(program, words, text, seconds=None, memory=None):
-    """The answer of the program to words and a text; None where it takes longer than so many seconds. `memory` bounds its bytes."""
+def ask(program, words, text, seconds=None, memory=None, errors=None, end=signal.SIGKILL):
+    """The answer of the program to words and a text; None where it takes longer than so many seconds. `memory` bounds its bytes,
+    `errors` takes its standard error, and `end` is the signal that ends it with this tool."""
     parent = os.getpid()
 
     def before():
         if ctypes:
-            ctypes.CDLL(None).prctl(PR_SET_PDEATHSIG, signal.SIGKILL)
+            ctypes.CDLL(None).prctl(PR_SET_PDEATHSIG, end)
             if os.getppid() != parent:
                 os._exit(KILLED + signal.SIGKILL)
         if memory:
@@ -59,7 +60,7 @@ def ask(program, words, text, seconds=None, memory=None):
 
     try:
         done = subprocess.run(
-            [program, *words], input=text, stdout=subprocess.PIPE, timeout=seconds, preexec_fn=before, check=False)
+            [program, *words], input=text, stdout=subprocess.PIPE, stderr=errors, timeout=seconds, preexec_fn=before, check=False)
     except subprocess.TimeoutExpired:
         return None
     return Answer(done.stdout, done.returncode if done.returncode >= 0 else KILLED - done.returncode)

@@ -1,7 +1,7 @@
 #!/usr/bin/env python3
 """Every fault of a text, not the first one alone.
 
-usage: tools/faults.py PROGRAM FILE [--json]
+usage: tools/faults.py PROGRAM FILE [--json | --editor]
 
 PROGRAM is the path of the program dpj, FILE the text or `-` for standard input. The first fault is what `PROGRAM check` says. Then the
 text is changed so that it is gone (by a mend, by a statement that does nothing, by a body that returns a default), and PROGRAM is asked
@@ -11,23 +11,23 @@ within 10 seconds.
 --json writes one object: {"file", "faults": [{"name", "line", "column", "text", "statements", "says", "mend", "after"}], "changes": [text],
 "complete"}. The first four are a fault's name and place, and its line; the next three as why writes them; "after" is the last change before
 the fault was found, or null; "changes" are all of them; "complete" says whether the text was accepted in the end. Places are those of FILE,
-but for a mend's "edits", whose places are those of the text with the changes before it.
+but for a mend's "edits", whose places are those of the text with the changes before it. --editor writes each fault as
+FILE:LINE:COLUMN: refused: NAME, and `accepted` where there is none.
 
 Status: 0 the text is accepted, 1 usage, 2 it is refused, 5 FILE can't be read, 6 nobody reads what is written, 126 PROGRAM gives no answer.
 """
 
 import json
-import os
-import sys
 
-from reasons.asking import Asker, NoAnswer, Spent
+from reasons.asking import Asker, Spent
+from reasons.calls import general, paper, run
 from reasons.explain import explain
 from reasons.leaving import applied
 from reasons.onward import next_step
-from reasons.report import change_of, run, sentences, use_colours, wrapped
-from reasons.source import Source, marked, read, shown
+from reasons.report import change_of, place_of
+from reasons.source import Source, marked, shown
+from screen import printable
 
-TOP = os.path.dirname(os.path.dirname(os.path.abspath(__file__)))
 QUESTIONS, SECONDS, FAULTS_AT_MOST = 200, 10.0, 60
 PLAIN_ROLES = ("here", "here, though it's noticed only at what follows", "the statement with the value")
 
@@ -92,31 +92,40 @@ class Faults:
         return self.source.place(offset)
 
     def as_json(self):
-        found = {"file": self.source.name, "faults": self.found, "changes": self.changes, "complete": self.complete}
-        return json.dumps(found, ensure_ascii=True)
+        found = {"file": printable(self.source.name), "faults": self.found, "changes": self.changes, "complete": self.complete}
+        return json.dumps(found, ensure_ascii=True) + "\n"
 
-    def as_text(self, general, colours):
+    def as_lines(self):
+        """The faults as editors read them."""
+        return "".join(f"{self.title(fault)}\n" for fault in self.found) or "accepted\n"
+
+    def title(self, fault):
+        return f"{printable(self.source.name)}:{place_of(fault)}: refused: {fault['name']}"
+
+    def as_text(self, paper):
         """The faults for people."""
-        bold, plain = ("\033[1m", "\033[0m") if colours else ("", "")
-        name = shown(self.source.name)
         if not self.found:
-            return f"{name}: accepted\n"
-        lines = []
-        for fault in self.found:
-            lines.append(f"{bold}{name}:{fault['line']}:{fault['column']}: refused: {fault['name']}{plain}")
-            lines += ["  " + line for line in marked(self.source, fault["line"], fault["column"])]
-            named = [entry for entry in fault["statements"] if entry["role"] not in PLAIN_ROLES and fault["name"] != "unknown"]
-            for entry in named[:3]:
-                lines += wrapped(f"{entry['line']}:{entry['column']}  {entry['text']}  ({entry['role']})", "  ", "        ")
-            says = fault["says"][:1] or ([] if named or fault["mend"] else [general.get(fault["name"], ("", ""))[0]])
-            lines += [line for text in says for line in wrapped(text, "  ")]
-            if fault["mend"]:
-                lines += mend_lines(fault["mend"])
-            if fault["after"]:
-                lines += wrapped(f"(found after {fault['after']})", "  ")
+            return f"{printable(self.source.name)}: accepted\n"
+        lines = [line for fault in self.found for line in self.fault_lines(fault, paper)]
         count = len(self.found)
-        lines.append(f"{count} fault{'s' * (count != 1)}; " + self.end())
-        return "\n".join(lines) + "\n"
+        lines.append(f"{count} fault{'s' * (count != 1)}; {self.end()}")
+        return "".join(f"{line}\n" for line in lines)
+
+    def fault_lines(self, fault, paper):
+        """A fault with its line, the first of its reason, and what it was found after."""
+        lines = [paper.bold(self.title(fault))]
+        lines += ["  " + line for line in marked(self.source, fault["line"], fault["column"], paper.columns - 2)]
+        named = [entry for entry in fault["statements"] if entry["role"] not in PLAIN_ROLES and fault["name"] != "unknown"]
+        for entry in named[:3]:
+            lines += paper.wrapped(f"{place_of(entry)}  {entry['text']}  ({entry['role']})", "  ", "        ")
+        says = fault["says"][:1] or ([] if named or fault["mend"] else [general(fault["name"])[0]])
+        for text in says:
+            lines += paper.wrapped(text, "  ")
+        if fault["mend"]:
+            lines += paper.wrapped(mend_line(fault["mend"]), "  ")
+        if fault["after"]:
+            lines += paper.wrapped(f"(found after {fault['after']})", "  ")
+        return lines
 
     def end(self):
         """How the search ended."""
@@ -129,38 +138,23 @@ class Faults:
         return "there may be more, which can't be told apart from the last one."
 
 
-def mend_lines(mend):
+def mend_line(mend):
     """A mend and what it puts."""
     changes = "; ".join(change_of(edit) for edit in mend["edits"][:3])
-    return wrapped(f"Mend: {mend['text']} {changes}" + (" .." if len(mend["edits"]) > 3 else ""), "  ")
+    return f"Mend: {mend['text']} {changes}" + (" .." if len(mend["edits"]) > 3 else "")
 
 
-def main(words):
-    """Answers one call; gives its status."""
-    if "--help" in words or "-h" in words:
-        print(__doc__.strip())
-        return 0
-    rest = [word for word in words if word != "--json"]
-    if len(rest) != 2:
-        print(__doc__.strip().splitlines()[2], file=sys.stderr)
-        return 1
-    try:
-        source = read(rest[1], sys.stdin.buffer)
-    except OSError as fault:
-        print(f"faults: {shown(rest[1])} can't be read: {fault.strerror}", file=sys.stderr)
-        return 5
-    faults = Faults(source, Asker(rest[0], QUESTIONS, SECONDS))
-    try:
+def form(write):
+    """What a form of the report makes of a program and a text."""
+
+    def made(program, source):
+        faults = Faults(source, Asker(program, QUESTIONS, SECONDS))
         faults.search()
-    except NoAnswer as fault:
-        print(f"faults: {fault}", file=sys.stderr)
-        return 126
-    if "--json" in words:
-        print(faults.as_json())
-    else:
-        sys.stdout.write(faults.as_text(sentences(TOP), use_colours(sys.stdout)))
-    return 2 if faults.found else 0
+        return write(faults), not faults.found
+
+    return made
 
 
 if __name__ == "__main__":
-    run(main)
+    forms = {"": lambda faults: faults.as_text(paper()), "--json": Faults.as_json, "--editor": Faults.as_lines}
+    run("faults", __doc__, {option: form(write) for option, write in forms.items()})

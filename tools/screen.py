@@ -57,6 +57,20 @@ def wrapped(text, columns, after="", **indents):
     return [*lines[:-1], lines[-1] + after]
 
 
+class Paper:
+    """What a report is laid out for: so many columns, with colours or without."""
+
+    def __init__(self, columns, is_coloured=False):
+        self.columns, self.is_coloured = columns, is_coloured
+
+    def bold(self, text):
+        return bold(text, self.is_coloured)
+
+    def wrapped(self, text, indent="", further=None):
+        """A paragraph as lines; none where there is nothing to say."""
+        return wrapped(text, self.columns, initial_indent=indent, subsequent_indent=indent if further is None else further) if text else []
+
+
 def printable(text):
     """A text of the system's without what is no text, or would be a command to a terminal."""
     text = text.encode("utf-8", errors="surrogateescape").decode("utf-8", errors="replace")

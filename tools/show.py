@@ -2,17 +2,19 @@
 
 The launcher ./dpj calls this with the program and the words for it; the text is read from standard input.
 
-Forms: `screen` leaves standard output to the program, and explains a refusal, a trap or a limit on standard error. `editor` writes a refusal or
+Forms: `screen` leaves standard output to the program, and explains a refusal, a trap or a limit on standard error. After a refusal comes the first
+of its reason, where tools/why.py finds that within a second. `editor` writes a refusal or
 a trap as FILE:LINE:COLUMN: refused: NAME or FILE:LINE:COLUMN: trap: NAME in place of its line. `json` writes one object in place of the report:
 
     command, file    the words; `-` is standard input
     status           what dpj ends with
-    verdict          accepted, refused, result, trap, limit, listing, effects, trace, demo, usage, read-fault, write-fault, out-of-memory, no-program
-                     or killed
+    verdict          accepted, refused, result, trap, limit, listing, effects, trace, cost, demo, usage, read-fault, write-fault, out-of-memory,
+                     no-program or killed
     name             of a refusal or trap; of a limit `steps`, `cells` or both, where that is known
     line, column     its place, in line feeds and bytes from 1
     text             the line of that place
     sentence, mend   what it means and how it is mended, where docs/REFUSALS.md or docs/TRAPS.md say so
+    reason           of a refusal, the object of tools/why.py --json; null where that takes longer than a second
     output           what the run printed, or the report where that is more than a verdict
     result           what main returned
     proved           whether the program that answered is the proved one; null where none was asked
@@ -20,6 +22,10 @@ a trap as FILE:LINE:COLUMN: refused: NAME or FILE:LINE:COLUMN: trap: NAME in pla
 import argparse
 import json
 import os
+import pathlib
+import shlex
+import signal
+import subprocess
 import sys
 
 import limits
@@ -30,6 +36,11 @@ from screen import bold, columns_of, has_colours, keep_closed, printable, tell, 
 from verdicts import Verdict, counted
 
 READ_FAULT, WRITE_FAULT = 5, 6
+
+WHY = pathlib.Path(__file__).resolve().parent / "why.py"
+# How long a reason may take, and the commands whose refusals are of a text of the language.
+REASON_SECONDS = 1
+REASONED = ("check", "run", "elide", "list", "effects", "trace", "cost")
 
 
 class Showing:
@@ -64,10 +75,13 @@ class Showing:
         verdict = self.verdict
         if verdict.kind == "limit":
             return limits.explained(self.options, self.text)
-        mark = ""
-        if (verdict.name, verdict.line, verdict.column) == ("syntax", 1, 1):
-            mark = mark_of(counted(self.command, verdict, self.text))
-        return verdict.name, mark or (self.section.sentence() if self.section else None)
+        return verdict.name, self.mark() or (self.section.sentence() if self.section else None)
+
+    def mark(self):
+        """What is said of a byte order mark that is refused; nothing where it isn't that."""
+        verdict = self.verdict
+        is_first = (verdict.name, verdict.line, verdict.column) == ("syntax", 1, 1)
+        return mark_of(counted(self.command, verdict, self.text)) if is_first else ""
 
     def screen(self):
         """The lines for people."""
@@ -88,6 +102,35 @@ class Showing:
         first, *more = wrapped(f"{name}: {sentence}", columns, after=f" ({self.options.called} explain {name})")
         return [*lines, bold(name, is_coloured) + first.removeprefix(name), *more]
 
+    def reason(self, form):
+        """What tools/why.py writes of the refusal in one of its forms; nothing where it finds nothing, or not in time."""
+        if self.verdict.kind != "refused" or not self.place or self.command not in REASONED:
+            return b""
+        words = ["-BEsS", WHY, self.options.program, "-", form]
+        # It is asked to end, and not killed, since it ends what it has started.
+        told = ask(sys.executable, words, self.text, REASON_SECONDS, errors=subprocess.DEVNULL, end=signal.SIGTERM)
+        return told.report if told and told.status == self.answer.status else b""
+
+    def first_reason(self):
+        """The first of the reason in lines for people, and how more is asked for; none where all is said."""
+        if self.mark():
+            return []
+        columns = columns_of(2) - 1
+        os.environ["COLUMNS"] = str(columns)
+        lines = self.reason("--brief").decode("utf-8", errors="replace").splitlines()
+        if not lines:
+            return []
+        file = "" if self.options.name == "-" else f" {shlex.quote(printable(self.options.name))}"
+        more = f"({self.options.called} why{file})"
+        if len(lines[-1]) + 1 + len(more) <= columns:
+            return [*lines[:-1], f"{lines[-1]} {more}"]
+        return [*lines, f"  {more}"]
+
+    def reason_object(self):
+        """The reason for what reads it by program."""
+        told = self.reason("--json")
+        return {**json.loads(told), "file": printable(self.options.name)} if told else None
+
     def editor(self):
         """The report with its verdict as editors read it."""
         verdict = self.verdict
@@ -103,10 +146,11 @@ class Showing:
         return answer_object(
             self.options, self.answer.status, verdict.kind, name=name, line=verdict.line, column=verdict.column,
             text=self.place.text() if self.place else None, sentence=sentence, mend=self.section.mend() if self.section else None,
+            reason=self.reason_object(),
             output=verdict.output.decode("utf-8", errors="replace"), result=verdict.result, proved=self.options.proved == "yes")
 
 
-FIELDS = ("command", "file", "status", "verdict", "name", "line", "column", "text", "sentence", "mend", "output", "result", "proved")
+FIELDS = ("command", "file", "status", "verdict", "name", "line", "column", "text", "sentence", "mend", "reason", "output", "result", "proved")
 
 
 def answer_object(options, status, kind, **known):
@@ -146,6 +190,7 @@ def answered(options):
     status = written(reports[options.form](), showing.answer.status)
     if options.form == "screen" and status == showing.answer.status:
         tell(showing.screen())
+        tell(showing.first_reason())
     return status
 
 

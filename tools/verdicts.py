@@ -4,9 +4,11 @@ import re
 REFUSED = re.compile(rb"refused (\d+):(\d+) ([a-z-]+)\n")
 TRAPPED = re.compile(rb"trap ([a-z]+) (\d+):(\d+)\n")
 RESULT = re.compile(rb"result (-?\d+)\n")
+# What `cost` writes behind the report of its run.
+FIGURES = re.compile(rb"steps \d+\ncells \d+\nevents \d+\ntasks \d+\nrounds \d+\n\Z")
 
 OF_STATUS = {1: "usage", 2: "refused", 3: "trap", 4: "limit", 5: "read-fault", 6: "write-fault", 7: "out-of-memory"}
-OF_COMMAND = {"check": "accepted", "list": "listing", "effects": "effects", "trace": "trace", "demo": "demo"}
+OF_COMMAND = {"check": "accepted", "list": "listing", "effects": "effects", "trace": "trace", "cost": "cost", "demo": "demo"}
 
 
 class Verdict:
@@ -18,6 +20,8 @@ class Verdict:
         self.name = self.line = self.column = self.result = None
         self.output = b""
         self.kind = OF_STATUS.get(status, "killed") if status else OF_COMMAND.get(command, "result")
+        figures = FIGURES.search(report) if command == "cost" else None
+        report = report[: figures.start()] if figures else report
         # What a run prints ends with a line feed.
         last = report[report.rfind(b"\n", 0, -1) + 1 :]
         refused, trapped, result = REFUSED.fullmatch(report), TRAPPED.fullmatch(last), RESULT.fullmatch(last)
@@ -29,8 +33,13 @@ class Verdict:
         elif self.kind == "result" and result:
             self.result = int(result[1])
             self.output = report.removesuffix(last)
+        elif self.kind == "cost" and result:
+            self.result = int(result[1])
+            self.output = report.removesuffix(last)
         elif command in ("list", "effects", "trace", "demo"):
             self.output = report
+        if figures:
+            self.output += figures[0]
 
 
 def counted(command, verdict, text):

@@ -52,11 +52,12 @@ def linked(tally):
     tally.equal("explain by a link", desk.run("explain", "cycle", launcher=links / "second").out.split("\n")[0], "cycle")
     on_path = plain(PATH=f"{links}:{plain()['PATH']}")
     (links / "dpj").symlink_to(desk.path / "dpj")
-    refusing = Desk("echo refused 1:1 syntax\nexit 2\n")
+    refusing = Desk("echo refused 1:1 syntax\nexit 2\n").be_patient()
     (links / "refusing").symlink_to(refusing.path / "dpj")
     tally.equal("a link on the PATH", desk.run("check", launcher="dpj", env=on_path), ("the proved one: check\n", "", 0))
     screen = desk.show("check", text=b"x", launcher="refusing", env=on_path).screen
-    tally.equal("how it is called is what is shown", screen, "1 | x\n    ^\nsyntax: The text isn't one of the grammar. (refusing explain syntax)\n")
+    tally.equal("how it is called is what is shown", screen, "1 | x\n    ^\nsyntax: The text isn't one of the grammar. (refusing explain syntax)\n"
+                "  There stands `x`. (refusing why)\n")
 
 
 def parted(tally):
@@ -73,7 +74,7 @@ def parted(tally):
     refusing = Desk("echo refused 1:1 syntax\nexit 2\n", parts=("dpj",))
     tally.equal("a refusal without tools", refusing.show("check", text=b"x"), (
         "refused 1:1 syntax\n", f"dpj: this answer is not explained: tools/show.py is not in {refusing.path}\n", 2))
-    refusing = Desk("echo refused 1:1 syntax\nexit 2\n", parts=("dpj", "tools"))
+    refusing = Desk("echo refused 1:1 syntax\nexit 2\n", parts=("dpj", "tools")).without_reasons()
     tally.equal("a refusal without documents", refusing.show("check", text=b"x").screen, (
         f"1 | x\n    ^\ndpj: syntax isn't explained, since {refusing.path} has no docs/REFUSALS.md and no docs/TRAPS.md\n"))
     tally.equal("explain without documents", refusing.run("explain", "cycle"), (

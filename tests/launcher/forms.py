@@ -19,7 +19,7 @@ TEXT = b"""class Main {
 }
 """
 REFUSED = TEXT.replace(b"6 / n", b"m")
-NOTHING = dict.fromkeys(("name", "line", "column", "text", "sentence", "mend", "output", "result", "proved"))
+NOTHING = dict.fromkeys(("name", "line", "column", "text", "sentence", "mend", "reason", "output", "result", "proved"))
 
 # Words, the text or the file's name, and the object; what isn't said here is null.
 OBJECTS = {
@@ -89,6 +89,11 @@ def formed(tally, desk):
     tally.equal("unproved", (json.loads(unproved.out)["proved"], unproved.screen), (False, "dpj: this program is unproved; ./build makes the proved one\n"))
     seen = desk.run("check", "--json", "a.dpj", env=desk.without_python())
     tally.equal("an object without Python", seen, ("", "dpj: --json cannot be done: python3 is not on the PATH\n", 127))
+    figures = "steps 7\\ncells 1\\nevents 3\\ntasks 1\\nrounds 3\\n"
+    cost = json.loads(desk_of(f"printf '1\\nresult 5\\n{figures}'\n").run("cost", "--json", "a.dpj").out)
+    tally.equal("the cost of a run", [cost[key] for key in ("verdict", "output", "result")], ["cost", "1\n" + figures.replace("\\n", "\n"), 5])
+    cost = json.loads(desk_of(f"printf 'trap divide 1:41\\n{figures}'\nexit 3\n").run("cost", "--json", "a.dpj").out)
+    tally.equal("the cost of a trap", [cost[key] for key in ("verdict", "name", "line", "column", "output")], ["trap", "divide", 1, 41, figures.replace("\\n", "\n")])
     short = desk_of("kill -KILL $$\n").run("run", "--json", "a.dpj")
     tally.equal("a program that was killed", (json.loads(short.out)["verdict"], short.status), ("killed", 137))
 
@@ -152,7 +157,7 @@ def status_unread(desk, words):
 
 
 def main():
-    tally, desk = Tally("forms"), desk_of(program())
+    tally, desk = Tally("forms"), desk_of(program()).without_reasons()
     formed(tally, desk)
     explained(tally, desk)
     failing(tally, desk)

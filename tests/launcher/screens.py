@@ -2,7 +2,7 @@
 
     python3 tests/launcher/screens.py
 
-The screens are written here by hand.
+The screens are written here by hand. What else is said of the reason of a refusal is tried in reasons.py, and left away here.
 """
 import re
 import sys
@@ -191,6 +191,23 @@ def replayed(tally, desk):
     tally.all_equal(lambda what: desk.show("replay", text=texts[what]).screen, {what: screen for what, (_, screen) in TRACES.items()})
 
 
+# A program whose `cost` traps where its argument is 1, and else meets a limit, which its `run` doesn't with higher ones.
+FIGURES = "steps 9\ncells 1\nevents 4\ntasks 1\nrounds 4\n"
+COSTLY = f"""cat >/dev/null
+case $* in
+    cost*arg=1*) printf '%s' 'trap divide 1:41\n{FIGURES}'; exit 3 ;;
+    cost*) printf '%s' 'limit\n{FIGURES}'; exit 4 ;;
+esac
+"""
+
+
+def costly(tally):
+    """What `cost` answers is shown as what `run` does."""
+    desk = Desk(COSTLY)
+    tally.equal("a trap of cost", desk.show("cost", "arg=1", text=ACCEPTED), (f"trap divide 1:41\n{FIGURES}", TRACES["a trace of a run that traps"][1], 3))
+    tally.equal("a limit of cost", desk.show("cost", "steps=9", text=LOOP), (f"limit\n{FIGURES}", LIMIT_STEPS, 4))
+
+
 def narrow(line, columns, desk):
     """How a line is shown by a terminal of so many columns."""
     return desk.show("check", text=line, columns=columns).screen.split("\n")[:2]
@@ -211,7 +228,7 @@ def laid_out(tally, desk):
     typed = desk.show("check", typed=b"class\n\x04").screen
     tally.equal("a text that is typed", typed, (
         "dpj: the program is read from standard input, up to Ctrl-D\nclass\n1 | class\n         ^ at the end of the text\n" + SYNTAX))
-    unproved = Desk(program(), kind="unproved")
+    unproved = Desk(program(), kind="unproved").without_reasons()
     said = "dpj: this program is unproved; ./build makes the proved one\n"
     tally.equal("an unproved program", unproved.show("check", text=text), ("refused 2:21 unknown\n", said + screen, 2))
     tally.equal("no terminal", desk.run("check", "a.dpj"), ("refused 2:21 unknown\n", "", 2))
@@ -221,10 +238,11 @@ def laid_out(tally, desk):
 
 
 def main():
-    tally, desk = Tally("screens"), Desk(program())
+    tally, desk = Tally("screens"), Desk(program()).without_reasons()
     shown(tally, desk)
     replayed(tally, desk)
     laid_out(tally, desk)
+    costly(tally)
     return tally.close()
 
 

@@ -15,6 +15,8 @@ from support.desk import Desk, Tally, plain
 # A program, and a tool that makes one: they note their numbers and those of their children, and go on for long.
 SLOW = 'echo $$ >"$BEGAN" && exec sleep 60\n'
 SLOW_TOOL = '#!/bin/sh\nsleep 60 &\necho $! $$ >"$BEGAN" && wait\n'
+# A program that refuses, and goes on for long where it is asked again for the reason.
+REFUSING = '[ -e "$BEGAN.asked" ] || { : >"$BEGAN.asked"; echo refused 1:1 unknown; exit 2; }\n' + SLOW
 PATIENCE, SECOND = 20, 1.0
 
 CATCHABLE = (signal.SIGTERM, signal.SIGINT, signal.SIGHUP)
@@ -82,7 +84,7 @@ def typed(desk):
 
 
 def main():
-    tally, desk, making = Tally("signals"), Desk(SLOW), Desk(None)
+    tally, desk, making, refusing = Tally("signals"), Desk(SLOW), Desk(None), Desk(REFUSING).be_patient()
     (desk.path / "a.dpj").write_text("class Main { }")
     making.script("tools/unproved", SLOW_TOOL)
     bare, cases = desk.without_python(), {}
@@ -91,6 +93,9 @@ def main():
         cases[f"{number.name}, a terminal"] = number, lambda number=number: signalled(number, desk, "run", "a.dpj", is_on_terminal=True)
         cases[f"{number.name}, no Python"] = number, lambda number=number: signalled(number, desk, "run", is_on_terminal=True, env=bare)
         cases[f"{number.name}, --json"] = number, lambda number=number: signalled(number, desk, "run", "--json")
+        cases[f"{number.name}, why"] = number, lambda number=number: signalled(number, desk, "why")
+        cases[f"{number.name}, check --all, a terminal"] = number, lambda number=number: signalled(number, desk, "check", "--all", "a.dpj", is_on_terminal=True)
+        cases[f"{number.name} while a reason is sought"] = number, lambda number=number: signalled(number, refusing, "check", is_on_terminal=True)
         cases[f"{number.name} while a program is made"] = number, lambda number=number: signalled(number, making, "run")
     # What can't be caught ends the program where it is called directly, or by Python.
     kill = signal.SIGKILL

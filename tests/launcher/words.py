@@ -11,8 +11,8 @@ import sys
 from support.desk import Desk, Tally, program
 
 USAGE = "usage: dpj COMMAND [NAME=VALUE]...\n"
-COMMANDS = "check, run, elide, effects, list, trace, replay, demo, explain, help, version"
-OPTIONS = "--json, --editor, --help, --version"
+COMMANDS = "check, why, run, elide, effects, list, trace, replay, cost, demo, explain, help, version"
+OPTIONS = "--all, --json, --editor, --help, --version"
 
 LISTS = 80
 
@@ -37,16 +37,30 @@ WRONG = [
     ("run arg=2147483648", "`arg=2147483648`: arg takes -2147483648 to 2147483647"),
     ("run arg=99999999999999999999999", "`arg=99999999999999999999999`: arg takes -2147483648 to 2147483647"),
     ("run mode=step", "`mode=step`: mode takes steps or rounds"),
-    ("run Arg=5", "`Arg=5`: no setting is named `Arg`; did you mean `arg`?; the settings of run are workers, steps, cells, arg, mode"),
-    ("demo arg=5", "`arg=5`: demo has no arg, but run, elide, trace; the settings of demo are workers, steps, cells, n"),
-    ("check arg=5", "`arg=5`: check has no arg, but run, elide, trace; check has no settings"),
+    ("run Arg=5", "`Arg=5`: no setting is named `Arg`; did you mean `arg`?; the settings of run are workers, steps, cells, arg, mode, seed"),
+    ("demo arg=5", "`arg=5`: demo has no arg, but run, elide, trace, cost; the settings of demo are workers, steps, cells, n"),
+    ("check arg=5", "`arg=5`: check has no arg, but run, elide, trace, cost; check has no settings"),
     ("elide workers=1", "`workers=1`: elide has no workers, but run, trace, demo; the settings of elide are steps, cells, arg"),
+    ("run seed=4294967296", "`seed=4294967296`: seed takes 0 to 4294967295"),
+    ("trace seed=-1", "`seed=-1`: seed takes 0 to 4294967295"),
+    ("elide seed=1", "`seed=1`: elide has no seed, but run, trace; the settings of elide are steps, cells, arg"),
+    ("run seed=1 workers=2", "`workers=2`: seed goes with neither workers nor mode"),
+    ("run mode=steps arg=3 seed=1", "`seed=1`: seed goes with neither workers nor mode"),
+    ("trace workers=2 seed=1", "`seed=1`: seed goes with neither workers nor mode"),
+    ("cost workers=2", "`workers=2`: cost has no workers, but run, trace, demo; the settings of cost are steps, cells, arg"),
     ("run steps=5 steps=5", "`steps=5`: steps is set already"),
     ("check a.dpj b.dpj", "`b.dpj`: a second file; `a.dpj` is read already"),
     ("check - a.dpj", "`a.dpj`: a second file; `-` is read already"),
     ("demo a.dpj", "`a.dpj`: demo reads nothing; the settings of demo are workers, steps, cells, n"),
     ("help chekc", f"`chekc` is no command; did you mean `check`?; the commands are {COMMANDS}"),
+    ("why arg=5", "`arg=5`: why has no arg, but run, elide, trace, cost; why has no settings"),
+    ("why --editor a.dpj", "`--editor`: why has no --editor, but --json"),
+    ("run --all a.dpj", "`--all`: run has no --all, but check"),
+    ("--all why", "`--all`: why has no --all, but check"),
+    ("whi", f"`whi` is no command; did you mean `why`?; the commands are {COMMANDS}"),
+    ("check --al", f"`--al`: no such option; did you mean `--all`?; the options are {OPTIONS}, and a file's name may begin with ./"),
     # The first of several faults is told.
+    ("run --all frob=1", "`frob=1`: no setting is named `frob`; the settings of run are workers, steps, cells, arg, mode, seed"),
     ("run mode=x workers=0", "`mode=x`: mode takes steps or rounds"),
 ]
 
@@ -55,6 +69,9 @@ RIGHT = [
     ("run a.dpj arg=5", "[run]\n[arg=5]\nthe text\n"),
     ("run arg=5 a.dpj workers=64", "[run]\n[arg=5]\n[workers=64]\nthe text\n"),
     ("run arg=-2147483648 steps=20000000 cells=16777216 mode=rounds -", "[run]\n[arg=-2147483648]\n[steps=20000000]\n[cells=16777216]\n[mode=rounds]\ninput\n"),
+    ("run seed=4294967295 a.dpj arg=5", "[run]\n[seed=4294967295]\n[arg=5]\nthe text\n"),
+    ("trace seed=0 steps=9", "[trace]\n[seed=0]\n[steps=9]\ninput\n"),
+    ("cost arg=5 cells=9 a.dpj", "[cost]\n[arg=5]\n[cells=9]\nthe text\n"),
     ("check", "[check]\ninput\n"),
     ("check ./b=c.dpj", "[check]\nanother\n"),
     ("demo n=200", "[demo]\n[n=200]\ninput\n"),
@@ -90,10 +107,14 @@ def helped(tally):
                 ["  effects   checks it: of each written summary, what the bodies need of it"])
     of_elide = desk.run("help", "elide")
     tally.equal("help elide", of_elide.out, (
-        "usage: dpj elide [FILE] [NAME=VALUE]... [--json | --editor]\n\n  elide   checks it, and runs branch by branch\n\n"
+        "usage: dpj elide [FILE] [NAME=VALUE]... [--json | --editor]\n\n  elide   checks it, runs branch by branch\n\n"
         "  steps=1..20000000            the most steps that a run may cost; 5000000 without it\n"
         "  cells=1..16777216            the most cells that a run may cost; 1048576 without it\n"
         "  arg=-2147483648..2147483647  the argument of `main`; 0 without it\n"))
+    tally.equal("help why", desk.run("help", "why").out, "usage: dpj why [FILE] [--json]\n\n  why   says why a program is refused, and what mends it\n")
+    tally.equal("help check", desk.run("help", "check").out, (
+        "usage: dpj check [FILE] [--all] [--json | --editor]\n\n  check   checks a program: `accepted`, or its first fault\n\n"
+        "  --all   every fault, each with the change after which it was found\n"))
     wanted = dict.fromkeys(("--help", "-h", "help help"), seen)
     wanted.update(dict.fromkeys(("elide --help", "elide -h", "elide arg=5 --help", "--help elide"), of_elide))
     tally.all_equal(lambda words: desk.run(*words.split()), wanted)
@@ -102,16 +123,17 @@ def helped(tally):
         seen = desk.run(command, "--help")
         return seen.out.split()[:3], re.findall("faster|sooner|speed", seen.out, re.I), seen.screen, seen.status
 
-    tally.all_equal(of_command, {command: (["usage:", "dpj", command], [], "", 0) for command in COMMANDS.split(", ")[:8]})
+    tally.all_equal(of_command, {command: (["usage:", "dpj", command], [], "", 0) for command in COMMANDS.split(", ")[:10]})
 
 
 KEYS = {
-    "check": (), "list": (), "effects": (), "replay": (), "run": ("workers", "steps", "cells", "arg", "mode"), "elide": ("steps", "cells", "arg"),
-    "trace": ("workers", "steps", "cells", "arg"), "demo": ("workers", "steps", "cells", "n")}
+    "check": (), "list": (), "effects": (), "replay": (), "run": ("workers", "steps", "cells", "arg", "mode", "seed"), "elide": ("steps", "cells", "arg"),
+    "trace": ("workers", "steps", "cells", "arg", "seed"), "cost": ("steps", "cells", "arg"), "demo": ("workers", "steps", "cells", "n")}
 # Values of each key, those that it takes first.
 VALUES = {
     "workers": (["1", "2", "64"], ["0", "65", "01", "+1", "1x"]), "steps": (["1", "20000000"], ["0", "20000001", "", "-1"]),
     "cells": (["1", "16777216"], ["0", "16777217", "1e3"]), "n": (["1", "200"], ["0", "201"]), "mode": (["steps", "rounds"], ["step", "", "Rounds"]),
+    "seed": (["0", "4294967295"], ["4294967296", "-1", "01", ""]),
     "arg": (["0", "-1", "-2147483648", "2147483647"], ["2147483648", "-2147483649", "-0", "00", "-", "--1", "1-", "-01"]),
     "m": (["1"], ["x"]), "Arg": (["1"], ["x"]), "": (["1"], [""])}
 

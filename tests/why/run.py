@@ -5,28 +5,29 @@ usage: tests/why/run.py PROGRAM [NAME..]
 
 PROGRAM is the path of the program dpj. For each text of table.txt, and each example that it names, `why` has to name the statements that
 are written there; each change that it tells has to be answered by PROGRAM as it says; and each mend has to end the fault. `faults` has to
-find what many.txt says. With NAMEs only these texts are tried. Writes a line for each failure, and then `N passed, N failed`.
+find what many.txt says. With NAMEs only these texts are tried. Writes a line for each failure, and then `why: N passed, N failed`.
+tests/run calls this.
 """
 
-import io
 import json
 import re
 import subprocess
 import sys
-from concurrent.futures import ThreadPoolExecutor
+from concurrent.futures import ProcessPoolExecutor
 from pathlib import Path
 
 HERE = Path(__file__).resolve().parent
 TOP = HERE.parent.parent
 EXAMPLES = TOP / "examples" / "check"
 SPARE = 3
-BRIEF_LINES = 6
 sys.path.insert(0, str(TOP / "tools"))
 
 from faults import Faults  # noqa: E402
 from reasons.asking import Asker  # noqa: E402
 from reasons.explain import explain  # noqa: E402
-from reasons.source import read  # noqa: E402
+from reasons.report import BRIEF_LINES, BRIEF_WIDTH  # noqa: E402
+from reasons.source import Source  # noqa: E402
+from screen import Paper  # noqa: E402
 
 
 def check(program, text):
@@ -129,14 +130,14 @@ def tried_faults(program, text, report):
 def why_faults(program, case):
     """The failures of one text."""
     name, words, text = case
-    made = explain(read("-", io.BytesIO(text)), Asker(program, 400, 60))
+    made = explain(Source("-", text.decode("latin-1")), Asker(program, 400, 60))
     report = json.loads(made.as_json())
     refused = report["refused"]
     found = []
     if check(program, text) != f"refused {refused['line']}:{refused['column']} {refused['name']}":
         found.append("the refusal is another one")
     found += table_faults(report, words, text) + tried_faults(program, text, report)
-    if len(made.as_brief().splitlines()) > BRIEF_LINES:
+    if len(made.as_brief(Paper(BRIEF_WIDTH)).splitlines()) > BRIEF_LINES:
         found.append("what is told in brief is too long")
     return [f"{name}: {fault}" for fault in found]
 
@@ -145,7 +146,7 @@ def many_faults(program, case):
     """The failures of one text with several faults."""
     name, words, text = case
     asked = [part.strip() for part in words.removeprefix("at").split(",") if part.strip()]
-    faults = Faults(read("-", io.BytesIO(text)), Asker(program, 200, 60))
+    faults = Faults(Source("-", text.decode("latin-1")), Asker(program, 200, 60))
     faults.search()
     found = [f"{fault['line']}:{fault['column']} {fault['name']}" for fault in json.loads(faults.as_json())["faults"]]
     failures = [] if found == asked else [f"found are {', '.join(found)}"]
@@ -182,6 +183,12 @@ def call_faults(program, _):
     return failures
 
 
+def tried(item):
+    """The failures of a piece of work."""
+    search, program, case = item
+    return search(program, case)
+
+
 def main(words):
     """Runs all; gives the status."""
     if not words or words[0] in ("-h", "--help"):
@@ -191,13 +198,13 @@ def main(words):
     work = [(why_faults, program, case) for case in table("table.txt")] + [(many_faults, program, case) for case in table("many.txt")]
     work.append((call_faults, program, ("calls", "", b"")))
     work = [item for item in work if not names or item[2][0] in names]
-    with ThreadPoolExecutor(4) as pool:
-        results = list(pool.map(lambda item: item[0](item[1], item[2]), work))
+    with ProcessPoolExecutor(4) as pool:
+        results = list(pool.map(tried, work))
     for result in results:
         for fault in result:
             print(fault)
     failed = sum(1 for result in results if result)
-    print(f"{len(results) - failed} passed, {failed} failed")
+    print(f"why: {len(results) - failed} passed, {failed} failed")
     return 1 if failed else 0
 
 

@@ -34,8 +34,10 @@ class Answer(NamedTuple):
 class Asker:
     """Asks a program, each text once, as long as questions and time last."""
 
-    def __init__(self, program, questions=400, seconds=10.0):
+    def __init__(self, program, questions=400, seconds=10.0, spare=5.0):
+        """`spare` is how much longer the answer to a question may take."""
         self.program = program
+        self.spare = spare
         self.left = questions
         self.end = time.monotonic() + seconds
         self.known = {}
@@ -54,7 +56,7 @@ class Asker:
 
     def asked(self, text):
         """The answer of the program itself."""
-        room = max(0.05, self.end - time.monotonic()) + 5
+        room = max(0.05, self.end - time.monotonic()) + self.spare
         try:
             made = subprocess.run([self.program, "check"], input=text.encode("latin-1"), capture_output=True, timeout=room, check=False)
         except subprocess.TimeoutExpired:

@@ -1,20 +1,18 @@
 """What is found of a refusal, and how it is written: for people, or as one JSON object."""
 
 import json
-import os
-import re
-import sys
-import textwrap
+
+import screen
 
 from .leaving import applied
-from .source import clean, marked, shown
+from .source import clean, marked, shown, utf8
 
 EARLY = ("too-long", "syntax", "number", "nest")
 NO_TOKENS = tuple("'\"@$^~`\\&")
 OF_ONE_NAME = ("unknown", "duplicate", "type", "region-args", "local-region", "main", "cycle", "constraint", "partial-write")
-WIDTH = 110
+WIDEST = 110
+BRIEF_WIDTH, BRIEF_LINES, BRIEF_TEXT = 150, 8, 12
 EDITS_AT_MOST = 6
-STATUS_WRITE_FAULT, STATUS_INTERRUPTED = 6, 130
 
 
 class Report:
@@ -114,65 +112,79 @@ class Report:
         answer = self.answer
         refused = None if answer.accepted else {"name": answer.name, "line": answer.line, "column": answer.column}
         return json.dumps(
-            {"file": self.source.name, "refused": refused, "statements": self.statements, "says": self.says,
+            {"file": screen.printable(self.source.name), "refused": refused, "statements": self.statements, "says": self.says,
              "mend": self.mend, "tried": self.tried},
             ensure_ascii=True,
         )  # fmt: skip
 
-    def as_text(self, sentences_of, colours):
+    def as_text(self, general, paper):
         """The report for people; the general sentences come where there is nothing better."""
-        answer, bold, plain = self.answer, *(("\033[1m", "\033[0m") if colours else ("", ""))
-        name = shown(self.source.name)
+        answer, name = self.answer, screen.printable(self.source.name)
         if answer.accepted:
             return f"{name}: accepted\n"
-        lines = [f"{bold}{name}:{answer.line}:{answer.column}: refused: {answer.name}{plain}"]
-        lines += ["  " + line for line in marked(self.source, answer.line, answer.column)]
-        if not self.says and self.mend is None:
-            lines += wrapped(sentences_of[0], "")
-        lines += self.statement_lines(bold, plain)
+        is_bare = not self.says and self.mend is None
+        meaning, mend = general(answer.name) if is_bare else ("", "")
+        lines = [paper.bold(f"{name}:{answer.line}:{answer.column}: refused: {answer.name}")]
+        lines += ["  " + line for line in marked(self.source, answer.line, answer.column, paper.columns - 2)]
+        lines += paper.wrapped(meaning)
+        lines += self.statement_lines(paper)
         for text in self.says:
-            lines += wrapped(text, "")
-        lines += self.mend_lines(bold, plain)
-        if self.mend is None and not self.says:
-            lines += wrapped(sentences_of[1], "")
+            lines += paper.wrapped(text)
+        lines += self.mend_lines(paper)
+        lines += paper.wrapped(mend)
         confirmed = [entry for entry in self.tried if self.mend is None or entry["change"] != self.mend["text"]]
         if confirmed:
             lines.append("Tried:")
-            lines += dict.fromkeys(f"  {shown(entry['change'])}: {entry['answer']}" for entry in confirmed)
-        return "\n".join(lines) + "\n"
+            told = dict.fromkeys(f"{shown(entry['change'])}: {entry['answer']}" for entry in confirmed)
+            lines += [line for text in told for line in paper.wrapped(text, "  ", "    ")]
+        return "".join(f"{line}\n" for line in lines)
 
-    def statement_lines(self, bold, plain):
+    def statement_lines(self, paper):
         """Each statement once, with what it does."""
         lines, last = [], None
         for entry in self.statements:
             here = (entry["line"], entry["column"], entry["text"])
             if here != last:
-                lines.append(f"  {bold}{entry['line']}:{entry['column']}{plain}  {entry['text']}")
+                lines.append(f"  {paper.bold(place_of(entry))}  {entry['text']}")
             last = here
-            lines += wrapped(entry["role"], "      ")
+            lines += paper.wrapped(entry["role"], "      ")
         return lines
 
-    def mend_lines(self, bold, plain):
+    def mend_lines(self, paper):
         """The mend with what it replaces."""
         if self.mend is None:
             return []
-        lines = wrapped(f"{bold}Mend:{plain} {self.mend['text']}", "", "  ")
+        lines = paper.wrapped(f"Mend: {self.mend['text']}", "", "  ")
+        lines[0] = lines[0].replace("Mend:", paper.bold("Mend:"), 1)
         for edit in self.mend["edits"][:EDITS_AT_MOST]:
-            lines += wrapped(f"{edit['line']}:{edit['column']}  {change_of(edit)}", "  ", "        ")
+            lines += paper.wrapped(f"{place_of(edit)}  {change_of(edit)}", "  ", "        ")
         if len(self.mend["edits"]) > EDITS_AT_MOST:
             lines.append("  ..")
         answer = self.mend["answer"]
         lines.append("  With it the text is accepted." if answer == "accepted" else f"  With it the next fault is, in the changed text: {answer}")
         return lines
 
-    def as_brief(self):
-        """The statements, the first sentence and the mend in at most six lines, for a terminal that shows the refusal already."""
-        lines = [f"{entry['line']}:{entry['column']}  {entry['text']}  ({entry['role']})" for entry in self.statements[:2]]
-        if self.statements and self.statements[0]["role"] == "here":
-            lines = []
-        lines += self.says[:1]
-        lines += [line.strip() for line in self.mend_lines("", "")[:3]]
-        return "".join("  " + cut(line) + "\n" for line in lines[:6])
+    def as_brief(self, paper):
+        """The statements, the first sentence and the mend in a few lines, for a terminal that shows the line of the refusal already."""
+        lines = [self.brief_line(entry, paper) for entry in self.statements[:2] if entry["text"] and entry["role"] != "here"]
+        says = [line for text in self.says[:1] for line in paper.wrapped(text, "  ", "      ")]
+        mend = [line.strip() for line in self.mend_lines(screen.Paper(BRIEF_WIDTH))[:3]]
+        mend = [line for text in mend for line in paper.wrapped(text, "  ", "      ")]
+        if mend and len(lines + says + mend) > BRIEF_LINES:
+            says = []
+        return "".join(f"{line}\n" for line in (lines + says + mend)[:BRIEF_LINES])
+
+    def brief_line(self, entry, paper):
+        """A statement and what it does. Its text is left out where it is all of the line that is shown already, and cut to what there is room for."""
+        begin, end, text = f"  {place_of(entry)}  ", f"  ({entry['role']})", entry["text"]
+        if entry["line"] == self.answer.line and text == shown(self.source.line(entry["line"])):
+            return f"{begin}{entry['role']}"
+        room = max(BRIEF_TEXT, paper.columns - len(begin + end))
+        return begin + (text if len(text) <= room else text[: room - 4] + " ...") + end
+
+
+def place_of(entry):
+    return f"{entry['line']}:{entry['column']}"
 
 
 def change_of(edit):
@@ -192,58 +204,3 @@ def is_put_in(offset, edits):
             return True
         moved += size - (edit.end - edit.start)
     return False
-
-
-def utf8(text):
-    """A piece of a text as UTF-8 reads it."""
-    return text.encode("latin-1", "replace").decode("utf-8", "replace")
-
-
-def cut(line):
-    return line if len(line) <= WIDTH + 40 else line[: WIDTH + 36] + " ..."
-
-
-def wrapped(text, indent, more=None):
-    """A sentence in lines of a terminal's width."""
-    if not text:
-        return []
-    further = indent if more is None else more
-    return textwrap.wrap(text, WIDTH, initial_indent=indent, subsequent_indent=further, break_long_words=False, break_on_hyphens=False)
-
-
-def run(main):
-    """Ends with the status of a call; a reader that has gone counts as a fault of writing."""
-    try:
-        status = main(sys.argv[1:])
-        sys.stdout.flush()
-    except BrokenPipeError:
-        os.dup2(os.open(os.devnull, os.O_WRONLY), sys.stdout.fileno())
-        status = STATUS_WRITE_FAULT
-    except KeyboardInterrupt:
-        status = STATUS_INTERRUPTED
-    sys.exit(status)
-
-
-def use_colours(stream):
-    """Colours are for terminals whose user doesn't refuse them."""
-    return stream.isatty() and not os.environ.get("NO_COLOR") and os.environ.get("TERM") != "dumb"
-
-
-def sentences(folder):
-    """The section of each refusal in docs/REFUSALS.md: its first sentence, and what is said between its texts."""
-    path = os.path.join(folder, "docs", "REFUSALS.md")
-    if not os.path.exists(path):
-        return {}
-    with open(path, encoding="utf-8") as file:
-        parts = re.split(r"^## ([a-z-]+)\n", file.read(), flags=re.M)
-    return {name: section(body) for name, body in zip(parts[1::2], parts[2::2])}
-
-
-def section(body):
-    """The first sentence of a section, and the first paragraph after its first text, which says the mend."""
-    body = re.sub(r"\[([^\]]*)\]\([^)]*\)", r"\1", body)
-    pieces = [piece for piece in re.split(r"```.*?```", body, flags=re.S)]
-    paragraphs = [" ".join(piece.split()) for piece in pieces if piece.strip()]
-    first = re.split(r"(?<=[.;]) ", paragraphs[0], maxsplit=1)[0]
-    mend = paragraphs[1] if len(paragraphs) > 1 else ""
-    return first, mend[:-1] + "." if mend.endswith(":") else mend

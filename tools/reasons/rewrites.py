@@ -303,7 +303,7 @@ def close_literal(match, source):
     token = source.tokens[min(source.token_at(match.start()), len(source.tokens) - 1)]
     if token.start != match.start() or token.kind != "mark":
         return []
-    line = match.group().rstrip("\n")
+    line = match.group().rstrip("\r\n")
     tail = re.search(r"\s*\)\s*;[^\"]*$", line)
     place = match.start() + (tail.start() if tail else len(line))
     return [Edit(place, place, '"')]

@@ -7,6 +7,10 @@ import bisect
 import re
 from typing import NamedTuple
 
+from asking import MAX_TEXT, read_text
+from places import Place
+from screen import printable
+
 TOKEN = re.compile(
     r"""
       (?P<blank> [ \t\r\n\f]+ | //[^\n]* | /\*.*?\*/ )
@@ -76,17 +80,22 @@ class Source:
         return bisect.bisect_right([token.end for token in self.tokens], offset)
 
 
-def read(path, stream):
-    """The text of a file, or of a stream where the path is `-`."""
+def read(path):
+    """The text of a file, or of standard input where the path is `-`; of both as much as the program would take."""
     if path == "-":
-        return Source("-", stream.read().decode("latin-1"))
+        return Source("-", read_text("check").decode("latin-1"))
     with open(path, "rb") as file:
-        return Source(path, file.read().decode("latin-1"))
+        return Source(path, file.read(MAX_TEXT + 1).decode("latin-1"))
+
+
+def utf8(text):
+    """A piece of a text as UTF-8 reads it."""
+    return text.encode("latin-1", "replace").decode("utf-8", "replace")
 
 
 def clean(text):
     """A text as UTF-8 reads it, without what a terminal obeys."""
-    return "".join(show_letter(letter) for letter in text.encode("latin-1", "replace").decode("utf-8", "replace"))
+    return printable(re.sub(r"[\t\f]", " ", utf8(text)))
 
 
 def shown(piece):
@@ -95,23 +104,9 @@ def shown(piece):
     return decoded if len(decoded) <= SHOWN_AT_MOST else decoded[: SHOWN_AT_MOST - 4] + " ..."
 
 
-def marked(source, line, column):
-    """A line of the text as it is shown, and a line with a mark below the column; long lines are cut around it."""
-    before = source.line(line)[: column - 1].encode("latin-1").decode("utf-8", "replace")
-    after = source.line(line)[column - 1 :].encode("latin-1").decode("utf-8", "replace")
-    before, after = ("".join(show_letter(letter) for letter in part) for part in (before, after))
-    lead = ""
-    if len(before) > 100:
-        before, lead = before[-96:], "... "
-    tail = "" if len(after) <= 100 else " ..."
-    return lead + before + after[:100] + tail, " " * len(lead + before) + "^"
-
-
-def show_letter(letter):
-    """A letter of a line as a terminal gets it: a tab as a blank, and what a terminal obeys as a question mark."""
-    if letter in "\t\f":
-        return " "
-    return letter if letter.isprintable() else "?"
+def marked(source, line, column, columns):
+    """The line of a place and a line with a caret below it, on a screen of so many columns."""
+    return Place(source.text.encode("latin-1"), line, column).screen(columns)
 
 
 def statement_around(source, at):

@@ -4,9 +4,10 @@ from .asking import Spent
 from .habits import HABITS
 from .leaving import Edit
 from .slips import slip_mend
-from .source import statement_around, without_comments
+from .source import statement_around, utf8, without_comments
 
 WINDOW = 1000
+UNKNOWN = "\N{REPLACEMENT CHARACTER}"
 OF_LETTERS = ("byte-order-mark", "open-comment", "open-literal", "escape", "blank", "quotes", "dash", "not-ascii")
 STATEMENT = ("if", "while", "return", "print", "cobegin", "foreach", "int", "{", "final", "boolean")
 EXPRESSION = ("true", "1", "this", "new", "(", "-", "!", "x", "null")
@@ -19,6 +20,9 @@ GROUPS = (("a statement", STATEMENT), ("an expression", EXPRESSION), ("an operat
 def explain(report):
     """Fills in a report on `syntax` or `number`."""
     source, at = report.source, report.answer.offset
+    if at < len(source.text) and not begins_utf8(source.text[at : at + 4]):
+        report.say(f"The byte {ord(source.text[at]):02X} begins no character of UTF-8: save the file as UTF-8.")
+        return
     plain = without_comments(source.text)
     try:
         habit = find_habit(report, plain, at)
@@ -36,6 +40,11 @@ def explain(report):
         name_statement(report, at, habit)
     if habit is None or habit.name not in OF_LETTERS:
         say_what_stands(report)
+
+
+def begins_utf8(piece):
+    """Whether a piece of a text begins with a character of UTF-8."""
+    return any(UNKNOWN not in utf8(piece[:size]) for size in range(1, len(piece) + 1))
 
 
 def matches(plain, at):

@@ -79,6 +79,20 @@ class Desk:
         path.chmod(0o755)
         return path
 
+    def be_patient(self):
+        """Lets the reason of a refusal take its time, so that what is shown depends on no clock."""
+        for name, seconds in (("show.py", "\nREASON_SECONDS = 1\n"), ("why.py", "\nBRIEF_SECONDS = 0.25\n"), ("why.py", "\nSECONDS = 10.0\n")):
+            path = self.path / "tools" / name
+            found, text = path.read_text(encoding="utf-8"), seconds.partition("=")[0]
+            assert seconds in found, f"{name} has other bounds"
+            path.write_text(found.replace(seconds, f"{text}= {SECONDS}\n"), encoding="utf-8")
+        return self
+
+    def without_reasons(self):
+        """Leaves the reason of a refusal away."""
+        (self.path / "tools" / "why.py").unlink()
+        return self
+
     def without_python(self):
         """An environment in which no Python is found."""
         folder = self.path.parent / "bin"

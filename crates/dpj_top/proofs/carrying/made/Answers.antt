@@ -33,10 +33,10 @@ returns-in-Rounds-clause-run g c =
     c.run_rounds.result c.in-Rounds.is c.limits-in-Rounds.ensures (to_z-of_z fits) c.run_rounds.ensures
 
 pub run_seeded-requires-clause-resolved : goal.run_seeded-requires-clause-resolved
-run_seeded-requires-clause-resolved g c κs within = c.requires.can_run.0
+run_seeded-requires-clause-resolved g c = c.requires.can_run.0
 
 pub run_seeded-requires-clause-main : goal.run_seeded-requires-clause-main
-run_seeded-requires-clause-main g c κs within = c.requires.can_run.1
+run_seeded-requires-clause-main g c = c.requires.can_run.1
 
 pub returns-in-Seeded-clause-run : goal.returns-in-Seeded-clause-run
 returns-in-Seeded-clause-run g c =
