@@ -11,7 +11,7 @@ import sys
 from support.desk import Desk, Tally, program
 
 USAGE = "usage: dpj COMMAND [NAME=VALUE]...\n"
-COMMANDS = "check, why, run, elide, effects, list, trace, replay, cost, demo, explain, help, version"
+COMMANDS = "check, why, run, elide, effects, list, trace, replay, cost, outcomes, demo, explain, help, version"
 OPTIONS = "--all, --json, --editor, --help, --version"
 
 LISTS = 80
@@ -38,8 +38,8 @@ WRONG = [
     ("run arg=99999999999999999999999", "`arg=99999999999999999999999`: arg takes -2147483648 to 2147483647"),
     ("run mode=step", "`mode=step`: mode takes steps or rounds"),
     ("run Arg=5", "`Arg=5`: no setting is named `Arg`; did you mean `arg`?; the settings of run are workers, steps, cells, arg, mode, seed"),
-    ("demo arg=5", "`arg=5`: demo has no arg, but run, elide, trace, cost; the settings of demo are workers, steps, cells, n"),
-    ("check arg=5", "`arg=5`: check has no arg, but run, elide, trace, cost; check has no settings"),
+    ("demo arg=5", "`arg=5`: demo has no arg, but run, elide, trace, cost, outcomes; the settings of demo are workers, steps, cells, n"),
+    ("check arg=5", "`arg=5`: check has no arg, but run, elide, trace, cost, outcomes; check has no settings"),
     ("elide workers=1", "`workers=1`: elide has no workers, but run, trace, demo; the settings of elide are steps, cells, arg"),
     ("run seed=4294967296", "`seed=4294967296`: seed takes 0 to 4294967295"),
     ("trace seed=-1", "`seed=-1`: seed takes 0 to 4294967295"),
@@ -53,8 +53,16 @@ WRONG = [
     ("check - a.dpj", "`a.dpj`: a second file; `-` is read already"),
     ("demo a.dpj", "`a.dpj`: demo reads nothing; the settings of demo are workers, steps, cells, n"),
     ("help chekc", f"`chekc` is no command; did you mean `check`?; the commands are {COMMANDS}"),
-    ("why arg=5", "`arg=5`: why has no arg, but run, elide, trace, cost; why has no settings"),
+    ("why arg=5", "`arg=5`: why has no arg, but run, elide, trace, cost, outcomes; why has no settings"),
     ("why --editor a.dpj", "`--editor`: why has no --editor, but --json"),
+    ("outcomes a.dpj 0", "`0`: there are 1 to 10000 seeds; a file with this name is ./0"),
+    ("outcomes a.dpj 10001", "`10001`: there are 1 to 10000 seeds; a file with this name is ./10001"),
+    ("outcomes 99999999999999999999999", "`99999999999999999999999`: there are 1 to 10000 seeds; a file with this name is ./99999999999999999999999"),
+    ("outcomes a.dpj 5 6", "`6`: a second number; 5 seeds are wanted already"),
+    ("outcomes a.dpj 05", "`05`: a second file; `a.dpj` is read already"),
+    ("outcomes a.dpj seed=1", "`seed=1`: outcomes has no seed, but run, trace; the settings of outcomes are steps, cells, arg"),
+    ("outcomes a.dpj arg=x", "`arg=x`: arg takes -2147483648 to 2147483647, in digits and without a leading 0"),
+    ("outcomes --editor a.dpj", "`--editor`: outcomes has no --editor, but --json"),
     ("run --all a.dpj", "`--all`: run has no --all, but check"),
     ("--all why", "`--all`: why has no --all, but check"),
     ("whi", f"`whi` is no command; did you mean `why`?; the commands are {COMMANDS}"),
@@ -112,6 +120,9 @@ def helped(tally):
         "  cells=1..16777216            the most cells that a run may cost; 1048576 without it\n"
         "  arg=-2147483648..2147483647  the argument of `main`; 0 without it\n"))
     tally.equal("help why", desk.run("help", "why").out, "usage: dpj why [FILE] [--json]\n\n  why   says why a program is refused, and what mends it\n")
+    tally.equal("help outcomes", desk.run("help", "outcomes").out.splitlines()[:5], [
+        "usage: dpj outcomes [FILE] [N] [NAME=VALUE]... [--json]", "", "  outcomes   runs it with seed=1 to seed=N, and counts what comes out", "",
+        "  N=1..10000                   how many runs, a number by itself; 100 without it"])
     tally.equal("help check", desk.run("help", "check").out, (
         "usage: dpj check [FILE] [--all] [--json | --editor]\n\n  check   checks a program: `accepted`, or its first fault\n\n"
         "  --all   every fault, each with the change after which it was found\n"))
@@ -123,7 +134,7 @@ def helped(tally):
         seen = desk.run(command, "--help")
         return seen.out.split()[:3], re.findall("faster|sooner|speed", seen.out, re.I), seen.screen, seen.status
 
-    tally.all_equal(of_command, {command: (["usage:", "dpj", command], [], "", 0) for command in COMMANDS.split(", ")[:10]})
+    tally.all_equal(of_command, {command: (["usage:", "dpj", command], [], "", 0) for command in COMMANDS.split(", ")[:11]})
 
 
 KEYS = {
