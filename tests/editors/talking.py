@@ -40,6 +40,7 @@ PLACES = {
     "after a literal": ('class Main { int main(int n) { print("\u20ac\U0001f600"); return mm; } }\n', "unknown", (0, 52, 0, 54)),
     "crlf": ("class Main {\r\n  /* \u00e4 */ int main(int n) {\r\n    return m;\r\n  }\r\n}\r\n", "unknown", (2, 11, 2, 12)),
     "returns alone": ("class Main {\r  int main(int n) {\r    return m;\r  }\r}\r", "unknown", (2, 11, 2, 12)),
+    "a letter": ("class Main { int main(int n) { \u00e4 = 1; return n; } }\n", "syntax", (0, 31, 0, 32)),
     "the end": ("class Main {\n  int main(int n) { return n; }\n", "syntax", (1, 30, 1, 31)),
     "nothing": ("", "syntax", (0, 0, 0, 0)),
     "half a pair": ("class Main { int main(int n) { /* \ud83d */ return m; } }\n", "unknown", (0, 46, 0, 47)),
@@ -180,6 +181,25 @@ def try_words(tally, talk):
     tally.sees("no other names", labels & {"both", "debit", "Account", "n"}, set())
 
 
+# A text, and what hover says of its words.
+KEYWORDS = "class Main { int main(int n) { print(1); foreach_nd (int i in 0, 2) { } foreach_parts (v, int k in a, n) { } return 0; } }\n"
+SENTENCES = {
+    31: "**`print`**: `print` writes an int",
+    41: "**`foreach_nd`**: `cobegin_nd` and `foreach_nd` are",
+    73: "**`foreach_parts`**: `foreach_parts (v, int k in a, n) S` cuts",
+    13: "**`int`**: The types are `int`",
+}
+
+
+def try_sentences(tally, talk, version):
+    """What hover says of keywords, though the text is refused elsewhere."""
+    talk.put(KEYWORDS, version)
+    talk.diagnostics()
+    for character, wanted in SENTENCES.items():
+        told = talk.ask("textDocument/hover", at(0, character))["result"]
+        tally.sees(f"hover on {KEYWORDS[character:].split()[0]}", (told or {"contents": {"value": ""}})["contents"]["value"][: len(wanted)], wanted)
+
+
 def try_bad(tally, talk):
     """What is no message, or no request, ends nothing."""
     talk.raw(b"Content-Length: 4\r\n\r\n{{{{")
@@ -249,6 +269,7 @@ def try_server(tally, program):
     version = try_places(tally, talk)
     try_reasons(tally, talk, program, version)
     try_words(tally, talk)
+    try_sentences(tally, talk, version + 2)
     try_bad(tally, talk)
     talk.note("textDocument/didClose", {"textDocument": {"uri": URI}})
     tally.sees("a closed text has no diagnostics", talk.diagnostics()["diagnostics"], [])

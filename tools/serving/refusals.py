@@ -22,14 +22,20 @@ class Refusal:
         self.section = sections.load()[0].get(self.name)
 
     def bounds(self, offset):
-        """The token at an offset; where none begins, one byte, and the last one at the end of the text."""
+        """The token at an offset; where there is none, the character, and at the end of the text the last one."""
         source = Source("", self.paper.latin())
         number = source.token_at(offset)
         if number < len(source.tokens) and source.tokens[number].start <= offset:
-            return source.tokens[number].start, source.tokens[number].end
+            return source.tokens[number].start, self.whole(source.tokens[number].end)
         if offset >= len(self.paper.bytes) and source.tokens:
             return source.tokens[-1].end - 1, source.tokens[-1].end
-        return offset, offset + 1
+        return offset, self.whole(offset + 1)
+
+    def whole(self, end):
+        """The end of the character in which an offset lies; the offset itself where it lies between two."""
+        while end < len(self.paper.bytes) and self.paper.bytes[end] & 0xC0 == 0x80:
+            end += 1
+        return end
 
     def holds(self, offset):
         return self.start <= offset <= self.end

@@ -27,12 +27,21 @@ def documented():
     return {anchor_of(name): sections.Section(name, body.split("\n")) for name, body in zip(parts[1::2], parts[2::2])}
 
 
-def sentence_of(section, keyword):
-    """The first sentence of a section that begins with a keyword, or else its first one."""
-    prose = [sections.plain(paragraph[0]) for paragraph in section.paragraphs() if not paragraph[0].startswith(("```", "|"))]
-    found = [sentence for paragraph in prose for sentence in re.split(r"(?<=\.) (?=[A-Z`])", paragraph)]
-    of_keyword = [sentence for sentence in found if re.match(rf"`{keyword}\b", sentence)]
-    return (of_keyword or found)[0]
+def sentences_of(section):
+    """The sentences of a section, without its programs and tables."""
+    for paragraph in section.paragraphs():
+        if not paragraph[0].startswith(("```", "|")):
+            yield from re.split(r"(?<=\.) (?=[A-Z`])", sections.plain(paragraph[0]))
+
+
+def sentence_of(keyword, of_row):
+    """The first sentence of a row's sections that begins with a keyword, or else one that has it, or the first of all, with its section."""
+    found = [(sentence, section) for section in of_row for sentence in sentences_of(section)]
+    for form in (rf"(?:`\w+` and )?`{keyword}\b", rf".*`{keyword}(?:[ .][^`{{]*)?`"):
+        for sentence, section in found:
+            if re.match(form, sentence):
+                return sentence, section
+    return found[0]
 
 
 def explained(word):
@@ -41,10 +50,11 @@ def explained(word):
     table = known.get("keywords")
     for row in table.lines if table else ():
         cells = row.split("|")
-        anchor = LINK.search(row)
-        if len(cells) > 2 and f"`{word}`" in cells[1] and anchor and anchor[1] in known:
-            section = known[anchor[1]]
-            return f"**`{word}`**: {sentence_of(section, word)}\n\n[{section.name}]({DOCUMENT.as_uri()}#{anchor[1]})"
+        if len(cells) > 2 and f"`{word}`" in cells[1]:
+            # Behind a semicolon stand sections of one of the row's keywords.
+            linked = [known[anchor] for anchor in LINK.findall(cells[2].partition(";")[0]) if anchor in known]
+            sentence, section = sentence_of(word, linked) if linked else ("", None)
+            return f"**`{word}`**: {sentence}\n\n[{section.name}]({DOCUMENT.as_uri()}#{anchor_of(section.name)})" if section else None
     return None
 
 
