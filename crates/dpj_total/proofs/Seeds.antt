@@ -78,9 +78,9 @@ module _ (code : Code) (L : Limits) (arg : ℤ) (goes : GoesOnAble code L arg)
       → (o : Option Outcome) → m.outcome ≡ o → BySeed
   on fuel more js m state leads before enough None e =
       let d = draws m.world m.world.tree.begun (λ k is. ready_below m.world.tree k (counted code L arg js m leads) is.0) (some js m leads e) (next_state state) in
-      let n = next code L arg goes unstuck js m leads e d.0 d.1.0 in
+      let n = next code L arg goes unstuck js m leads e d.0 d.1 in
       more (d.0 ∷ js) n.0 (next_state state) (m, leads, n.1)
-      (further state d.0 (played code L arg js m) (played code L arg (d.0 ∷ js) n.0) before d.1.1 (made_next code L arg js m leads d.0 n.0 n.1)) (omega (arith, enough))
+      (further state d.0 (played code L arg js m) (played code L arg (d.0 ∷ js) n.0) before d.2 (made_next code L arg js m leads d.0 n.0 n.1)) (omega (arith, enough))
   on fuel more js m state leads before enough (Some o) e = record { schedule = js; moment = m; outcome = o; leads = leads; came = e; state = state; steps = before }
 
   come : (fuel : ℕ) → Ends fuel
