@@ -41,7 +41,7 @@ use Rattle.dpj_resolve.specs.Classes.{params_in}
 use Rattle.dpj_table.specs.declared.rows.FieldRow.{FieldRow}
 use Rattle.dpj_table.specs.declared.rows.MethodRow.{MethodRow}
 use Rattle.dpj_table.specs.Table.{headers_of, field_of, method_of, constructor_of, args_at, given_of, is_forking}
-use Rattle.dpj_typed.specs.declared.expr.BinaryOp.TheVariants as made_op
+use Rattle.dpj_base.specs.declared.op.BinaryOp.TheVariants as made_op
 use Rattle.dpj_typed.specs.Plain.{PlainProgram, TypedExpr, typed, type_of}
 use Rattle.dpj_typed.specs.Plain.{ExprForm as form}
 use Rattle.dpj_typed.specs.Scope.{Scope, Local, constant, part, Above}

@@ -10,8 +10,9 @@ use Rattle.dpj_base.specs.declared.region.Head.TheVariants.{Root, Param}
 use Rattle.dpj_base.specs.declared.region.Rpl.{Rpl}
 use Rattle.dpj_base.specs.Regions.{argument, put_at, substituted}
 use Rattle.dpj_base.specs.Types.{PlainType, int, boolean, void, null, class, array, type_with, elem_at, path_at, type_at}
-use Rattle.dpj_typed.specs.declared.expr.BinaryOp.{BinaryOp}
-use Rattle.dpj_typed.specs.declared.expr.BinaryOp.TheVariants as op
+use Rattle.dpj_base.specs.declared.op.BinaryOp.{BinaryOp}
+use Rattle.dpj_base.specs.declared.op.BinaryOp.TheVariants as op
+use Rattle.dpj_base.specs.Operators.{result_of}
 use Rattle.dpj_typed.specs.Effects.{does, uses, summary_with}
 use Rattle.dpj_typed.specs.Effects.{Own as Done}
 use Rattle.dpj_typed.specs.Plain.{PlainProgram, TypedExpr, typed, type_of, TypedExprs}
@@ -19,7 +20,7 @@ use Rattle.dpj_typed.specs.Plain.{ExprForm as form}
 use Rattle.dpj_typed.specs.Scope.{Scope, variable, frozen, constant, part, reserved, Above}
 use Rattle.dpj_typed.specs.Scope.{Local as Slot}
 use Rattle.dpj_typed.specs.Types.{GoodElem, GoodPath, LocalPath, GoodType}
-use Rattle.dpj_typed.specs.Typing.{variable_elem, index_elem, result_of, Holds, Has, Fit}
+use Rattle.dpj_typed.specs.Typing.{variable_elem, index_elem, Holds, Has, Fit}
 use Rattle.dpj_accepted.specs.Seen.{can_stand}
 use Rattle.dpj_accepted.specs.Naming.{ElemNames, Anything, ElemsName, PathNames, PathsName, TypeNames, EffectsName, IsIndex, IsRegion, Nothing, SlotNames, LocalsName, ThroughPart, DoneIn, AllDoneIn, Signed}
 

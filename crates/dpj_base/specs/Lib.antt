@@ -3,6 +3,7 @@ pub mod Branches
 pub mod Effects
 pub mod Keys
 pub mod Matching
+pub mod Operators
 pub mod Pairs
 pub mod Parts
 pub mod Regions

@@ -4,8 +4,8 @@ use Rattle.dpj_base.specs.declared.effect.Effect.{Effect}
 use Rattle.dpj_base.specs.declared.region.Rpl.{Rpl}
 use Rattle.dpj_base.specs.declared.ty.Ty.{Ty}
 use Rattle.dpj_base.specs.Types.{plain_type}
-use Rattle.dpj_typed.specs.declared.expr.UnaryOp.{UnaryOp}
-use Rattle.dpj_typed.specs.declared.expr.BinaryOp.{BinaryOp}
+use Rattle.dpj_base.specs.declared.op.UnaryOp.{UnaryOp}
+use Rattle.dpj_base.specs.declared.op.BinaryOp.{BinaryOp}
 use Rattle.dpj_typed.specs.declared.expr.Expr.{Expr}
 use Rattle.dpj_typed.specs.declared.expr.ExprForm.{ExprForm, fold-ExprForm, the_lemmas}
 use Rattle.dpj_typed.specs.declared.expr.ExprForm.TheVariants as kind

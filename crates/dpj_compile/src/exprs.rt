@@ -9,9 +9,9 @@ use crate::emitter::Emitter;
 use crate::instrs;
 use crate::line::Sited;
 use crate::sites::{array_site, new_site};
-use dpj_base::{Items, NoMemory, Place, Plain, Rpl, Ty};
+use dpj_base::{BinaryOp, Items, NoMemory, Place, Plain, Rpl, Ty, UnaryOp};
 use dpj_code::{Instr, Site};
-use dpj_typed::{BinaryOp, ClassId, Expr, ExprForm, FieldSlot, Row, Slot, UnaryOp};
+use dpj_typed::{ClassId, Expr, ExprForm, FieldSlot, Row, Slot};
 use std::alloc::Global;
 
 /// Emits an expression, which leaves its value on the stack.

@@ -1,8 +1,8 @@
 ghost use Rattle.std.specs.Prelude.{◌≡◌};
 ghost use Rattle.dpj_gen.specs.Scheme.{instr_of, unary_instr};
 
+use dpj_base::{BinaryOp, UnaryOp};
 use dpj_code::Instr;
-use dpj_typed::{BinaryOp, UnaryOp};
 
 /// The instruction of an operation on two values.
 pub fn binary(op: BinaryOp) -> Instr

@@ -13,13 +13,13 @@ ghost use Rattle.dpj_walk.specs.Walk.{At, lands, pushed, without};
 ghost use Rattle.dpj_elide.specs.States.{Does};
 
 use crate::walker::{Over, Walker};
-use dpj_base::{Bytes, Place, Trap, Value};
+use dpj_base::{BinaryOp, Bytes, Place, Trap, UnaryOp, Value};
 use dpj_frames::{
     inverted, negated, number, operated, part_place, reference, set_slot, slot, slot_after,
     text_line, value_line,
 };
 use dpj_store::Halt;
-use dpj_typed::{BinaryOp, FieldSlot, Slot, UnaryOp};
+use dpj_typed::{FieldSlot, Slot};
 
 impl<'p> Walker<'p> {
     /// A value in the place of so many operands.

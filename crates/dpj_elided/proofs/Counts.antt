@@ -13,10 +13,10 @@ use Rattle.std.proofs.lemmas.Bool.{and_from, false_from_ne_true}
 use Rattle.dpj_base.specs.declared.region.Head.TheVariants as head
 use Rattle.dpj_base.specs.declared.region.Head.{Head}
 use Rattle.dpj_base.specs.declared.region.Rpl.{Rpl}
-use Rattle.dpj_typed.specs.declared.expr.BinaryOp.{BinaryOp}
-use Rattle.dpj_typed.specs.declared.expr.BinaryOp.TheVariants as op
-use Rattle.dpj_typed.specs.declared.expr.UnaryOp.{UnaryOp}
-use Rattle.dpj_typed.specs.declared.expr.UnaryOp.TheVariants.{Negate, Not}
+use Rattle.dpj_base.specs.declared.op.BinaryOp.{BinaryOp}
+use Rattle.dpj_base.specs.declared.op.BinaryOp.TheVariants as op
+use Rattle.dpj_base.specs.declared.op.UnaryOp.{UnaryOp}
+use Rattle.dpj_base.specs.declared.op.UnaryOp.TheVariants.{Negate, Not}
 use Rattle.dpj_typed.specs.Plain.{PlainParent}
 use Rattle.dpj_meaning.specs.Values.{Value, Int, Boolean, Region, Naming}
 use Rattle.dpj_meaning.specs.Actions.{Answer, Ending, Returned, Assigned, Work}

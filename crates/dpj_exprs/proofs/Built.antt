@@ -3,11 +3,11 @@ use Rattle.std.proofs.Common.{◌≡◌, ◌∙◌, ℤ, Bool, List, [], ◌∷�
 use Rattle.dpj_base.specs.declared.place.Place.{Place}
 use Rattle.dpj_base.specs.declared.region.Rpl.{Rpl}
 use Rattle.dpj_base.specs.Types.{PlainType}
-use Rattle.dpj_typed.specs.declared.expr.BinaryOp.{BinaryOp}
+use Rattle.dpj_base.specs.declared.op.BinaryOp.{BinaryOp}
 use Rattle.dpj_typed.specs.declared.expr.Expr.{Expr}
 use Rattle.dpj_typed.specs.declared.expr.ExprForm.{the_lemmas}
 use Rattle.dpj_typed.specs.declared.expr.ExprForm.TheVariants as kind
-use Rattle.dpj_typed.specs.declared.expr.UnaryOp.{UnaryOp}
+use Rattle.dpj_base.specs.declared.op.UnaryOp.{UnaryOp}
 use Rattle.dpj_typed.specs.declared.ids.ClassId.{ClassId}
 use Rattle.dpj_typed.specs.declared.ids.FieldSlot.{FieldSlot}
 use Rattle.dpj_typed.specs.declared.ids.Row.{Row}

@@ -10,11 +10,11 @@ use Rattle.dpj_tree.specs.declared.expr.BinaryOp.{BinaryOp}
 use Rattle.dpj_tree.specs.declared.expr.BinaryOp.TheVariants.{Or, And, Eq, Ne, Lt, Le, Gt, Ge, Add, Sub, Mul, Div, Rem}
 use Rattle.dpj_tree.specs.declared.expr.UnaryOp.{UnaryOp}
 use Rattle.dpj_tree.specs.declared.expr.UnaryOp.TheVariants.{Neg, Not}
-use Rattle.dpj_typed.specs.declared.expr.BinaryOp.TheVariants.{Subtract, Multiply, Divide, Remainder, Equal, NotEqual, Less, AtMost, Greater, AtLeast}
-use Rattle.dpj_typed.specs.declared.expr.BinaryOp.TheVariants.{Add as TypedAdd}
-use Rattle.dpj_typed.specs.declared.expr.UnaryOp as made
-use Rattle.dpj_typed.specs.declared.expr.UnaryOp.TheVariants.{Negate}
-use Rattle.dpj_typed.specs.declared.expr.UnaryOp.TheVariants.{Not as TypedNot}
+use Rattle.dpj_base.specs.declared.op.BinaryOp.TheVariants.{Subtract, Multiply, Divide, Remainder, Equal, NotEqual, Less, AtMost, Greater, AtLeast}
+use Rattle.dpj_base.specs.declared.op.BinaryOp.TheVariants.{Add as TypedAdd}
+use Rattle.dpj_base.specs.declared.op.UnaryOp as made
+use Rattle.dpj_base.specs.declared.op.UnaryOp.TheVariants.{Negate}
+use Rattle.dpj_base.specs.declared.op.UnaryOp.TheVariants.{Not as TypedNot}
 use Rattle.dpj_typed.specs.Plain.{TypedExpr, typed, ExprForm, unary, binary, either}
 use Rattle.dpj_typed.specs.Plain.{ExprForm as form}
 use Rattle.dpj_exprs.specs.Typed.{type_in, node_at, may_be, is_int, is_boolean, is_reference}

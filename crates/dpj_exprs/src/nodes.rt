@@ -137,12 +137,12 @@ pub fn unary(alloc: Global, place: Place, ty: Ty, op: UnaryOp, arg: Expr) -> Res
     Ok(Expr { place, ty, form })
 }
 
-fn unary_op(op: UnaryOp) -> dpj_typed::UnaryOp
+fn unary_op(op: UnaryOp) -> dpj_base::UnaryOp
     ensures { result ≡ unary_op op }
 {
     match op {
-        UnaryOp::Neg => dpj_typed::UnaryOp::Negate,
-        UnaryOp::Not => dpj_typed::UnaryOp::Not,
+        UnaryOp::Neg => dpj_base::UnaryOp::Negate,
+        UnaryOp::Not => dpj_base::UnaryOp::Not,
     }
 }
 
@@ -160,17 +160,17 @@ fn binary_form(op: BinaryOp, left: Boxed<Expr>, right: Boxed<Expr>) -> ExprForm
     let op = match op {
         BinaryOp::Or => return ExprForm::Or { left, right },
         BinaryOp::And => return ExprForm::And { left, right },
-        BinaryOp::Eq => dpj_typed::BinaryOp::Equal,
-        BinaryOp::Ne => dpj_typed::BinaryOp::NotEqual,
-        BinaryOp::Lt => dpj_typed::BinaryOp::Less,
-        BinaryOp::Le => dpj_typed::BinaryOp::AtMost,
-        BinaryOp::Gt => dpj_typed::BinaryOp::Greater,
-        BinaryOp::Ge => dpj_typed::BinaryOp::AtLeast,
-        BinaryOp::Add => dpj_typed::BinaryOp::Add,
-        BinaryOp::Sub => dpj_typed::BinaryOp::Subtract,
-        BinaryOp::Mul => dpj_typed::BinaryOp::Multiply,
-        BinaryOp::Div => dpj_typed::BinaryOp::Divide,
-        BinaryOp::Rem => dpj_typed::BinaryOp::Remainder,
+        BinaryOp::Eq => dpj_base::BinaryOp::Equal,
+        BinaryOp::Ne => dpj_base::BinaryOp::NotEqual,
+        BinaryOp::Lt => dpj_base::BinaryOp::Less,
+        BinaryOp::Le => dpj_base::BinaryOp::AtMost,
+        BinaryOp::Gt => dpj_base::BinaryOp::Greater,
+        BinaryOp::Ge => dpj_base::BinaryOp::AtLeast,
+        BinaryOp::Add => dpj_base::BinaryOp::Add,
+        BinaryOp::Sub => dpj_base::BinaryOp::Subtract,
+        BinaryOp::Mul => dpj_base::BinaryOp::Multiply,
+        BinaryOp::Div => dpj_base::BinaryOp::Divide,
+        BinaryOp::Rem => dpj_base::BinaryOp::Remainder,
     };
     ExprForm::Binary { op, left, right }
 }

@@ -3,11 +3,10 @@ ghost use Rattle.dpj_meaning.specs.Counts.{same_value, unary, operated, divided}
 ghost use Rattle.dpj_frames.specs.Names.{plain_value, same_object};
 ghost use Rattle.std.specs.Int.{int_wrapping_div, w32};
 ghost use Rattle.std.specs.Prelude.{int_rem};
-ghost use Rattle.dpj_typed.specs.declared.expr.UnaryOp.TheVariants.{Negate, Not};
+ghost use Rattle.dpj_base.specs.declared.op.UnaryOp.TheVariants.{Negate, Not};
 
 use crate::values::{number, truth};
-use dpj_base::Value;
-use dpj_typed::BinaryOp;
+use dpj_base::{BinaryOp, Value};
 
 /// The value of an operation on two values; None where it divides by zero.
 #[inline]

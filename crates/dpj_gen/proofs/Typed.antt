@@ -7,9 +7,10 @@ use Rattle.dpj_typed.specs.Plain.{ExprForm as form}
 use Rattle.dpj_typed.specs.Scope.{Scope, class_at, member_at, constructor_of, parent_of}
 use Rattle.dpj_typed.specs.Types.{Subtype, ints, booleans, null_object, null_array, objects, arrays, inherits}
 use Rattle.dpj_typed.specs.Effects.{Own}
-use Rattle.dpj_typed.specs.declared.expr.BinaryOp.{BinaryOp}
-use Rattle.dpj_typed.specs.declared.expr.BinaryOp.TheVariants as op
-use Rattle.dpj_typed.specs.Typing.{Has, Fit, IsReference, Comparable, Operands}
+use Rattle.dpj_base.specs.declared.op.Operands.{Operands}
+use Rattle.dpj_base.specs.declared.op.Operands.TheVariants.{Ints, Same}
+use Rattle.dpj_base.specs.Operators.{operands_of}
+use Rattle.dpj_typed.specs.Typing.{Has, Fit, IsReference, Comparable, Takes}
 use Rattle.dpj_typed.specs.Typing.{Has as has}
 use Rattle.dpj_typed.specs.Typing.{Fit as fit}
 use Rattle.dpj_typed.specs.Statements.{all_complete, IsPerformed, cuts_array, cuts_part, Passes, AllPass, BranchesPass}
@@ -71,10 +72,9 @@ comparable_types t u (inl h) = (ap is_void h.0, ap is_void h.1)
 comparable_types t u (inr (inl h)) = (ap is_void h.0, ap is_void h.1)
 comparable_types t u (inr (inr h)) = (reference_void t h.0, reference_void u h.1)
 
-operand_types : (o : BinaryOp) (t u : PlainType) → Operands o t u → (is_void t ≡ false) × (is_void u ≡ false)
-operand_types op.Equal t u h = comparable_types t u h
-operand_types op.NotEqual t u h = comparable_types t u h
-operand_types o t u h = (ap is_void h.0, ap is_void h.1)
+operand_types : (o : Operands) (t u : PlainType) → Takes o t u → (is_void t ≡ false) × (is_void u ≡ false)
+operand_types Ints t u h = (ap is_void h.0, ap is_void h.1)
+operand_types Same t u h = comparable_types t u h
 
 abbrev is_performed : ExprForm → Bool
 is_performed (form.call e c r regions es) = true
@@ -120,7 +120,7 @@ module _ (P : PlainProgram) where
     expr_fits (has.make_array g a h q) z = (expr_fits h (ap is_void q), tt)
     expr_fits (has.negative h q) z = expr_fits h (ap is_void q)
     expr_fits (has.negation h q) z = expr_fits h (ap is_void q)
-    expr_fits (has.operation {o = op} {a = x} {b = y} h i o t) z = let v = operand_types op (type_of x) (type_of y) o in (expr_fits h v.0, expr_fits i v.1)
+    expr_fits (has.operation {o = op} {a = x} {b = y} h i o t) z = let v = operand_types (operands_of op) (type_of x) (type_of y) o in (expr_fits h v.0, expr_fits i v.1)
     expr_fits (has.conjunction h q i r) z = (expr_fits h (ap is_void q), expr_fits i (ap is_void r))
     expr_fits (has.disjunction h q i r) z = (expr_fits h (ap is_void q), expr_fits i (ap is_void r))
     expr_fits (has.length_of_part l) z = tt

@@ -3,8 +3,8 @@ use Rattle.std.proofs.Common.{◌≡◌, ℕ, ℤ, List, [], ◌∷◌, refl, Op
 use Rattle.dpj_base.specs.declared.place.Place.{Place}
 use Rattle.dpj_base.specs.declared.value.Trap.{Trap}
 use Rattle.dpj_base.specs.declared.value.Trap.TheVariants as trap
-use Rattle.dpj_typed.specs.declared.expr.BinaryOp.{BinaryOp}
-use Rattle.dpj_typed.specs.declared.expr.BinaryOp.TheVariants as op
+use Rattle.dpj_base.specs.declared.op.BinaryOp.{BinaryOp}
+use Rattle.dpj_base.specs.declared.op.BinaryOp.TheVariants as op
 use Rattle.dpj_meaning.specs.Counts.{number, operated, part_place, slot_value}
 use Rattle.dpj_meaning.specs.Values.{Value, Int}
 use Rattle.dpj_meaning.specs.Actions as meaning

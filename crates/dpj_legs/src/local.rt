@@ -3,7 +3,7 @@ ghost use Rattle.dpj_meaning.specs.Counts.{unary, truth, slot_value, part_taken}
 ghost use Rattle.dpj_meaning.specs.Statements.{with_value, with_values};
 ghost use Rattle.dpj_meaning.specs.Expressions.{none};
 ghost use Rattle.dpj_meaning.specs.Values.{Int};
-ghost use Rattle.dpj_typed.specs.declared.expr.UnaryOp.TheVariants.{Negate, Not};
+ghost use Rattle.dpj_base.specs.declared.op.UnaryOp.TheVariants.{Negate, Not};
 ghost use Rattle.dpj_code.specs.Machine.{exec, pushes, one, two, next, operates, in_part, returned, left_with, Goes, Turns, On};
 ghost use Rattle.dpj_code.specs.Plain.{PlainCode};
 ghost use Rattle.dpj_frames.specs.Names.{plain_value};
@@ -16,12 +16,11 @@ use crate::action::Ending;
 use crate::pace::Pace;
 use crate::step::Step;
 use crate::task::Level;
-use dpj_base::{NoMemory, Place, Trap, Value};
+use dpj_base::{BinaryOp, NoMemory, Place, Trap, Value};
 use dpj_code::Instr;
 use dpj_frames::{
     Stack, inverted, negated, number, operated, part_place, set_slot, slot, take_part, truth,
 };
-use dpj_typed::BinaryOp;
 
 impl Level {
     /// An instruction of values and jumps; at any other the level stays as it is.

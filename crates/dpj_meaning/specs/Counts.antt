@@ -8,10 +8,10 @@ use Rattle.std.specs.Int.{w32, int_wrapping_add, int_wrapping_sub, int_wrapping_
 use Rattle.std.specs.List.{list_any}
 use Rattle.dpj_base.specs.declared.place.Place.{Place}
 use Rattle.dpj_base.specs.declared.value.Trap.{Trap}
-use Rattle.dpj_typed.specs.declared.expr.BinaryOp.{BinaryOp}
-use Rattle.dpj_typed.specs.declared.expr.BinaryOp.TheVariants as op
-use Rattle.dpj_typed.specs.declared.expr.UnaryOp.{UnaryOp}
-use Rattle.dpj_typed.specs.declared.expr.UnaryOp.TheVariants.{Negate, Not}
+use Rattle.dpj_base.specs.declared.op.BinaryOp.{BinaryOp}
+use Rattle.dpj_base.specs.declared.op.BinaryOp.TheVariants as op
+use Rattle.dpj_base.specs.declared.op.UnaryOp.{UnaryOp}
+use Rattle.dpj_base.specs.declared.op.UnaryOp.TheVariants.{Negate, Not}
 use Rattle.dpj_typed.specs.Plain.{PlainParent}
 use Rattle.dpj_meaning.specs.Values.{Value, Int, Boolean, Null, Object, Region}
 use Rattle.dpj_meaning.specs.Actions.{Answer, Went, Got, Out, Class, Length, Named, Joined, Fell}

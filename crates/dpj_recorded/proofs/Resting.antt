@@ -4,8 +4,8 @@ use Rattle.dpj_base.specs.declared.place.Place.{Place}
 use Rattle.dpj_base.specs.declared.value.Trap.{Trap}
 use Rattle.dpj_base.specs.declared.value.Trap.TheVariants as trap
 use Rattle.dpj_base.specs.declared.value.Value.{Value as Constant}
-use Rattle.dpj_typed.specs.declared.expr.BinaryOp.{BinaryOp}
-use Rattle.dpj_typed.specs.declared.expr.BinaryOp.TheVariants as op
+use Rattle.dpj_base.specs.declared.op.BinaryOp.{BinaryOp}
+use Rattle.dpj_base.specs.declared.op.BinaryOp.TheVariants as op
 use Rattle.dpj_meaning.specs.Values.{Value, Int, Object, Region, An_object, An_array}
 use Rattle.dpj_meaning.specs.Actions.{Action, Answer, Effect, Read, Write, Look, New, Print, Enter, Exit, Do, Fork, Begin, Join, End, Rest}
 use Rattle.dpj_meaning.specs.Asking.{most_turns}

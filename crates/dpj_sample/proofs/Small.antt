@@ -13,10 +13,11 @@ use Rattle.dpj_typed.specs.Plain.{TypedStmt, more_stmts, no_stmts}
 use Rattle.dpj_typed.specs.Scope.{Scope, atomic_in, constant, frozen, variable}
 use Rattle.dpj_typed.specs.Statements.{AllPass, Passes, SameEffects, then', no_more}
 use Rattle.dpj_typed.specs.Types.{GoodArgs, GoodElem, GoodPath, Known, Readable}
-use Rattle.dpj_typed.specs.Typing.{Has, Operands, literal_int, operation, read_local, result_of}
+use Rattle.dpj_typed.specs.Typing.{Has, Takes, literal_int, operation, read_local}
 use Rattle.dpj_typed.specs.Samples.{below_root, number}
-use Rattle.dpj_typed.specs.declared.expr.BinaryOp.{BinaryOp}
-use Rattle.dpj_typed.specs.declared.expr.BinaryOp.TheVariants as op
+use Rattle.dpj_base.specs.declared.op.BinaryOp.{BinaryOp}
+use Rattle.dpj_base.specs.declared.op.BinaryOp.TheVariants as op
+use Rattle.dpj_base.specs.Operators.{operands_of, result_of}
 use Rattle.dpj_typed.specs.Plain.{ExprForm as expr}
 use Rattle.dpj_sample.specs.Sample.{sample, an_int, calculated, compared, local_of}
 
@@ -72,7 +73,7 @@ pub fixed : {L : Scope} {x : ℕ} {t : PlainType} → L.local x ≡ Some (consta
 fixed h = read_local (inr (inr h))
 
 -- an operation on two ints
-ints_fit : (o : BinaryOp) → Operands o int int
+ints_fit : (o : BinaryOp) → Takes (operands_of o) int int
 ints_fit op.Add = (refl, refl)
 ints_fit op.Subtract = (refl, refl)
 ints_fit op.Multiply = (refl, refl)

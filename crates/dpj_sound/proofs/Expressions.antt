@@ -13,15 +13,16 @@ use Rattle.dpj_base.specs.declared.value.Trap.TheVariants as trap
 use Rattle.dpj_base.specs.Matching.{Fits, Matches, put_in}
 use Rattle.dpj_base.specs.Regions.{substituted, is_any}
 use Rattle.dpj_base.specs.Types.{PlainType, int, class, array, type_with, path_at, type_at, rigid_in_index}
-use Rattle.dpj_typed.specs.declared.expr.BinaryOp.{BinaryOp}
-use Rattle.dpj_typed.specs.declared.expr.BinaryOp.TheVariants as op
+use Rattle.dpj_base.specs.declared.op.BinaryOp.{BinaryOp}
+use Rattle.dpj_base.specs.declared.op.BinaryOp.TheVariants as op
+use Rattle.dpj_base.specs.Operators.{result_of}
 use Rattle.dpj_typed.specs.Effects.{reads, does}
 use Rattle.dpj_typed.specs.Plain.{PlainProgram, PlainField}
 use Rattle.dpj_typed.specs.Scope.{Scope, constant, field_at}
 use Rattle.dpj_typed.specs.Scope.{Local as ScopeLocal}
 use Rattle.dpj_typed.specs.Table.{class_scope}
 use Rattle.dpj_typed.specs.Types.{Readable}
-use Rattle.dpj_typed.specs.Typing.{variable_elem, result_of}
+use Rattle.dpj_typed.specs.Typing.{variable_elem}
 use Rattle.dpj_typed.specs.WellTyped.{WellTyped}
 use Rattle.dpj_meaning.specs.Core.{Goes_on, Traps, Act}
 use Rattle.dpj_meaning.specs.Counts.{number, value_read, length_seen, slot_value}

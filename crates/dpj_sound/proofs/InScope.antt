@@ -22,9 +22,9 @@ use Rattle.dpj_typed.specs.Scope.{Local as ScopeLocal}
 use Rattle.dpj_typed.specs.Table.{class_scope, member_scope}
 use Rattle.dpj_typed.specs.Types.{GoodElem, GoodPath, LocalPath, GoodType}
 use Rattle.dpj_typed.specs.Typing.{variable_elem, index_elem, Has, literal_int, literal_boolean, literal_null, read_local, read_field, read_element, length_of_array, call_method, create_object, construct_object, make_array, negative, negation, operation, conjunction, disjunction, length_of_part, read_part}
-use Rattle.dpj_typed.specs.Typing.{result_of}
-use Rattle.dpj_typed.specs.declared.expr.BinaryOp.{BinaryOp}
-use Rattle.dpj_typed.specs.declared.expr.BinaryOp.TheVariants as op
+use Rattle.dpj_base.specs.declared.op.BinaryOp.{BinaryOp}
+use Rattle.dpj_base.specs.declared.op.BinaryOp.TheVariants as op
+use Rattle.dpj_base.specs.Operators.{result_of}
 use Rattle.dpj_typed.specs.WellTyped.{WellTyped}
 use Rattle.dpj_sound.specs.Scopes.{InScope, PathInScope, TypeInScope, GoodScope}
 use Rattle.dpj_sound.proofs.Closed.{IsClosed, ClosedPath, closed_path}

@@ -6,10 +6,10 @@ use Rattle.std.specs.Int.{w32, int_wrapping_add}
 use Rattle.std.specs.List.{list_any}
 use Rattle.std.specs.Ordering.{int_eq}
 use Rattle.std.proofs.lemmas.List.{reverse-append}
-use Rattle.dpj_typed.specs.declared.expr.BinaryOp.{BinaryOp}
-use Rattle.dpj_typed.specs.declared.expr.BinaryOp.TheVariants as op
-use Rattle.dpj_typed.specs.declared.expr.UnaryOp.{UnaryOp}
-use Rattle.dpj_typed.specs.declared.expr.UnaryOp.TheVariants.{Negate, Not}
+use Rattle.dpj_base.specs.declared.op.BinaryOp.{BinaryOp}
+use Rattle.dpj_base.specs.declared.op.BinaryOp.TheVariants as op
+use Rattle.dpj_base.specs.declared.op.UnaryOp.{UnaryOp}
+use Rattle.dpj_base.specs.declared.op.UnaryOp.TheVariants.{Negate, Not}
 use Rattle.dpj_typed.specs.declared.stmt.Forking.{Forking}
 use Rattle.dpj_typed.specs.Plain.{PlainProgram, PlainMember, TypedStmt, statement, TypedStmts, no_stmts, more_stmts, TypedBranches, no_branches, more_branches}
 use Rattle.dpj_typed.specs.Plain.{StmtForm as form}

@@ -12,15 +12,16 @@ use Rattle.dpj_base.specs.declared.value.Trap.TheVariants as trap
 use Rattle.dpj_base.specs.Matching.{Fits, put_in}
 use Rattle.dpj_base.specs.Regions.{substituted}
 use Rattle.dpj_base.specs.Types.{PlainType, int, boolean, void, null, class, array, type_with, path_at}
-use Rattle.dpj_typed.specs.declared.expr.BinaryOp.{BinaryOp}
-use Rattle.dpj_typed.specs.declared.expr.BinaryOp.TheVariants as op
+use Rattle.dpj_base.specs.declared.op.BinaryOp.{BinaryOp}
+use Rattle.dpj_base.specs.declared.op.BinaryOp.TheVariants as op
+use Rattle.dpj_base.specs.Operators.{result_of}
 use Rattle.dpj_typed.specs.Effects.{does, uses, reads}
 use Rattle.dpj_typed.specs.Effects.{Own as EffectOwn}
 use Rattle.dpj_typed.specs.Plain.{PlainProgram, TypedExpr, type_of, TypedExprs}
 use Rattle.dpj_typed.specs.Scope.{Scope, constant, variable, frozen, part}
 use Rattle.dpj_typed.specs.Typing.{Has, literal_int, literal_boolean, literal_null, read_local, read_field, read_element, length_of_array, call_method, create_object, construct_object, make_array, negative, negation, operation, conjunction, disjunction, length_of_part, read_part}
 use Rattle.dpj_typed.specs.Typing.{Fit}
-use Rattle.dpj_typed.specs.Typing.{result_of, index_elem}
+use Rattle.dpj_typed.specs.Typing.{index_elem}
 use Rattle.dpj_typed.specs.Typing.{Fit as fit}
 use Rattle.dpj_typed.specs.WellTyped.{WellTyped}
 use Rattle.dpj_meaning.specs.Core.{Goes_on, Traps}

@@ -2,7 +2,7 @@
 use Rattle.std.specs.Prelude.{ℕ, ℤ, pos, ◌≡◌, List, []}
 use Rattle.dpj_base.specs.Types.{int, boolean}
 use Rattle.dpj_base.specs.declared.value.Trap.TheVariants.{Divide}
-use Rattle.dpj_typed.specs.declared.expr.BinaryOp.TheVariants as op
+use Rattle.dpj_base.specs.declared.op.BinaryOp.TheVariants as op
 use Rattle.dpj_typed.specs.declared.stmt.Forking.TheVariants.{Deterministic}
 use Rattle.dpj_typed.specs.Plain.{PlainProgram, typed, more_stmts, no_branches, more_branches}
 use Rattle.dpj_typed.specs.Plain.{ExprForm as expr}

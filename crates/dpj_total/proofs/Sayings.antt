@@ -7,8 +7,8 @@ use Rattle.dpj_base.specs.declared.value.Trap.{Trap}
 use Rattle.dpj_base.specs.declared.value.Trap.TheVariants as trap
 use Rattle.dpj_base.specs.declared.value.Value.{Value as Constant}
 use Rattle.dpj_base.specs.declared.value.Value.TheVariants as constant
-use Rattle.dpj_typed.specs.declared.expr.BinaryOp.{BinaryOp}
-use Rattle.dpj_typed.specs.declared.expr.BinaryOp.TheVariants as op
+use Rattle.dpj_base.specs.declared.op.BinaryOp.{BinaryOp}
+use Rattle.dpj_base.specs.declared.op.BinaryOp.TheVariants as op
 use Rattle.dpj_meaning.specs.Counts.{how_many, number, operated, part_place, reference}
 use Rattle.dpj_meaning.specs.Regions.{around, concrete, is_long, some_long}
 use Rattle.dpj_meaning.specs.Values.{An_array, An_object, Any_index, Any_parts, Boolean, Int, Local, Naming, Null, Number, Object, Own_index, Part, Region, Region_name, Value}

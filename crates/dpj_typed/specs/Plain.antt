@@ -5,10 +5,10 @@ use Rattle.dpj_base.specs.declared.effect.Effect.{Effect}
 use Rattle.dpj_base.specs.declared.place.Place.{Place}
 use Rattle.dpj_base.specs.declared.region.Rpl.{Rpl}
 use Rattle.dpj_base.specs.Types.{PlainType, plain_type}
-use Rattle.dpj_typed.specs.declared.expr.BinaryOp.{BinaryOp}
+use Rattle.dpj_base.specs.declared.op.BinaryOp.{BinaryOp}
 use Rattle.dpj_typed.specs.declared.expr.Expr.{Expr, fold-Expr}
 use Rattle.dpj_typed.specs.declared.expr.ExprForm.TheOpen.{ExprForm-F, Expr-F}
-use Rattle.dpj_typed.specs.declared.expr.UnaryOp.{UnaryOp}
+use Rattle.dpj_base.specs.declared.op.UnaryOp.{UnaryOp}
 use Rattle.dpj_typed.specs.declared.program.Class.{Class}
 use Rattle.dpj_typed.specs.declared.program.Field.{Field}
 use Rattle.dpj_typed.specs.declared.program.Member.{Member}

@@ -8,9 +8,11 @@ use Rattle.dpj_base.specs.declared.place.Place.{Place}
 use Rattle.dpj_base.specs.declared.region.Rpl.{Rpl}
 use Rattle.dpj_base.specs.Regions.{is_any, substituted, fully_specified}
 use Rattle.dpj_base.specs.Types.{PlainType, int, boolean, void, null, class, array, type_with, path_at, type_at, rigid_in_index}
-use Rattle.dpj_typed.specs.declared.expr.BinaryOp.{BinaryOp}
-use Rattle.dpj_typed.specs.declared.expr.BinaryOp.TheVariants as op
-use Rattle.dpj_typed.specs.declared.expr.UnaryOp.TheVariants.{Negate, Not}
+use Rattle.dpj_base.specs.declared.op.BinaryOp.{BinaryOp}
+use Rattle.dpj_base.specs.declared.op.Operands.{Operands}
+use Rattle.dpj_base.specs.declared.op.Operands.TheVariants.{Ints, Same}
+use Rattle.dpj_base.specs.declared.op.UnaryOp.TheVariants.{Negate, Not}
+use Rattle.dpj_base.specs.Operators.{operands_of, result_of}
 use Rattle.dpj_typed.specs.Plain.{PlainProgram, PlainClass, PlainField, PlainMember, TypedExpr, typed, type_of, local, TypedExprs, no_exprs, more_exprs}
 use Rattle.dpj_typed.specs.Plain.{ExprForm as form}
 use Rattle.dpj_typed.specs.Scope.{Scope, Local, variable, frozen, constant, part, Above, IsBelow, class_at, member_at, field_at, row_at}
@@ -46,31 +48,9 @@ BothInts t u = (t ≡ int) × (u ≡ int)
 abbrev pub Comparable : PlainType → PlainType → Type 0
 Comparable t u = BothInts t u ⊎ ((t ≡ boolean) × (u ≡ boolean)) ⊎ (IsReference t × IsReference u)
 
-abbrev pub Operands : BinaryOp → PlainType → PlainType → Type 0
-Operands op.Equal t u = Comparable t u
-Operands op.NotEqual t u = Comparable t u
-Operands op.Add t u = BothInts t u
-Operands op.Subtract t u = BothInts t u
-Operands op.Multiply t u = BothInts t u
-Operands op.Divide t u = BothInts t u
-Operands op.Remainder t u = BothInts t u
-Operands op.Less t u = BothInts t u
-Operands op.AtMost t u = BothInts t u
-Operands op.Greater t u = BothInts t u
-Operands op.AtLeast t u = BothInts t u
-
-abbrev pub result_of : BinaryOp → PlainType
-result_of op.Add = int
-result_of op.Subtract = int
-result_of op.Multiply = int
-result_of op.Divide = int
-result_of op.Remainder = int
-result_of op.Equal = boolean
-result_of op.NotEqual = boolean
-result_of op.Less = boolean
-result_of op.AtMost = boolean
-result_of op.Greater = boolean
-result_of op.AtLeast = boolean
+abbrev pub Takes : Operands → PlainType → PlainType → Type 0
+Takes Ints t u = BothInts t u
+Takes Same t u = Comparable t u
 
 -- where nothing may reach an nd construct, no member does that the call may reach, by any class below
 abbrev pub StaysCalm : PlainProgram → Scope → ℕ → ℕ → Type 0
@@ -117,7 +97,7 @@ mutual
     negative : {at : Place} {e : TypedExpr} {E : List Own} → Has P L e E → type_of e ≡ int → Has P L (typed at int (form.unary Negate e)) E
     negation : {at : Place} {e : TypedExpr} {E : List Own} → Has P L e E → type_of e ≡ boolean → Has P L (typed at boolean (form.unary Not e)) E
     operation : {at : Place} {t : PlainType} {o : BinaryOp} {a b : TypedExpr} {E F : List Own} →
-        Has P L a E → Has P L b F → Operands o (type_of a) (type_of b) → t ≡ result_of o → Has P L (typed at t (form.binary o a b)) (E ++ F)
+        Has P L a E → Has P L b F → Takes (operands_of o) (type_of a) (type_of b) → t ≡ result_of o → Has P L (typed at t (form.binary o a b)) (E ++ F)
     conjunction : {at : Place} {a b : TypedExpr} {E F : List Own} →
         Has P L a E → type_of a ≡ boolean → Has P L b F → type_of b ≡ boolean → Has P L (typed at boolean (form.both a b)) (E ++ F)
     disjunction : {at : Place} {a b : TypedExpr} {E F : List Own} →

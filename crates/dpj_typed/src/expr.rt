@@ -1,28 +1,5 @@
 use crate::ids::{ClassId, FieldSlot, Row, Slot};
-use dpj_base::{Boxed, Items, Place, Rpl, Ty};
-
-/// An operation on one value.
-#[derive(Clone, Copy, Debug, PartialEq, Eq)]
-pub enum UnaryOp {
-    Negate,
-    Not,
-}
-
-/// An operation on two values, both of which are evaluated.
-#[derive(Clone, Copy, Debug, PartialEq, Eq)]
-pub enum BinaryOp {
-    Add,
-    Subtract,
-    Multiply,
-    Divide,
-    Remainder,
-    Equal,
-    NotEqual,
-    Less,
-    AtMost,
-    Greater,
-    AtLeast,
-}
+use dpj_base::{BinaryOp, Boxed, Items, Place, Rpl, Ty, UnaryOp};
 
 /// An expression. Its place is that at which its trap is reported.
 #[cycle(exprs)]

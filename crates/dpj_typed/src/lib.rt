@@ -18,7 +18,7 @@ pub mod laws;
 mod program;
 mod stmt;
 
-pub use expr::{BinaryOp, Expr, ExprForm, UnaryOp};
+pub use expr::{Expr, ExprForm};
 pub use ids::{ClassId, FieldSlot, LocalRegion, MemberId, Row, Slot};
 pub use program::{Class, Field, Member, Parent, Program, RegionName, RegionParam};
 pub use stmt::{Branch, Forking, PartSource, Stmt, StmtForm};

@@ -1,0 +1,80 @@
+ghost use Rattle.std.specs.Prelude.{◌≡◌};
+ghost use Rattle.dpj_base.specs.Operators.{operands_of, result_of, unary_type};
+ghost use Rattle.dpj_base.specs.Types.{plain_type};
+
+use crate::ty::Ty;
+
+/// An operation on one value.
+#[derive(Clone, Copy, Debug, PartialEq, Eq)]
+pub enum UnaryOp {
+    Negate,
+    Not,
+}
+
+/// An operation on two values, both of which are evaluated.
+#[derive(Clone, Copy, Debug, PartialEq, Eq)]
+pub enum BinaryOp {
+    Add,
+    Subtract,
+    Multiply,
+    Divide,
+    Remainder,
+    Equal,
+    NotEqual,
+    Less,
+    AtMost,
+    Greater,
+    AtLeast,
+}
+
+/// `&&` and `||`: the right operand is evaluated only where the left one leaves the result open.
+#[derive(Clone, Copy, Debug, PartialEq, Eq)]
+pub enum LogicOp {
+    And,
+    Or,
+}
+
+/// What an operation on two values takes.
+#[derive(Clone, Copy, Debug, PartialEq, Eq)]
+pub enum Operands {
+    /// Two ints.
+    Ints,
+    /// Two ints, two booleans or two references.
+    Same,
+}
+
+impl UnaryOp {
+    /// The type of the operand, and of the result.
+    pub fn ty(self) -> Ty
+        ensures { plain_type result ≡ unary_type self }
+    {
+        match self {
+            UnaryOp::Negate => Ty::Int,
+            UnaryOp::Not => Ty::Bool,
+        }
+    }
+}
+
+impl BinaryOp {
+    pub fn operands(self) -> Operands
+        ensures { result ≡ operands_of self }
+    {
+        match self {
+            BinaryOp::Equal | BinaryOp::NotEqual => Operands::Same,
+            _ => Operands::Ints,
+        }
+    }
+
+    pub fn result(self) -> Ty
+        ensures { plain_type result ≡ result_of self }
+    {
+        match self {
+            BinaryOp::Add
+            | BinaryOp::Subtract
+            | BinaryOp::Multiply
+            | BinaryOp::Divide
+            | BinaryOp::Remainder => Ty::Int,
+            _ => Ty::Bool,
+        }
+    }
+}
