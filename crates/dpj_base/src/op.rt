@@ -1,5 +1,5 @@
 ghost use Rattle.std.specs.Prelude.{◌≡◌};
-ghost use Rattle.dpj_base.specs.Operators.{operands_of, result_of, unary_type};
+ghost use Rattle.dpj_base.specs.Operators.{level_of, logic_level, operands_of, result_of, unary_type};
 ghost use Rattle.dpj_base.specs.Types.{plain_type};
 
 use crate::ty::Ty;
@@ -55,7 +55,31 @@ impl UnaryOp {
     }
 }
 
+impl LogicOp {
+    /// How tightly it binds.
+    pub fn level(self) -> u32
+        ensures { result ≡ logic_level self }
+    {
+        match self {
+            LogicOp::Or => 0,
+            LogicOp::And => 1,
+        }
+    }
+}
+
 impl BinaryOp {
+    /// How tightly it binds.
+    pub fn level(self) -> u32
+        ensures { result ≡ level_of self }
+    {
+        match self {
+            BinaryOp::Equal | BinaryOp::NotEqual => 2,
+            BinaryOp::Less | BinaryOp::AtMost | BinaryOp::Greater | BinaryOp::AtLeast => 3,
+            BinaryOp::Add | BinaryOp::Subtract => 4,
+            BinaryOp::Multiply | BinaryOp::Divide | BinaryOp::Remainder => 5,
+        }
+    }
+
     pub fn operands(self) -> Operands
         ensures { result ≡ operands_of self }
     {
