@@ -1,5 +1,5 @@
 ghost use Rattle.std.specs.Prelude.{◌≡◌};
-ghost use Rattle.dpj_base.specs.Operators.{level_of, logic_level, operands_of, result_of, unary_type};
+ghost use Rattle.dpj_base.specs.Operators.{binary_name, level_of, logic_level, operands_of, result_of, unary_name, unary_type};
 ghost use Rattle.dpj_base.specs.Types.{plain_type};
 
 use crate::ty::Ty;
@@ -53,6 +53,16 @@ impl UnaryOp {
             UnaryOp::Not => Ty::Bool,
         }
     }
+
+    /// Its name in a listing.
+    pub fn name(self) -> &'static str
+        ensures { result.now ≡ unary_name self }
+    {
+        match self {
+            UnaryOp::Negate => "neg",
+            UnaryOp::Not => "not",
+        }
+    }
 }
 
 impl LogicOp {
@@ -99,6 +109,25 @@ impl BinaryOp {
             | BinaryOp::Divide
             | BinaryOp::Remainder => Ty::Int,
             _ => Ty::Bool,
+        }
+    }
+
+    /// Its name in a listing.
+    pub fn name(self) -> &'static str
+        ensures { result.now ≡ binary_name self }
+    {
+        match self {
+            BinaryOp::Add => "add",
+            BinaryOp::Subtract => "sub",
+            BinaryOp::Multiply => "mul",
+            BinaryOp::Divide => "div",
+            BinaryOp::Remainder => "rem",
+            BinaryOp::Equal => "eq",
+            BinaryOp::NotEqual => "ne",
+            BinaryOp::Less => "lt",
+            BinaryOp::AtMost => "le",
+            BinaryOp::Greater => "gt",
+            BinaryOp::AtLeast => "ge",
         }
     }
 }

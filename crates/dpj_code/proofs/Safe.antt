@@ -8,7 +8,6 @@ use Rattle.dpj_base.specs.declared.value.Trap.{Trap}
 use Rattle.dpj_base.specs.declared.value.Trap.TheVariants as trap
 use Rattle.dpj_base.specs.declared.value.Value.{Value as Constant}
 use Rattle.dpj_base.specs.declared.op.BinaryOp.{BinaryOp}
-use Rattle.dpj_base.specs.declared.op.BinaryOp.TheVariants as op
 use Rattle.dpj_typed.specs.declared.stmt.Forking.{Forking}
 use Rattle.dpj_meaning.specs.Values.{Value, Int, Region, Naming}
 use Rattle.dpj_meaning.specs.Actions.{Frame}
@@ -433,19 +432,8 @@ module _ {N M : Type 0} (C : PlainCode) (F : CodeFit C) where
               falls r g fs s h.1 (record g.frame { values = slice_set g.frame.values k v }) st (length-set g.frame.values k v) refl (omega arith);
         })
     exec_safe at i.Pop w h = one_safe r g.stack _ (enough r g fs s h.path) (λ v st e. next_safe h st (omega arith))
-    exec_safe at i.Neg w h = one_safe r g.stack _ (enough r g fs s h.path) (λ v st e. next_safe h _ (omega arith))
-    exec_safe at i.Not w h = one_safe r g.stack _ (enough r g fs s h.path) (λ v st e. next_safe h _ (omega arith))
-    exec_safe at i.Add w h = operates_safe at op.Add h
-    exec_safe at i.Sub w h = operates_safe at op.Subtract h
-    exec_safe at i.Mul w h = operates_safe at op.Multiply h
-    exec_safe at i.Div w h = operates_safe at op.Divide h
-    exec_safe at i.Rem w h = operates_safe at op.Remainder h
-    exec_safe at i.Eq w h = operates_safe at op.Equal h
-    exec_safe at i.Ne w h = operates_safe at op.NotEqual h
-    exec_safe at i.Lt w h = operates_safe at op.Less h
-    exec_safe at i.Le w h = operates_safe at op.AtMost h
-    exec_safe at i.Gt w h = operates_safe at op.Greater h
-    exec_safe at i.Ge w h = operates_safe at op.AtLeast h
+    exec_safe at (i.Unary o) w h = one_safe r g.stack _ (enough r g fs s h.path) (λ v st e. next_safe h _ (omega arith))
+    exec_safe at (i.Binary o) w h = operates_safe at o h
     exec_safe at (i.Jump l) w h = record { is = falls r g fs s h g.frame g.stack refl refl (omega arith) }
     exec_safe at (i.Unless l) w h = one_safe r g.stack _ (enough r g fs s h.1.path) (λ v st e. test_safe l v st h.0 h.1 e (truth v))
     exec_safe at i.Turn w h = record { is = stays r g fs s h g.frame g.stack refl refl (omega arith) }

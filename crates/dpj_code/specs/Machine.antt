@@ -8,8 +8,6 @@ use Rattle.dpj_base.specs.declared.value.Trap.TheVariants as trap
 use Rattle.dpj_base.specs.declared.value.Value.{Value as Constant}
 use Rattle.dpj_base.specs.declared.value.Value.TheVariants as constant
 use Rattle.dpj_base.specs.declared.op.BinaryOp.{BinaryOp}
-use Rattle.dpj_base.specs.declared.op.BinaryOp.TheVariants as op
-use Rattle.dpj_base.specs.declared.op.UnaryOp.TheVariants.{Negate, Not}
 use Rattle.dpj_meaning.specs.Values.{Value, Int, Boolean, Null, Object, Region, An_object, An_array, Naming}
 use Rattle.dpj_meaning.specs.Actions.{Frame, Ending, Returned, Assigned, Trapped, Rest, Read, Write, Look, New, Print, Enter, Exit, Action, Do, Fork, Begin, Join, End, Answer, Reply, Next, Over, Unknown}
 use Rattle.dpj_meaning.specs.Counts.{number, truth, reference, value_read, is_out, length_seen, name_made, class_seen, class_entered, operated, unary, slot_value, padded, part_place, part_taken, how_many, assigned, Brought, Back, Trap_of_branch, brought, copied, text_of, line}
@@ -285,19 +283,8 @@ exec names C at i.Null g fs = pushes Null g fs
 exec names C at (i.Load k) g fs = pushes (slot_value g.frame.values k) g fs
 exec names C at (i.Store k) g fs = one g.stack (λ v st. Goes (On (record g { at = suc g.at; frame = with_value g.frame k v; stack = st }) fs))
 exec names C at i.Pop g fs = one g.stack (λ v st. Goes (next g st fs))
-exec names C at i.Neg g fs = one g.stack (λ v st. Goes (next g (unary Negate v ∷ st) fs))
-exec names C at i.Not g fs = one g.stack (λ v st. Goes (next g (unary Not v ∷ st) fs))
-exec names C at i.Add g fs = operates names at op.Add g fs
-exec names C at i.Sub g fs = operates names at op.Subtract g fs
-exec names C at i.Mul g fs = operates names at op.Multiply g fs
-exec names C at i.Div g fs = operates names at op.Divide g fs
-exec names C at i.Rem g fs = operates names at op.Remainder g fs
-exec names C at i.Eq g fs = operates names at op.Equal g fs
-exec names C at i.Ne g fs = operates names at op.NotEqual g fs
-exec names C at i.Lt g fs = operates names at op.Less g fs
-exec names C at i.Le g fs = operates names at op.AtMost g fs
-exec names C at i.Gt g fs = operates names at op.Greater g fs
-exec names C at i.Ge g fs = operates names at op.AtLeast g fs
+exec names C at (i.Unary o) g fs = one g.stack (λ v st. Goes (next g (unary o v ∷ st) fs))
+exec names C at (i.Binary o) g fs = operates names at o g fs
 exec names C at (i.Jump l) g fs = Goes (On (record g { at = l }) fs)
 exec names C at (i.Unless l) g fs = one g.stack (λ v st. Goes (On (record g { at = cond (truth v) (suc g.at) l; stack = st }) fs))
 exec names C at i.Turn g fs = Turns (next g g.stack fs)

@@ -1,3 +1,5 @@
+use dpj_base::{BinaryOp, UnaryOp};
+
 /// An instruction. A value is taken off the stack of the frame, and what it gives is put on.
 #[derive(Clone, Copy, Debug, PartialEq, Eq)]
 pub enum Instr {
@@ -8,19 +10,8 @@ pub enum Instr {
     Load(usize),
     Store(usize),
     Pop,
-    Neg,
-    Not,
-    Add,
-    Sub,
-    Mul,
-    Div,
-    Rem,
-    Eq,
-    Ne,
-    Lt,
-    Le,
-    Gt,
-    Ge,
+    Unary(UnaryOp),
+    Binary(BinaryOp),
     /// To another position of the body; and there where the value is false.
     Jump(usize),
     Unless(usize),

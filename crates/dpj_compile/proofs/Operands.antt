@@ -156,9 +156,6 @@ pub part_read : {s s1 s2 u : Emitted} (at : Place) (t : PlainType) (x : ℕ) (j 
     Emits s (λ k p. expr_piece k p (typed at t (form.part_element x j))) u
 part_read at t x j h l m = then_expr j h (emits_line (i.InPart x) at l m)
 
-pub line_is : {s t : Emitted} (at : Place) {x y : Instr} → x ≡ y → Emits s (λ k p. line x at nothing) t → Emits s (λ k p. line y at nothing) t
-line_is {s} {t} at is h = subst (λ z. Emits s (λ k p. line z at nothing) t) is h
-
 -- the places of the tests stand before the end
 pub both_below : (s s1 s2 : Emitted) (at : Place) (test : ℕ) (b : TypedExpr) → test ≡ length s.piece.lines → Emits s (λ k p. line (i.Unless 0) at nothing) s1 →
     Emits s1 (λ k p. expr_piece k p b) s2 → test < length s2.piece.lines

@@ -6,7 +6,6 @@ ghost use Rattle.dpj_gen.specs.Scheme.{expr_piece, exprs_piece};
 ghost use Rattle.dpj_compile.specs.Emitted.{emitted_of, Emits};
 
 use crate::emitter::Emitter;
-use crate::instrs;
 use crate::line::Sited;
 use crate::sites::{array_site, new_site};
 use dpj_base::{BinaryOp, Items, NoMemory, Place, Plain, Rpl, Ty, UnaryOp};
@@ -161,7 +160,7 @@ fn unary(
     ensures { (ty : PlainType) → OnOk result (Emits (emitted_of out.old) (λ k p. expr_piece k p (typed place ty (form.unary op (plain_expr arg.now)))) (emitted_of out.new)) }
 {
     expr(alloc, out, arg)?;
-    out.line(place, instrs::unary(op))
+    out.line(place, Instr::Unary(op))
 }
 
 /// An operation on two values.
@@ -178,7 +177,7 @@ fn binary(
 {
     expr(alloc, out, left)?;
     expr(alloc, out, right)?;
-    out.line(place, instrs::binary(op))
+    out.line(place, Instr::Binary(op))
 }
 
 /// `left && right`: where the left operand is false, the right one is passed over.

@@ -13,7 +13,6 @@ mod classes;
 mod emitter;
 mod exprs;
 mod forks;
-mod instrs;
 mod line;
 mod parts;
 mod pending;

@@ -15,8 +15,8 @@ ghost use Rattle.dpj_elide.specs.States.{Does};
 use crate::walker::{Over, Walker};
 use dpj_base::{BinaryOp, Bytes, Place, Trap, UnaryOp, Value};
 use dpj_frames::{
-    inverted, negated, number, operated, part_place, reference, set_slot, slot, slot_after,
-    text_line, value_line,
+    apply, number, operated, part_place, reference, set_slot, slot, slot_after, text_line,
+    value_line,
 };
 use dpj_store::Halt;
 use dpj_typed::{FieldSlot, Slot};
@@ -58,11 +58,8 @@ impl<'p> Walker<'p> {
     pub fn unary(&mut self, op: UnaryOp) -> Result<Option<Over>, Halt>
         ensures { Does (λ g ws w. At (pushed (unary op (slot_value g.operands 0)) (without 1 g)) ws w) self.old result self.new }
     {
-        let value = self.level.operand(0);
-        match op {
-            UnaryOp::Negate => self.give(1, negated(value)),
-            UnaryOp::Not => self.give(1, inverted(value)),
-        }
+        let value = apply(op, self.level.operand(0));
+        self.give(1, value)
     }
 
     /// An operation on the two operands on top.

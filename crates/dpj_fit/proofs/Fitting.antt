@@ -7,10 +7,6 @@ use Rattle.dpj_base.specs.declared.value.Value.{Value}
 use Rattle.dpj_base.specs.Regions.{fully_specified}
 use Rattle.dpj_base.specs.Types.{PlainType}
 use Rattle.dpj_base.specs.Types.{PlainType as ty}
-use Rattle.dpj_base.specs.declared.op.BinaryOp.{BinaryOp}
-use Rattle.dpj_base.specs.declared.op.BinaryOp.TheVariants as op
-use Rattle.dpj_base.specs.declared.op.UnaryOp.{UnaryOp}
-use Rattle.dpj_base.specs.declared.op.UnaryOp.TheVariants.{Negate, Not}
 use Rattle.dpj_typed.specs.declared.stmt.Forking.{Forking}
 use Rattle.dpj_typed.specs.Scope.{class_at}
 use Rattle.dpj_typed.specs.Plain.{PlainProgram, PlainClass, TypedExpr, typed, type_of, TypedExprs, no_exprs, more_exprs, of_array, of_part, TypedStmt, statement, TypedStmts, no_stmts, more_stmts, TypedBranches, no_branches, more_branches}
@@ -23,7 +19,7 @@ use Rattle.dpj_code.specs.Plain as code
 use Rattle.dpj_code.specs.Plain.{Method, method_at, ClassCode, Line, PlainCode, body_at, array_site}
 use Rattle.dpj_code.specs.Machine.{site_of}
 use Rattle.dpj_code.specs.Fit.{Mark, is_branch, Falls_to, puts_of, RowIs, left_by, site_at, Local}
-use Rattle.dpj_gen.specs.Scheme.{first_constant, is_void, many, after_expr, after_exprs, after_stmt, after_stmts, after_regions, instr_of, unary_instr, site_of_array, copy_lists}
+use Rattle.dpj_gen.specs.Scheme.{first_constant, is_void, many, after_expr, after_exprs, after_stmt, after_stmts, after_regions, site_of_array, copy_lists}
 use Rattle.dpj_gen.specs.Resolved.{RowGives, ExprFits, ExprsFit, VoidCall, PerformFits, StmtFits, StmtsFit}
 use Rattle.dpj_gen.specs.Stands.{LineAt, ExprAt, ExprsAt, PoppedAt, RegionsAt, StmtAt, StmtsAt}
 use Rattle.dpj_fit.specs.Closed.{IsAbove, IsFirst, Keeps}
@@ -151,40 +147,6 @@ module _ (C : PlainCode) (P : PlainProgram) (marks : ℕ → ℕ → Option Mark
     exprs_first no_exprs p h r z x y = y
     exprs_first (more_exprs e es) p h r z x y = expr_first e p _ _ _ (cut (marks j) _ (expr_reach e p _ _ _) x).0
 
-  unary_fits : (o : UnaryOp) (p : ℕ) (m : Mark) → Falls_to (marks j) m (suc p) 1 1 0 0 → Local C marks gives j p m (unary_instr o)
-  unary_fits Negate p m f = f
-  unary_fits Not p m f = f
-
-  binary_fits : (o : BinaryOp) (p : ℕ) (m : Mark) → Falls_to (marks j) m (suc p) 2 1 0 0 → Local C marks gives j p m (instr_of o)
-  binary_fits op.Add p m f = f
-  binary_fits op.Subtract p m f = f
-  binary_fits op.Multiply p m f = f
-  binary_fits op.Divide p m f = f
-  binary_fits op.Remainder p m f = f
-  binary_fits op.Equal p m f = f
-  binary_fits op.NotEqual p m f = f
-  binary_fits op.Less p m f = f
-  binary_fits op.AtMost p m f = f
-  binary_fits op.Greater p m f = f
-  binary_fits op.AtLeast p m f = f
-
-  unary_keeps : (o : UnaryOp) (p : ℕ) (m : Mark) → Keeps C (body_at C j) p m (unary_instr o)
-  unary_keeps Negate p m = tt
-  unary_keeps Not p m = tt
-
-  binary_keeps : (o : BinaryOp) (p : ℕ) (m : Mark) → Keeps C (body_at C j) p m (instr_of o)
-  binary_keeps op.Add p m = tt
-  binary_keeps op.Subtract p m = tt
-  binary_keeps op.Multiply p m = tt
-  binary_keeps op.Divide p m = tt
-  binary_keeps op.Remainder p m = tt
-  binary_keeps op.Equal p m = tt
-  binary_keeps op.NotEqual p m = tt
-  binary_keeps op.Less p m = tt
-  binary_keeps op.AtMost p m = tt
-  binary_keeps op.Greater p m = tt
-  binary_keeps op.AtLeast p m = tt
-
   call_falls : (y : Bool) (es : TypedExprs) (h k : ℕ) {r z q : ℕ} → marks j q ≡ Some (mark k r z) → k ≡ h + puts_of y →
       Falls_to (marks j) (mark (high (suc h) es) (suc r) z) q (suc (many es)) (puts_of y) 0 0
   call_falls y es h k e f = let u = high_is (suc h) es in falls (suc (many es)) (puts_of y) e (omega arith) (omega arith) (omega arith)
@@ -228,12 +190,12 @@ module _ (C : PlainCode) (P : PlainProgram) (marks : ℕ → ℕ → Option Mark
         (covers_one a.1.stands u.1.0 (s.0, s.1, a.1.site_is ∙ ap Some s.2, s.3, s.4) (s.0, s.1, a.1.site_is ∙ ap Some s.2, one_for_one y))
     fit_expr (typed at t (expr.unary o e)) p h r z ok w a x y =
         let u = cut (marks j) _ (expr_reach e p _ _ _) x in
-        covers_then (fit_expr e p _ _ _ ok w a.0 u.0 u.1.0) (covers_one a.1 u.1.0 (unary_keeps o _ (mark (suc h) (suc r) z)) (unary_fits o _ _ (one_for_one y)))
+        covers_then (fit_expr e p _ _ _ ok w a.0 u.0 u.1.0) (covers_one a.1 u.1.0 tt (one_for_one y))
     fit_expr (typed at t (expr.binary o b k)) p h r z ok w a x y =
         let u = cut (marks j) _ (expr_reach b p _ _ _) x in
         let v = cut (marks j) _ (expr_reach k _ _ _ _) u.1 in
         covers_then (fit_expr b p _ _ _ ok.0 w.0 a.0 u.0 (expr_first k _ _ _ _ v.0))
-        (covers_then (fit_expr k _ _ _ _ ok.1 w.1 a.1 v.0 v.1.0) (covers_one a.2 v.1.0 (binary_keeps o _ (mark (suc (suc h)) (suc r) z)) (binary_fits o _ _ (two_for_one y))))
+        (covers_then (fit_expr k _ _ _ _ ok.1 w.1 a.1 v.0 v.1.0) (covers_one a.2 v.1.0 tt (two_for_one y)))
     fit_expr (typed at t (expr.both b k)) p h r z ok w a x y =
         let u = cut (marks j) _ (expr_reach b p _ _ _) x in
         let v = cut (marks j) _ (expr_reach k _ _ _ _) u.1.1 in

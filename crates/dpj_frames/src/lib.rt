@@ -20,7 +20,7 @@ pub use classes::{Seen, class_entered, constructor_of, handed_up, regions_above}
 pub use entries::{call_values, entered, fresh_frame};
 pub use frame::Frame;
 pub use lines::{text_line, value_line};
-pub use operations::{inverted, negated, operated};
+pub use operations::{apply, operated};
 pub use parts::{part_place, set_slot_after, slot_after, take_part};
 pub use regions::{concrete, concrete_all, is_long, some_long};
 pub use stack::Stack;

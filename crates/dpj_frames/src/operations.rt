@@ -3,10 +3,9 @@ ghost use Rattle.dpj_meaning.specs.Counts.{same_value, unary, operated, divided}
 ghost use Rattle.dpj_frames.specs.Names.{plain_value, same_object};
 ghost use Rattle.std.specs.Int.{int_wrapping_div, w32};
 ghost use Rattle.std.specs.Prelude.{int_rem};
-ghost use Rattle.dpj_base.specs.declared.op.UnaryOp.TheVariants.{Negate, Not};
 
 use crate::values::{number, truth};
-use dpj_base::{BinaryOp, Value};
+use dpj_base::{BinaryOp, UnaryOp, Value};
 
 /// The value of an operation on two values; None where it divides by zero.
 #[inline]
@@ -60,16 +59,12 @@ fn same_value(left: Value, right: Value) -> bool
     }
 }
 
-/// The number with its sign turned.
-pub fn negated(value: Value) -> Value
-    ensures { plain_value result ≡ unary Negate (plain_value value) }
+/// The value of an operation on one value.
+pub fn apply(op: UnaryOp, value: Value) -> Value
+    ensures { plain_value result ≡ unary op (plain_value value) }
 {
-    Value::Int(number(value).wrapping_neg())
-}
-
-/// The other truth.
-pub fn inverted(value: Value) -> Value
-    ensures { plain_value result ≡ unary Not (plain_value value) }
-{
-    Value::Bool(!truth(value))
+    match op {
+        UnaryOp::Negate => Value::Int(number(value).wrapping_neg()),
+        UnaryOp::Not => Value::Bool(!truth(value)),
+    }
 }

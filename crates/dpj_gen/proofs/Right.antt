@@ -6,10 +6,6 @@ use Rattle.dpj_base.specs.declared.value.Trap.{Trap}
 use Rattle.dpj_base.specs.declared.value.Trap.TheVariants as trap
 use Rattle.dpj_base.specs.Types.{PlainType}
 use Rattle.dpj_base.specs.Types.{PlainType as ty}
-use Rattle.dpj_base.specs.declared.op.BinaryOp.{BinaryOp}
-use Rattle.dpj_base.specs.declared.op.BinaryOp.TheVariants as op
-use Rattle.dpj_base.specs.declared.op.UnaryOp.{UnaryOp}
-use Rattle.dpj_base.specs.declared.op.UnaryOp.TheVariants.{Negate, Not}
 use Rattle.dpj_typed.specs.Plain.{PlainProgram, PlainMember, TypedExpr, typed, TypedExprs, no_exprs, more_exprs}
 use Rattle.dpj_typed.specs.Plain.{ExprForm as expr}
 use Rattle.dpj_typed.specs.Scope as program
@@ -26,7 +22,7 @@ use Rattle.dpj_code.specs.declared.instr.Instr.{Instr}
 use Rattle.dpj_code.specs.declared.instr.Instr.TheVariants as i
 use Rattle.dpj_code.specs.Plain.{PlainCode, call_site, new_site, body_at, parent_of, constructor_of}
 use Rattle.dpj_code.specs.Machine.{State, Level, Stand, Goes, Waits, spot, exec, exec_line, step, or_trap, deeper, unless_long, reads, writes, cell_read, cell_written, taken, operates, called, calls, enters, calls_method, entered, created, creates, makes_array, array_of, returned, left_with}
-use Rattle.dpj_gen.specs.Scheme.{many, after_expr, after_exprs, instr_of, unary_instr, first_constant, site_of_array, owner_of}
+use Rattle.dpj_gen.specs.Scheme.{many, after_expr, after_exprs, first_constant, site_of_array, owner_of}
 use Rattle.dpj_gen.specs.Stands.{LineAt, SitedAt, ExprAt, ExprsAt, LaidOut}
 use Rattle.dpj_gen.specs.Resolved.{gives_value, RowGives, IsArray, ExprFits, ExprsFit, Resolved}
 use Rattle.dpj_gen.proofs.Does.{after, does_on}
@@ -57,20 +53,6 @@ no_more n = omega arith
 taken_is : {N M : Type 0} (ws st : List (Value N)) (k : List (Value N) → List (Value N) → Stand N M) → taken (length ws) (ws ++ st) k ≡ k ws st
 taken_is [] st k = refl
 taken_is (w ∷ ws) st k = taken_is ws st (λ vs rest. k (w ∷ vs) rest)
-
-operator_is : {N M : Type 0} (names : Naming N M) (C : PlainCode) (q : Place) (o : BinaryOp) (g : Level N M) (fs : List (Level N M)) →
-    exec names C q (instr_of o) g fs ≡ operates names q o g fs
-operator_is names C q op.Add g fs = refl
-operator_is names C q op.Subtract g fs = refl
-operator_is names C q op.Multiply g fs = refl
-operator_is names C q op.Divide g fs = refl
-operator_is names C q op.Remainder g fs = refl
-operator_is names C q op.Equal g fs = refl
-operator_is names C q op.NotEqual g fs = refl
-operator_is names C q op.Less g fs = refl
-operator_is names C q op.AtMost g fs = refl
-operator_is names C q op.Greater g fs = refl
-operator_is names C q op.AtLeast g fs = refl
 
 module _ {N M : Type 0} {names : Naming N M} {C : PlainCode} {P : PlainProgram} {d : ℕ} where
   -- by what there is: nothing traps
@@ -389,15 +371,10 @@ module _ {N M : Type 0} (names : Naming N M) (C : PlainCode) (P : PlainProgram) 
       right_expr dp dh (typed at t (expr.create_array n)) ok p st h f l =
           sim_then (right_expr dp dh n ok.0 p st h.0 f l) (λ v g m. right_create_array at t ok.1 _ st h.1 v g m)
       right_expr dp dh (typed at t (expr.unary o e)) ok p st h f l =
-          sim_then (right_expr dp dh e ok p st h.0 f l) (λ v g m. sim_value (unary o v) g m (one_operand o v g h.1))
-        where
-          one_operand : (o : UnaryOp) (v : Value N) (g : Frame N M) → LineAt (body_at C b).lines (after_expr p e) (unary_instr o) at →
-              step names C (spot b fs (after_expr p e) (v ∷ st) g) ≡ Goes (spot b fs (suc (after_expr p e)) (unary o v ∷ st) g)
-          one_operand Negate v g h = at_line b _ fs (v ∷ st) g h
-          one_operand Not v g h = at_line b _ fs (v ∷ st) g h
+          sim_then (right_expr dp dh e ok p st h.0 f l) (λ v g m. sim_value (unary o v) g m (at_line b _ fs (v ∷ st) g h.1))
       right_expr dp dh (typed at t (expr.binary o x z)) ok p st h f l =
           sim_then (right_expr dp dh x ok.0 p st h.0 f l) (λ v g m. sim_then (right_expr dp dh z ok.1 _ (v ∷ st) h.1 g m) (λ u g m.
-          sim_or trap.Divide at (operated names.same o v u) (at_line b _ fs (u ∷ v ∷ st) g h.2 ∙ operator_is names C at o (lvl b _ (u ∷ v ∷ st) g) fs)
+          sim_or trap.Divide at (operated names.same o v u) (at_line b _ fs (u ∷ v ∷ st) g h.2)
           (λ w q. sim_value w g m q)))
       right_expr dp dh (typed at t (expr.both x z)) ok p st h f l =
           sim_then (right_expr dp dh x ok.0 p st h.0 f l) (λ v g m. sim_test b _ _ fs st g (truth v) (at_line b _ fs (v ∷ st) g h.1)

@@ -9,7 +9,7 @@ use Rattle.dpj_typed.specs.Plain.{StmtForm as form}
 use Rattle.dpj_typed.specs.Samples.{here, below_root, number, this, int_local, does, program_of}
 use Rattle.dpj_meaning.specs.Samples.{prints_sum, counts, one_and_two}
 use Rattle.dpj_code.specs.declared.instr.Instr.{Instr}
-use Rattle.dpj_code.specs.declared.instr.Instr.TheVariants.{Int, Bool, Load, Store, Pop, Add, Sub, Lt, Gt, Jump, Unless, Turn, Put, Elem, PutElem, Length, Call, New, Array, Return, Leave, Print, Text, Fork, Spread, Join, End, Region, Enter, Exit, Part}
+use Rattle.dpj_code.specs.declared.instr.Instr.TheVariants.{Int, Bool, Load, Store, Pop, Binary, Jump, Unless, Turn, Put, Elem, PutElem, Length, Call, New, Array, Return, Leave, Print, Text, Fork, Spread, Join, End, Region, Enter, Exit, Part}
 use Rattle.dpj_code.specs.Plain.{PlainCode, fork_site}
 use Rattle.dpj_gen.specs.Whole.{compiled}
 
@@ -97,8 +97,8 @@ listing =
     (Load 1 ∷ Unless 5 ∷ Int (pos 1) ∷ Return ∷ Jump 7 ∷ Int (pos 2) ∷ Return ∷ []) ∷
     (Int (pos 3) ∷ New 0 ∷ Store 2 ∷ Load 2 ∷ Call 1 ∷ Load 2 ∷ Bool true ∷ Call 2 ∷ Pop ∷ Int (pos 4) ∷ New 3 ∷ Pop ∷ Int (pos 2) ∷ Array 4 ∷
     Store 3 ∷ Load 3 ∷
-    Int (pos 0) ∷ Load 3 ∷ Length ∷ PutElem ∷ Load 1 ∷ Int (pos 0) ∷ Gt ∷ Unless 26 ∷ Bool true ∷ Jump 27 ∷ Bool false ∷ Unless 30 ∷ Bool true ∷ Jump 31 ∷
-    Bool false ∷ Unless 38 ∷ Turn ∷ Load 1 ∷ Int (pos 1) ∷ Sub ∷ Store 1 ∷ Jump 20 ∷ Int (pos 0) ∷ Load 1 ∷ Spread 5 ∷ Join ∷ Load 3 ∷ Int (pos 0) ∷ Elem ∷
+    Int (pos 0) ∷ Load 3 ∷ Length ∷ PutElem ∷ Load 1 ∷ Int (pos 0) ∷ Binary op.Greater ∷ Unless 26 ∷ Bool true ∷ Jump 27 ∷ Bool false ∷ Unless 30 ∷ Bool true ∷ Jump 31 ∷
+    Bool false ∷ Unless 38 ∷ Turn ∷ Load 1 ∷ Int (pos 1) ∷ Binary op.Subtract ∷ Store 1 ∷ Jump 20 ∷ Int (pos 0) ∷ Load 1 ∷ Spread 5 ∷ Join ∷ Load 3 ∷ Int (pos 0) ∷ Elem ∷
     Return ∷ []) ∷
     (Load 4 ∷ Print ∷ Fork 6 ∷ Join ∷ End ∷ []) ∷
     (Text 0 ∷ End ∷ []) ∷ []
@@ -113,10 +113,10 @@ cuts_parts =
     (alone (does (form.return_value (number 0))))))
 
 pub record SamplesStand : Type 0 where
-  pub sum : instructions prints_sum ≡ (Int (pos 1) ∷ Int (pos 2) ∷ Add ∷ Print ∷ Int (pos 7) ∷ Return ∷ []) ∷ []
+  pub sum : instructions prints_sum ≡ (Int (pos 1) ∷ Int (pos 2) ∷ Binary op.Add ∷ Print ∷ Int (pos 7) ∷ Return ∷ []) ∷ []
   pub loop :
       instructions counts ≡
-      (Int (pos 0) ∷ Store 2 ∷ Load 2 ∷ Int (pos 5000) ∷ Lt ∷ Unless 12 ∷ Turn ∷ Load 2 ∷ Int (pos 1) ∷ Add ∷ Store 2 ∷ Jump 2 ∷ Load 2 ∷ Return ∷ []) ∷ []
+      (Int (pos 0) ∷ Store 2 ∷ Load 2 ∷ Int (pos 5000) ∷ Binary op.Less ∷ Unless 12 ∷ Turn ∷ Load 2 ∷ Int (pos 1) ∷ Binary op.Add ∷ Store 2 ∷ Jump 2 ∷ Load 2 ∷ Return ∷ []) ∷ []
   -- the branches stand after the method, each in a body of its own
   pub branches :
       instructions one_and_two ≡

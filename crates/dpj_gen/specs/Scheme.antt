@@ -6,10 +6,6 @@ use Rattle.dpj_base.specs.declared.value.Value.{Value}
 use Rattle.dpj_base.specs.declared.value.Value.TheVariants as constant
 use Rattle.dpj_base.specs.Types.{PlainType}
 use Rattle.dpj_base.specs.Types.{PlainType as ty}
-use Rattle.dpj_base.specs.declared.op.BinaryOp.{BinaryOp}
-use Rattle.dpj_base.specs.declared.op.BinaryOp.TheVariants as op
-use Rattle.dpj_base.specs.declared.op.UnaryOp.{UnaryOp}
-use Rattle.dpj_base.specs.declared.op.UnaryOp.TheVariants.{Negate, Not}
 use Rattle.dpj_typed.specs.declared.stmt.Forking.{Forking}
 use Rattle.dpj_typed.specs.declared.stmt.Forking.TheVariants.{Deterministic}
 use Rattle.dpj_typed.specs.Plain.{TypedExpr, typed, type_of, TypedExprs, no_exprs, more_exprs, of_array, of_part, TypedStmt, statement, TypedStmts, no_stmts, more_stmts, TypedBranches, no_branches, more_branches, PlainClass, PlainMember, PlainProgram}
@@ -97,23 +93,6 @@ abbrev mutual
   after_stmts p no_stmts = p
   after_stmts p (more_stmts s ss) = after_stmts (after_stmt p s) ss
 
-abbrev pub instr_of : BinaryOp → Instr
-instr_of op.Add = i.Add
-instr_of op.Subtract = i.Sub
-instr_of op.Multiply = i.Mul
-instr_of op.Divide = i.Div
-instr_of op.Remainder = i.Rem
-instr_of op.Equal = i.Eq
-instr_of op.NotEqual = i.Ne
-instr_of op.Less = i.Lt
-instr_of op.AtMost = i.Le
-instr_of op.Greater = i.Gt
-instr_of op.AtLeast = i.Ge
-
-abbrev pub unary_instr : UnaryOp → Instr
-unary_instr Negate = i.Neg
-unary_instr Not = i.Not
-
 -- the first value of a field or an element
 abbrev pub first_constant : PlainType → Value
 first_constant ty.int = constant.Int (pos 0)
@@ -141,9 +120,9 @@ abbrev mutual
   expr_piece k p (typed at t (expr.create es)) =
       then_next k (exprs_piece k p es) (λ k. with_site (new_site (class_in t).0 (many es) (class_in t).1) (line (i.New k.site) at nothing))
   expr_piece k p (typed at t (expr.create_array n)) = then_next k (expr_piece k p n) (λ k. with_site (site_of_array t) (line (i.Array k.site) at nothing))
-  expr_piece k p (typed at t (expr.unary o e)) = then_next k (expr_piece k p e) (λ k. line (unary_instr o) at nothing)
+  expr_piece k p (typed at t (expr.unary o e)) = then_next k (expr_piece k p e) (λ k. line (i.Unary o) at nothing)
   expr_piece k p (typed at t (expr.binary o a b)) =
-      then_next k (expr_piece k p a) (λ k. then_next k (expr_piece k (after_expr p a) b) (λ k. line (instr_of o) at nothing))
+      then_next k (expr_piece k p a) (λ k. then_next k (expr_piece k (after_expr p a) b) (λ k. line (i.Binary o) at nothing))
   -- [a] unless L1 [b] jump L2; L1: bool false; L2:
   expr_piece k p (typed at t (expr.both a b)) =
       then_next k (expr_piece k p a) (λ k. line (i.Unless (suc (after_expr (suc (after_expr p a)) b))) at

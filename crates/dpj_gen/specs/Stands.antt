@@ -13,7 +13,7 @@ use Rattle.dpj_code.specs.declared.instr.Instr.{Instr}
 use Rattle.dpj_code.specs.declared.instr.Instr.TheVariants as i
 use Rattle.dpj_code.specs.Plain.{Line, PlainBody, Site, fork_site, spread_site, block_site, call_site, new_site, PlainCode, body_at}
 use Rattle.dpj_code.specs.Machine.{copies_of}
-use Rattle.dpj_gen.specs.Scheme.{is_void, closes, many, after_expr, after_exprs, after_stmt, after_stmts, instr_of, unary_instr, site_of_array, copy_lists, class_code}
+use Rattle.dpj_gen.specs.Scheme.{is_void, closes, many, after_expr, after_exprs, after_stmt, after_stmts, site_of_array, copy_lists, class_code}
 
 -- at p stands this instruction
 abbrev pub LineAt : List Line → ℕ → Instr → Place → Type 0
@@ -44,8 +44,8 @@ module _ (C : PlainCode) where
         ExprAt c p e × ExprsAt c (after_expr p e) es × SitedAt c (after_exprs (after_expr p e) es) i.Call at (call_site d r (many es) regions)
     ExprAt c p (typed at t (expr.create es)) = ExprsAt c p es × SitedAt c (after_exprs p es) i.New at (new_site (class_in t).0 (many es) (class_in t).1)
     ExprAt c p (typed at t (expr.create_array n)) = ExprAt c p n × SitedAt c (after_expr p n) i.Array at (site_of_array t)
-    ExprAt c p (typed at t (expr.unary o e)) = ExprAt c p e × LineAt c (after_expr p e) (unary_instr o) at
-    ExprAt c p (typed at t (expr.binary o a b)) = ExprAt c p a × ExprAt c (after_expr p a) b × LineAt c (after_expr (after_expr p a) b) (instr_of o) at
+    ExprAt c p (typed at t (expr.unary o e)) = ExprAt c p e × LineAt c (after_expr p e) (i.Unary o) at
+    ExprAt c p (typed at t (expr.binary o a b)) = ExprAt c p a × ExprAt c (after_expr p a) b × LineAt c (after_expr (after_expr p a) b) (i.Binary o) at
     ExprAt c p (typed at t (expr.both a b)) =
         ExprAt c p a × LineAt c (after_expr p a) (i.Unless (suc (after_expr (suc (after_expr p a)) b))) at × ExprAt c (suc (after_expr p a)) b ×
         LineAt c (after_expr (suc (after_expr p a)) b) (i.Jump (after_expr p (typed at t (expr.both a b)))) at ×

@@ -4,7 +4,6 @@ use Rattle.dpj_base.specs.declared.place.Place.{Place}
 use Rattle.dpj_base.specs.declared.value.Trap.{Trap}
 use Rattle.dpj_base.specs.declared.value.Trap.TheVariants as trap
 use Rattle.dpj_base.specs.declared.op.BinaryOp.{BinaryOp}
-use Rattle.dpj_base.specs.declared.op.BinaryOp.TheVariants as op
 use Rattle.dpj_meaning.specs.Counts.{number, operated, part_place, slot_value}
 use Rattle.dpj_meaning.specs.Values.{Value, Int}
 use Rattle.dpj_meaning.specs.Actions as meaning
@@ -68,19 +67,8 @@ module _ (x : meaning.Answer ℕ (ℕ × ℕ)) (s : State ℕ (ℕ × ℕ)) wher
   idle C task at g fs (i.Load k) h0 h1 h2 h3 h4 h5 h6 h7 h8 h9 h10 h11 h12 h13 h14 = tt
   idle C task at g fs (i.Store k) h0 h1 h2 h3 h4 h5 h6 h7 h8 h9 h10 h11 h12 h13 h14 = one_idle g.stack _ (λ v rest. tt)
   idle C task at g fs i.Pop h0 h1 h2 h3 h4 h5 h6 h7 h8 h9 h10 h11 h12 h13 h14 = one_idle g.stack _ (λ v rest. tt)
-  idle C task at g fs i.Neg h0 h1 h2 h3 h4 h5 h6 h7 h8 h9 h10 h11 h12 h13 h14 = one_idle g.stack _ (λ v rest. tt)
-  idle C task at g fs i.Not h0 h1 h2 h3 h4 h5 h6 h7 h8 h9 h10 h11 h12 h13 h14 = one_idle g.stack _ (λ v rest. tt)
-  idle C task at g fs i.Add h0 h1 h2 h3 h4 h5 h6 h7 h8 h9 h10 h11 h12 h13 h14 = operates_idle task at op.Add g fs
-  idle C task at g fs i.Sub h0 h1 h2 h3 h4 h5 h6 h7 h8 h9 h10 h11 h12 h13 h14 = operates_idle task at op.Subtract g fs
-  idle C task at g fs i.Mul h0 h1 h2 h3 h4 h5 h6 h7 h8 h9 h10 h11 h12 h13 h14 = operates_idle task at op.Multiply g fs
-  idle C task at g fs i.Div h0 h1 h2 h3 h4 h5 h6 h7 h8 h9 h10 h11 h12 h13 h14 = operates_idle task at op.Divide g fs
-  idle C task at g fs i.Rem h0 h1 h2 h3 h4 h5 h6 h7 h8 h9 h10 h11 h12 h13 h14 = operates_idle task at op.Remainder g fs
-  idle C task at g fs i.Eq h0 h1 h2 h3 h4 h5 h6 h7 h8 h9 h10 h11 h12 h13 h14 = operates_idle task at op.Equal g fs
-  idle C task at g fs i.Ne h0 h1 h2 h3 h4 h5 h6 h7 h8 h9 h10 h11 h12 h13 h14 = operates_idle task at op.NotEqual g fs
-  idle C task at g fs i.Lt h0 h1 h2 h3 h4 h5 h6 h7 h8 h9 h10 h11 h12 h13 h14 = operates_idle task at op.Less g fs
-  idle C task at g fs i.Le h0 h1 h2 h3 h4 h5 h6 h7 h8 h9 h10 h11 h12 h13 h14 = operates_idle task at op.AtMost g fs
-  idle C task at g fs i.Gt h0 h1 h2 h3 h4 h5 h6 h7 h8 h9 h10 h11 h12 h13 h14 = operates_idle task at op.Greater g fs
-  idle C task at g fs i.Ge h0 h1 h2 h3 h4 h5 h6 h7 h8 h9 h10 h11 h12 h13 h14 = operates_idle task at op.AtLeast g fs
+  idle C task at g fs (i.Unary o) h0 h1 h2 h3 h4 h5 h6 h7 h8 h9 h10 h11 h12 h13 h14 = one_idle g.stack _ (λ v rest. tt)
+  idle C task at g fs (i.Binary o) h0 h1 h2 h3 h4 h5 h6 h7 h8 h9 h10 h11 h12 h13 h14 = operates_idle task at o g fs
   idle C task at g fs (i.Jump k) h0 h1 h2 h3 h4 h5 h6 h7 h8 h9 h10 h11 h12 h13 h14 = tt
   idle C task at g fs (i.Unless k) h0 h1 h2 h3 h4 h5 h6 h7 h8 h9 h10 h11 h12 h13 h14 = one_idle g.stack _ (λ v rest. tt)
   idle C task at g fs i.Turn h0 h1 h2 h3 h4 h5 h6 h7 h8 h9 h10 h11 h12 h13 h14 = tt

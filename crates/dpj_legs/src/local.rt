@@ -3,7 +3,6 @@ ghost use Rattle.dpj_meaning.specs.Counts.{unary, truth, slot_value, part_taken}
 ghost use Rattle.dpj_meaning.specs.Statements.{with_value, with_values};
 ghost use Rattle.dpj_meaning.specs.Expressions.{none};
 ghost use Rattle.dpj_meaning.specs.Values.{Int};
-ghost use Rattle.dpj_base.specs.declared.op.UnaryOp.TheVariants.{Negate, Not};
 ghost use Rattle.dpj_code.specs.Machine.{exec, pushes, one, two, next, operates, in_part, returned, left_with, Goes, Turns, On};
 ghost use Rattle.dpj_code.specs.Plain.{PlainCode};
 ghost use Rattle.dpj_frames.specs.Names.{plain_value};
@@ -16,11 +15,9 @@ use crate::action::Ending;
 use crate::pace::Pace;
 use crate::step::Step;
 use crate::task::Level;
-use dpj_base::{BinaryOp, NoMemory, Place, Trap, Value};
+use dpj_base::{BinaryOp, NoMemory, Place, Trap, UnaryOp, Value};
 use dpj_code::Instr;
-use dpj_frames::{
-    Stack, inverted, negated, number, operated, part_place, set_slot, slot, take_part, truth,
-};
+use dpj_frames::{Stack, apply, number, operated, part_place, set_slot, slot, take_part, truth};
 
 impl Level {
     /// An instruction of values and jumps; at any other the level stays as it is.
@@ -37,19 +34,8 @@ impl Level {
             Instr::Load(at) => self.load(at),
             Instr::Store(at) => self.store(at),
             Instr::Pop => self.discard(),
-            Instr::Neg => self.negate(),
-            Instr::Not => self.invert(),
-            Instr::Add => self.operate(BinaryOp::Add),
-            Instr::Sub => self.operate(BinaryOp::Subtract),
-            Instr::Mul => self.operate(BinaryOp::Multiply),
-            Instr::Div => self.operate(BinaryOp::Divide),
-            Instr::Rem => self.operate(BinaryOp::Remainder),
-            Instr::Eq => self.operate(BinaryOp::Equal),
-            Instr::Ne => self.operate(BinaryOp::NotEqual),
-            Instr::Lt => self.operate(BinaryOp::Less),
-            Instr::Le => self.operate(BinaryOp::AtMost),
-            Instr::Gt => self.operate(BinaryOp::Greater),
-            Instr::Ge => self.operate(BinaryOp::AtLeast),
+            Instr::Unary(op) => self.apply(op),
+            Instr::Binary(op) => self.operate(op),
             Instr::Jump(to) => self.jump(to),
             Instr::Unless(to) => self.jump_unless(to),
             Instr::Turn => self.turn(),
@@ -125,30 +111,16 @@ impl Level {
         Pace::Goes
     }
 
-    /// The number on top with its sign turned.
-    fn negate(&mut self) -> Pace
+    /// An operation on the value on top.
+    fn apply(&mut self, op: UnaryOp) -> Pace
         requires { HasNext self.old }
-        ensures pace { Paces (λ place fs. one (plain_level self.old).stack (λ v st. Goes (next (plain_level self.old) (unary Negate v ∷ st) fs))) self.old result self.new }
+        ensures pace { Paces (λ place fs. one (plain_level self.old).stack (λ v st. Goes (next (plain_level self.old) (unary op v ∷ st) fs))) self.old result self.new }
         ensures own { IsOwn self.old result self.new }
     {
         let Some(value) = self.stack.top() else {
             return Pace::Stuck;
         };
-        self.stack.set_top(negated(value));
-        self.at += 1;
-        Pace::Goes
-    }
-
-    /// The other truth on top.
-    fn invert(&mut self) -> Pace
-        requires { HasNext self.old }
-        ensures pace { Paces (λ place fs. one (plain_level self.old).stack (λ v st. Goes (next (plain_level self.old) (unary Not v ∷ st) fs))) self.old result self.new }
-        ensures own { IsOwn self.old result self.new }
-    {
-        let Some(value) = self.stack.top() else {
-            return Pace::Stuck;
-        };
-        self.stack.set_top(inverted(value));
+        self.stack.set_top(apply(op, value));
         self.at += 1;
         Pace::Goes
     }

@@ -2,6 +2,7 @@
 use Rattle.std.specs.Prelude.{ℕ, suc, ◌-◌, true, false, List, [], ◌∷◌, ◌++◌, map, length, replicate, codes}
 use Rattle.std.specs.Fmt.{decimal, signed_decimal}
 use Rattle.std.specs.List.{flat_map}
+use Rattle.dpj_base.specs.Operators.{unary_name, binary_name}
 use Rattle.dpj_code.specs.declared.code.Body.{Body}
 use Rattle.dpj_code.specs.declared.code.Code.{Code}
 use Rattle.dpj_code.specs.declared.code.Title.{Title}
@@ -17,19 +18,8 @@ instr_name i.Null = codes "null"
 instr_name (i.Load slot) = codes "load"
 instr_name (i.Store slot) = codes "store"
 instr_name i.Pop = codes "pop"
-instr_name i.Neg = codes "neg"
-instr_name i.Not = codes "not"
-instr_name i.Add = codes "add"
-instr_name i.Sub = codes "sub"
-instr_name i.Mul = codes "mul"
-instr_name i.Div = codes "div"
-instr_name i.Rem = codes "rem"
-instr_name i.Eq = codes "eq"
-instr_name i.Ne = codes "ne"
-instr_name i.Lt = codes "lt"
-instr_name i.Le = codes "le"
-instr_name i.Gt = codes "gt"
-instr_name i.Ge = codes "ge"
+instr_name (i.Unary o) = unary_name o
+instr_name (i.Binary o) = binary_name o
 instr_name (i.Jump label) = codes "jump"
 instr_name (i.Unless label) = codes "unless"
 instr_name i.Turn = codes "turn"

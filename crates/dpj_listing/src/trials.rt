@@ -1,5 +1,5 @@
 use crate::listing;
-use dpj_base::{Bytes, Items, NoMemory};
+use dpj_base::{BinaryOp, Bytes, Items, NoMemory};
 use dpj_code::{Body, Code, Instr, Title};
 use std::alloc::Global;
 use std::test::Fail;
@@ -51,12 +51,12 @@ fn counting(alloc: Global) -> Result<Code, NoMemory> {
     let main = [
         Instr::Load(1),
         Instr::Int(-7),
-        Instr::Gt,
+        Instr::Binary(BinaryOp::Greater),
         Instr::Unless(10),
         Instr::Turn,
         Instr::Load(1),
         Instr::Int(1),
-        Instr::Sub,
+        Instr::Binary(BinaryOp::Subtract),
         Instr::Store(1),
         Instr::Jump(0),
         Instr::Bool(true),

@@ -8,7 +8,6 @@ use Rattle.dpj_base.specs.declared.value.Trap.TheVariants as trap
 use Rattle.dpj_base.specs.declared.value.Value.{Value as Constant}
 use Rattle.dpj_typed.specs.declared.stmt.Forking.{Forking}
 use Rattle.dpj_base.specs.declared.op.BinaryOp.{BinaryOp}
-use Rattle.dpj_base.specs.declared.op.BinaryOp.TheVariants as op
 use Rattle.dpj_meaning.specs.Values.{Value, Int, Object, Region, An_object, An_array}
 use Rattle.dpj_meaning.specs.Actions.{Frame, Answer, Read, Write, Look, New, Do, Fork, Begin, Join, End, Fell, Trapped}
 use Rattle.dpj_meaning.specs.Counts.{number, reference, value_read, is_out, length_seen, name_made, class_seen, class_entered, operated, slot_value, how_many, part_place}
@@ -311,19 +310,8 @@ module _ (C : PlainCode) (FJ : ForksAreJoined C) (firsts : FirstNumbers) (nexts 
   exec_keeps at (i.Load x) e = record { is = tt }
   exec_keeps at (i.Store x) e = keeps_one C Here g.stack _ (λ v st. record { is = tt })
   exec_keeps at i.Pop e = keeps_one C Here g.stack _ (λ v st. record { is = tt })
-  exec_keeps at i.Neg e = keeps_one C Here g.stack _ (λ v st. record { is = tt })
-  exec_keeps at i.Not e = keeps_one C Here g.stack _ (λ v st. record { is = tt })
-  exec_keeps at i.Add e = operates_keep at op.Add
-  exec_keeps at i.Sub e = operates_keep at op.Subtract
-  exec_keeps at i.Mul e = operates_keep at op.Multiply
-  exec_keeps at i.Div e = operates_keep at op.Divide
-  exec_keeps at i.Rem e = operates_keep at op.Remainder
-  exec_keeps at i.Eq e = operates_keep at op.Equal
-  exec_keeps at i.Ne e = operates_keep at op.NotEqual
-  exec_keeps at i.Lt e = operates_keep at op.Less
-  exec_keeps at i.Le e = operates_keep at op.AtMost
-  exec_keeps at i.Gt e = operates_keep at op.Greater
-  exec_keeps at i.Ge e = operates_keep at op.AtLeast
+  exec_keeps at (i.Unary o) e = keeps_one C Here g.stack _ (λ v st. record { is = tt })
+  exec_keeps at (i.Binary o) e = operates_keep at o
   exec_keeps at (i.Jump n) e = record { is = tt }
   exec_keeps at (i.Unless n) e = keeps_one C Here g.stack _ (λ v st. record { is = tt })
   exec_keeps at i.Turn e = record { is = tt }

@@ -4,16 +4,12 @@ use Rattle.dpj_base.specs.declared.place.Place.{Place}
 use Rattle.dpj_typed.specs.Plain.{TypedExpr, typed, type_of, TypedExprs, no_exprs, more_exprs, of_array, of_part, TypedStmt, statement, TypedStmts, no_stmts, more_stmts, PlainMember, PlainProgram}
 use Rattle.dpj_typed.specs.Plain.{ExprForm as expr}
 use Rattle.dpj_typed.specs.Plain.{StmtForm as form}
-use Rattle.dpj_base.specs.declared.op.BinaryOp.{BinaryOp}
-use Rattle.dpj_base.specs.declared.op.BinaryOp.TheVariants as op
-use Rattle.dpj_base.specs.declared.op.UnaryOp.{UnaryOp}
-use Rattle.dpj_base.specs.declared.op.UnaryOp.TheVariants.{Negate, Not}
 use Rattle.dpj_code.specs.declared.instr.Instr.{Instr}
 use Rattle.dpj_code.specs.declared.instr.Instr.TheVariants as i
 use Rattle.dpj_code.specs.Plain.{Line, PlainBody, Site, PlainCode, body_at, body_or_none}
 use Rattle.dpj_code.specs.Machine.{branch_site}
 use Rattle.dpj_gen.specs.Pieces.{Branch, Piece, Next, past, nothing, line, with_site, with_text, with_branches, beside}
-use Rattle.dpj_gen.specs.Scheme.{is_void, closes, instr_of, unary_instr, expr_piece, exprs_piece, stmt_piece, stmts_piece, regions_piece}
+use Rattle.dpj_gen.specs.Scheme.{is_void, closes, expr_piece, exprs_piece, stmt_piece, stmts_piece, regions_piece}
 use Rattle.dpj_gen.specs.Whole.{weight_all, branch_piece_of, branch_piece, place_of, closing, member_piece, generate, in_member, member_output, past_output, members_output, first, compiled}
 
 -- what stands after a fork or a spread
@@ -69,23 +65,6 @@ branched : {a : Piece} (bs : List Branch) → Pairs a → Pairs (with_branches b
 unfolding with_branches
 branched bs h = record { is = h.is }
 
-operates : (o : BinaryOp) → branch_site (instr_of o) ≡ None
-operates op.Add = refl
-operates op.Subtract = refl
-operates op.Multiply = refl
-operates op.Divide = refl
-operates op.Remainder = refl
-operates op.Equal = refl
-operates op.NotEqual = refl
-operates op.Less = refl
-operates op.AtMost = refl
-operates op.Greater = refl
-operates op.AtLeast = refl
-
-operates_one : (o : UnaryOp) → branch_site (unary_instr o) ≡ None
-operates_one Negate = refl
-operates_one Not = refl
-
 mutual
   expr_pairs : (k : Next) (p : ℕ) (e : TypedExpr) → Pairs (expr_piece k p e)
   expr_pairs k p (typed at t (expr.int n)) = next _ _ refl stop
@@ -98,8 +77,8 @@ mutual
   expr_pairs k p (typed at t (expr.call e c r regions es)) = both (expr_pairs k p e) (both (exprs_pairs _ _ es) (sited _ (next _ _ refl stop)))
   expr_pairs k p (typed at t (expr.create es)) = both (exprs_pairs k p es) (sited _ (next _ _ refl stop))
   expr_pairs k p (typed at t (expr.create_array n)) = both (expr_pairs k p n) (sited _ (next _ _ refl stop))
-  expr_pairs k p (typed at t (expr.unary o e)) = both (expr_pairs k p e) (next _ _ (operates_one o) stop)
-  expr_pairs k p (typed at t (expr.binary o a b)) = both (expr_pairs k p a) (both (expr_pairs _ _ b) (next _ _ (operates o) stop))
+  expr_pairs k p (typed at t (expr.unary o e)) = both (expr_pairs k p e) (next _ _ refl stop)
+  expr_pairs k p (typed at t (expr.binary o a b)) = both (expr_pairs k p a) (both (expr_pairs _ _ b) (next _ _ refl stop))
   expr_pairs k p (typed at t (expr.both a b)) =
       both (expr_pairs k p a) (next _ _ refl (both (expr_pairs _ _ b) (next _ _ refl (next _ _ refl stop))))
   expr_pairs k p (typed at t (expr.either a b)) = both (expr_pairs k p a) (next _ _ refl (next _ _ refl (next _ _ refl (expr_pairs _ _ b))))

@@ -5,7 +5,6 @@ use Rattle.dpj_base.specs.declared.value.Trap.{Trap}
 use Rattle.dpj_base.specs.declared.value.Trap.TheVariants as trap
 use Rattle.dpj_base.specs.declared.value.Value.{Value as Constant}
 use Rattle.dpj_base.specs.declared.op.BinaryOp.{BinaryOp}
-use Rattle.dpj_base.specs.declared.op.BinaryOp.TheVariants as op
 use Rattle.dpj_meaning.specs.Values.{Value, Int, Object, Region, An_object, An_array}
 use Rattle.dpj_meaning.specs.Actions.{Action, Answer, Effect, Read, Write, Look, New, Print, Enter, Exit, Do, Fork, Begin, Join, End, Rest}
 use Rattle.dpj_meaning.specs.Asking.{most_turns}
@@ -253,19 +252,8 @@ module _ (C : PlainCode) (k : ℕ) (g : LevelIn) (fs : List LevelIn) where
   exec_leads at (i.Load x) = record { is = refl }
   exec_leads at (i.Store x) = leads_one C Here g.stack _ (λ v st. record { is = refl })
   exec_leads at i.Pop = leads_one C Here g.stack _ (λ v st. record { is = refl })
-  exec_leads at i.Neg = leads_one C Here g.stack _ (λ v st. record { is = refl })
-  exec_leads at i.Not = leads_one C Here g.stack _ (λ v st. record { is = refl })
-  exec_leads at i.Add = operates_lead at op.Add
-  exec_leads at i.Sub = operates_lead at op.Subtract
-  exec_leads at i.Mul = operates_lead at op.Multiply
-  exec_leads at i.Div = operates_lead at op.Divide
-  exec_leads at i.Rem = operates_lead at op.Remainder
-  exec_leads at i.Eq = operates_lead at op.Equal
-  exec_leads at i.Ne = operates_lead at op.NotEqual
-  exec_leads at i.Lt = operates_lead at op.Less
-  exec_leads at i.Le = operates_lead at op.AtMost
-  exec_leads at i.Gt = operates_lead at op.Greater
-  exec_leads at i.Ge = operates_lead at op.AtLeast
+  exec_leads at (i.Unary o) = leads_one C Here g.stack _ (λ v st. record { is = refl })
+  exec_leads at (i.Binary o) = operates_lead at o
   exec_leads at (i.Jump n) = record { is = refl }
   exec_leads at (i.Unless n) = leads_one C Here g.stack _ (λ v st. record { is = refl })
   exec_leads at i.Turn = record { is = refl }

@@ -8,8 +8,6 @@ use Rattle.dpj_base.specs.declared.value.Trap.TheVariants as trap
 use Rattle.dpj_base.specs.declared.value.Value.{Value as Constant}
 use Rattle.dpj_base.specs.declared.value.Value.TheVariants as constant
 use Rattle.dpj_base.specs.declared.op.BinaryOp.{BinaryOp}
-use Rattle.dpj_base.specs.declared.op.BinaryOp.TheVariants as op
-use Rattle.dpj_base.specs.declared.op.UnaryOp.TheVariants.{Negate, Not}
 use Rattle.dpj_meaning.specs.Values.{Value, Region}
 use Rattle.dpj_typed.specs.declared.stmt.Forking.{Forking}
 use Rattle.dpj_meaning.specs.Actions.{Frame, Assigned, Read, Write, Print, Do, Fork}
@@ -425,19 +423,8 @@ module _ (C : PlainCode) (k : ℕ) (p : Path) {w : Sight} (d : Distinct w.names)
   exec_like at (i.Load x) l ls = goes_like (next_like l ls (more_values (slot_like l.frame.values x) l.stack))
   exec_like at (i.Store x) l ls = one_like l.stack (λ v u st ut a s. goes_like (on_like (with_values_like l (set_like l.frame.values x a) s) ls))
   exec_like at i.Pop l ls = one_like l.stack (λ v u st ut a s. goes_like (next_like l ls s))
-  exec_like at i.Neg l ls = one_like l.stack (λ v u st ut a s. goes_like (next_like l ls (more_values (unary_like Negate a) s)))
-  exec_like at i.Not l ls = one_like l.stack (λ v u st ut a s. goes_like (next_like l ls (more_values (unary_like Not a) s)))
-  exec_like at i.Add l ls = operates_like at op.Add l ls
-  exec_like at i.Sub l ls = operates_like at op.Subtract l ls
-  exec_like at i.Mul l ls = operates_like at op.Multiply l ls
-  exec_like at i.Div l ls = operates_like at op.Divide l ls
-  exec_like at i.Rem l ls = operates_like at op.Remainder l ls
-  exec_like at i.Eq l ls = operates_like at op.Equal l ls
-  exec_like at i.Ne l ls = operates_like at op.NotEqual l ls
-  exec_like at i.Lt l ls = operates_like at op.Less l ls
-  exec_like at i.Le l ls = operates_like at op.AtMost l ls
-  exec_like at i.Gt l ls = operates_like at op.Greater l ls
-  exec_like at i.Ge l ls = operates_like at op.AtLeast l ls
+  exec_like at (i.Unary o) l ls = one_like l.stack (λ v u st ut a s. goes_like (next_like l ls (more_values (unary_like o a) s)))
+  exec_like at (i.Binary o) l ls = operates_like at o l ls
   exec_like at (i.Jump n) l ls = goes_like (on_like (record { body = l.body; at = refl; frame = l.frame; stack = l.stack }) ls)
   exec_like at (i.Unless n) {g} {h} l ls =
       one_like l.stack (λ v u st ut a s. goes_like (jumped_like 0 0 (suc g.at) (suc h.at) n (truth v) (truth u) (ap (λ n. suc n) l.at) (truth_like a) l s ls))

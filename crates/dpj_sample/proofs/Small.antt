@@ -16,7 +16,8 @@ use Rattle.dpj_typed.specs.Types.{GoodArgs, GoodElem, GoodPath, Known, Readable}
 use Rattle.dpj_typed.specs.Typing.{Has, Takes, literal_int, operation, read_local}
 use Rattle.dpj_typed.specs.Samples.{below_root, number}
 use Rattle.dpj_base.specs.declared.op.BinaryOp.{BinaryOp}
-use Rattle.dpj_base.specs.declared.op.BinaryOp.TheVariants as op
+use Rattle.dpj_base.specs.declared.op.Operands.{Operands}
+use Rattle.dpj_base.specs.declared.op.Operands.TheVariants.{Ints, Same}
 use Rattle.dpj_base.specs.Operators.{operands_of, result_of}
 use Rattle.dpj_typed.specs.Plain.{ExprForm as expr}
 use Rattle.dpj_sample.specs.Sample.{sample, an_int, calculated, compared, local_of}
@@ -73,26 +74,17 @@ pub fixed : {L : Scope} {x : ℕ} {t : PlainType} → L.local x ≡ Some (consta
 fixed h = read_local (inr (inr h))
 
 -- an operation on two ints
-ints_fit : (o : BinaryOp) → Takes (operands_of o) int int
-ints_fit op.Add = (refl, refl)
-ints_fit op.Subtract = (refl, refl)
-ints_fit op.Multiply = (refl, refl)
-ints_fit op.Divide = (refl, refl)
-ints_fit op.Remainder = (refl, refl)
-ints_fit op.Equal = inl (refl, refl)
-ints_fit op.NotEqual = inl (refl, refl)
-ints_fit op.Less = (refl, refl)
-ints_fit op.AtMost = (refl, refl)
-ints_fit op.Greater = (refl, refl)
-ints_fit op.AtLeast = (refl, refl)
+ints_fit : (o : Operands) → Takes o int int
+ints_fit Ints = (refl, refl)
+ints_fit Same = inl (refl, refl)
 
 pub calculates : {L : Scope} {o : BinaryOp} {f g : expr} {E F : List Own} → Has sample L (an_int f) E → Has sample L (an_int g) F
     → int ≡ result_of o → Has sample L (calculated o (an_int f) (an_int g)) (E ++ F)
-calculates {o = o} h k e = operation h k (ints_fit o) e
+calculates {o = o} h k e = operation h k (ints_fit (operands_of o)) e
 
 pub compares : {L : Scope} {o : BinaryOp} {f g : expr} {E F : List Own} → Has sample L (an_int f) E → Has sample L (an_int g) F
     → boolean ≡ result_of o → Has sample L (compared o (an_int f) (an_int g)) (E ++ F)
-compares {o = o} h k e = operation h k (ints_fit o) e
+compares {o = o} h k e = operation h k (ints_fit (operands_of o)) e
 
 -- a name that is declared, as a region
 pub named_good : (L : Scope) (depth n : ℕ) → n < 3 → GoodPath sample L depth (below_root (Name n ∷ []))

@@ -113,12 +113,7 @@ module _ (P : PlainProgram) (b : Bounds) where
   order_operation R st same at op.Multiply v u f small k = k _ (mul_fits (number v) (number u))
   order_operation R st same at op.Divide v u f small k = order_divided R st at f _ _ (k _ (div_fits (number v) (number u) small))
   order_operation R st same at op.Remainder v u f small k = order_divided R st at f _ _ (k _ (rem_fits (number v) (number u) small))
-  order_operation R st same at op.Equal v u f small k = k _ tt
-  order_operation R st same at op.NotEqual v u f small k = k _ tt
-  order_operation R st same at op.Less v u f small k = k _ tt
-  order_operation R st same at op.AtMost v u f small k = k _ tt
-  order_operation R st same at op.Greater v u f small k = k _ tt
-  order_operation R st same at op.AtLeast v u f small k = k _ tt
+  order_operation R st same at o v u f small k = k _ tt
 
   module _ (wt : WellTyped P) (L : Scope) (g : Setting) where
     -- a local's value, and its number where it stands in paths

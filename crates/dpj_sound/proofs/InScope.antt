@@ -310,17 +310,8 @@ index_in L (typed at t (form.local x)) = variable_index L x (L.local x) refl
 index_in L _ = (tt, tt)
 
 result_in : (L : Scope) (o : BinaryOp) → TypeInScope L 0 (result_of o)
-result_in L op.Add = tt
-result_in L op.Subtract = tt
-result_in L op.Multiply = tt
-result_in L op.Divide = tt
-result_in L op.Remainder = tt
 result_in L op.Equal = tt
-result_in L op.NotEqual = tt
-result_in L op.Less = tt
-result_in L op.AtMost = tt
-result_in L op.Greater = tt
-result_in L op.AtLeast = tt
+result_in L o = tt
 
 module _ (P : PlainProgram) (wt : WellTyped P) (L : Scope) where
   pub above_in : {c d : ℕ} {args owned : List Rpl} → Above P c args d owned → All (PathInScope L 0) args → All (PathInScope L 0) owned

@@ -224,17 +224,8 @@ module _ (outer : ℕ → Bool) where
   out_placed L D (array t a named) h g = let p = or_parts (has_index (suc D) a) _ h in (out_placed_path L (suc D) a p.0 g.0, out_placed L (suc D) t p.1 g.1)
 
   result_placed : (L : Scope) (o : BinaryOp) → TypePlaced outer L 0 (result_of o)
-  result_placed L op.Add = tt
-  result_placed L op.Subtract = tt
-  result_placed L op.Multiply = tt
-  result_placed L op.Divide = tt
-  result_placed L op.Remainder = tt
   result_placed L op.Equal = tt
-  result_placed L op.NotEqual = tt
-  result_placed L op.Less = tt
-  result_placed L op.AtMost = tt
-  result_placed L op.Greater = tt
-  result_placed L op.AtLeast = tt
+  result_placed L o = tt
 
   module _ (P : PlainProgram) (wt : WellTyped P) (L : Scope) where
     field_placed : (c j : ℕ) (args : List Rpl) (f : PlainField) → field_at P c j ≡ Some f → All (PathInScope (with_outer outer L) 0) args → TypePlaced outer L 0 (type_with args f.ty)

@@ -85,12 +85,7 @@ small_operated same op.Subtract v u w h e = some_small _ w e (sub_fits (number v
 small_operated same op.Multiply v u w h e = some_small _ w e (mul_fits (number v) (number u))
 small_operated same op.Divide v u w h e = divided_small _ (number u) w (div_fits (number v) (number u) h) e
 small_operated same op.Remainder v u w h e = divided_small _ (number u) w (rem_fits (number v) (number u) h) e
-small_operated same op.Equal v u w h e = some_small _ w e zero_fits
-small_operated same op.NotEqual v u w h e = some_small _ w e zero_fits
-small_operated same op.Less v u w h e = some_small _ w e zero_fits
-small_operated same op.AtMost v u w h e = some_small _ w e zero_fits
-small_operated same op.Greater v u w h e = some_small _ w e zero_fits
-small_operated same op.AtLeast v u w h e = some_small _ w e zero_fits
+small_operated same o v u w h e = some_small _ w e zero_fits
 
 -- slots
 pub small_nil : AreSmall []

@@ -57,17 +57,8 @@ type_alone L (array t a named) h = tt
 
 result_fits : (P : PlainProgram) (S T : Shapes) (g : Setting) (o : BinaryOp) (w : Value) → FitsIn P S (class_env []) (result_of o) w →
     FitsIn P T (env_of g) (result_of o) w
-result_fits P S T g op.Add w f = f
-result_fits P S T g op.Subtract w f = f
-result_fits P S T g op.Multiply w f = f
-result_fits P S T g op.Divide w f = f
-result_fits P S T g op.Remainder w f = f
 result_fits P S T g op.Equal w f = f
-result_fits P S T g op.NotEqual w f = f
-result_fits P S T g op.Less w f = f
-result_fits P S T g op.AtMost w f = f
-result_fits P S T g op.Greater w f = f
-result_fits P S T g op.AtLeast w f = f
+result_fits P S T g o w f = f
 
 -- values in front of others, the latest first
 abbrev onto : List Value → List Value → List Value

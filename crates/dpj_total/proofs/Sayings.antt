@@ -8,7 +8,6 @@ use Rattle.dpj_base.specs.declared.value.Trap.TheVariants as trap
 use Rattle.dpj_base.specs.declared.value.Value.{Value as Constant}
 use Rattle.dpj_base.specs.declared.value.Value.TheVariants as constant
 use Rattle.dpj_base.specs.declared.op.BinaryOp.{BinaryOp}
-use Rattle.dpj_base.specs.declared.op.BinaryOp.TheVariants as op
 use Rattle.dpj_meaning.specs.Counts.{how_many, number, operated, part_place, reference}
 use Rattle.dpj_meaning.specs.Regions.{around, concrete, is_long, some_long}
 use Rattle.dpj_meaning.specs.Values.{An_array, An_object, Any_index, Any_parts, Boolean, Int, Local, Naming, Null, Number, Object, Own_index, Part, Region, Region_name, Value}
@@ -221,19 +220,8 @@ module _ (N : Naming ℕ (ℕ × ℕ)) (C : PlainCode) where
     exec_right (i.Load k) = record { right = tt }
     exec_right (i.Store k) = one_right g.stack _ (λ v st. record { right = tt })
     exec_right i.Pop = one_right g.stack _ (λ v st. record { right = tt })
-    exec_right i.Neg = one_right g.stack _ (λ v st. record { right = tt })
-    exec_right i.Not = one_right g.stack _ (λ v st. record { right = tt })
-    exec_right i.Add = operates_right op.Add
-    exec_right i.Sub = operates_right op.Subtract
-    exec_right i.Mul = operates_right op.Multiply
-    exec_right i.Div = operates_right op.Divide
-    exec_right i.Rem = operates_right op.Remainder
-    exec_right i.Eq = operates_right op.Equal
-    exec_right i.Ne = operates_right op.NotEqual
-    exec_right i.Lt = operates_right op.Less
-    exec_right i.Le = operates_right op.AtMost
-    exec_right i.Gt = operates_right op.Greater
-    exec_right i.Ge = operates_right op.AtLeast
+    exec_right (i.Unary o) = one_right g.stack _ (λ v st. record { right = tt })
+    exec_right (i.Binary o) = operates_right o
     exec_right (i.Jump l) = record { right = tt }
     exec_right (i.Unless l) = one_right g.stack _ (λ v st. record { right = tt })
     exec_right i.Turn = record { right = tt }

@@ -8,7 +8,7 @@ use Rattle.dpj_gen.specs.Scheme.{exprs_piece}
 use Rattle.dpj_compile.specs.Emitted.{emitted_of, after}
 use Rattle.dpj_compile.proofs.Emits.{on_ok}
 use Rattle.dpj_compile.proofs.Forms.{at_Field, at_Element, at_Length, at_Call, at_New, at_NewArray, at_Unary, at_Binary, at_And, at_Or, at_PartElement}
-use Rattle.dpj_compile.proofs.Operands.{expr_is, line_is, one_operand, two_operands, both_emitted, either_emitted, both_below, either_below, called, made, made_array, part_read, site_is, one_more, none_more, next_is}
+use Rattle.dpj_compile.proofs.Operands.{expr_is, one_operand, two_operands, both_emitted, either_emitted, both_below, either_below, called, made, made_array, part_read, site_is, one_more, none_more, next_is}
 use Rattle.dpj_compile.proofs.exprs.+exprs.Goals as goal
 
 pub expr-returns-in-Field : goal.expr-returns-in-Field
@@ -72,12 +72,12 @@ new_array-returns t c =
 
 pub unary-returns : goal.unary-returns
 unary-returns t c = λ ty.
-    on_ok c.line.result (λ h. one_operand _ _ (plain_expr c.args.arg.now) c.in_ok-expr.ensures (line_is _ c.unary.ensures h)) c.line.ensures
+    on_ok c.line.result (λ h. one_operand _ _ (plain_expr c.args.arg.now) c.in_ok-expr.ensures h) c.line.ensures
 
 pub binary-returns : goal.binary-returns
 binary-returns t c = λ ty.
-    on_ok c.line.result (λ h. two_operands _ _ (plain_expr c.args.left.now) (plain_expr c.args.right.now) c.in_ok-expr.ensures c.in_ok-expr-2.ensures
-    (line_is _ c.binary.ensures h)) c.line.ensures
+    on_ok c.line.result (λ h. two_operands _ _ (plain_expr c.args.left.now) (plain_expr c.args.right.now) c.in_ok-expr.ensures c.in_ok-expr-2.ensures h)
+    c.line.ensures
 
 pub both-close_both-requires : goal.both-close_both-requires
 both-close_both-requires t c =

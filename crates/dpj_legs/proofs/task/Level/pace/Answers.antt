@@ -24,44 +24,11 @@ returns-in-Store-clause-pace c = λ task C. rw c.in-Store.is c.store.ensures.pac
 pub returns-in-Pop-clause-pace : goal.returns-in-Pop-clause-pace
 returns-in-Pop-clause-pace c = λ task C. rw c.in-Pop.is c.discard.ensures.pace
 
-pub returns-in-Neg-clause-pace : goal.returns-in-Neg-clause-pace
-returns-in-Neg-clause-pace c = λ task C. rw c.in-Neg.is c.negate.ensures.pace
+pub returns-in-Unary-clause-pace : goal.returns-in-Unary-clause-pace
+returns-in-Unary-clause-pace c = λ task C. rw c.in-Unary.is c.apply.ensures.pace
 
-pub returns-in-Not-clause-pace : goal.returns-in-Not-clause-pace
-returns-in-Not-clause-pace c = λ task C. rw c.in-Not.is c.invert.ensures.pace
-
-pub returns-in-Add-clause-pace : goal.returns-in-Add-clause-pace
-returns-in-Add-clause-pace c = λ task C. rw c.in-Add.is c.operate.ensures.pace
-
-pub returns-in-Sub-clause-pace : goal.returns-in-Sub-clause-pace
-returns-in-Sub-clause-pace c = λ task C. rw c.in-Sub.is c.operate-in-Sub.ensures.pace
-
-pub returns-in-Mul-clause-pace : goal.returns-in-Mul-clause-pace
-returns-in-Mul-clause-pace c = λ task C. rw c.in-Mul.is c.operate-in-Mul.ensures.pace
-
-pub returns-in-Div-clause-pace : goal.returns-in-Div-clause-pace
-returns-in-Div-clause-pace c = λ task C. rw c.in-Div.is c.operate-in-Div.ensures.pace
-
-pub returns-in-Rem-clause-pace : goal.returns-in-Rem-clause-pace
-returns-in-Rem-clause-pace c = λ task C. rw c.in-Rem.is c.operate-in-Rem.ensures.pace
-
-pub returns-in-Eq-clause-pace : goal.returns-in-Eq-clause-pace
-returns-in-Eq-clause-pace c = λ task C. rw c.in-Eq.is c.operate-in-Eq.ensures.pace
-
-pub returns-in-Ne-clause-pace : goal.returns-in-Ne-clause-pace
-returns-in-Ne-clause-pace c = λ task C. rw c.in-Ne.is c.operate-in-Ne.ensures.pace
-
-pub returns-in-Lt-clause-pace : goal.returns-in-Lt-clause-pace
-returns-in-Lt-clause-pace c = λ task C. rw c.in-Lt.is c.operate-in-Lt.ensures.pace
-
-pub returns-in-Le-clause-pace : goal.returns-in-Le-clause-pace
-returns-in-Le-clause-pace c = λ task C. rw c.in-Le.is c.operate-in-Le.ensures.pace
-
-pub returns-in-Gt-clause-pace : goal.returns-in-Gt-clause-pace
-returns-in-Gt-clause-pace c = λ task C. rw c.in-Gt.is c.operate-in-Gt.ensures.pace
-
-pub returns-in-Ge-clause-pace : goal.returns-in-Ge-clause-pace
-returns-in-Ge-clause-pace c = λ task C. rw c.in-Ge.is c.operate-in-Ge.ensures.pace
+pub returns-in-Binary-clause-pace : goal.returns-in-Binary-clause-pace
+returns-in-Binary-clause-pace c = λ task C. rw c.in-Binary.is c.operate.ensures.pace
 
 pub returns-in-Jump-clause-pace : goal.returns-in-Jump-clause-pace
 returns-in-Jump-clause-pace c = λ task C. rw c.in-Jump.is c.jump.ensures.pace
