@@ -236,8 +236,8 @@ index_names L (typed at t (form.local x)) = variable_names L x (L.local x) refl
 index_names L _ = tt
 
 result_names : (L : Scope) (o : BinaryOp) → TypeNames (IsIndex L) (IsRegion L) (result_of o)
-result_names L op.Equal = tt
-result_names L o = tt
+result_names L op.Add = tt
+result_names L _ = tt
 
 module _ (P : PlainProgram) (signed : Signed P)
   where

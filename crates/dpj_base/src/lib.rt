@@ -1,7 +1,8 @@
 //! The vocabulary of dpj: what every other crate names and none of them owns.
 //!
 //! Here stand places in a text, region paths with their elements, effects, constraints and types, the
-//! values and traps of a run, its limits and its outcome, and every refusal that the checker can give.
+//! operators, the values and traps of a run, its limits and its outcome, and every refusal that the
+//! checker can give.
 //! Beside them stand four small containers, `Items`, `Boxed`, `Bytes` and `Elems`, which a contract sees
 //! as what they hold and nothing else.
 //!

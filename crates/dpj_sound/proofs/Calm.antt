@@ -278,7 +278,7 @@ module _ (P : PlainProgram) (b : Bounds) where
         calm_expr (negation h te) f fs = calm_then E (Back E false) _ _ (calm_expr h f fs) (λ v g vs gs. (refl, tt, (small_unary Not v, gs)))
         calm_expr (operation {at = at} {o = o} ha hc ops eq) f fs =
             calm_then E (Back E false) _ _ (calm_expr ha f fs) (λ v g vs gs. calm_then E (Back E false) _ _ (calm_expr hc g gs)
-            (λ u h us hs. calm_or E (Back E false) (operated names.same o v u) _ _ tt (λ w e. (refl, tt, (small_operated names.same o v u w vs e, hs)))))
+            (λ u h us hs. calm_or E (Back E false) (operated names.same o v u) _ _ tt (λ w e. (refl, tt, (small_operated P names.same o v u w vs e, hs)))))
         calm_expr (conjunction ha ta hc tc) f fs =
             calm_then E (Back E false) _ _ (calm_expr ha f fs) (λ v g vs gs. calm_by E (Back E false) (truth v) _ _ (refl, tt, (zero_fits, gs)) (calm_expr hc g gs))
         calm_expr (disjunction ha ta hc tc) f fs =

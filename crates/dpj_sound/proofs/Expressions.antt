@@ -10,11 +10,10 @@ use Rattle.dpj_base.specs.declared.place.Place.{Place}
 use Rattle.dpj_base.specs.declared.region.Rpl.{Rpl}
 use Rattle.dpj_base.specs.declared.value.Trap.{Trap}
 use Rattle.dpj_base.specs.declared.value.Trap.TheVariants as trap
-use Rattle.dpj_base.specs.Matching.{Fits, Matches, put_in}
+use Rattle.dpj_base.specs.Matching.{Env, Fits, Matches, put_in}
 use Rattle.dpj_base.specs.Regions.{substituted, is_any}
 use Rattle.dpj_base.specs.Types.{PlainType, int, class, array, type_with, path_at, type_at, rigid_in_index}
 use Rattle.dpj_base.specs.declared.op.BinaryOp.{BinaryOp}
-use Rattle.dpj_base.specs.declared.op.BinaryOp.TheVariants as op
 use Rattle.dpj_base.specs.Operators.{result_of}
 use Rattle.dpj_typed.specs.Effects.{reads, does}
 use Rattle.dpj_typed.specs.Plain.{PlainProgram, PlainField}
@@ -25,7 +24,7 @@ use Rattle.dpj_typed.specs.Types.{Readable}
 use Rattle.dpj_typed.specs.Typing.{variable_elem}
 use Rattle.dpj_typed.specs.WellTyped.{WellTyped}
 use Rattle.dpj_meaning.specs.Core.{Goes_on, Traps, Act}
-use Rattle.dpj_meaning.specs.Counts.{number, value_read, length_seen, slot_value}
+use Rattle.dpj_meaning.specs.Counts.{number, operated, value_read, length_seen, slot_value}
 use Rattle.dpj_meaning.specs.Expressions.{gives, operation, unless_null, read_cell}
 use Rattle.dpj_regions.proofs.Putting.{specified_matches_one}
 use Rattle.dpj_runs.specs.Actions.{Read, Look, Answer, Went, Got, Out, Class, Length, Named, Joined, Fell}
@@ -42,7 +41,7 @@ use Rattle.dpj_sound.proofs.Including.{includes_matched}
 use Rattle.dpj_sound.proofs.Indices.{IsIndexElem, fits_at_up, region_at_up}
 use Rattle.dpj_sound.proofs.Classes.{good_is, field_good, field_is, stands_args}
 use Rattle.dpj_sound.proofs.InScope.{paths_alone}
-use Rattle.dpj_sound.proofs.Ints.{add_fits, sub_fits, mul_fits, div_fits, rem_fits, length_fits}
+use Rattle.dpj_sound.proofs.Ints.{length_fits, operated_fits}
 use Rattle.dpj_sound.proofs.Work.{since_after}
 
 -- an effect that is no mark of a block speaks of a read
@@ -99,21 +98,14 @@ module _ (P : PlainProgram) (b : Bounds) where
   abbrev after_operation : Place → Frame → Option Value → Prog
   after_operation at f o = elim o as (λ z. Prog) [ None ↦ Traps trap.Divide at | Some w ↦ gives w f ]
 
-  order_divided : (R : State → Result → Type 0) (st : State) (at : Place) (f : Frame) (z : ℤ) (c : Bool) → R st (Goes_on (Int z) f) →
-      InOrder P b R st (after_operation at f (cond c None (Some (Int z))))
+  pub order_operation : (R : State → Result → Type 0) (st : State) (env : Env) (same : Name → Name → Bool) (at : Place) (o : BinaryOp) (v u : Value) (f : Frame) →
+      FitsSigned w32 (number v) → ((w : Value) → FitsIn P st.shapes env (result_of o) w → R st (Goes_on w f)) → InOrder P b R st (operation same at o v u f)
   unfolding InOrder
-  order_divided R st at f z true r = tt
-  order_divided R st at f z false r = r
-
-  pub order_operation : (R : State → Result → Type 0) (st : State) (same : Name → Name → Bool) (at : Place) (o : BinaryOp) (v u : Value) (f : Frame) → FitsSigned w32 (number v) →
-      ((w : Value) → FitsIn P st.shapes (class_env []) (result_of o) w → R st (Goes_on w f)) → InOrder P b R st (operation same at o v u f)
-  unfolding InOrder
-  order_operation R st same at op.Add v u f small k = k _ (add_fits (number v) (number u))
-  order_operation R st same at op.Subtract v u f small k = k _ (sub_fits (number v) (number u))
-  order_operation R st same at op.Multiply v u f small k = k _ (mul_fits (number v) (number u))
-  order_operation R st same at op.Divide v u f small k = order_divided R st at f _ _ (k _ (div_fits (number v) (number u) small))
-  order_operation R st same at op.Remainder v u f small k = order_divided R st at f _ _ (k _ (rem_fits (number v) (number u) small))
-  order_operation R st same at o v u f small k = k _ tt
+  order_operation R st env same at o v u f small k = go (operated same o v u) (λ w e. k w (operated_fits P st.shapes env same o v u w small e))
+    where
+      go : (x : Option Value) → ((w : Value) → x ≡ Some w → R st (Goes_on w f)) → InOrder P b R st (after_operation at f x)
+      go None h = tt
+      go (Some w) h = h w refl
 
   module _ (wt : WellTyped P) (L : Scope) (g : Setting) where
     -- a local's value, and its number where it stands in paths

@@ -1,17 +1,21 @@
 -- Numbers of 32 bits: what operations give, and what stands in values and answers.
-use Rattle.std.proofs.Common.{◌≡◌, ◌<◌, ◌≤◌, ◌+◌, ◌-◌, ◌*◌, ◌/◌, ◌^◌, ◌%◌, ℕ, zero, suc, ℤ, pos, negsuc, FitsSigned, sym, subst, arith}
+use Rattle.std.proofs.Common.{◌≡◌, ◌<◌, ◌≤◌, ◌+◌, ◌-◌, ◌*◌, ◌/◌, ◌^◌, ◌%◌, ℕ, zero, suc, ℤ, pos, negsuc, Bool, true, false, cond, FitsSigned, sym, subst, arith, Some, None}
 use Rattle.std.specs.Prelude.{neg_ℤ, int_rem}
 use Rattle.std.specs.Int.{w32, cast_unsigned, cast_signed, int_wrapping_add, int_wrapping_sub, int_wrapping_mul, int_wrapping_div, int_wrapping_neg}
 use Rattle.std.specs.Int.Signed.{mag_rem}
+use Rattle.std.specs.Ordering.{int_eq}
 use Rattle.std.proofs.Math.Facts.{Fits-of_lt, sfits_to_z, sfits_lit}
 use Rattle.std.proofs.Math.Nat.{div-le_self}
+use Rattle.dpj_base.specs.declared.op.BinaryOp.{BinaryOp}
+use Rattle.dpj_base.specs.declared.op.BinaryOp.TheVariants as op
 use Rattle.dpj_base.specs.Matching.{Env}
+use Rattle.dpj_base.specs.Operators.{result_of}
 use Rattle.dpj_base.specs.Types.{PlainType, int, boolean, void, null, class, array}
 use Rattle.dpj_typed.specs.Plain.{PlainProgram}
-use Rattle.dpj_meaning.specs.Counts.{number, length_seen, how_many}
+use Rattle.dpj_meaning.specs.Counts.{number, operated, length_seen, how_many}
 use Rattle.dpj_runs.specs.Actions.{Answer, Length}
-use Rattle.dpj_runs.specs.Objects.{Value, Int, Boolean, Null, Object}
-use Rattle.dpj_sound.specs.Shapes.{Shapes, FitsIn}
+use Rattle.dpj_runs.specs.Objects.{Name, Value, Int, Boolean, Null, Object}
+use Rattle.dpj_sound.specs.Shapes.{Shapes, IsInt, IsBoolean, FitsIn}
 
 wrapped : (n : ℕ) → n < 2 ^ 32 → FitsSigned w32 (cast_signed w32 n)
 wrapped n l = sfits_to_z (Fits-of_lt l)
@@ -55,6 +59,29 @@ number_fits P S env (array t a named) (Int k) f = absurd f
 number_fits P S env t (Boolean b) f = zero_fits
 number_fits P S env t Null f = zero_fits
 number_fits P S env t (Object n) f = zero_fits
+
+int_given : (z : ℤ) (w : Value) → FitsSigned w32 z → Some (Int z) ≡ Some w → IsInt w
+int_given z w f e = let same : Int z ≡ w = cc in subst IsInt same f
+
+quotient_given : (z k : ℤ) (w : Value) → FitsSigned w32 z → cond (int_eq k (pos 0)) None (Some (Int z)) ≡ Some w → IsInt w
+quotient_given z k w f e = go (int_eq k (pos 0)) e
+  where
+    go : (c : Bool) → cond c None (Some (Int z)) ≡ Some w → IsInt w
+    go true e = let absent : None ≡ Some w = e in absurd (cc)
+    go false e = int_given z w f e
+
+boolean_given : (b : Bool) (w : Value) → Some (Boolean b) ≡ Some w → IsBoolean w
+boolean_given b w e = let same : Boolean b ≡ w = cc in subst IsBoolean same tt
+
+-- what an operation gives is of its result's type
+pub operated_fits : (P : PlainProgram) (S : Shapes) (env : Env) (same : Name → Name → Bool) (o : BinaryOp) (v u w : Value) → FitsSigned w32 (number v) →
+    operated same o v u ≡ Some w → FitsIn P S env (result_of o) w
+operated_fits P S env same op.Add v u w f e = int_given _ w (add_fits (number v) (number u)) e
+operated_fits P S env same op.Subtract v u w f e = int_given _ w (sub_fits (number v) (number u)) e
+operated_fits P S env same op.Multiply v u w f e = int_given _ w (mul_fits (number v) (number u)) e
+operated_fits P S env same op.Divide v u w f e = quotient_given _ (number u) w (div_fits (number v) (number u) f) e
+operated_fits P S env same op.Remainder v u w f e = quotient_given _ (number u) w (rem_fits (number v) (number u) f) e
+operated_fits P S env same o v u w f e = boolean_given _ w e
 
 -- a length that is seen
 pub length_fits : (x : Answer) → (len : ℕ) × (len < 2 ^ 31) × (x ≡ Length len) → FitsSigned w32 (pos (length_seen x))

@@ -4,12 +4,11 @@ use Rattle.std.proofs.Common.{◌≡◌, ◌<◌, ◌+◌, ◌^◌, ℕ, zero, s
 use Rattle.std.specs.Prelude.{slice_set, Contains}
 use Rattle.std.specs.Int.{w32, int_wrapping_add}
 use Rattle.std.specs.List.{list_any}
-use Rattle.std.specs.Ordering.{int_eq}
 use Rattle.std.proofs.lemmas.List.{reverse-append}
 use Rattle.dpj_base.specs.declared.op.BinaryOp.{BinaryOp}
-use Rattle.dpj_base.specs.declared.op.BinaryOp.TheVariants as op
 use Rattle.dpj_base.specs.declared.op.UnaryOp.{UnaryOp}
 use Rattle.dpj_base.specs.declared.op.UnaryOp.TheVariants.{Negate, Not}
+use Rattle.dpj_base.specs.Operators.{result_of}
 use Rattle.dpj_typed.specs.declared.stmt.Forking.{Forking}
 use Rattle.dpj_typed.specs.Plain.{PlainProgram, PlainMember, TypedStmt, statement, TypedStmts, no_stmts, more_stmts, TypedBranches, no_branches, more_branches}
 use Rattle.dpj_typed.specs.Plain.{StmtForm as form}
@@ -23,9 +22,10 @@ use Rattle.dpj_runs.specs.Objects.{Name, Value, Int, Null}
 use Rattle.dpj_sound.specs.Accesses.{Bounds}
 use Rattle.dpj_sound.specs.Branches.{Forks, Brings}
 use Rattle.dpj_sound.specs.Frames.{Frame, State}
+use Rattle.dpj_sound.specs.Settings.{class_env}
 use Rattle.dpj_sound.specs.Shapes.{Shapes, Shape, object, elements}
 use Rattle.dpj_sound.specs.Work.{Result, Brought, Moves, Touches, ReadFits, WriteFits, LookFits, Answers}
-use Rattle.dpj_sound.proofs.Ints.{zero_fits, add_fits, sub_fits, mul_fits, neg_fits, div_fits, rem_fits, number_fits}
+use Rattle.dpj_sound.proofs.Ints.{zero_fits, add_fits, neg_fits, operated_fits, number_fits}
 use Rattle.dpj_sound.proofs.Places.{part_fits}
 
 abbrev pub IsSmall : Value → Type 0
@@ -69,23 +69,8 @@ pub small_unary : (o : UnaryOp) (v : Value) → IsSmall (unary o v)
 small_unary Negate v = neg_fits (number v)
 small_unary Not v = zero_fits
 
-divided_small : (d : ℤ) (k : ℤ) (w : Value) → FitsSigned w32 d → cond (int_eq k (pos 0)) None (Some (Int d)) ≡ Some w → IsSmall w
-divided_small d k w h e = go (int_eq k (pos 0)) e
-  where
-    go : (c : Bool) → cond c None (Some (Int d)) ≡ Some w → IsSmall w
-    go true z = let absent : None ≡ Some w = z in absurd (cc)
-    go false z = (let same : Int d ≡ w = cc in subst IsSmall same h)
-
-some_small : (u w : Value) → Some u ≡ Some w → IsSmall u → IsSmall w
-some_small u w e h = let same : u ≡ w = cc in subst IsSmall same h
-
-pub small_operated : (same : Name → Name → Bool) (o : BinaryOp) (v u w : Value) → IsSmall v → operated same o v u ≡ Some w → IsSmall w
-small_operated same op.Add v u w h e = some_small _ w e (add_fits (number v) (number u))
-small_operated same op.Subtract v u w h e = some_small _ w e (sub_fits (number v) (number u))
-small_operated same op.Multiply v u w h e = some_small _ w e (mul_fits (number v) (number u))
-small_operated same op.Divide v u w h e = divided_small _ (number u) w (div_fits (number v) (number u) h) e
-small_operated same op.Remainder v u w h e = divided_small _ (number u) w (rem_fits (number v) (number u) h) e
-small_operated same o v u w h e = some_small _ w e zero_fits
+pub small_operated : (P : PlainProgram) (same : Name → Name → Bool) (o : BinaryOp) (v u w : Value) → IsSmall v → operated same o v u ≡ Some w → IsSmall w
+small_operated P same o v u w h e = number_fits P (λ n. None) (class_env []) (result_of o) w (operated_fits P (λ n. None) (class_env []) same o v u w h e)
 
 -- slots
 pub small_nil : AreSmall []

@@ -12,9 +12,6 @@ use Rattle.dpj_base.specs.declared.value.Trap.TheVariants as trap
 use Rattle.dpj_base.specs.Matching.{Fits, put_in}
 use Rattle.dpj_base.specs.Regions.{substituted}
 use Rattle.dpj_base.specs.Types.{PlainType, int, boolean, void, null, class, array, type_with, path_at}
-use Rattle.dpj_base.specs.declared.op.BinaryOp.{BinaryOp}
-use Rattle.dpj_base.specs.declared.op.BinaryOp.TheVariants as op
-use Rattle.dpj_base.specs.Operators.{result_of}
 use Rattle.dpj_typed.specs.Effects.{does, uses, reads}
 use Rattle.dpj_typed.specs.Effects.{Own as EffectOwn}
 use Rattle.dpj_typed.specs.Plain.{PlainProgram, TypedExpr, type_of, TypedExprs}
@@ -29,8 +26,8 @@ use Rattle.dpj_meaning.specs.Counts.{number, slot_value, part_place}
 use Rattle.dpj_meaning.specs.Expressions.{unless_null, read_cell, part_element, of_expr, of_exprs}
 use Rattle.dpj_runs.specs.Objects.{Name, Value, Int, Boolean, Null, Object}
 use Rattle.dpj_steps.specs.Steps.{named_by}
-use Rattle.dpj_sound.specs.Settings.{Setting, env_of, class_env, under}
-use Rattle.dpj_sound.specs.Shapes.{Shapes, elements, Instance, ArrayInstance, FitsIn, of_array}
+use Rattle.dpj_sound.specs.Settings.{Setting, env_of, under}
+use Rattle.dpj_sound.specs.Shapes.{elements, Instance, ArrayInstance, FitsIn, of_array}
 use Rattle.dpj_sound.specs.Accesses.{Bounds, Within}
 use Rattle.dpj_sound.specs.Frames.{Frame, State, Since, PartFits, FrameFits}
 use Rattle.dpj_sound.specs.Scopes.{TypeInScope, GoodScope}
@@ -54,11 +51,6 @@ type_alone L void h = tt
 type_alone L null h = tt
 type_alone L (class c args) h = paths_alone L args h
 type_alone L (array t a named) h = tt
-
-result_fits : (P : PlainProgram) (S T : Shapes) (g : Setting) (o : BinaryOp) (w : Value) → FitsIn P S (class_env []) (result_of o) w →
-    FitsIn P T (env_of g) (result_of o) w
-result_fits P S T g op.Equal w f = f
-result_fits P S T g o w f = f
 
 -- values in front of others, the latest first
 abbrev onto : List Value → List Value → List Value
@@ -205,8 +197,8 @@ module _ (P : PlainProgram) (wt : WellTyped P) (b : Bounds) (dp : Option Deeper)
         order_then P b L g a f R _ st _ (expr_order ha (Yields P L g a st f) st f ff (within_left b st.entries g E F w) (yields P L g a st f))
         (λ h1 v s fv ix. order_then P b L g c f R _ h1 _
         (expr_order hc (Yields P L g c h1 f) h1 f (frame_since s ff) (within_since b s g F (within_right b st.entries g E F w)) (yields P L g c h1 f))
-        (λ h2 u s2 fu iu. order_operation P b R h2 (named_by b.path).same at o v u f (number_fits P h1.shapes (env_of g) (type_of a) v fv)
-        (λ x fx. next h2 x (since_since s s2) (subst (λ z. FitsIn P h2.shapes (env_of g) z x) (sym eq) (result_fits P h2.shapes h2.shapes g o x fx)) (number x, refl))))
+        (λ h2 u s2 fu iu. order_operation P b R h2 (env_of g) (named_by b.path).same at o v u f (number_fits P h1.shapes (env_of g) (type_of a) v fv)
+        (λ x fx. next h2 x (since_since s s2) (subst (λ z. FitsIn P h2.shapes (env_of g) z x) (sym eq) fx) (number x, refl))))
     expr_order (conjunction {a = a} {b = c} {E = E} {F = F} ha ta hc tc) R st f ff w next =
         order_then P b L g a f R _ st _ (expr_order ha (Yields P L g a st f) st f ff (within_left b st.entries g E F w) (yields P L g a st f))
         (λ h1 v s fv ix. order_choose P b R h1 _ _ _ (order_ret P b R h1 (Goes_on (Boolean false) f) (next h1 (Boolean false) s tt (pos 0, refl)))
