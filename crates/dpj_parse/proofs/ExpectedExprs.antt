@@ -1,25 +1,25 @@
 -- Expressions that are derived are read as they are expected.
-use Rattle.std.proofs.Common.{◌≡◌, ◌∙◌, ℕ, suc, ◌<◌, ◌≤◌, List, [], ◌∷◌, Bool, true, false, cond, ◌&&◌, leb, Option, Some, None, refl, ap, arith}
+use Rattle.std.proofs.Common.{◌≡◌, ℕ, suc, ◌<◌, ◌≤◌, List, [], ◌∷◌, true, false, Option, Some, None, refl, ap, arith}
 use Rattle.std.proofs.lemmas.Bool.{le-leb}
+use Rattle.dpj_base.specs.declared.op.UnaryOp.{UnaryOp}
+use Rattle.dpj_base.specs.declared.op.UnaryOp.TheVariants as unary_op
 use Rattle.dpj_base.specs.declared.place.Place.{Place}
 use Rattle.dpj_tokens.specs.declared.token.Symbol.{Symbol}
-use Rattle.dpj_tokens.specs.declared.token.Keyword.{Keyword}
 use Rattle.dpj_terminals.specs.declared.terminal.Placed.{Placed}
 use Rattle.dpj_tree.specs.declared.region.Named.{Named}
 use Rattle.dpj_tree.specs.declared.region.RplTree.{RplTree}
 use Rattle.dpj_tree.specs.declared.region.Suffix.{Suffix}
-use Rattle.dpj_tree.specs.declared.expr.UnaryOp.{UnaryOp}
-use Rattle.dpj_tree.specs.declared.expr.UnaryOp.TheVariants as unary_op
-use Rattle.dpj_tree.specs.declared.expr.BinaryOp.{BinaryOp}
+use Rattle.dpj_tree.specs.declared.expr.InfixOp.{InfixOp}
 use Rattle.dpj_tree.specs.Plain.{PlainExpr, PlainExprs}
 use Rattle.dpj_parse.specs.Taking.{TakesSymbol, TakesName, Listed, Many, none, some}
 use Rattle.dpj_parse.specs.Paths.{DerivesRpl, DerivesArgs, no_args, args}
 use Rattle.dpj_parse.specs.Types.{DerivesBase, DerivesAfter, DerivesSuffix, suffix}
-use Rattle.dpj_parse.specs.Expressions.{symbol_of, unary_symbol, level_of, left_level, Ending, DerivesLevel, operand, operation, DerivesUnary, operator, postfix, new_array, DerivesPostfix, primary, after_dot, called, indexed, DerivesPrimary, number, yes, no, nothing, receiver, name, parenthesised, creation, DerivesNewArray, array, DerivesActuals, no_actuals, actuals, DerivesFurther, end, further}
+use Rattle.dpj_parse.specs.Expressions.{symbol_of, unary_symbol, level_of, left_level, Ending, DerivesLevel, operand, operation, DerivesUnary, operator, postfix, new_array, DerivesPostfix, primary, after_dot, called, indexed, DerivesPrimary, number, yes, no, receiver, parenthesised, creation, DerivesNewArray, array, DerivesActuals, no_actuals, actuals, DerivesFurther, end, further}
 use Rattle.dpj_parse.proofs.OnceReader.{starts, many_first}
-use Rattle.dpj_parse.proofs.OnceExprs.{is_selector, op_next, op_of_symbol, not_leb, suffix_no_paren, Ends, ends_at, ends_at_op, ends_looser, no_selector}
-use Rattle.dpj_parse.proofs.OnceLevels.{level_begins, expr_begins_not, no_close_bracket, no_close_paren, actuals_start, top_of, level_low, left_low, level_left, top_high, further_ends}
-use Rattle.dpj_parse.specs.Words.{is_any, is_name, is_dot, is_open_bracket, is_close_bracket, is_less, is_comma, is_open_paren, is_close_paren, is_new, is_int, is_boolean}
+use Rattle.dpj_parse.proofs.Ops.{level_low, left_low, level_left, op_of_symbol}
+use Rattle.dpj_parse.proofs.OnceExprs.{is_selector, op_next, not_leb, suffix_no_paren, Ends, ends_at, ends_at_op, ends_looser, no_selector}
+use Rattle.dpj_parse.proofs.OnceLevels.{level_begins, expr_begins_not, no_close_bracket, no_close_paren, actuals_start, top_of, top_high, further_ends}
+use Rattle.dpj_parse.specs.Words.{is_any, is_dot, is_open_bracket, is_close_bracket, is_less, is_comma, is_open_paren, is_close_paren}
 use Rattle.dpj_parse.specs.Expecting.{Expected, one, part, next_of, op_of, climb_parts, choose, Steps, pick, pass, Passes}
 use Rattle.dpj_parse.proofs.Expected.{picked, step_next, taken, rule, on_next, took, link, two, is_next}
 use Rattle.dpj_parse.specs.Expecting.{Part as p}
@@ -31,7 +31,7 @@ op_same : (after : List Placed) → op_of (next_of after) ≡ op_next after
 op_same [] = refl
 op_same (next ∷ after) = refl
 
-climb_none : (level top : ℕ) (o : Option BinaryOp) → ((op : BinaryOp) → o ≡ Some op → level_of op < level) → climb_parts level top o ≡ []
+climb_none : (level top : ℕ) (o : Option InfixOp) → ((op : InfixOp) → o ≡ Some op → level_of op < level) → climb_parts level top o ≡ []
 climb_none level top None h = refl
 climb_none level top (Some op) h = rw (not_leb level (level_of op) (h op refl)) refl
 
@@ -41,7 +41,7 @@ stops level top {after} ends s =
     let none : climb_parts level top (op_of (next_of after)) ≡ [] = rw (op_same after) (climb_none level top (op_next after) ends.operator) in
     pick (ap (λ (x : List Expected). Some x) none) s
 
-climbs : {to others : List Expected} {left : List Placed} (low top : ℕ) (op : BinaryOp) {before two : List Placed} {place : Place} →
+climbs : {to others : List Expected} {left : List Placed} (low top : ℕ) (op : InfixOp) {before two : List Placed} {place : Place} →
     low ≤ level_of op → left_level op ≤ top → TakesSymbol (symbol_of op) before two place →
     Steps to left (part (p.expr (suc (level_of op))) ∷ part (p.climb low (level_of op)) ∷ others) two → Steps to left (part (p.climb low top) ∷ others) before
 climbs low top op h k t s =
@@ -55,7 +55,7 @@ climbs low top op h k t s =
 
 operator_passes : (op : UnaryOp) {before one_after after : List Placed} {place : Place} → TakesSymbol (unary_symbol op) before one_after place →
     Passes (part p.unary ∷ []) one_after after → Passes (part p.unary ∷ []) before after
-operator_passes unary_op.Neg t q = on_next t refl (link (took t refl) q)
+operator_passes unary_op.Negate t q = on_next t refl (link (took t refl) q)
 operator_passes unary_op.Not t q = on_next t refl (link (took t refl) q)
 
 pub field_passes : {two after : List Placed} {named : Named} → TakesName two after named → starts is_open_paren after ≡ false →

@@ -1,14 +1,13 @@
 -- What is read within the limits joins no more than may be joined.
-use Rattle.std.proofs.Common.{◌≡◌, ◌⊎◌, ◌≤◌, ℕ, zero, suc, List, [], ◌∷◌, Bool, true, false, cond, ◌||◌, Option, Some, None, inl, inr, refl, sym, subst, arith}
+use Rattle.std.proofs.Common.{◌≡◌, ◌⊎◌, ◌≤◌, ℕ, zero, List, [], ◌∷◌, Bool, true, false, cond, ◌||◌, Option, Some, None, inl, inr, refl, subst, arith}
 use Rattle.dpj_tokens.specs.declared.token.Symbol.{Symbol}
 use Rattle.dpj_terminals.specs.declared.terminal.Placed.{Placed}
 use Rattle.dpj_terminals.specs.declared.terminal.Terminal.{Terminal}
 use Rattle.dpj_terminals.specs.declared.terminal.Terminal.TheVariants as terminal
-use Rattle.dpj_tree.specs.declared.expr.BinaryOp.{BinaryOp}
+use Rattle.dpj_tree.specs.declared.expr.InfixOp.{InfixOp}
 use Rattle.dpj_parse.specs.Words.{is_any, is_minus, is_not, is_dot, is_open_brace, is_open_bracket, is_star}
-use Rattle.dpj_parse.specs.Expressions.{level_of, left_level, Ending}
-use Rattle.dpj_parse.specs.Expecting.{Part, expr, Expected, one, part, choose, next_of, next_is, op_of, climb_parts, unary_parts, after_name_parts, selection_parts, ending_parts, with_next}
-use Rattle.dpj_parse.specs.Limits.{Counts, Fits, past, deeper, more_if, more_joined, inside, outside, Within, nothing, begins, passes}
+use Rattle.dpj_parse.specs.Expecting.{Part, expr, Expected, one, part, choose, next_of, next_is, op_of, climb_parts, unary_parts, after_name_parts, selection_parts, ending_parts}
+use Rattle.dpj_parse.specs.Limits.{Counts, past, deeper, more_if, more_joined, inside, outside, Within, nothing, begins, passes}
 
 pub past_joined : (t : Terminal) (c : Counts) → (past t c).joined ≡ c.joined
 past_joined (terminal.Symbol Symbol.OpenParen) c = refl
@@ -46,7 +45,7 @@ climb_if : (b : Bool) (c : Counts) (ys : List Expected) {xs : List Expected} →
 climb_if true c ys h e = inr (first_of_some e)
 climb_if false c ys h e = inl h
 
-begun_climb : (level top : ℕ) (o : Option BinaryOp) (c : Counts) {xs : List Expected} → c.joined ≤ 32 → Some (climb_parts level top o) ≡ Some xs → Begun (more_joined (climb_parts level top o) c) xs
+begun_climb : (level top : ℕ) (o : Option InfixOp) (c : Counts) {xs : List Expected} → c.joined ≤ 32 → Some (climb_parts level top o) ≡ Some xs → Begun (more_joined (climb_parts level top o) c) xs
 begun_climb level top None c h e = inl h
 begun_climb level top (Some op) c h e = climb_if _ c _ h e
 

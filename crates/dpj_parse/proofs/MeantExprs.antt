@@ -1,15 +1,14 @@
 -- Expressions derive what their parts derive.
 use Rattle.std.proofs.Common.{◌≡◌, ℕ, suc, ◌≤◌, List, [], ◌∷◌, ◌||◌, inl, inr, Option, Some, None, refl, sym, ap, subst}
 use Rattle.std.proofs.lemmas.Bool.Decides.{leb_tells}
+use Rattle.dpj_base.specs.declared.op.UnaryOp.TheVariants as unary_op
 use Rattle.dpj_tokens.specs.declared.token.Symbol.{Symbol}
 use Rattle.dpj_tokens.specs.declared.token.Keyword.{Keyword}
 use Rattle.dpj_terminals.specs.declared.terminal.Placed.{Placed}
 use Rattle.dpj_terminals.specs.declared.terminal.Terminal.{Terminal}
 use Rattle.dpj_terminals.specs.declared.terminal.Terminal.TheVariants as terminal
 use Rattle.dpj_tree.specs.declared.region.BaseTree.TheVariants as base
-use Rattle.dpj_tree.specs.declared.expr.UnaryOp.TheVariants as unary_op
-use Rattle.dpj_tree.specs.declared.expr.BinaryOp.{BinaryOp}
-use Rattle.dpj_tree.specs.declared.expr.BinaryOp.TheVariants as binary_op
+use Rattle.dpj_tree.specs.declared.expr.InfixOp.{InfixOp}
 use Rattle.dpj_tree.specs.Plain.{expression, binary, no_exprs}
 use Rattle.dpj_parse.specs.Taking.{Takes, TakesName, Next, Many}
 use Rattle.dpj_parse.specs.Words.{op_at, is_any, is_name, is_dot, is_open_bracket, is_close_bracket, is_less, is_comma, is_open_paren, is_close_paren}
@@ -22,23 +21,26 @@ use Rattle.dpj_parse.proofs.Lists.{many_more}
 use Rattle.dpj_parse.proofs.Meant.{One, Meant, All, AllOf, Valued, signed, worded, named, anyhow, either}
 
 -- the operator that comes next
-op_at_is : (t : Terminal) (op : BinaryOp) → op_at t ≡ Some op → t ≡ terminal.Symbol (symbol_of op)
-op_at_is (terminal.Symbol Symbol.Or) op e = let same : binary_op.Or ≡ op = cc in ap (λ (o : BinaryOp). terminal.Symbol (symbol_of o)) same
-op_at_is (terminal.Symbol Symbol.And) op e = let same : binary_op.And ≡ op = cc in ap (λ (o : BinaryOp). terminal.Symbol (symbol_of o)) same
-op_at_is (terminal.Symbol Symbol.Equal) op e = let same : binary_op.Eq ≡ op = cc in ap (λ (o : BinaryOp). terminal.Symbol (symbol_of o)) same
-op_at_is (terminal.Symbol Symbol.NotEqual) op e = let same : binary_op.Ne ≡ op = cc in ap (λ (o : BinaryOp). terminal.Symbol (symbol_of o)) same
-op_at_is (terminal.Symbol Symbol.Less) op e = let same : binary_op.Lt ≡ op = cc in ap (λ (o : BinaryOp). terminal.Symbol (symbol_of o)) same
-op_at_is (terminal.Symbol Symbol.AtMost) op e = let same : binary_op.Le ≡ op = cc in ap (λ (o : BinaryOp). terminal.Symbol (symbol_of o)) same
-op_at_is (terminal.Symbol Symbol.Greater) op e = let same : binary_op.Gt ≡ op = cc in ap (λ (o : BinaryOp). terminal.Symbol (symbol_of o)) same
-op_at_is (terminal.Symbol Symbol.AtLeast) op e = let same : binary_op.Ge ≡ op = cc in ap (λ (o : BinaryOp). terminal.Symbol (symbol_of o)) same
-op_at_is (terminal.Symbol Symbol.Plus) op e = let same : binary_op.Add ≡ op = cc in ap (λ (o : BinaryOp). terminal.Symbol (symbol_of o)) same
-op_at_is (terminal.Symbol Symbol.Minus) op e = let same : binary_op.Sub ≡ op = cc in ap (λ (o : BinaryOp). terminal.Symbol (symbol_of o)) same
-op_at_is (terminal.Symbol Symbol.Star) op e = let same : binary_op.Mul ≡ op = cc in ap (λ (o : BinaryOp). terminal.Symbol (symbol_of o)) same
-op_at_is (terminal.Symbol Symbol.Slash) op e = let same : binary_op.Div ≡ op = cc in ap (λ (o : BinaryOp). terminal.Symbol (symbol_of o)) same
-op_at_is (terminal.Symbol Symbol.Percent) op e = let same : binary_op.Rem ≡ op = cc in ap (λ (o : BinaryOp). terminal.Symbol (symbol_of o)) same
+spelled : {read op : InfixOp} → Some read ≡ Some op → terminal.Symbol (symbol_of read) ≡ terminal.Symbol (symbol_of op)
+spelled {read} {op} e = let same : read ≡ op = cc in ap (λ (o : InfixOp). terminal.Symbol (symbol_of o)) same
+
+op_at_is : (t : Terminal) (op : InfixOp) → op_at t ≡ Some op → t ≡ terminal.Symbol (symbol_of op)
+op_at_is (terminal.Symbol Symbol.Or) op e = spelled e
+op_at_is (terminal.Symbol Symbol.And) op e = spelled e
+op_at_is (terminal.Symbol Symbol.Equal) op e = spelled e
+op_at_is (terminal.Symbol Symbol.NotEqual) op e = spelled e
+op_at_is (terminal.Symbol Symbol.Less) op e = spelled e
+op_at_is (terminal.Symbol Symbol.AtMost) op e = spelled e
+op_at_is (terminal.Symbol Symbol.Greater) op e = spelled e
+op_at_is (terminal.Symbol Symbol.AtLeast) op e = spelled e
+op_at_is (terminal.Symbol Symbol.Plus) op e = spelled e
+op_at_is (terminal.Symbol Symbol.Minus) op e = spelled e
+op_at_is (terminal.Symbol Symbol.Star) op e = spelled e
+op_at_is (terminal.Symbol Symbol.Slash) op e = spelled e
+op_at_is (terminal.Symbol Symbol.Percent) op e = spelled e
 op_at_is _ op e = cc
 
-operator_next : (op : BinaryOp) (here : List Placed) → Some op ≡ op_of (next_of here) → Next (terminal.Symbol (symbol_of op)) here
+operator_next : (op : InfixOp) (here : List Placed) → Some op ≡ op_of (next_of here) → Next (terminal.Symbol (symbol_of op)) here
 operator_next op [] e = cc
 operator_next op (next ∷ after) e =
     record { after = after; takes = record { place = next.place; takes = record { first = ap (λ (t : Terminal). record { terminal = t; place = next.place } ∷ after) (op_at_is next.terminal op (sym e)) } } }
@@ -51,7 +53,7 @@ taken_any {wanted} {before} n o =
     let same : n.after ≡ _ = let i = n.takes.takes.first in let j = o.is in cc in
     subst (λ (l : List Placed). Takes wanted before l n.takes.place) same n.takes.takes
 
-climbed : (level top : ℕ) (op : BinaryOp) {before after : List Placed} → Next (terminal.Symbol (symbol_of op)) before → level ≤ level_of op → left_level op ≤ top →
+climbed : (level top : ℕ) (op : InfixOp) {before after : List Placed} → Next (terminal.Symbol (symbol_of op)) before → level ≤ level_of op → left_level op ≤ top →
     All (one is_any ∷ part (p.expr (suc (level_of op))) ∷ part (p.climb level (level_of op)) ∷ []) before after → Meant (p.climb level top) before after
 climbed level top op n low enough h s e d left =
     let right = h.others.first in
@@ -61,7 +63,7 @@ climbed level top op n low enough h s e d left =
 ended : (level top : ℕ) {before after : List Placed} → before ≡ after → Meant (p.climb level top) before after
 ended level top is s e d left = (e, subst (λ (l : List Placed). DerivesLevel level s l e) is d)
 
-climb_by : (level top : ℕ) {before after : List Placed} (o : Option BinaryOp) → op_of (next_of before) ≡ o → All (climb_parts level top o) before after → Meant (p.climb level top) before after
+climb_by : (level top : ℕ) {before after : List Placed} (o : Option InfixOp) → op_of (next_of before) ≡ o → All (climb_parts level top o) before after → Meant (p.climb level top) before after
 climb_by level top None e h = ended level top h
 climb_by level top {before} {after} (Some op) e h = elim (leb_tells level (level_of op)) [
   | inl y ↦ elim (leb_tells (left_level op) top) [
@@ -80,7 +82,7 @@ from_literal : {before after : List Placed} → All (part p.literal ∷ part p.s
 from_literal {before} h = let r = h.others before h.first.0 h.first.1 (primary h.first.2) in (r.1, postfix r.2)
 
 unary_by : (t : Terminal) (first : Placed) (rest : List Placed) {after : List Placed} → first.terminal ≡ t → All (unary_parts t) (first ∷ rest) after → Valued (first ∷ rest) after
-unary_by (terminal.Symbol Symbol.Minus) first rest e h = (_, operator {op = unary_op.Neg} (anyhow first rest (terminal.Symbol Symbol.Minus) e h.first) h.others.1)
+unary_by (terminal.Symbol Symbol.Minus) first rest e h = (_, operator {op = unary_op.Negate} (anyhow first rest (terminal.Symbol Symbol.Minus) e h.first) h.others.1)
 unary_by (terminal.Symbol Symbol.Not) first rest e h = (_, operator {op = unary_op.Not} (anyhow first rest (terminal.Symbol Symbol.Not) e h.first) h.others.1)
 unary_by (terminal.Keyword Keyword.New) first rest e h = h.others (first ∷ rest) _ (worded Keyword.New h.first)
 unary_by (terminal.Symbol Symbol.OpenParen) first rest e h = let r = h.others (first ∷ rest) as_value h.first.0 (primary h.first.1) in (r.1, postfix r.2)

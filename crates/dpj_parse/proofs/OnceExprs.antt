@@ -2,6 +2,10 @@
 use Rattle.std.proofs.Common.{◌≡◌, ◌∙◌, ℕ, zero, suc, ◌<◌, ◌≤◌, List, [], ◌∷◌, ◌⊎◌, inl, inr, Bool, true, false, cond, ◌&&◌, leb, Option, Some, None, refl, sym, subst, arith}
 use Rattle.std.proofs.lemmas.Bool.{le-leb}
 use Rattle.std.proofs.lemmas.Bool.Decides.{leb_tells}
+use Rattle.dpj_base.specs.declared.op.BinaryOp.TheVariants as binary_op
+use Rattle.dpj_base.specs.declared.op.LogicOp.TheVariants as logic_op
+use Rattle.dpj_base.specs.declared.op.UnaryOp.{UnaryOp}
+use Rattle.dpj_base.specs.declared.op.UnaryOp.TheVariants as unary_op
 use Rattle.dpj_base.specs.declared.place.Place.{Place}
 use Rattle.dpj_tokens.specs.declared.token.Symbol.{Symbol}
 use Rattle.dpj_tokens.specs.declared.token.Keyword.{Keyword}
@@ -12,15 +16,15 @@ use Rattle.dpj_tree.specs.declared.region.Named.{Named}
 use Rattle.dpj_tree.specs.declared.region.RplTree.{RplTree}
 use Rattle.dpj_tree.specs.declared.region.BaseTree.{BaseTree}
 use Rattle.dpj_tree.specs.declared.region.Suffix.{Suffix}
-use Rattle.dpj_tree.specs.declared.expr.UnaryOp.{UnaryOp}
-use Rattle.dpj_tree.specs.declared.expr.UnaryOp.TheVariants as unary_op
-use Rattle.dpj_tree.specs.declared.expr.BinaryOp.{BinaryOp}
-use Rattle.dpj_tree.specs.declared.expr.BinaryOp.TheVariants as binary_op
+use Rattle.dpj_tree.specs.declared.expr.InfixOp.{InfixOp}
+use Rattle.dpj_tree.specs.declared.expr.InfixOp.TheVariants.{Logic, Binary}
 use Rattle.dpj_tree.specs.Plain.{PlainExpr, expression, int, boolean, null, this, local, field, element, call, create, create_array, unary, binary, PlainExprs, no_exprs, more_exprs}
 use Rattle.dpj_parse.specs.Taking.{Takes, TakesSymbol, TakesKeyword, TakesName, Many}
 use Rattle.dpj_parse.specs.Paths.{DerivesArgs}
 use Rattle.dpj_parse.specs.Types.{DerivesBase, DerivesAfter, DerivesSuffix, suffix}
+use Rattle.dpj_parse.specs.Words.{op_at}
 use Rattle.dpj_parse.specs.Expressions.{symbol_of, unary_symbol, level_of, left_level}
+use Rattle.dpj_parse.proofs.Ops.{op_of_symbol}
 use Rattle.dpj_parse.proofs.OnceReader.{Out, into, Comes, at_once, then_reads, later, on, off, starts, tail, place_at, named, many, many_first, is_comma}
 use Rattle.dpj_parse.proofs.OncePaths.{is_dot, is_open_bracket, is_close_bracket, args_read, args_once, base_read, base_once, after_read, after_once, begins_suffix, suffix_read, suffixes_once, no_less_after}
 
@@ -52,32 +56,13 @@ is_selector (terminal.Symbol Symbol.OpenBracket) = true
 is_selector (terminal.Symbol Symbol.OpenParen) = true
 is_selector _ = false
 
-abbrev pub op_at : Terminal → Option BinaryOp
-op_at (terminal.Symbol Symbol.Or) = Some binary_op.Or
-op_at (terminal.Symbol Symbol.And) = Some binary_op.And
-op_at (terminal.Symbol Symbol.Equal) = Some binary_op.Eq
-op_at (terminal.Symbol Symbol.NotEqual) = Some binary_op.Ne
-op_at (terminal.Symbol Symbol.Less) = Some binary_op.Lt
-op_at (terminal.Symbol Symbol.AtMost) = Some binary_op.Le
-op_at (terminal.Symbol Symbol.Greater) = Some binary_op.Gt
-op_at (terminal.Symbol Symbol.AtLeast) = Some binary_op.Ge
-op_at (terminal.Symbol Symbol.Plus) = Some binary_op.Add
-op_at (terminal.Symbol Symbol.Minus) = Some binary_op.Sub
-op_at (terminal.Symbol Symbol.Star) = Some binary_op.Mul
-op_at (terminal.Symbol Symbol.Slash) = Some binary_op.Div
-op_at (terminal.Symbol Symbol.Percent) = Some binary_op.Rem
-op_at _ = None
-
-abbrev pub op_next : List Placed → Option BinaryOp
+abbrev pub op_next : List Placed → Option InfixOp
 op_next [] = None
 op_next (here ∷ after) = op_at here.terminal
 
-pub op_of_symbol : (op : BinaryOp) → op_at (terminal.Symbol (symbol_of op)) ≡ Some op
-op_of_symbol binary_op.Or = refl
-op_of_symbol _ = refl
-
-op_no_selector : (op : BinaryOp) → is_selector (terminal.Symbol (symbol_of op)) ≡ false
-op_no_selector binary_op.Or = refl
+op_no_selector : (op : InfixOp) → is_selector (terminal.Symbol (symbol_of op)) ≡ false
+op_no_selector (Logic logic_op.Or) = refl
+op_no_selector (Binary binary_op.Add) = refl
 op_no_selector _ = refl
 
 -- The reader. Its parts call each other with a step less; `climb` goes on after a left operand, whose loosest
@@ -91,7 +76,7 @@ pub record Readers : Type 0 where
   pub actuals : List Placed → Out PlainExprs
   pub further : List Placed → Out PlainExprs
 
-abbrev climb_by : Readers → ℕ → ℕ → PlainExpr → List Placed → Option BinaryOp → Out PlainExpr
+abbrev climb_by : Readers → ℕ → ℕ → PlainExpr → List Placed → Option InfixOp → Out PlainExpr
 climb_by r level top left before None = Some (left, before)
 climb_by r level top left before (Some op) =
     cond (leb level (level_of op) && leb (left_level op) top)
@@ -105,7 +90,7 @@ array_by m r place start one =
 
 abbrev unary_by : ℕ → Readers → List Placed → Out PlainExpr
 unary_by m r before =
-    cond (starts is_minus before) (into (r.unary (tail before)) (λ arg left. Some (expression (place_at before) (unary unary_op.Neg arg), left)))
+    cond (starts is_minus before) (into (r.unary (tail before)) (λ arg left. Some (expression (place_at before) (unary unary_op.Negate arg), left)))
     (cond (starts is_not before) (into (r.unary (tail before)) (λ arg left. Some (expression (place_at before) (unary unary_op.Not arg), left)))
     (cond (starts is_new before) (into (base_read m (tail before)) (λ start one. cond (starts is_open_paren one) (r.postfix before) (array_by m r (place_at before) start one)))
     (r.postfix before)))
@@ -173,15 +158,15 @@ readers (suc m) = record {
 -- after an expression of a level comes nothing that could go on with it
 pub record Ends (level : ℕ) (after : List Placed) : Type 0 where
   pub selector : starts is_selector after ≡ false
-  pub operator : (op : BinaryOp) → op_next after ≡ Some op → level_of op < level
+  pub operator : (op : InfixOp) → op_next after ≡ Some op → level_of op < level
 
 pub ends_at : {level : ℕ} {wanted : Terminal} {before after : List Placed} {place : Place} → Takes wanted before after place → is_selector wanted ≡ false → op_at wanted ≡ None → Ends level before
 ends_at t s o = rw t.first (record { selector = s; operator = λ op e. cc })
 
-pub ends_at_op : (op : BinaryOp) {level : ℕ} {before after : List Placed} {place : Place} → TakesSymbol (symbol_of op) before after place → level_of op < level → Ends level before
+pub ends_at_op : (op : InfixOp) {level : ℕ} {before after : List Placed} {place : Place} → TakesSymbol (symbol_of op) before after place → level_of op < level → Ends level before
 ends_at_op op {level} t h = rw t.first (record {
   selector = op_no_selector op;
-  operator = λ o e. let same : Some op ≡ Some o = sym (op_of_symbol op) ∙ e in let is : op ≡ o = cc in subst (λ (x : BinaryOp). level_of x < level) is h;
+  operator = λ o e. let same : Some op ≡ Some o = sym (op_of_symbol op) ∙ e in let is : op ≡ o = cc in subst (λ (x : InfixOp). level_of x < level) is h;
 })
 
 pub ends_looser : {level more : ℕ} {after : List Placed} → Ends level after → level ≤ more → Ends more after
@@ -200,7 +185,7 @@ no_selector (here ∷ after) e = no_dot here.terminal e
 pub not_leb : (a b : ℕ) → b < a → leb a b ≡ false
 not_leb a b h = elim (leb_tells a b) [ inl y ↦ absurd (omega (arith, y.1)) | inr n ↦ n.0 ]
 
-climb_stops : (r : Readers) (level top : ℕ) (e : PlainExpr) (after : List Placed) (o : Option BinaryOp) → ((op : BinaryOp) → o ≡ Some op → level_of op < level) → climb_by r level top e after o ≡ Some (e, after)
+climb_stops : (r : Readers) (level top : ℕ) (e : PlainExpr) (after : List Placed) (o : Option InfixOp) → ((op : InfixOp) → o ≡ Some op → level_of op < level) → climb_by r level top e after o ≡ Some (e, after)
 climb_stops r level top e after None h = refl
 climb_stops r level top e after (Some op) h = rw (not_leb level (level_of op) (h op refl)) refl
 
@@ -209,7 +194,7 @@ unfolding readers
 stops level top e {after} ends =
     later (λ m. (readers m).climb level top e after) (record { enough = 0; there = λ m h. climb_stops (readers m) level top e after (op_next after) ends.operator })
 
-pub climbs : (level top : ℕ) (op : BinaryOp) (left : PlainExpr) {before two after rest : List Placed} {place : Place} {right tree : PlainExpr} →
+pub climbs : (level top : ℕ) (op : InfixOp) (left : PlainExpr) {before two after rest : List Placed} {place : Place} {right tree : PlainExpr} →
     level ≤ level_of op → left_level op ≤ top → TakesSymbol (symbol_of op) before two place →
     Comes (λ m. (readers m).level (suc (level_of op)) two) right after →
     Comes (λ m. (readers m).climb level (level_of op) (expression place (binary op left right)) after) tree rest →
@@ -226,7 +211,7 @@ level_from level before u c = later (λ m. (readers m).level level before) (then
 pub unary_operated : (op : UnaryOp) {before one after : List Placed} {arg : PlainExpr} {place : Place} →
     TakesSymbol (unary_symbol op) before one place → Comes (λ m. (readers m).unary one) arg after → Comes (λ m. (readers m).unary before) (expression place (unary op arg)) after
 unfolding readers
-unary_operated unary_op.Neg {before} t c = later (λ m. (readers m).unary before) (rw t.first (then_reads _ c (at_once refl)))
+unary_operated unary_op.Negate {before} t c = later (λ m. (readers m).unary before) (rw t.first (then_reads _ c (at_once refl)))
 unary_operated unary_op.Not {before} t c = later (λ m. (readers m).unary before) (rw t.first (then_reads _ c (at_once refl)))
 
 -- an object creation stands here

@@ -1,20 +1,19 @@
 -- Expressions are read in one way.
 use Rattle.std.proofs.Common.{◌≡◌, ℕ, suc, ◌≤◌, List, [], ◌∷◌, inl, inr, Bool, true, false, refl, arith}
+use Rattle.dpj_base.specs.declared.op.UnaryOp.{UnaryOp}
+use Rattle.dpj_base.specs.declared.op.UnaryOp.TheVariants as unary_op
 use Rattle.dpj_tokens.specs.declared.token.Symbol.{Symbol}
 use Rattle.dpj_tokens.specs.declared.token.Keyword.{Keyword}
 use Rattle.dpj_terminals.specs.declared.terminal.Placed.{Placed}
 use Rattle.dpj_terminals.specs.declared.terminal.Terminal.{Terminal}
 use Rattle.dpj_terminals.specs.declared.terminal.Terminal.TheVariants as terminal
 use Rattle.dpj_tree.specs.declared.region.BaseTree.TheVariants as base
-use Rattle.dpj_tree.specs.declared.expr.UnaryOp.{UnaryOp}
-use Rattle.dpj_tree.specs.declared.expr.UnaryOp.TheVariants as unary_op
-use Rattle.dpj_tree.specs.declared.expr.BinaryOp.{BinaryOp}
-use Rattle.dpj_tree.specs.declared.expr.BinaryOp.TheVariants as binary_op
 use Rattle.dpj_tree.specs.Plain.{PlainExpr, PlainExprs}
 use Rattle.dpj_parse.specs.Types.{DerivesBase}
-use Rattle.dpj_parse.specs.Expressions.{unary_symbol, level_of, left_level, Ending, DerivesLevel, operand, operation, DerivesUnary, operator, postfix, new_array, DerivesPostfix, primary, after_dot, called, indexed, DerivesPrimary, number, yes, no, nothing, receiver, name, parenthesised, creation, DerivesNewArray, array, DerivesActuals, no_actuals, actuals, DerivesFurther, end, further}
+use Rattle.dpj_parse.specs.Expressions.{unary_symbol, level_of, Ending, DerivesLevel, operand, operation, DerivesUnary, operator, postfix, new_array, DerivesPostfix, primary, after_dot, called, indexed, DerivesPrimary, number, yes, no, nothing, receiver, name, parenthesised, creation, DerivesNewArray, array, DerivesActuals, no_actuals, actuals, DerivesFurther, end, further}
 use Rattle.dpj_parse.proofs.OnceReader.{Comes, at_once, then_reads, starts, is_comma}
 use Rattle.dpj_parse.proofs.OncePaths.{is_less, is_close_bracket, args_once, base_once}
+use Rattle.dpj_parse.proofs.Ops.{level_low, left_low, level_left}
 use Rattle.dpj_parse.proofs.OnceExprs.{is_open_paren, is_close_paren, is_selector, primary_by, readers, Ends, ends_at, ends_at_op, ends_looser, no_selector, stops, climbs, level_from, unary_operated, BeginsPostfix, unary_postfix, unary_array, postfix_from, selects_field, selects_call, selects_element, selects_no_more, actuals_none, actuals_some, further_none, further_some}
 
 -- the terminals that an expression begins with
@@ -32,7 +31,7 @@ begins_expr (terminal.Symbol Symbol.Not) = true
 begins_expr _ = false
 
 unary_begins_expr : (op : UnaryOp) → begins_expr (terminal.Symbol (unary_symbol op)) ≡ true
-unary_begins_expr unary_op.Neg = refl
+unary_begins_expr unary_op.Negate = refl
 unary_begins_expr unary_op.Not = refl
 
 mutual
@@ -104,18 +103,6 @@ mutual
 abbrev pub top_of : {level : ℕ} {before after : List Placed} {e : PlainExpr} → DerivesLevel level before after e → ℕ
 top_of (operand d) = 6
 top_of (operation {op = op} h l t r) = level_of op
-
-pub level_low : (op : BinaryOp) → level_of op ≤ 5
-level_low binary_op.Or = omega arith
-level_low _ = omega arith
-
-pub left_low : (op : BinaryOp) → left_level op ≤ 5
-left_low binary_op.Or = omega arith
-left_low _ = omega arith
-
-pub level_left : (op : BinaryOp) → level_of op ≤ left_level op
-level_left binary_op.Or = omega arith
-level_left _ = omega arith
 
 pub top_high : {level : ℕ} {before after : List Placed} {e : PlainExpr} (d : DerivesLevel level before after e) → level ≤ 6 → level ≤ top_of d
 top_high (operand d) h = h

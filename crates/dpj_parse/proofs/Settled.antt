@@ -5,7 +5,7 @@ use Rattle.dpj_tokens.specs.declared.token.Keyword.{Keyword}
 use Rattle.dpj_terminals.specs.declared.terminal.Placed.{Placed}
 use Rattle.dpj_terminals.specs.declared.terminal.Terminal.{Terminal}
 use Rattle.dpj_terminals.specs.declared.terminal.Terminal.TheVariants as terminal
-use Rattle.dpj_tree.specs.declared.expr.BinaryOp.{BinaryOp}
+use Rattle.dpj_tree.specs.declared.expr.InfixOp.{InfixOp}
 use Rattle.dpj_parse.specs.Words.{is_assign, is_atomic, is_bar, is_close_brace, is_close_bracket, is_close_paren, is_colon, is_comma, is_dot, is_else, is_extends, is_hash, is_in, is_less, is_name, is_number, is_open_bracket, is_open_paren, is_pure, is_question, is_reads, is_region, is_root, is_semicolon, is_star, is_text, is_void, is_writes}
 use Rattle.dpj_parse.specs.Expressions.{level_of, left_level, Ending, as_value, as_name, as_field, as_element, as_call, as_creation}
 use Rattle.dpj_parse.specs.Expecting.{Part, Expected, one, part, next_of, Steps, stay, pick, pass, IsLost, no_part, no_terminal, too_many, next_is, with_next, op_of, choose, climb_parts, base_parts, created_parts, literal_parts, unary_parts, stmt_parts, after_name_parts, ending_parts, selection_parts, performed_parts, member_parts}
@@ -160,7 +160,7 @@ by_next_or : {n : Part} (next : Option Placed) (at_end : Option (List Expected))
 by_next_or None at_end by g h = g
 by_next_or (Some next) at_end by g h = h next.terminal
 
-drop_climb : (level top : ℕ) (o : Option BinaryOp) → Drops (p.climb level top) (climb_parts level top o)
+drop_climb : (level top : ℕ) (o : Option InfixOp) → Drops (p.climb level top) (climb_parts level top o)
 drop_climb level top None = drops (λ others. omega arith)
 drop_climb level top (Some op) = decided (nat_le level (level_of op) && nat_le (left_level op) top) (drops (λ others. omega arith)) (drops (λ others. omega arith))
 

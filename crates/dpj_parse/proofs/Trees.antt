@@ -1,11 +1,11 @@
 -- The forms of the code's trees.
 use Rattle.std.proofs.Common.{◌≡◌, ℕ, ℤ, Bool, List, Option, map, rules}
+use Rattle.dpj_base.specs.declared.op.UnaryOp.{UnaryOp}
 use Rattle.dpj_tree.specs.declared.region.Named.{Named}
 use Rattle.dpj_tree.specs.declared.region.RplTree.{RplTree}
 use Rattle.dpj_tree.specs.declared.region.BaseTree.{BaseTree}
 use Rattle.dpj_tree.specs.declared.region.Suffix.{Suffix}
-use Rattle.dpj_tree.specs.declared.expr.UnaryOp.{UnaryOp}
-use Rattle.dpj_tree.specs.declared.expr.BinaryOp.{BinaryOp}
+use Rattle.dpj_tree.specs.declared.expr.InfixOp.{InfixOp}
 use Rattle.dpj_tree.specs.declared.expr.Expr.{Expr}
 use Rattle.dpj_tree.specs.declared.expr.ExprKind.{the_lemmas}
 use Rattle.dpj_tree.specs.declared.expr.ExprKind.TheVariants as kind
@@ -33,7 +33,7 @@ kind_Local name = search (rules, the_lemmas)
 pub kind_Field : (of : Expr) (name : ℕ) → plain_kind (kind.Field of name) ≡ field (plain_expr of) name
 kind_Field of name = search (rules, the_lemmas)
 
-pub kind_Binary : (op : BinaryOp) (left right : Expr) → plain_kind (kind.Binary op left right) ≡ binary op (plain_expr left) (plain_expr right)
+pub kind_Binary : (op : InfixOp) (left right : Expr) → plain_kind (kind.Binary op left right) ≡ binary op (plain_expr left) (plain_expr right)
 kind_Binary op left right = search (rules, the_lemmas)
 
 pub kind_Call : (of : Expr) (regions : List RplTree) (name : ℕ) (actuals : List Expr) →

@@ -1,5 +1,7 @@
 -- What a unary expression begins with.
-use Rattle.std.proofs.Common.{◌≡◌, ◌⊎◌, List, [], ◌∷◌, Bool, true, false, ◌||◌, Option, Some, None, inl, inr, refl, ap, subst}
+use Rattle.std.proofs.Common.{◌≡◌, ◌⊎◌, List, [], ◌∷◌, false, ◌||◌, Some, inl, inr, refl, ap, subst}
+use Rattle.dpj_base.specs.declared.op.UnaryOp.{UnaryOp}
+use Rattle.dpj_base.specs.declared.op.UnaryOp.TheVariants as unary_op
 use Rattle.dpj_base.specs.Refused.{IfRefused}
 use Rattle.dpj_base.specs.declared.place.Place.{Place}
 use Rattle.dpj_base.specs.declared.refusal.Kind.{Kind}
@@ -13,13 +15,11 @@ use Rattle.dpj_tree.specs.declared.region.Named.{Named}
 use Rattle.dpj_tree.specs.declared.region.RplTree.{RplTree}
 use Rattle.dpj_tree.specs.declared.region.BaseTree.{BaseTree}
 use Rattle.dpj_tree.specs.declared.region.BaseTree.TheVariants as base
-use Rattle.dpj_tree.specs.declared.expr.UnaryOp.{UnaryOp}
-use Rattle.dpj_tree.specs.declared.expr.UnaryOp.TheVariants as unary_op
 use Rattle.dpj_parse.specs.Words.{is_any, is_minus, is_name, is_new, is_not}
 use Rattle.dpj_parse.specs.Taking.{Next, TakesName, TakesNext}
 use Rattle.dpj_parse.specs.Types.{DerivesBase, int, boolean, class}
 use Rattle.dpj_parse.specs.Expressions.{unary_symbol}
-use Rattle.dpj_parse.specs.Expecting.{Part, one, part, choose, next_of, base_parts, unary_parts, created_parts}
+use Rattle.dpj_parse.specs.Expecting.{Part, one, part, base_parts, unary_parts, created_parts}
 use Rattle.dpj_parse.specs.Limits.{Counts, Fits, past, more, more_if, Within, Stops, in_part, Refuses}
 use Rattle.dpj_parse.specs.Counted.{Halts}
 use Rattle.dpj_parse.specs.Onward.{Onward}
@@ -43,11 +43,11 @@ no_prefix {t} m none op n =
     none op (ap (λ (p : Placed). p.terminal) same)
 
 unary_enter : (op : UnaryOp) {c : Counts} {here : List Placed} → Next (terminal.Symbol (unary_symbol op)) here → Onward c (part Part.unary ∷ []) here (more c) (one is_any ∷ part Part.unary ∷ []) here
-unary_enter unary_op.Neg n = rw (n.takes.takes.first) (enter Part.unary refl (λ d. refl))
+unary_enter unary_op.Negate n = rw (n.takes.takes.first) (enter Part.unary refl (λ d. refl))
 unary_enter unary_op.Not n = rw (n.takes.takes.first) (enter Part.unary refl (λ d. refl))
 
 prefix_plain : (op : UnaryOp) (c : Counts) → past (terminal.Symbol (unary_symbol op)) c ≡ c
-prefix_plain unary_op.Neg c = refl
+prefix_plain unary_op.Negate c = refl
 prefix_plain unary_op.Not c = refl
 
 prefix_reads : (op : UnaryOp) (c d : Counts) {before after : List Placed} {place : Place} → Next (terminal.Symbol (unary_symbol op)) before → TakesNext before after place →
@@ -96,7 +96,7 @@ paren_selected_refused end stop n w same r = refused_on _ stop (over (paren_ente
 -- and what begins with neither of these
 plain_parts : (t : Terminal) → ((op : UnaryOp) → t ≡ terminal.Symbol (unary_symbol op) → ⊥) → (t ≡ terminal.Keyword Keyword.New → ⊥) → (t ≡ terminal.Symbol Symbol.OpenParen → ⊥) →
     (unary_parts t ≡ part Part.literal ∷ part Part.selected ∷ []) × ((is_minus t || is_not t) ≡ false)
-plain_parts (terminal.Symbol Symbol.Minus) ops created paren = absurd (ops unary_op.Neg refl)
+plain_parts (terminal.Symbol Symbol.Minus) ops created paren = absurd (ops unary_op.Negate refl)
 plain_parts (terminal.Symbol Symbol.Not) ops created paren = absurd (ops unary_op.Not refl)
 plain_parts (terminal.Keyword Keyword.New) ops created paren = absurd (created refl)
 plain_parts (terminal.Symbol Symbol.OpenParen) ops created paren = absurd (paren refl)

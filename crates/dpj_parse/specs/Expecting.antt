@@ -7,7 +7,7 @@ use Rattle.dpj_tokens.specs.declared.token.Keyword.{Keyword}
 use Rattle.dpj_terminals.specs.declared.terminal.Placed.{Placed}
 use Rattle.dpj_terminals.specs.declared.terminal.Terminal.{Terminal}
 use Rattle.dpj_terminals.specs.declared.terminal.Terminal.TheVariants as terminal
-use Rattle.dpj_tree.specs.declared.expr.BinaryOp.{BinaryOp}
+use Rattle.dpj_tree.specs.declared.expr.InfixOp.{InfixOp}
 use Rattle.dpj_parse.specs.Words.{op_at, is_any, is_assign, is_atomic, is_bar, is_boolean, is_class, is_close_brace, is_close_bracket, is_close_paren, is_colon, is_comma, is_dot, is_else, is_extends, is_final, is_foreach_parts, is_greater, is_hash, is_if, is_in, is_int, is_less, is_name, is_new, is_number, is_open_brace, is_open_bracket, is_open_paren, is_print, is_pure, is_question, is_reads, is_region, is_return, is_root, is_semicolon, is_star, is_text, is_void, is_while, is_writes}
 use Rattle.dpj_parse.specs.Expressions.{level_of, left_level, Ending, as_value, as_name, as_field, as_element, as_call, as_creation}
 
@@ -119,11 +119,11 @@ abbrev pub next_is : (Terminal → Bool) → Option Placed → Bool
 next_is test None = false
 next_is test (Some next) = test next.terminal
 
-abbrev pub op_of : Option Placed → Option BinaryOp
+abbrev pub op_of : Option Placed → Option InfixOp
 op_of None = None
 op_of (Some next) = op_at next.terminal
 
-abbrev pub climb_parts : ℕ → ℕ → Option BinaryOp → List Expected
+abbrev pub climb_parts : ℕ → ℕ → Option InfixOp → List Expected
 climb_parts level top None = []
 climb_parts level top (Some op) =
     cond (nat_le level (level_of op) && nat_le (left_level op) top) (one is_any ∷ part (expr (suc (level_of op))) ∷ part (climb level (level_of op)) ∷ []) []

@@ -1,6 +1,12 @@
 -- The grammar of expressions, with their trees.
-use Rattle.std.specs.Prelude.{ℕ, suc, ◌≤◌, ℤ, List, true, false}
+use Rattle.std.specs.Prelude.{ℕ, suc, ◌≤◌, ℤ, List, true, false, cond, ◌==◌}
+use Rattle.dpj_base.specs.declared.op.BinaryOp.TheVariants as binary_op
+use Rattle.dpj_base.specs.declared.op.LogicOp.TheVariants as logic_op
+use Rattle.dpj_base.specs.declared.op.UnaryOp.{UnaryOp}
+use Rattle.dpj_base.specs.declared.op.UnaryOp.TheVariants as unary_op
 use Rattle.dpj_base.specs.declared.place.Place.{Place}
+use Rattle.dpj_base.specs.Operators.{logic_level}
+use Rattle.dpj_base.specs.Operators.{level_of as binary_level}
 use Rattle.dpj_tokens.specs.declared.token.Symbol.{Symbol}
 use Rattle.dpj_tokens.specs.declared.token.Keyword.{Keyword}
 use Rattle.dpj_terminals.specs.declared.terminal.Placed.{Placed}
@@ -9,66 +15,40 @@ use Rattle.dpj_tree.specs.declared.region.Named.{Named}
 use Rattle.dpj_tree.specs.declared.region.RplTree.{RplTree}
 use Rattle.dpj_tree.specs.declared.region.BaseTree.{BaseTree}
 use Rattle.dpj_tree.specs.declared.region.Suffix.{Suffix}
-use Rattle.dpj_tree.specs.declared.expr.UnaryOp.{UnaryOp}
-use Rattle.dpj_tree.specs.declared.expr.UnaryOp.TheVariants as unary_op
-use Rattle.dpj_tree.specs.declared.expr.BinaryOp.{BinaryOp}
-use Rattle.dpj_tree.specs.declared.expr.BinaryOp.TheVariants as binary_op
+use Rattle.dpj_tree.specs.declared.expr.InfixOp.{InfixOp}
+use Rattle.dpj_tree.specs.declared.expr.InfixOp.TheVariants.{Logic, Binary}
 use Rattle.dpj_tree.specs.Plain.{PlainExpr, expression, int, boolean, null, this, local, field, element, call, create, create_array, unary, binary, PlainExprs, no_exprs, more_exprs}
 use Rattle.dpj_parse.specs.Taking.{Takes, TakesSymbol, TakesKeyword, TakesName, Many}
 use Rattle.dpj_parse.specs.Paths.{DerivesArgs}
 use Rattle.dpj_parse.specs.Types.{DerivesBase, DerivesAfter, DerivesSuffix}
 
 -- the symbol of an operator
-abbrev pub symbol_of : BinaryOp → Symbol
-symbol_of binary_op.Or = Symbol.Or
-symbol_of binary_op.And = Symbol.And
-symbol_of binary_op.Eq = Symbol.Equal
-symbol_of binary_op.Ne = Symbol.NotEqual
-symbol_of binary_op.Lt = Symbol.Less
-symbol_of binary_op.Le = Symbol.AtMost
-symbol_of binary_op.Gt = Symbol.Greater
-symbol_of binary_op.Ge = Symbol.AtLeast
-symbol_of binary_op.Add = Symbol.Plus
-symbol_of binary_op.Sub = Symbol.Minus
-symbol_of binary_op.Mul = Symbol.Star
-symbol_of binary_op.Div = Symbol.Slash
-symbol_of binary_op.Rem = Symbol.Percent
+abbrev pub symbol_of : InfixOp → Symbol
+symbol_of (Logic logic_op.Or) = Symbol.Or
+symbol_of (Logic logic_op.And) = Symbol.And
+symbol_of (Binary binary_op.Equal) = Symbol.Equal
+symbol_of (Binary binary_op.NotEqual) = Symbol.NotEqual
+symbol_of (Binary binary_op.Less) = Symbol.Less
+symbol_of (Binary binary_op.AtMost) = Symbol.AtMost
+symbol_of (Binary binary_op.Greater) = Symbol.Greater
+symbol_of (Binary binary_op.AtLeast) = Symbol.AtLeast
+symbol_of (Binary binary_op.Add) = Symbol.Plus
+symbol_of (Binary binary_op.Subtract) = Symbol.Minus
+symbol_of (Binary binary_op.Multiply) = Symbol.Star
+symbol_of (Binary binary_op.Divide) = Symbol.Slash
+symbol_of (Binary binary_op.Remainder) = Symbol.Percent
 
 abbrev pub unary_symbol : UnaryOp → Symbol
-unary_symbol unary_op.Neg = Symbol.Minus
+unary_symbol unary_op.Negate = Symbol.Minus
 unary_symbol unary_op.Not = Symbol.Not
 
--- the level of its productions: 0 for Expr, 1 for And, 2 for Equal, 3 for Compare, 4 for Sum and 5 for Product
-abbrev pub level_of : BinaryOp → ℕ
-level_of binary_op.Or = 0
-level_of binary_op.And = 1
-level_of binary_op.Eq = 2
-level_of binary_op.Ne = 2
-level_of binary_op.Lt = 3
-level_of binary_op.Le = 3
-level_of binary_op.Gt = 3
-level_of binary_op.Ge = 3
-level_of binary_op.Add = 4
-level_of binary_op.Sub = 4
-level_of binary_op.Mul = 5
-level_of binary_op.Div = 5
-level_of binary_op.Rem = 5
+abbrev pub level_of : InfixOp → ℕ
+level_of (Logic op) = logic_level op
+level_of (Binary op) = binary_level op
 
 -- the level of its left operand: operators of one level group to the left, and no comparison compares another
-abbrev pub left_level : BinaryOp → ℕ
-left_level binary_op.Or = 0
-left_level binary_op.And = 1
-left_level binary_op.Eq = 2
-left_level binary_op.Ne = 2
-left_level binary_op.Lt = 4
-left_level binary_op.Le = 4
-left_level binary_op.Gt = 4
-left_level binary_op.Ge = 4
-left_level binary_op.Add = 4
-left_level binary_op.Sub = 4
-left_level binary_op.Mul = 5
-left_level binary_op.Div = 5
-left_level binary_op.Rem = 5
+abbrev pub left_level : InfixOp → ℕ
+left_level op = cond (level_of op == 3) (suc (level_of op)) (level_of op)
 
 -- what a Postfix ends as
 pub data Ending : Type 0 where
@@ -83,7 +63,7 @@ mutual
   -- Expr, And, Equal, Compare, Sum and Product, by their levels
   pub data DerivesLevel : ℕ → List Placed → List Placed → PlainExpr → Type 0 where
     operand : {level : ℕ} {before after : List Placed} {e : PlainExpr} → DerivesUnary before after e → DerivesLevel level before after e
-    operation : {level : ℕ} {op : BinaryOp} {before one two after : List Placed} {left right : PlainExpr} {place : Place} →
+    operation : {level : ℕ} {op : InfixOp} {before one two after : List Placed} {left right : PlainExpr} {place : Place} →
         level ≤ level_of op →
         DerivesLevel (left_level op) before one left → TakesSymbol (symbol_of op) one two place → DerivesLevel (suc (level_of op)) two after right →
         DerivesLevel level before after (expression place (binary op left right))

@@ -9,7 +9,6 @@ use Rattle.dpj_tokens.specs.declared.token.Symbol.{Symbol}
 use Rattle.dpj_terminals.specs.declared.terminal.Placed.{Placed}
 use Rattle.dpj_terminals.specs.declared.terminal.Terminal.{Terminal}
 use Rattle.dpj_terminals.specs.declared.terminal.Terminal.TheVariants as terminal
-use Rattle.dpj_tree.specs.declared.expr.BinaryOp.{BinaryOp}
 use Rattle.dpj_parse.specs.Words.{is_dot, is_minus, is_not, is_open_brace, is_open_bracket}
 use Rattle.dpj_parse.specs.Taking.{place_of}
 use Rattle.dpj_parse.specs.Expecting.{Part, expr, Expected, one, part, choose, next_of, next_is, op_of, climb_parts}

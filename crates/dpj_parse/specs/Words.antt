@@ -1,11 +1,13 @@
 -- Tests of single terminals: whether one is a name, a number, a text, a symbol or a keyword.
 use Rattle.std.specs.Prelude.{Bool, true, false, Option, Some, None}
+use Rattle.dpj_base.specs.declared.op.BinaryOp.TheVariants as binary_op
+use Rattle.dpj_base.specs.declared.op.LogicOp.TheVariants as logic_op
 use Rattle.dpj_tokens.specs.declared.token.Symbol.{Symbol}
 use Rattle.dpj_tokens.specs.declared.token.Keyword.{Keyword}
 use Rattle.dpj_terminals.specs.declared.terminal.Terminal.{Terminal}
 use Rattle.dpj_terminals.specs.declared.terminal.Terminal.TheVariants as terminal
-use Rattle.dpj_tree.specs.declared.expr.BinaryOp.{BinaryOp}
-use Rattle.dpj_tree.specs.declared.expr.BinaryOp.TheVariants as binary_op
+use Rattle.dpj_tree.specs.declared.expr.InfixOp.{InfixOp}
+use Rattle.dpj_tree.specs.declared.expr.InfixOp.TheVariants.{Logic, Binary}
 
 -- any terminal at all
 abbrev pub is_any : Terminal → Bool
@@ -310,18 +312,18 @@ word Keyword.Null = is_null
 word Keyword.Root = is_root
 
 -- the operator between two expressions that a terminal is
-abbrev pub op_at : Terminal → Option BinaryOp
-op_at (terminal.Symbol Symbol.Or) = Some binary_op.Or
-op_at (terminal.Symbol Symbol.And) = Some binary_op.And
-op_at (terminal.Symbol Symbol.Equal) = Some binary_op.Eq
-op_at (terminal.Symbol Symbol.NotEqual) = Some binary_op.Ne
-op_at (terminal.Symbol Symbol.Less) = Some binary_op.Lt
-op_at (terminal.Symbol Symbol.AtMost) = Some binary_op.Le
-op_at (terminal.Symbol Symbol.Greater) = Some binary_op.Gt
-op_at (terminal.Symbol Symbol.AtLeast) = Some binary_op.Ge
-op_at (terminal.Symbol Symbol.Plus) = Some binary_op.Add
-op_at (terminal.Symbol Symbol.Minus) = Some binary_op.Sub
-op_at (terminal.Symbol Symbol.Star) = Some binary_op.Mul
-op_at (terminal.Symbol Symbol.Slash) = Some binary_op.Div
-op_at (terminal.Symbol Symbol.Percent) = Some binary_op.Rem
+abbrev pub op_at : Terminal → Option InfixOp
+op_at (terminal.Symbol Symbol.Or) = Some (Logic logic_op.Or)
+op_at (terminal.Symbol Symbol.And) = Some (Logic logic_op.And)
+op_at (terminal.Symbol Symbol.Equal) = Some (Binary binary_op.Equal)
+op_at (terminal.Symbol Symbol.NotEqual) = Some (Binary binary_op.NotEqual)
+op_at (terminal.Symbol Symbol.Less) = Some (Binary binary_op.Less)
+op_at (terminal.Symbol Symbol.AtMost) = Some (Binary binary_op.AtMost)
+op_at (terminal.Symbol Symbol.Greater) = Some (Binary binary_op.Greater)
+op_at (terminal.Symbol Symbol.AtLeast) = Some (Binary binary_op.AtLeast)
+op_at (terminal.Symbol Symbol.Plus) = Some (Binary binary_op.Add)
+op_at (terminal.Symbol Symbol.Minus) = Some (Binary binary_op.Subtract)
+op_at (terminal.Symbol Symbol.Star) = Some (Binary binary_op.Multiply)
+op_at (terminal.Symbol Symbol.Slash) = Some (Binary binary_op.Divide)
+op_at (terminal.Symbol Symbol.Percent) = Some (Binary binary_op.Remainder)
 op_at _ = None

@@ -9,18 +9,18 @@ ghost use Rattle.dpj_parse.specs.Taking.{Next, NoNext, Listed};
 ghost use Rattle.dpj_parse.specs.Expressions.{DerivesActuals, DerivesExpr, DerivesLevel, DerivesPostfix, DerivesPrimary, DerivesUnary, as_creation, level_of, symbol_of, unary_symbol};
 ghost use Rattle.dpj_parse.specs.Reading.{DerivesExprTree, DerivesInner, DerivesLengths, DerivesOpenSuffixes, DerivesSelection, DerivesSelections, NextSpells, Spells, ending_of, plain_kind};
 ghost use Rattle.dpj_terminals.specs.declared.terminal.Terminal.TheVariants as Terminal;
-ghost use Rattle.dpj_tree.specs.declared.expr.BinaryOp.{BinaryOp};
-ghost use Rattle.dpj_tree.specs.declared.expr.UnaryOp.{UnaryOp};
+ghost use Rattle.dpj_tree.specs.declared.expr.InfixOp.{InfixOp};
+ghost use Rattle.dpj_base.specs.declared.op.UnaryOp.{UnaryOp};
 ghost use Rattle.dpj_tree.specs.Plain.{binary, create, expression, plain_expr, plain_exprs};
 
 use crate::cursor::Cursor;
-use crate::operator::{LOOSEST, TIGHTEST, binary_of, binding, tightest_after, unary_of};
+use crate::operator::{LOOSEST, TIGHTEST, binding, infix_of, tightest_after, unary_of};
 use crate::region::args_if;
 use crate::types::{after_brackets, base};
-use dpj_base::{Boxed, Items, NoMemory, Place, Stop};
+use dpj_base::{Boxed, Items, NoMemory, Place, Stop, UnaryOp};
 use dpj_terminals::Terminal;
 use dpj_tokens::{Keyword, Symbol};
-use dpj_tree::{BaseTree, BinaryOp, Expr, ExprKind, Named, RplTree, Suffix, UnaryOp};
+use dpj_tree::{BaseTree, Expr, ExprKind, InfixOp, Named, RplTree, Suffix};
 use std::alloc::Global;
 
 /// An expression of this kind at a place.
@@ -69,10 +69,10 @@ fn operators(alloc: Global, cursor: &mut Cursor, least: u32) -> Result<Expr, Sto
 
 /// The operator that comes next, where it binds so tightly.
 #[tactic(auto, using(crate::proofs::OperatorParts::no_op_at_end, crate::proofs::OperatorParts::op_here))]
-fn operator_within(cursor: &Cursor, least: u32, most: u32) -> Option<BinaryOp>
+fn operator_within(cursor: &Cursor, least: u32, most: u32) -> Option<InfixOp>
     ensures next { IfSome result (λ op. Next (Terminal.Symbol (symbol_of op)) cursor.now.rest.now) }
     ensures within { IfSome result (λ op. (least ≤ level_of op) × (level_of op ≤ most)) }
-    ensures otherwise { IfNone result ((op : BinaryOp) → op_of (next_of cursor.now.rest.now) ≡ Some op → least ≤ level_of op → level_of op ≤ most → ⊥) }
+    ensures otherwise { IfNone result ((op : InfixOp) → op_of (next_of cursor.now.rest.now) ≡ Some op → least ≤ level_of op → level_of op ≤ most → ⊥) }
 {
     let op = operator_of(cursor.next()?)?;
     if binding(op) < least || binding(op) > most {
@@ -82,12 +82,12 @@ fn operator_within(cursor: &Cursor, least: u32, most: u32) -> Option<BinaryOp>
 }
 
 /// The operator between two expressions that a terminal is.
-fn operator_of(terminal: &Terminal) -> Option<BinaryOp>
+fn operator_of(terminal: &Terminal) -> Option<InfixOp>
     ensures which { IfSome result (λ op. terminal.now ≡ Terminal.Symbol (symbol_of op)) }
     ensures at { result ≡ op_at terminal.now }
 {
     match terminal {
-        Terminal::Symbol(symbol) => binary_of(*symbol),
+        Terminal::Symbol(symbol) => infix_of(*symbol),
         Terminal::Int(_) | Terminal::Name(_) | Terminal::Text(_) | Terminal::Keyword(_) => None,
     }
 }
@@ -96,7 +96,7 @@ fn operator_of(terminal: &Terminal) -> Option<BinaryOp>
 fn joined(
     alloc: Global,
     place: Place,
-    op: BinaryOp,
+    op: InfixOp,
     left: Expr,
     right: Expr,
 ) -> Result<Expr, NoMemory>

@@ -1,14 +1,14 @@
 -- The tree of a program as plain data, over which the rules of the language are written, and the map from the
 -- code's tree to it. A node keeps its place.
 use Rattle.std.specs.Prelude.{ℕ, ℤ, List, [], ◌∷◌, Bool, Option, Some, None}
+use Rattle.dpj_base.specs.declared.op.UnaryOp.{UnaryOp}
 use Rattle.dpj_base.specs.declared.place.Place.{Place}
 use Rattle.dpj_tree.specs.declared.region.Named.{Named}
 use Rattle.dpj_tree.specs.declared.region.RplTree.{RplTree}
 use Rattle.dpj_tree.specs.declared.region.TypeTree.{TypeTree}
 use Rattle.dpj_tree.specs.declared.region.BaseTree.{BaseTree}
 use Rattle.dpj_tree.specs.declared.region.Suffix.{Suffix}
-use Rattle.dpj_tree.specs.declared.expr.UnaryOp.{UnaryOp}
-use Rattle.dpj_tree.specs.declared.expr.BinaryOp.{BinaryOp}
+use Rattle.dpj_tree.specs.declared.expr.InfixOp.{InfixOp}
 use Rattle.dpj_tree.specs.declared.expr.Expr.{Expr, fold-Expr}
 use Rattle.dpj_tree.specs.declared.expr.ExprKind.TheOpen.{ExprKind-F, Expr-F}
 use Rattle.dpj_tree.specs.declared.stmt.Stmt.{Stmt, fold-Stmt}
@@ -31,7 +31,7 @@ mutual
     create : Named → List RplTree → PlainExprs → ExprForm
     create_array : BaseTree → List Suffix → PlainExpr → Option RplTree → Option Named → ExprForm
     unary : UnaryOp → PlainExpr → ExprForm
-    binary : BinaryOp → PlainExpr → PlainExpr → ExprForm
+    binary : InfixOp → PlainExpr → PlainExpr → ExprForm
 
   pub data PlainExprs : Type 0 where
     no_exprs : PlainExprs

@@ -1,27 +1,11 @@
 use crate::region::{BaseTree, Named, RplTree, Suffix};
-use dpj_base::{Boxed, Items, Place};
+use dpj_base::{BinaryOp, Boxed, Items, LogicOp, Place, UnaryOp};
 
+/// An operator between two expressions.
 #[derive(Clone, Copy, Debug, PartialEq, Eq)]
-pub enum UnaryOp {
-    Neg,
-    Not,
-}
-
-#[derive(Clone, Copy, Debug, PartialEq, Eq)]
-pub enum BinaryOp {
-    Or,
-    And,
-    Eq,
-    Ne,
-    Lt,
-    Le,
-    Gt,
-    Ge,
-    Add,
-    Sub,
-    Mul,
-    Div,
-    Rem,
+pub enum InfixOp {
+    Logic(LogicOp),
+    Binary(BinaryOp),
 }
 
 /// An expression. The place of an operation is its operator, of a field or call the name after the dot, of an
@@ -72,7 +56,7 @@ pub enum ExprKind {
         arg: Boxed<Expr>,
     },
     Binary {
-        op: BinaryOp,
+        op: InfixOp,
         left: Boxed<Expr>,
         right: Boxed<Expr>,
     },

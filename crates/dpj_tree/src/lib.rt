@@ -14,7 +14,7 @@ mod stmt;
 pub use class::{
     Class, Field, Formal, Item, Member, Method, MethodResult, Parent, Program, SummaryTree,
 };
-pub use expr::{BinaryOp, Expr, ExprKind, UnaryOp};
+pub use expr::{Expr, ExprKind, InfixOp};
 pub use nd::uses_nd;
 pub use region::{
     BaseTree, ConstrTree, ElemTree, Named, ParamTree, Params, RName, RplHead, RplTree, Suffix,
