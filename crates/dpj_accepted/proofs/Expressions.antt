@@ -8,12 +8,18 @@ use Rattle.dpj_base.specs.declared.elems.Elem.{Elem}
 use Rattle.dpj_base.specs.declared.elems.Elem.TheVariants.{Any}
 use Rattle.dpj_base.specs.declared.elems.Index.{Index}
 use Rattle.dpj_base.specs.declared.elems.Index.TheVariants.{Variable}
+use Rattle.dpj_base.specs.declared.op.LogicOp.TheVariants.{And, Or}
+use Rattle.dpj_base.specs.declared.op.Operands.{Operands}
+use Rattle.dpj_base.specs.declared.op.Operands.TheVariants.{Ints, Same}
+use Rattle.dpj_base.specs.declared.op.UnaryOp.{UnaryOp}
+use Rattle.dpj_base.specs.declared.op.UnaryOp.TheVariants.{Negate, Not}
 use Rattle.dpj_base.specs.declared.place.Place.{Place}
 use Rattle.dpj_base.specs.declared.refusal.Kind.TheVariants as kind
 use Rattle.dpj_base.specs.declared.refusal.Refusal.{Refusal}
 use Rattle.dpj_base.specs.declared.region.Rpl.{Rpl}
 use Rattle.dpj_base.specs.declared.ty.Ty.{Ty}
 use Rattle.dpj_base.specs.Regions.{is_any, fully_specified, substituted}
+use Rattle.dpj_base.specs.Operators.{operands_of}
 use Rattle.dpj_base.specs.Types.{PlainType, plain_type, type_with, path_at, type_at, rigid_in_index}
 use Rattle.dpj_base.specs.Types.{PlainType as ty}
 use Rattle.dpj_arrays.specs.Access.{element_of}
@@ -24,10 +30,8 @@ use Rattle.dpj_headers.specs.declared.header.ParamRow.{ParamRow}
 use Rattle.dpj_headers.specs.Faults.{reported, noted, all_noted, none_by}
 use Rattle.dpj_headers.specs.Passes.{fault, fault_if}
 use Rattle.dpj_locals.specs.Touches.{expr_reads, exprs_read, form_reads, path_reads, made_reads}
-use Rattle.dpj_tree.specs.declared.expr.BinaryOp.{BinaryOp}
-use Rattle.dpj_tree.specs.declared.expr.BinaryOp.TheVariants.{Or, And, Eq, Ne, Lt, Le, Gt, Ge, Add, Sub, Mul, Div, Rem}
-use Rattle.dpj_tree.specs.declared.expr.UnaryOp.{UnaryOp}
-use Rattle.dpj_tree.specs.declared.expr.UnaryOp.TheVariants.{Neg, Not}
+use Rattle.dpj_tree.specs.declared.expr.InfixOp.{InfixOp}
+use Rattle.dpj_tree.specs.declared.expr.InfixOp.TheVariants.{Logic, Binary}
 use Rattle.dpj_tree.specs.declared.region.BaseTree.{BaseTree}
 use Rattle.dpj_tree.specs.declared.region.Named.{Named}
 use Rattle.dpj_tree.specs.declared.region.RplTree.{RplTree}
@@ -41,13 +45,12 @@ use Rattle.dpj_resolve.specs.Classes.{params_in}
 use Rattle.dpj_table.specs.declared.rows.FieldRow.{FieldRow}
 use Rattle.dpj_table.specs.declared.rows.MethodRow.{MethodRow}
 use Rattle.dpj_table.specs.Table.{headers_of, field_of, method_of, constructor_of, args_at, given_of, is_forking}
-use Rattle.dpj_base.specs.declared.op.BinaryOp.TheVariants as made_op
 use Rattle.dpj_typed.specs.Plain.{PlainProgram, TypedExpr, typed, type_of}
 use Rattle.dpj_typed.specs.Plain.{ExprForm as form}
 use Rattle.dpj_typed.specs.Scope.{Scope, Local, constant, part, Above}
 use Rattle.dpj_typed.specs.Effects.{Own, does, uses, reads, summary_with}
 use Rattle.dpj_typed.specs.Types.{GoodArgs, Known, Readable}
-use Rattle.dpj_typed.specs.Typing.{Holds, Has, Fit, index_elem, variable_elem, BothInts, Comparable, IsReference}
+use Rattle.dpj_typed.specs.Typing.{Holds, Has, Fit, index_elem, variable_elem, BothInts, Comparable, Takes, IsReference}
 use Rattle.dpj_exprs.specs.declared.env.Env.{Env}
 use Rattle.dpj_exprs.specs.declared.env.LocalRow.{LocalRow}
 use Rattle.dpj_exprs.specs.declared.found.Found.{Found}
@@ -59,7 +62,7 @@ use Rattle.dpj_exprs.specs.Fields.{field_with, owned_field, named_field, field_t
 use Rattle.dpj_exprs.specs.Fields.{PlainField as SeenField}
 use Rattle.dpj_exprs.specs.Found.{effect_with}
 use Rattle.dpj_exprs.specs.Locals.{local_typed, measured}
-use Rattle.dpj_exprs.specs.Operations.{unary_op, unary_typed, both, comparable, binary_takes, binary_gives, binary_form, binary_typed, node_if}
+use Rattle.dpj_exprs.specs.Operations.{unary_typed, both, comparable, operands_fit, binary_takes, binary_gives, binary_form, binary_typed, node_if}
 use Rattle.dpj_exprs.specs.Partial.{is_partial_call, some_mention_partial, rigid_in_partial}
 use Rattle.dpj_exprs.specs.Typed.{type_in, node_at, nodes_at, is_int, is_boolean, is_reference, is_array, AllFit}
 use Rattle.dpj_exprs.specs.Typing.{answer, created, leaf_typed, AllAnswer, all_give, one_refused, Typing, TypingArray, TypingAll}
@@ -396,15 +399,15 @@ module _ (P : PlainProgram) (L : Scope) (env : Env) (may_read may_assign : ℕ �
     unary_passed : (place : Place) (op : UnaryOp) (arg : tree.PlainExpr) (f g : Found) (t : Option TypedExpr) → Passed arg f (gives t g) →
         Passed (tree.expression place (tree.unary op arg)) f (answer (unary_typed op t place) g)
     unary_passed place op arg f g None m = absurd m
-    unary_passed place Neg arg f g (Some e) m = by (is_int (type_of e)) refl
+    unary_passed place Negate arg f g (Some e) m = by (is_int (type_of e)) refl
       where
-        by : (b : Bool) → is_int (type_of e) ≡ b → Passed (tree.expression place (tree.unary Neg arg)) f (answer (node_if b ty.int (form.unary (unary_op Neg) e) place) g)
-        by true at = made_on (tree.expression place (tree.unary Neg arg)) f g e (typed place ty.int (form.unary (unary_op Neg) e)) m.stands (λ E h. Has.negative h (int_is (type_of e) at)) (λ _. refl)
+        by : (b : Bool) → is_int (type_of e) ≡ b → Passed (tree.expression place (tree.unary Negate arg)) f (answer (node_if b ty.int (form.unary Negate e) place) g)
+        by true at = made_on (tree.expression place (tree.unary Negate arg)) f g e (typed place ty.int (form.unary Negate e)) m.stands (λ E h. Has.negative h (int_is (type_of e) at)) (λ _. refl)
         by false at = tt
     unary_passed place Not arg f g (Some e) m = by (is_boolean (type_of e)) refl
       where
-        by : (b : Bool) → is_boolean (type_of e) ≡ b → Passed (tree.expression place (tree.unary Not arg)) f (answer (node_if b ty.boolean (form.unary (unary_op Not) e) place) g)
-        by true at = made_on (tree.expression place (tree.unary Not arg)) f g e (typed place ty.boolean (form.unary (unary_op Not) e)) m.stands (λ E h. Has.negation h (boolean_is (type_of e) at)) (λ _. refl)
+        by : (b : Bool) → is_boolean (type_of e) ≡ b → Passed (tree.expression place (tree.unary Not arg)) f (answer (node_if b ty.boolean (form.unary Not e) place) g)
+        by true at = made_on (tree.expression place (tree.unary Not arg)) f g e (typed place ty.boolean (form.unary Not e)) m.stands (λ E h. Has.negation h (boolean_is (type_of e) at)) (λ _. refl)
         by false at = tt
 
     both_ints : (t u : PlainType) → both is_int (Some t) (Some u) ≡ true → BothInts t u
@@ -425,39 +428,23 @@ module _ (P : PlainProgram) (L : Scope) (env : Env) (may_read may_assign : ℕ �
         by false false true f g k h = inr (inr (k refl))
         by false false false f g k h = cc
 
-    binary_has : (op : BinaryOp) (place : Place) (e d : TypedExpr) {E F : List Own} → binary_takes op (Some (type_of e)) (Some (type_of d)) ≡ true → Has P L e E → Has P L d F →
+    can_take : (operands : Operands) (t u : PlainType) → operands_fit operands (Some t) (Some u) ≡ true → Takes operands t u
+    can_take Ints t u h = both_ints t u h
+    can_take Same t u h = can_compare t u h
+
+    binary_has : (op : InfixOp) (place : Place) (e d : TypedExpr) {E F : List Own} → binary_takes op (Some (type_of e)) (Some (type_of d)) ≡ true → Has P L e E → Has P L d F →
         Has P L (typed place (binary_gives op) (binary_form op e d)) (E ++ F)
-    binary_has Or place e d takes h k = let w = both_booleans (type_of e) (type_of d) takes in Has.disjunction h w.0 k w.1
-    binary_has And place e d takes h k = let w = both_booleans (type_of e) (type_of d) takes in Has.conjunction h w.0 k w.1
-    binary_has Eq place e d takes h k = Has.operation {o = made_op.Equal} h k (can_compare (type_of e) (type_of d) takes) refl
-    binary_has Ne place e d takes h k = Has.operation {o = made_op.NotEqual} h k (can_compare (type_of e) (type_of d) takes) refl
-    binary_has Lt place e d takes h k = Has.operation {o = made_op.Less} h k (both_ints (type_of e) (type_of d) takes) refl
-    binary_has Le place e d takes h k = Has.operation {o = made_op.AtMost} h k (both_ints (type_of e) (type_of d) takes) refl
-    binary_has Gt place e d takes h k = Has.operation {o = made_op.Greater} h k (both_ints (type_of e) (type_of d) takes) refl
-    binary_has Ge place e d takes h k = Has.operation {o = made_op.AtLeast} h k (both_ints (type_of e) (type_of d) takes) refl
-    binary_has Add place e d takes h k = Has.operation {o = made_op.Add} h k (both_ints (type_of e) (type_of d) takes) refl
-    binary_has Sub place e d takes h k = Has.operation {o = made_op.Subtract} h k (both_ints (type_of e) (type_of d) takes) refl
-    binary_has Mul place e d takes h k = Has.operation {o = made_op.Multiply} h k (both_ints (type_of e) (type_of d) takes) refl
-    binary_has Div place e d takes h k = Has.operation {o = made_op.Divide} h k (both_ints (type_of e) (type_of d) takes) refl
-    binary_has Rem place e d takes h k = Has.operation {o = made_op.Remainder} h k (both_ints (type_of e) (type_of d) takes) refl
+    binary_has (Logic Or) place e d takes h k = let w = both_booleans (type_of e) (type_of d) takes in Has.disjunction h w.0 k w.1
+    binary_has (Logic And) place e d takes h k = let w = both_booleans (type_of e) (type_of d) takes in Has.conjunction h w.0 k w.1
+    binary_has (Binary op) place e d takes h k = Has.operation h k (can_take (operands_of op) (type_of e) (type_of d) takes) refl
 
     -- no operation of two operands stands in an index
-    binary_elem : (op : BinaryOp) (place : Place) (e d : TypedExpr) → index_elem L (typed place (binary_gives op) (binary_form op e d)) ≡ Any
-    binary_elem Or place e d = refl
-    binary_elem And place e d = refl
-    binary_elem Eq place e d = refl
-    binary_elem Ne place e d = refl
-    binary_elem Lt place e d = refl
-    binary_elem Le place e d = refl
-    binary_elem Gt place e d = refl
-    binary_elem Ge place e d = refl
-    binary_elem Add place e d = refl
-    binary_elem Sub place e d = refl
-    binary_elem Mul place e d = refl
-    binary_elem Div place e d = refl
-    binary_elem Rem place e d = refl
+    binary_elem : (op : InfixOp) (place : Place) (e d : TypedExpr) → index_elem L (typed place (binary_gives op) (binary_form op e d)) ≡ Any
+    binary_elem (Logic Or) place e d = refl
+    binary_elem (Logic And) place e d = refl
+    binary_elem (Binary op) place e d = refl
 
-    binary_passed : (place : Place) (op : BinaryOp) (left right : tree.PlainExpr) (f g h : Found) (t u : Option TypedExpr) → Passed left f (gives t g) → Passed right g (gives u h) →
+    binary_passed : (place : Place) (op : InfixOp) (left right : tree.PlainExpr) (f g h : Found) (t u : Option TypedExpr) → Passed left f (gives t g) → Passed right g (gives u h) →
         Passed (tree.expression place (tree.binary op left right)) f (answer (binary_typed op t u place) h)
     binary_passed place op left right f g h None u m n = absurd m
     binary_passed place op left right f g h (Some e) None m n = absurd n

@@ -5,13 +5,13 @@ use Rattle.dpj_base.specs.declared.effect.Effect.{Effect}
 use Rattle.dpj_base.specs.declared.elems.Elem.{Elem}
 use Rattle.dpj_base.specs.declared.elems.Elem.TheVariants.{Name, At, Any, Star, Local}
 use Rattle.dpj_base.specs.declared.elems.Index.TheVariants.{Literal, Variable, Renamed, Own}
+use Rattle.dpj_base.specs.declared.op.BinaryOp.{BinaryOp}
+use Rattle.dpj_base.specs.declared.op.BinaryOp.TheVariants as op
 use Rattle.dpj_base.specs.declared.region.Head.{Head}
 use Rattle.dpj_base.specs.declared.region.Head.TheVariants.{Root, Param}
 use Rattle.dpj_base.specs.declared.region.Rpl.{Rpl}
 use Rattle.dpj_base.specs.Regions.{argument, put_at, substituted}
 use Rattle.dpj_base.specs.Types.{PlainType, int, boolean, void, null, class, array, type_with, elem_at, path_at, type_at}
-use Rattle.dpj_base.specs.declared.op.BinaryOp.{BinaryOp}
-use Rattle.dpj_base.specs.declared.op.BinaryOp.TheVariants as op
 use Rattle.dpj_base.specs.Operators.{result_of}
 use Rattle.dpj_typed.specs.Effects.{does, uses, summary_with}
 use Rattle.dpj_typed.specs.Effects.{Own as Done}

@@ -2,10 +2,15 @@
 use Rattle.std.proofs.Common.{◌≡◌, ◌∙◌, ◌+◌, ℕ, suc, Bool, true, false, ◌&&◌, ◌||◌, cond, List, [], ◌∷◌, ◌++◌, length, Option, Some, None, option_map, Result, Ok, Err, inl, refl, sym, ap, subst, arith}
 use Rattle.std.specs.Option.{option_and_then, option_map_or}
 use Rattle.std.specs.Prelude.{unwrap_or}
+use Rattle.dpj_base.specs.declared.op.BinaryOp.{BinaryOp}
+use Rattle.dpj_base.specs.declared.op.BinaryOp.TheVariants.{Add}
+use Rattle.dpj_base.specs.declared.op.UnaryOp.{UnaryOp}
+use Rattle.dpj_base.specs.declared.op.UnaryOp.TheVariants.{Negate, Not}
 use Rattle.dpj_base.specs.declared.place.Place.{Place}
 use Rattle.dpj_base.specs.declared.refusal.Kind.TheVariants as kind
 use Rattle.dpj_base.specs.declared.refusal.Refusal.{Refusal}
 use Rattle.dpj_base.specs.declared.region.Rpl.{Rpl}
+use Rattle.dpj_base.specs.Operators.{unary_type, result_of}
 use Rattle.dpj_base.specs.Types.{PlainType, plain_type, type_with}
 use Rattle.dpj_base.specs.Types.{PlainType as ty}
 use Rattle.dpj_arrays.specs.Access.{element_of, index_elem}
@@ -16,10 +21,8 @@ use Rattle.dpj_resolve.specs.Index.{PlainIndex}
 use Rattle.dpj_resolve.specs.Names.{Names}
 use Rattle.dpj_resolve.specs.Scoped.{value_in}
 use Rattle.dpj_resolve.specs.Written.{judged_type}
-use Rattle.dpj_tree.specs.declared.expr.BinaryOp.{BinaryOp}
-use Rattle.dpj_tree.specs.declared.expr.BinaryOp.TheVariants.{Or, And, Eq, Ne, Lt, Le, Gt, Ge, Add, Sub, Mul, Div, Rem}
-use Rattle.dpj_tree.specs.declared.expr.UnaryOp.{UnaryOp}
-use Rattle.dpj_tree.specs.declared.expr.UnaryOp.TheVariants.{Neg, Not}
+use Rattle.dpj_tree.specs.declared.expr.InfixOp.{InfixOp}
+use Rattle.dpj_tree.specs.declared.expr.InfixOp.TheVariants.{Logic, Binary}
 use Rattle.dpj_tree.specs.declared.region.BaseTree.{BaseTree}
 use Rattle.dpj_tree.specs.declared.region.Named.{Named}
 use Rattle.dpj_tree.specs.declared.region.RplTree.{RplTree}
@@ -44,7 +47,7 @@ use Rattle.dpj_exprs.specs.Elements.{array_element, element_read, read_element, 
 use Rattle.dpj_exprs.specs.Env.{table_of, scope_of, local_of, as_part, part_of, is_length_name}
 use Rattle.dpj_exprs.specs.Fields.{owned_field, named_field, field_through, field_read, read_field}
 use Rattle.dpj_exprs.specs.Locals.{local_typed}
-use Rattle.dpj_exprs.specs.Operations.{unary_takes, unary_gives, unary_op, binary_takes, binary_gives, binary_form, node_if}
+use Rattle.dpj_exprs.specs.Operations.{unary_takes, binary_takes, binary_gives, binary_form, node_if}
 use Rattle.dpj_exprs.specs.Targeting.{TargetAnswer, aims, misses, aimed, field_target, element_target, part_target, PlainTarget, Targeting}
 use Rattle.dpj_exprs.specs.Typed.{type_in, node_at, may_be, is_int, is_array}
 use Rattle.dpj_exprs.specs.Typing.{answer, created, leaf_typed, AllAnswer, all_give, one_refused, Typing, TypingArray, TypingAll}
@@ -250,24 +253,17 @@ module _ (env : Env) (locals : Names Shape) (rows : AreShallow (table_of env))
         by false = tt
 
     -- operations give ints and booleans
-    unary_shown : (s : Shape) (op : UnaryOp) → IsShape s (unary_gives op)
-    unary_shown s Neg = tt
+    unary_shown : (s : Shape) (op : UnaryOp) → IsShape s (unary_type op)
+    unary_shown s Negate = tt
     unary_shown s Not = tt
 
-    binary_shown : (s : Shape) (op : BinaryOp) → IsShape s (binary_gives op)
-    binary_shown s Or = tt
-    binary_shown s And = tt
-    binary_shown s Eq = tt
-    binary_shown s Ne = tt
-    binary_shown s Lt = tt
-    binary_shown s Le = tt
-    binary_shown s Gt = tt
-    binary_shown s Ge = tt
-    binary_shown s Add = tt
-    binary_shown s Sub = tt
-    binary_shown s Mul = tt
-    binary_shown s Div = tt
-    binary_shown s Rem = tt
+    result_shown : (s : Shape) (op : BinaryOp) → IsShape s (result_of op)
+    result_shown s Add = tt
+    result_shown s _ = tt
+
+    binary_shown : (s : Shape) (op : InfixOp) → IsShape s (binary_gives op)
+    binary_shown s (Logic op) = tt
+    binary_shown s (Binary op) = result_shown s op
 
     node_answered : (s : Shape) (ids : List ℕ) (f g : Found) (b : Bool) (t : PlainType) (e : form) (place : Place) → IsShape s t → More f ids g → Answered s ids f (answer (node_if b t e place) g)
     node_answered s ids f g true t e place h more = (h, more)
@@ -390,7 +386,7 @@ module _ (env : Env) (locals : Names Shape) (rows : AreShallow (table_of env))
       typing_answered (Typing.operand_refused d) = tt
       typing_answered (Typing.operation {place = place} {op = op} {arg = arg} {f = f} {g = g} {t = t} d r) =
           subst (Of (tree.expression place (tree.unary op arg)) f) r
-          (node_answered no_class (calls arg) f g (unary_takes op (type_in t)) (unary_gives op) (form.unary (unary_op op) (node_at place t)) place (unary_shown no_class op) (typing_answered d).1)
+          (node_answered no_class (calls arg) f g (unary_takes op (type_in t)) (unary_type op) (form.unary op (node_at place t)) place (unary_shown no_class op) (typing_answered d).1)
       typing_answered (Typing.left_refused d) = tt
       typing_answered (Typing.right_refused d i) = tt
       typing_answered (Typing.both_operands {place = place} {op = op} {left = left} {right = right} {f = f} {g = g} {h = h} {t = t} {u = u} d i r) =

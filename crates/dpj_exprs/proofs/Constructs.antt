@@ -1,6 +1,7 @@
 -- What the code says of an expression: of its form, of what it says of the parts, and passed on.
 use Rattle.std.proofs.Common.{◌≡◌, ◌∙◌, ℕ, List, Option, Some, Result, map, sym, subst, ap}
 use Rattle.std.specs.Result.{IsErrAnd}
+use Rattle.dpj_base.specs.declared.op.UnaryOp.{UnaryOp}
 use Rattle.dpj_base.specs.declared.place.Place.{Place}
 use Rattle.dpj_base.specs.declared.refusal.Refusal.{Refusal}
 use Rattle.dpj_base.specs.declared.refusal.Stop.{Stop}
@@ -8,9 +9,8 @@ use Rattle.dpj_base.specs.Refused.{IfRefused}
 use Rattle.dpj_base.specs.Types.{PlainType}
 use Rattle.dpj_resolve.specs.declared.base.ReadType.{ReadType}
 use Rattle.dpj_resolve.specs.Index.{PlainIndex}
-use Rattle.dpj_tree.specs.declared.expr.BinaryOp.{BinaryOp}
+use Rattle.dpj_tree.specs.declared.expr.InfixOp.{InfixOp}
 use Rattle.dpj_tree.specs.declared.expr.Expr.{Expr}
-use Rattle.dpj_tree.specs.declared.expr.UnaryOp.{UnaryOp}
 use Rattle.dpj_tree.specs.declared.region.BaseTree.{BaseTree}
 use Rattle.dpj_tree.specs.declared.region.Named.{Named}
 use Rattle.dpj_tree.specs.declared.region.RplTree.{RplTree}
@@ -88,7 +88,7 @@ pub unary_parts : {env : Env} {place : Place} {op : UnaryOp} {x arg : Expr} {f :
     Typing env (expression place (unary op (plain_expr x))) f a → Typing env (expression place (unary op (plain_expr arg))) f a
 unary_parts {env} {place} {op} {x} {arg} {f} {a} same d = subst (λ (z : Expr). Typing env (expression place (unary op (plain_expr z))) f a) same d
 
-pub binary_parts : {env : Env} {place : Place} {op : BinaryOp} {x left y right : Expr} {f : Found} {a : Answer} → x ≡ left → y ≡ right →
+pub binary_parts : {env : Env} {place : Place} {op : InfixOp} {x left y right : Expr} {f : Found} {a : Answer} → x ≡ left → y ≡ right →
     Typing env (expression place (binary op (plain_expr x) (plain_expr y))) f a → Typing env (expression place (binary op (plain_expr left) (plain_expr right))) f a
 binary_parts {env} {place} {op} {x} {left} {y} {right} {f} {a} same also d =
     subst (λ (z : Expr). Typing env (expression place (binary op (plain_expr left) (plain_expr z))) f a) also

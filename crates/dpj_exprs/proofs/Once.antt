@@ -1,11 +1,11 @@
 -- An expression is typed in one way at most: what two derivations say of it is the same.
 use Rattle.std.proofs.Common.{◌≡◌, ◌∙◌, ℕ, List, [], ◌∷◌, Option, Some, None, Result, refl, sym, ap}
+use Rattle.dpj_base.specs.declared.op.UnaryOp.{UnaryOp}
 use Rattle.dpj_base.specs.declared.place.Place.{Place}
 use Rattle.dpj_base.specs.declared.refusal.Refusal.{Refusal}
 use Rattle.dpj_base.specs.Types.{PlainType as ty}
 use Rattle.dpj_resolve.specs.Index.{PlainIndex}
-use Rattle.dpj_tree.specs.declared.expr.BinaryOp.{BinaryOp}
-use Rattle.dpj_tree.specs.declared.expr.UnaryOp.{UnaryOp}
+use Rattle.dpj_tree.specs.declared.expr.InfixOp.{InfixOp}
 use Rattle.dpj_tree.specs.declared.region.BaseTree.{BaseTree}
 use Rattle.dpj_tree.specs.declared.region.Named.{Named}
 use Rattle.dpj_tree.specs.declared.region.RplTree.{RplTree}
@@ -161,14 +161,14 @@ operation_alone {env} {place} {op} g t only r f' b p (Typing.operation {g = g'} 
     by_two (λ u k. answer (unary_typed op u place) k) (same_type e) (same_found e) r r'
 
 -- an operation of two operands
-left_alone : {env : Env} {place : Place} {op : BinaryOp} {left right : PlainExpr} {f : Found} (refusal : Refusal) →
+left_alone : {env : Env} {place : Place} {op : InfixOp} {left right : PlainExpr} {f : Found} (refusal : Refusal) →
     Alone env left f (refused refusal) → Alone env (expression place (binary op left right)) f (refused refusal)
 left_alone q only f' b p (Typing.no_parts l' s') = cc
 left_alone q only f' b p (Typing.left_refused d') = only f' _ p d'
 left_alone q only f' b p (Typing.right_refused {g = g'} {t = t'} d' i') = let e = only f' (gives t' g') p d' in cc
 left_alone q only f' b p (Typing.both_operands {g = g'} {t = t'} d' i' r') = let e = only f' (gives t' g') p d' in cc
 
-right_alone : {env : Env} {place : Place} {op : BinaryOp} {left right : PlainExpr} {f : Found} (g : Found) (t : Option TypedExpr) (refusal : Refusal) →
+right_alone : {env : Env} {place : Place} {op : InfixOp} {left right : PlainExpr} {f : Found} (g : Found) (t : Option TypedExpr) (refusal : Refusal) →
     Alone env left f (gives t g) → Alone env right g (refused refusal) → Alone env (expression place (binary op left right)) f (refused refusal)
 right_alone g t q only next f' b p (Typing.no_parts l' s') = cc
 right_alone g t q only next f' b p (Typing.left_refused {refusal = q'} d') = let e = only f' (refused q') p d' in cc
@@ -176,7 +176,7 @@ right_alone g t q only next f' b p (Typing.right_refused {g = g'} {t = t'} d' i'
 right_alone g t q only next f' b p (Typing.both_operands {g = g'} {h = h'} {t = t'} {u = u'} d' i' r') =
     let e = next g' (gives u' h') (same_found (only f' (gives t' g') p d')) i' in cc
 
-operations_alone : {env : Env} {place : Place} {op : BinaryOp} {left right : PlainExpr} {f : Found} {a : Answer} (g h : Found) (t u : Option TypedExpr) →
+operations_alone : {env : Env} {place : Place} {op : InfixOp} {left right : PlainExpr} {f : Found} {a : Answer} (g h : Found) (t u : Option TypedExpr) →
     Alone env left f (gives t g) → Alone env right g (gives u h) → answer (binary_typed op t u place) h ≡ a → Alone env (expression place (binary op left right)) f a
 operations_alone g h t u only next r f' b p (Typing.no_parts l' s') = cc
 operations_alone g h t u only next r f' b p (Typing.left_refused {refusal = q'} d') = let e = only f' (refused q') p d' in cc

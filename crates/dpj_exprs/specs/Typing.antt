@@ -1,13 +1,13 @@
 -- What expressions are: the typed expression that one gives where it stands, with its effects, or its first fault. Its parts are
 -- evaluated in order, and a fault of a part is the fault of the whole.
 use Rattle.std.specs.Prelude.{◌≡◌, ℕ, List, [], ◌∷◌, Option, Some, None, Result, Ok, Err}
+use Rattle.dpj_base.specs.declared.op.UnaryOp.{UnaryOp}
 use Rattle.dpj_base.specs.declared.place.Place.{Place}
 use Rattle.dpj_base.specs.declared.refusal.Refusal.{Refusal}
 use Rattle.dpj_base.specs.Types.{PlainType}
 use Rattle.dpj_base.specs.Types.{PlainType as ty}
 use Rattle.dpj_resolve.specs.Index.{PlainIndex}
-use Rattle.dpj_tree.specs.declared.expr.BinaryOp.{BinaryOp}
-use Rattle.dpj_tree.specs.declared.expr.UnaryOp.{UnaryOp}
+use Rattle.dpj_tree.specs.declared.expr.InfixOp.{InfixOp}
 use Rattle.dpj_tree.specs.declared.region.BaseTree.{BaseTree}
 use Rattle.dpj_tree.specs.declared.region.Named.{Named}
 use Rattle.dpj_tree.specs.declared.region.RplTree.{RplTree}
@@ -87,11 +87,11 @@ mutual
     operation : {place : Place} {op : UnaryOp} {arg : PlainExpr} {f g : Found} {t : Option TypedExpr} {a : Answer} →
         Typing env arg f (gives t g) → answer (unary_typed op t place) g ≡ a → Typing env (expression place (unary op arg)) f a
     -- both operands, from left to right, then the operation
-    left_refused : {place : Place} {op : BinaryOp} {left right : PlainExpr} {f : Found} {refusal : Refusal} →
+    left_refused : {place : Place} {op : InfixOp} {left right : PlainExpr} {f : Found} {refusal : Refusal} →
         Typing env left f (refused refusal) → Typing env (expression place (binary op left right)) f (refused refusal)
-    right_refused : {place : Place} {op : BinaryOp} {left right : PlainExpr} {f g : Found} {t : Option TypedExpr} {refusal : Refusal} →
+    right_refused : {place : Place} {op : InfixOp} {left right : PlainExpr} {f g : Found} {t : Option TypedExpr} {refusal : Refusal} →
         Typing env left f (gives t g) → Typing env right g (refused refusal) → Typing env (expression place (binary op left right)) f (refused refusal)
-    both_operands : {place : Place} {op : BinaryOp} {left right : PlainExpr} {f g h : Found} {t u : Option TypedExpr} {a : Answer} →
+    both_operands : {place : Place} {op : InfixOp} {left right : PlainExpr} {f g h : Found} {t u : Option TypedExpr} {a : Answer} →
         Typing env left f (gives t g) → Typing env right g (gives u h) → answer (binary_typed op t u place) h ≡ a →
         Typing env (expression place (binary op left right)) f a
     -- the receiver, the region arguments, the actuals, then the call

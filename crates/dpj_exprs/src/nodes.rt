@@ -3,12 +3,12 @@ ghost use Rattle.dpj_base.specs.Types.{plain_type};
 ghost use Rattle.dpj_base.specs.Types.{PlainType as ty};
 ghost use Rattle.dpj_typed.specs.Plain.{typed, exprs_of};
 ghost use Rattle.dpj_typed.specs.Plain.{ExprForm as form};
-ghost use Rattle.dpj_exprs.specs.Operations.{unary_op, binary_form};
+ghost use Rattle.dpj_exprs.specs.Operations.{binary_form};
 ghost use Rattle.dpj_exprs.specs.Typed.{plain_form, plain_node, plain_typed, nodes_at};
 
 use crate::typed::Typed;
-use dpj_base::{Boxed, Items, NoMemory, Place, Rpl, Ty};
-use dpj_tree::{BinaryOp, UnaryOp};
+use dpj_base::{Boxed, Items, LogicOp, NoMemory, Place, Rpl, Ty, UnaryOp};
+use dpj_tree::InfixOp;
 use dpj_typed::{ClassId, Expr, ExprForm, FieldSlot, Row, Slot};
 use std::alloc::Global;
 
@@ -129,50 +129,29 @@ pub fn create_array(alloc: Global, place: Place, ty: Ty, length: Expr) -> Result
 
 /// An operation of one operand.
 pub fn unary(alloc: Global, place: Place, ty: Ty, op: UnaryOp, arg: Expr) -> Result<Expr, NoMemory>
-    ensures { IfOk result (λ e. plain_node e ≡ typed place (plain_type ty) (form.unary (unary_op op) (plain_node arg))) }
+    ensures { IfOk result (λ e. plain_node e ≡ typed place (plain_type ty) (form.unary op (plain_node arg))) }
 {
-    let op = unary_op(op);
     let arg = Boxed::new(alloc, arg)?;
     let form = ExprForm::Unary { op, arg };
     Ok(Expr { place, ty, form })
 }
 
-fn unary_op(op: UnaryOp) -> dpj_base::UnaryOp
-    ensures { result ≡ unary_op op }
-{
-    match op {
-        UnaryOp::Neg => dpj_base::UnaryOp::Negate,
-        UnaryOp::Not => dpj_base::UnaryOp::Not,
-    }
-}
-
 /// An operation of two operands.
-pub fn binary(place: Place, ty: Ty, op: BinaryOp, left: Boxed<Expr>, right: Boxed<Expr>) -> Expr
+pub fn binary(place: Place, ty: Ty, op: InfixOp, left: Boxed<Expr>, right: Boxed<Expr>) -> Expr
     ensures { plain_node result ≡ typed place (plain_type ty) (binary_form op (plain_node left) (plain_node right)) }
 {
     let form = binary_form(op, left, right);
     Expr { place, ty, form }
 }
 
-fn binary_form(op: BinaryOp, left: Boxed<Expr>, right: Boxed<Expr>) -> ExprForm
+fn binary_form(op: InfixOp, left: Boxed<Expr>, right: Boxed<Expr>) -> ExprForm
     ensures { plain_form result ≡ binary_form op (plain_node left) (plain_node right) }
 {
-    let op = match op {
-        BinaryOp::Or => return ExprForm::Or { left, right },
-        BinaryOp::And => return ExprForm::And { left, right },
-        BinaryOp::Eq => dpj_base::BinaryOp::Equal,
-        BinaryOp::Ne => dpj_base::BinaryOp::NotEqual,
-        BinaryOp::Lt => dpj_base::BinaryOp::Less,
-        BinaryOp::Le => dpj_base::BinaryOp::AtMost,
-        BinaryOp::Gt => dpj_base::BinaryOp::Greater,
-        BinaryOp::Ge => dpj_base::BinaryOp::AtLeast,
-        BinaryOp::Add => dpj_base::BinaryOp::Add,
-        BinaryOp::Sub => dpj_base::BinaryOp::Subtract,
-        BinaryOp::Mul => dpj_base::BinaryOp::Multiply,
-        BinaryOp::Div => dpj_base::BinaryOp::Divide,
-        BinaryOp::Rem => dpj_base::BinaryOp::Remainder,
-    };
-    ExprForm::Binary { op, left, right }
+    match op {
+        InfixOp::Logic(LogicOp::And) => ExprForm::And { left, right },
+        InfixOp::Logic(LogicOp::Or) => ExprForm::Or { left, right },
+        InfixOp::Binary(op) => ExprForm::Binary { op, left, right },
+    }
 }
 
 /// What expressions give, as the actuals of a call or a creation at a place.

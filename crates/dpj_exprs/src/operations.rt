@@ -1,14 +1,14 @@
 ghost use Rattle.std.specs.Prelude.{◌≡◌, Ok, Err};
 ghost use Rattle.dpj_base.specs.Types.{plain_type};
 ghost use Rattle.dpj_exprs.specs.Answer.{Says};
-ghost use Rattle.dpj_exprs.specs.Operations.{comparable, unary_takes, unary_gives, unary_typed, binary_takes, binary_gives, binary_typed};
+ghost use Rattle.dpj_exprs.specs.Operations.{comparable, operands_fit, unary_takes, unary_typed, binary_takes, binary_gives, binary_typed};
 ghost use Rattle.dpj_exprs.specs.Typed.{plain_node, plain_typed, value_type};
 
 use crate::fitting::refused;
 use crate::nodes;
 use crate::typed::Typed;
-use dpj_base::{Boxed, Kind, Place, Stop, Ty};
-use dpj_tree::{BinaryOp, UnaryOp};
+use dpj_base::{Boxed, Kind, Operands, Place, Stop, Ty, UnaryOp};
+use dpj_tree::InfixOp;
 use dpj_typed::Expr;
 use std::alloc::Global;
 
@@ -16,17 +16,8 @@ fn unary_takes(op: UnaryOp, arg: &Typed) -> bool
     ensures { result ≡ unary_takes op (value_type arg.now) }
 {
     match op {
-        UnaryOp::Neg => arg.is_int(),
+        UnaryOp::Negate => arg.is_int(),
         UnaryOp::Not => arg.is_boolean(),
-    }
-}
-
-fn unary_gives(op: UnaryOp) -> Ty
-    ensures { plain_type result ≡ unary_gives op }
-{
-    match op {
-        UnaryOp::Neg => Ty::Int,
-        UnaryOp::Not => Ty::Bool,
     }
 }
 
@@ -38,7 +29,7 @@ pub fn unary(alloc: Global, op: UnaryOp, arg: Typed, place: Place) -> Result<Exp
         return Err(refused(Kind::Type, place));
     }
     let arg = arg.into_node(place);
-    Ok(nodes::unary(alloc, place, unary_gives(op), op, arg)?)
+    Ok(nodes::unary(alloc, place, op.ty(), op, arg)?)
 }
 
 /// Two ints, two booleans, or two values that may be null.
@@ -50,29 +41,37 @@ fn comparable(left: &Typed, right: &Typed) -> bool
         || left.is_reference() && right.is_reference()
 }
 
-fn binary_takes(op: BinaryOp, left: &Typed, right: &Typed) -> bool
-    ensures { result ≡ binary_takes op (value_type left.now) (value_type right.now) }
+fn operands_fit(operands: Operands, left: &Typed, right: &Typed) -> bool
+    ensures { result ≡ operands_fit operands (value_type left.now) (value_type right.now) }
 {
-    match op {
-        BinaryOp::Or | BinaryOp::And => left.is_boolean() && right.is_boolean(),
-        BinaryOp::Eq | BinaryOp::Ne => comparable(left, right),
-        _ => left.is_int() && right.is_int(),
+    match operands {
+        Operands::Ints => left.is_int() && right.is_int(),
+        Operands::Same => comparable(left, right),
     }
 }
 
-fn binary_gives(op: BinaryOp) -> Ty
+fn binary_takes(op: InfixOp, left: &Typed, right: &Typed) -> bool
+    ensures { result ≡ binary_takes op (value_type left.now) (value_type right.now) }
+{
+    match op {
+        InfixOp::Logic(_) => left.is_boolean() && right.is_boolean(),
+        InfixOp::Binary(op) => operands_fit(op.operands(), left, right),
+    }
+}
+
+fn binary_gives(op: InfixOp) -> Ty
     ensures { plain_type result ≡ binary_gives op }
 {
     match op {
-        BinaryOp::Add | BinaryOp::Sub | BinaryOp::Mul | BinaryOp::Div | BinaryOp::Rem => Ty::Int,
-        _ => Ty::Bool,
+        InfixOp::Logic(_) => Ty::Bool,
+        InfixOp::Binary(op) => op.result(),
     }
 }
 
 /// An operation of two operands.
 pub fn binary(
     alloc: Global,
-    op: BinaryOp,
+    op: InfixOp,
     left: Typed,
     right: Typed,
     place: Place,

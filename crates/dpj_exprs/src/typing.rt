@@ -22,9 +22,9 @@ use crate::found::Found;
 use crate::nodes;
 use crate::operations::{binary, unary};
 use crate::typed::Typed;
-use dpj_base::{Boxed, Items, Kind, Place, Plain, Stop, Ty};
+use dpj_base::{Boxed, Items, Kind, Place, Plain, Stop, Ty, UnaryOp};
 use dpj_resolve::IndexNames;
-use dpj_tree::{BaseTree, BinaryOp, Expr as Tree, ExprKind, Named, RplTree, Suffix, UnaryOp};
+use dpj_tree::{BaseTree, Expr as Tree, ExprKind, InfixOp, Named, RplTree, Suffix};
 use dpj_typed::{Expr, ExprForm};
 use std::alloc::Global;
 
@@ -214,7 +214,7 @@ fn two_operands(
     alloc: Global,
     env: &Env,
     found: &mut Found,
-    op: BinaryOp,
+    op: InfixOp,
     left: &Boxed<Tree>,
     right: &Boxed<Tree>,
     place: Place,

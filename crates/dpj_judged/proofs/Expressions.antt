@@ -1,10 +1,10 @@
 -- Each expression has an answer where it stands: where its parts have one, it has.
 use Rattle.std.proofs.Common.{◌≡◌, ℕ, List, [], ◌∷◌, Option, Some, None, Result, refl}
+use Rattle.dpj_base.specs.declared.op.UnaryOp.{UnaryOp}
 use Rattle.dpj_base.specs.declared.place.Place.{Place}
 use Rattle.dpj_base.specs.declared.refusal.Refusal.{Refusal}
 use Rattle.dpj_resolve.specs.Index.{PlainIndex}
-use Rattle.dpj_tree.specs.declared.expr.BinaryOp.{BinaryOp}
-use Rattle.dpj_tree.specs.declared.expr.UnaryOp.{UnaryOp}
+use Rattle.dpj_tree.specs.declared.expr.InfixOp.{InfixOp}
 use Rattle.dpj_tree.specs.declared.region.BaseTree.{BaseTree}
 use Rattle.dpj_tree.specs.declared.region.Named.{Named}
 use Rattle.dpj_tree.specs.declared.region.RplTree.{RplTree}
@@ -71,12 +71,12 @@ operation_after : {env : Env} {place : Place} {op : UnaryOp} {arg : PlainExpr} {
 operation_after (refused q) d = (refused q, Typing.operand_refused d)
 operation_after (gives t g) d = (_, Typing.operation d refl)
 
-right_after : {env : Env} {place : Place} {op : BinaryOp} {left right : PlainExpr} {f g : Found} (t : Option TypedExpr) (a : Answer) →
+right_after : {env : Env} {place : Place} {op : InfixOp} {left right : PlainExpr} {f g : Found} (t : Option TypedExpr) (a : Answer) →
     Typing env left f (gives t g) → Typing env right g a → At env place (binary op left right) f
 right_after t (refused q) d i = (refused q, Typing.right_refused d i)
 right_after t (gives u h) d i = (_, Typing.both_operands d i refl)
 
-left_after : {env : Env} {place : Place} {op : BinaryOp} {left right : PlainExpr} {f : Found} (a : Answer) → Typing env left f a → Judged env right →
+left_after : {env : Env} {place : Place} {op : InfixOp} {left right : PlainExpr} {f : Found} (a : Answer) → Typing env left f a → Judged env right →
     At env place (binary op left right) f
 left_after (refused q) d next = (refused q, Typing.left_refused d)
 left_after (gives t g) d next = let two = next g in right_after t two.0 d two.1

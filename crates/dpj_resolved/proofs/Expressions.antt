@@ -2,12 +2,20 @@
 use Rattle.std.proofs.Common.{◌≡◌, ◌∙◌, ℕ, Bool, true, false, not, ◌&&◌, ◌||◌, cond, is_some, List, [], ◌∷◌, ◌++◌, map, ◌⊎◌, inl, inr, Option, Some, None, option_map, Result, Ok, Err, refl, ap, sym, subst}
 use Rattle.std.specs.Option.{option_map_or, option_and_then}
 use Rattle.dpj_base.specs.declared.elems.Index.{Index}
+use Rattle.dpj_base.specs.declared.op.BinaryOp.{BinaryOp}
+use Rattle.dpj_base.specs.declared.op.BinaryOp.TheVariants.{Add}
+use Rattle.dpj_base.specs.declared.op.LogicOp.TheVariants.{And, Or}
+use Rattle.dpj_base.specs.declared.op.Operands.{Operands}
+use Rattle.dpj_base.specs.declared.op.Operands.TheVariants.{Ints, Same}
+use Rattle.dpj_base.specs.declared.op.UnaryOp.{UnaryOp}
+use Rattle.dpj_base.specs.declared.op.UnaryOp.TheVariants.{Negate, Not}
 use Rattle.dpj_base.specs.declared.place.Place.{Place}
 use Rattle.dpj_base.specs.declared.refusal.Kind.TheVariants as kind
 use Rattle.dpj_base.specs.declared.refusal.Refusal.{Refusal}
 use Rattle.dpj_base.specs.declared.region.Rpl.{Rpl}
 use Rattle.dpj_base.specs.declared.ty.Super.{Super}
 use Rattle.dpj_base.specs.declared.ty.Ty.{Ty}
+use Rattle.dpj_base.specs.Operators.{unary_type, operands_of, result_of}
 use Rattle.dpj_base.specs.Types.{PlainType, plain_type, type_with}
 use Rattle.dpj_base.specs.Types.{PlainType as ty}
 use Rattle.dpj_arrays.specs.Access.{PlainElement, element_of, index_elem}
@@ -19,10 +27,8 @@ use Rattle.dpj_resolve.specs.declared.args.ReadArgs.{ReadArgs}
 use Rattle.dpj_resolve.specs.declared.base.ReadType.{ReadType}
 use Rattle.dpj_resolve.specs.Index.{PlainIndex}
 use Rattle.dpj_resolve.specs.Written.{array_meant, array_faults, judged_type}
-use Rattle.dpj_tree.specs.declared.expr.BinaryOp.{BinaryOp}
-use Rattle.dpj_tree.specs.declared.expr.BinaryOp.TheVariants.{Or, And, Eq, Ne, Lt, Le, Gt, Ge, Add, Sub, Mul, Div, Rem}
-use Rattle.dpj_tree.specs.declared.expr.UnaryOp.{UnaryOp}
-use Rattle.dpj_tree.specs.declared.expr.UnaryOp.TheVariants.{Neg, Not}
+use Rattle.dpj_tree.specs.declared.expr.InfixOp.{InfixOp}
+use Rattle.dpj_tree.specs.declared.expr.InfixOp.TheVariants.{Logic, Binary}
 use Rattle.dpj_tree.specs.declared.region.BaseTree.{BaseTree}
 use Rattle.dpj_tree.specs.declared.region.Named.{Named}
 use Rattle.dpj_tree.specs.declared.region.RplTree.{RplTree}
@@ -43,7 +49,7 @@ use Rattle.dpj_exprs.specs.Env.{table_of, supers_of, scope_of, local_of, part_of
 use Rattle.dpj_exprs.specs.Fields.{owned_field, named_field, field_through, field_read, read_field}
 use Rattle.dpj_exprs.specs.Fields.{PlainField as SeenField}
 use Rattle.dpj_exprs.specs.Locals.{local_typed}
-use Rattle.dpj_exprs.specs.Operations.{unary_takes, unary_gives, unary_op, unary_typed, both, comparable, binary_takes, binary_gives, binary_form, binary_typed, node_if}
+use Rattle.dpj_exprs.specs.Operations.{unary_takes, unary_typed, both, comparable, operands_fit, binary_takes, binary_gives, binary_form, binary_typed, node_if}
 use Rattle.dpj_exprs.specs.Typed.{type_in, node_at, nodes_at, may_be, is_int, is_boolean, is_reference, is_value, is_array, FitsAs, AllFit}
 use Rattle.dpj_exprs.specs.Typing.{answer, created, leaf_typed, AllAnswer, all_give, one_refused, Typing, TypingArray, TypingAll}
 use Rattle.dpj_exprs.specs.Uses.{args_of, owned_method, named_method, method_through, called, formals_of, UseReported, use_faults, CallOf, CallOn, Call, CreationOf, Creation}
@@ -195,16 +201,16 @@ module _ (P : PlainProgram)
 
     -- operations
     unary_value : (op : UnaryOp) (t : Option PlainType) → unary_takes op t ≡ true → may_be is_value t ≡ true
-    unary_value Neg t h = int_value t h
+    unary_value Negate t h = int_value t h
     unary_value Not t h = boolean_value t h
 
-    unary_valued : (op : UnaryOp) → valued (unary_gives op) ≡ true
-    unary_valued Neg = refl
+    unary_valued : (op : UnaryOp) → valued (unary_type op) ≡ true
+    unary_valued Negate = refl
     unary_valued Not = refl
 
     unary_made : (op : UnaryOp) (t : Option TypedExpr) (place : Place) → Given P t → Made (unary_typed op t place)
     unary_made op t place h =
-        made_if (unary_takes op (type_in t)) (unary_gives op) (form.unary (unary_op op) (node_at place t)) place
+        made_if (unary_takes op (type_in t)) (unary_type op) (form.unary op (node_at place t)) place
         (λ takes. value (unary_valued op) (used place t h (unary_value op (type_in t) takes)))
 
     abbrev BothValues : Option PlainType → Option PlainType → Type 0
@@ -228,37 +234,24 @@ module _ (P : PlainProgram)
         by false false true f g k h = k refl
         by false false false f g k h = cc
 
-    binary_values : (op : BinaryOp) (t u : Option PlainType) → binary_takes op t u ≡ true → BothValues t u
-    binary_values Or t u h = booleans t u h
-    binary_values And t u h = booleans t u h
-    binary_values Eq t u h = compared t u h
-    binary_values Ne t u h = compared t u h
-    binary_values Lt t u h = ints t u h
-    binary_values Le t u h = ints t u h
-    binary_values Gt t u h = ints t u h
-    binary_values Ge t u h = ints t u h
-    binary_values Add t u h = ints t u h
-    binary_values Sub t u h = ints t u h
-    binary_values Mul t u h = ints t u h
-    binary_values Div t u h = ints t u h
-    binary_values Rem t u h = ints t u h
+    fitting_values : (operands : Operands) (t u : Option PlainType) → operands_fit operands t u ≡ true → BothValues t u
+    fitting_values Ints t u h = ints t u h
+    fitting_values Same t u h = compared t u h
 
-    binary_stands : (op : BinaryOp) (place : Place) (a b : TypedExpr) → ExprFits P a → ExprFits P b → Stands P (typed place (binary_gives op) (binary_form op a b))
-    binary_stands Or place a b x y = value refl (x, y)
-    binary_stands And place a b x y = value refl (x, y)
-    binary_stands Eq place a b x y = value refl (x, y)
-    binary_stands Ne place a b x y = value refl (x, y)
-    binary_stands Lt place a b x y = value refl (x, y)
-    binary_stands Le place a b x y = value refl (x, y)
-    binary_stands Gt place a b x y = value refl (x, y)
-    binary_stands Ge place a b x y = value refl (x, y)
-    binary_stands Add place a b x y = value refl (x, y)
-    binary_stands Sub place a b x y = value refl (x, y)
-    binary_stands Mul place a b x y = value refl (x, y)
-    binary_stands Div place a b x y = value refl (x, y)
-    binary_stands Rem place a b x y = value refl (x, y)
+    binary_values : (op : InfixOp) (t u : Option PlainType) → binary_takes op t u ≡ true → BothValues t u
+    binary_values (Logic op) t u h = booleans t u h
+    binary_values (Binary op) t u h = fitting_values (operands_of op) t u h
 
-    binary_made : (op : BinaryOp) (t u : Option TypedExpr) (place : Place) → Given P t → Given P u → Made (binary_typed op t u place)
+    result_valued : (op : BinaryOp) → valued (result_of op) ≡ true
+    result_valued Add = refl
+    result_valued _ = refl
+
+    binary_stands : (op : InfixOp) (place : Place) (a b : TypedExpr) → ExprFits P a → ExprFits P b → Stands P (typed place (binary_gives op) (binary_form op a b))
+    binary_stands (Logic And) place a b x y = value refl (x, y)
+    binary_stands (Logic Or) place a b x y = value refl (x, y)
+    binary_stands (Binary op) place a b x y = value (result_valued op) (x, y)
+
+    binary_made : (op : InfixOp) (t u : Option TypedExpr) (place : Place) → Given P t → Given P u → Made (binary_typed op t u place)
     binary_made op t u place h k =
         made_if (binary_takes op (type_in t) (type_in u)) (binary_gives op) (binary_form op (node_at place t) (node_at place u)) place
         (λ takes. let w = binary_values op (type_in t) (type_in u) takes in binary_stands op place (node_at place t) (node_at place u) (used place t h w.0) (used place u k w.1))
