@@ -44,4 +44,4 @@ pub use plain::Plain;
 pub use refusal::{Kind, Refusal, Stop};
 pub use region::{Head, Region, Rpl};
 pub use ty::{Super, Ty};
-pub use value::{Trap, Value};
+pub use value::{SlotValue, Trap, Value};

@@ -1,4 +1,4 @@
-ghost use Rattle.std.specs.Prelude.{Some, ◌≡◌};
+ghost use Rattle.std.specs.Prelude.{Some, ◌≡◌, ◌↔◌, IsTrue, IfOk};
 
 use crate::memory::NoMemory;
 use crate::plain::Plain;
@@ -16,6 +16,23 @@ pub enum Value {
 }
 
 const _: () = prove!(size_of::<Value>() <= 16);
+
+/// The value of a local, which has this number in its body.
+#[derive(Clone, Copy, Debug, PartialEq, Eq)]
+pub struct SlotValue {
+    pub slot: u32,
+    pub value: Value,
+}
+
+impl Plain for SlotValue {
+    fn copy(&self, _alloc: Global) -> Result<SlotValue, NoMemory> {
+        Ok(*self)
+    }
+
+    fn same(&self, other: &SlotValue) -> bool {
+        *self == *other
+    }
+}
 
 /// Why a task ended before its end. Nothing catches a trap.
 #[derive(Clone, Copy, Debug, PartialEq, Eq)]

@@ -2,6 +2,7 @@
 use Rattle.std.specs.Prelude.{◌≡◌, ◌↔◌, ℕ, List, ◌++◌, map, length, Option, None, Some, IsTrue}
 use Rattle.std.specs.List.{flat_map}
 use Rattle.dpj_base.specs.declared.refusal.Refusal.{Refusal}
+use Rattle.dpj_base.specs.Types.{Ordered}
 use Rattle.dpj_tree.specs.declared.class.Class.{Class}
 use Rattle.dpj_tree.specs.declared.class.Program.{Program}
 use Rattle.dpj_headers.specs.declared.faults.Order.TheVariants as order
@@ -60,6 +61,14 @@ pub record IsTable (program : Program) (table : Table) : Type 0 where
 pub record AreWellNamed (classes : List Class) : Type 0 where
   pub first : IsReportedFirst classes None
   pub second : reported_second classes ≡ None
+
+-- nothing is wrong with names and signatures, of which this is the table, nor with the table as a whole; its
+-- superclasses stand in the order of classes
+pub record HasTable (program : Program) (table : Table) : Type 0 where
+  pub named : AreWellNamed program.classes
+  pub is_table : IsTable program table
+  pub ordered : Ordered (supers_of table)
+  pub whole : first_of (table_faults table program.names) ≡ None
 
 -- the fault is the first one of the classes by themselves; or of their members, where there is none there; or of the
 -- signatures, where there is none in these either; or else of the table as a whole

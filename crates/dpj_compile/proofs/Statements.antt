@@ -9,11 +9,12 @@ use Rattle.dpj_typed.specs.declared.stmt.Forking.TheVariants.{Deterministic}
 use Rattle.dpj_typed.specs.declared.stmt.Stmt.{Stmt}
 use Rattle.dpj_typed.specs.Plain.{TypedExpr, TypedStmt, TypedStmts, TypedBranches, statement, type_of, plain_stmt, stmts_of, branches_of, of_array, of_part}
 use Rattle.dpj_typed.specs.Plain.{StmtForm as form}
+use Rattle.dpj_typed.specs.Resolved.{is_void}
 use Rattle.dpj_code.specs.declared.instr.Instr.{Instr}
 use Rattle.dpj_code.specs.declared.instr.Instr.TheVariants as i
 use Rattle.dpj_code.specs.Plain.{Site, of_branch, fork_site, spread_site, block_site}
 use Rattle.dpj_gen.specs.Pieces.{Branch, Piece, Next, past, nothing, line, with_site, with_branches, beside, then_next}
-use Rattle.dpj_gen.specs.Scheme.{after_expr, after_stmt, after_stmts, stmt_piece, stmts_piece, expr_piece, regions_piece, spread_piece, numbers, copy_lists, is_void}
+use Rattle.dpj_gen.specs.Scheme.{after_expr, after_stmt, after_stmts, stmt_piece, stmts_piece, expr_piece, regions_piece, spread_piece, numbers, copy_lists}
 use Rattle.dpj_gen.specs.Scheme.{branches_of as queue_of}
 use Rattle.dpj_gen.proofs.Pieces.{Far, next, stop, sited}
 use Rattle.dpj_gen.proofs.Placed.{expr_far, stmt_far, stmts_far}

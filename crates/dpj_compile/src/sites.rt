@@ -1,8 +1,9 @@
 ghost use Rattle.std.specs.Prelude.{◌≡◌, IfOk};
 ghost use Rattle.dpj_base.specs.Types.{plain_type};
+ghost use Rattle.dpj_typed.specs.Resolved.{is_void};
 ghost use Rattle.dpj_meaning.specs.Expressions.{class_in};
 ghost use Rattle.dpj_code.specs.Plain.{plain_site, new_site};
-ghost use Rattle.dpj_gen.specs.Scheme.{first_constant, site_of_array, is_void};
+ghost use Rattle.dpj_gen.specs.Scheme.{first_constant, site_of_array};
 
 use dpj_base::{Elems, Head, Items, NoMemory, Plain, Rpl, Ty, Value};
 use dpj_code::Site;

@@ -4,6 +4,7 @@ use Rattle.std.proofs.lemmas.Option.{slice_get_within}
 use Rattle.dpj_base.specs.declared.place.Place.{Place}
 use Rattle.dpj_typed.specs.Plain.{of_array, of_part, TypedStmt, statement, TypedStmts, no_stmts, more_stmts, TypedBranches, no_branches, more_branches, PlainMember, PlainProgram}
 use Rattle.dpj_typed.specs.Plain.{StmtForm as form}
+use Rattle.dpj_typed.specs.Resolved.{is_void, gives_value, StmtFits, StmtsFit, BranchesFit, Resolved}
 use Rattle.dpj_typed.specs.Scope.{member_at}
 use Rattle.dpj_typed.specs.Statements.{all_complete}
 use Rattle.dpj_code.specs.declared.instr.Instr.{Instr}
@@ -11,9 +12,8 @@ use Rattle.dpj_code.specs.declared.instr.Instr.TheVariants as i
 use Rattle.dpj_code.specs.Plain.{PlainBody, body_or_none, Site, PlainCode, body_at}
 use Rattle.dpj_code.specs.Fit.{is_branch, MemberBody}
 use Rattle.dpj_gen.specs.Pieces.{Branch, Piece, Next, past, nothing, line, with_site, with_branches, beside}
-use Rattle.dpj_gen.specs.Scheme.{is_void, closes, after_stmts, stmt_piece, stmts_piece, branches_of}
+use Rattle.dpj_gen.specs.Scheme.{closes, after_stmts, stmt_piece, stmts_piece, branches_of}
 use Rattle.dpj_gen.specs.Stands.{LineAt, first_place, BeginsAt, StmtsAt, MemberEnds}
-use Rattle.dpj_gen.specs.Resolved.{gives_value, StmtFits, StmtsFit, BranchesFit, Resolved}
 use Rattle.dpj_gen.specs.Whole.{weight_all, place_of, branch_piece_of, branch_piece, closing, member_piece, generate, in_member, member_output, past_output, members_output, member_numbers, first, number_in, compiled}
 use Rattle.dpj_gen.proofs.Closing.{leaves_nothing, never_ends}
 use Rattle.dpj_gen.proofs.Branched.{AllAre, all_on, Each, each_none, each_both, each_after, each_line, each_nothing, each_branches, each_site}

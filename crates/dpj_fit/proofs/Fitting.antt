@@ -8,6 +8,7 @@ use Rattle.dpj_base.specs.Regions.{fully_specified}
 use Rattle.dpj_base.specs.Types.{PlainType}
 use Rattle.dpj_base.specs.Types.{PlainType as ty}
 use Rattle.dpj_typed.specs.declared.stmt.Forking.{Forking}
+use Rattle.dpj_typed.specs.Resolved.{is_void, RowGives, ExprFits, ExprsFit, VoidCall, PerformFits, StmtFits, StmtsFit}
 use Rattle.dpj_typed.specs.Scope.{class_at}
 use Rattle.dpj_typed.specs.Plain.{PlainProgram, PlainClass, TypedExpr, typed, type_of, TypedExprs, no_exprs, more_exprs, of_array, of_part, TypedStmt, statement, TypedStmts, no_stmts, more_stmts, TypedBranches, no_branches, more_branches}
 use Rattle.dpj_typed.specs.Plain.{ExprForm as expr}
@@ -19,8 +20,7 @@ use Rattle.dpj_code.specs.Plain as code
 use Rattle.dpj_code.specs.Plain.{Method, method_at, ClassCode, Line, PlainCode, body_at, array_site}
 use Rattle.dpj_code.specs.Machine.{site_of}
 use Rattle.dpj_code.specs.Fit.{Mark, is_branch, Falls_to, puts_of, RowIs, left_by, site_at, Local}
-use Rattle.dpj_gen.specs.Scheme.{first_constant, is_void, many, after_expr, after_exprs, after_stmt, after_stmts, after_regions, site_of_array, copy_lists}
-use Rattle.dpj_gen.specs.Resolved.{RowGives, ExprFits, ExprsFit, VoidCall, PerformFits, StmtFits, StmtsFit}
+use Rattle.dpj_gen.specs.Scheme.{first_constant, many, after_expr, after_exprs, after_stmt, after_stmts, after_regions, site_of_array, copy_lists}
 use Rattle.dpj_gen.specs.Stands.{LineAt, ExprAt, ExprsAt, PoppedAt, RegionsAt, StmtAt, StmtsAt}
 use Rattle.dpj_fit.specs.Closed.{IsAbove, IsFirst, Keeps}
 use Rattle.dpj_fit.specs.Room.{RowTakes, Constructs, FullArray, BranchesWithin, ExprWithin, ExprsWithin, StmtWithin, StmtsWithin}

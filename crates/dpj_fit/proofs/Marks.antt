@@ -4,9 +4,10 @@ use Rattle.std.proofs.Common.{◌≡◌, ℕ, suc, ◌+◌, Bool, true, false, c
 use Rattle.dpj_typed.specs.Plain.{TypedExpr, typed, type_of, TypedExprs, no_exprs, more_exprs, of_array, of_part, TypedStmt, statement, TypedStmts, no_stmts, more_stmts}
 use Rattle.dpj_typed.specs.Plain.{ExprForm as expr}
 use Rattle.dpj_typed.specs.Plain.{StmtForm as form}
+use Rattle.dpj_typed.specs.Resolved.{is_void}
 use Rattle.dpj_typed.specs.Statements.{completes, all_complete}
 use Rattle.dpj_code.specs.Fit.{Mark}
-use Rattle.dpj_gen.specs.Scheme.{is_void, many, after_expr, after_exprs, after_stmt, after_stmts, after_regions}
+use Rattle.dpj_gen.specs.Scheme.{many, after_expr, after_exprs, after_stmt, after_stmts, after_regions}
 
 abbrev pub mark : ℕ → ℕ → ℕ → Mark
 mark h r z = record { height = h; open_entries = z; rank = r }

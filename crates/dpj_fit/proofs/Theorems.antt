@@ -3,6 +3,7 @@ use Rattle.std.proofs.Common.{◌≡◌, ◌⊎◌, inl, inr, ◌<◌, ◌≤◌
 use Rattle.std.proofs.lemmas.List.{length-map}
 use Rattle.std.proofs.lemmas.Option.{slice_get-map}
 use Rattle.dpj_typed.specs.Plain.{PlainField, PlainProgram, PlainClass, PlainParent, TypedStmts}
+use Rattle.dpj_typed.specs.Resolved.{is_void, gives_value, RowGives, Resolved}
 use Rattle.dpj_typed.specs.Scope.{IsBelow, same, below, class_at, row_at}
 use Rattle.dpj_typed.specs.Scope as program
 use Rattle.dpj_typed.specs.Statements.{all_complete}
@@ -11,9 +12,8 @@ use Rattle.dpj_code.specs.Plain as code
 use Rattle.dpj_code.specs.Plain.{ClassCode, fields_of, Method, Line, PlainCode, body_at, parent_of, method_at, constructor_of}
 use Rattle.dpj_code.specs.Fit.{Mark, MemberBody, RowIs, Local, CodeFit}
 use Rattle.dpj_typed.specs.Table.{field_with}
-use Rattle.dpj_gen.specs.Scheme.{first_constant, owner_of, is_void, after_stmts, method_code, class_code}
+use Rattle.dpj_gen.specs.Scheme.{first_constant, owner_of, after_stmts, method_code, class_code}
 use Rattle.dpj_gen.specs.Stands.{first_place, BeginsAt}
-use Rattle.dpj_gen.specs.Resolved.{gives_value, RowGives, Resolved}
 use Rattle.dpj_gen.specs.Whole.{number_in, compiled}
 use Rattle.dpj_gen.proofs.Tables.{parents_are, method_is, constructor_is}
 use Rattle.dpj_code.proofs.Safe.{fit_is_safe, members_are_safe}

@@ -1,6 +1,7 @@
 -- What is promised of the code of a well-typed program. N names objects, and M made local regions.
 use Rattle.std.specs.Prelude.{◌≡◌, ℕ, length, Some}
 use Rattle.dpj_typed.specs.Plain.{PlainProgram, PlainMember}
+use Rattle.dpj_typed.specs.Resolved.{Resolved}
 use Rattle.dpj_typed.specs.Scope.{member_at}
 use Rattle.dpj_typed.specs.WellTyped.{WellTyped}
 use Rattle.dpj_meaning.specs.Values.{Naming}
@@ -8,7 +9,6 @@ use Rattle.dpj_meaning.specs.Actions.{Frame}
 use Rattle.dpj_code.specs.Machine.{State, step, begins_at}
 use Rattle.dpj_code.specs.Fit.{CodeFit}
 use Rattle.dpj_code.specs.Safe.{Safe, SafeStand}
-use Rattle.dpj_gen.specs.Resolved.{Resolved}
 use Rattle.dpj_gen.specs.Whole.{number_in, compiled}
 use Rattle.dpj_fit.specs.Closed.{CodeClosed}
 use Rattle.dpj_fit.specs.Room.{Roomy}

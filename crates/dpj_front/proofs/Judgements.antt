@@ -3,6 +3,7 @@ use Rattle.std.proofs.Common.{◌≡◌, List, Ok, Err, ap, sym, ◌∙◌, subs
 use Rattle.dpj_base.specs.declared.refusal.Refusal.{Refusal}
 use Rattle.dpj_tree.specs.declared.class.Program.{Program}
 use Rattle.dpj_table.specs.declared.table.Table.{Table}
+use Rattle.dpj_classes.specs.Build.{HasTable}
 use Rattle.dpj_classes.specs.Once.{OneTable, OneFault}
 use Rattle.dpj_tree.specs.Nd.{program_uses_nd}
 use Rattle.dpj_typed.specs.Names.{ProgramNames}
@@ -11,7 +12,7 @@ use Rattle.dpj_assembly.specs.Assembled.{PlainBody, program_of}
 use Rattle.dpj_assembly.specs.Named.{names_in}
 use Rattle.dpj_check.specs.Methods.{BodiesChecking}
 use Rattle.dpj_check.specs.Once.{OneChecking}
-use Rattle.dpj_front.specs.Judging.{HasNames, HasTable, IsAccepted, IsFaulty, of_table, of_bodies}
+use Rattle.dpj_front.specs.Judging.{HasNames, IsAccepted, IsFaulty, of_table, of_bodies}
 
 pub fault-unique : OneTable → OneFault → OneChecking → (program : Program) (first second : Refusal) → IsFaulty program first → IsFaulty program second → first ≡ second
 fault-unique tables faults checks program first second (of_table reported) (of_table reported') = faults.one program first second reported reported'

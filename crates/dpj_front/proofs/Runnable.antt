@@ -9,7 +9,8 @@ use Rattle.dpj_assembly.specs.Assembled.{PlainBody, program_of}
 use Rattle.dpj_check.specs.Methods.{BodiesChecking}
 use Rattle.dpj_resolved.specs.Accepted.{AcceptedIsResolved, AcceptedBegins, SmallHasRows}
 use Rattle.dpj_resolved.specs.Accepted.{IsAccepted as Passes}
-use Rattle.dpj_front.specs.Judging.{HasTable, CanRun}
+use Rattle.dpj_classes.specs.Build.{HasTable}
+use Rattle.dpj_front.specs.Judging.{CanRun}
 
 -- it can be run, as the text isn't too long
 pub can_run : AcceptedIsResolved → AcceptedBegins → SmallHasRows → (program : Program) (table : Table) (bodies : List PlainBody) (uses_nd : Bool) (made : PlainProgram)

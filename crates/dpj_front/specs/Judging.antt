@@ -1,31 +1,20 @@
 -- What becomes of a program after its grammar: it is accepted as a typed program, or refused for the first fault of its class
 -- table or of its bodies.
-use Rattle.std.specs.Prelude.{◌≡◌, ℕ, List, map, None, Ok, Err}
+use Rattle.std.specs.Prelude.{◌≡◌, ℕ, List, map, Ok, Err}
 use Rattle.dpj_base.specs.declared.refusal.Refusal.{Refusal}
-use Rattle.dpj_base.specs.Types.{Ordered}
 use Rattle.dpj_tree.specs.declared.class.Program.{Program}
 use Rattle.dpj_table.specs.declared.table.Table.{Table}
-use Rattle.dpj_classes.specs.Build.{AreWellNamed, IsTable, IsReported, first_of, table_faults}
-use Rattle.dpj_table.specs.Table.{supers_of}
+use Rattle.dpj_classes.specs.Build.{HasTable, IsReported}
 use Rattle.dpj_check.specs.declared.accepted.Accepted.{Accepted}
 use Rattle.dpj_check.specs.Keeping.{ProgramKeeps}
-use Rattle.dpj_gen.specs.Resolved.{Resolved}
-use Rattle.dpj_going.specs.Going.{HasMain}
 use Rattle.dpj_tree.specs.Nd.{program_uses_nd}
 use Rattle.dpj_typed.specs.Names.{ProgramNames}
 use Rattle.dpj_typed.specs.Plain.{PlainProgram}
+use Rattle.dpj_typed.specs.Resolved.{Resolved, HasMain}
 use Rattle.dpj_assembly.specs.Assembled.{PlainBody, plain_body, program_of}
 use Rattle.dpj_assembly.specs.Named.{names_in}
 use Rattle.dpj_check.specs.Methods.{BodiesChecking}
 use Rattle.dpj_front.specs.declared.passing.Passed.{Passed}
-
--- nothing is wrong with names and signatures, of which this is the table, nor with the table as a whole; its
--- superclasses stand in the order of classes
-pub record HasTable (program : Program) (table : Table) : Type 0 where
-  pub named : AreWellNamed program.classes
-  pub is_table : IsTable program table
-  pub ordered : Ordered (supers_of table)
-  pub whole : first_of (table_faults table program.names) ≡ None
 
 -- the program has a class table, all its bodies pass the rules of the language, and this is the typed program that the table
 -- and the typed bodies make; and its bodies keep to the rules that need no types

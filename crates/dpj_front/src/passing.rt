@@ -4,7 +4,8 @@ ghost use Rattle.dpj_headers.specs.Second.{AreCounted};
 ghost use Rattle.dpj_tokens.specs.Cutting.{StandInOrder};
 ghost use Rattle.dpj_tree.specs.Size.{program_size};
 ghost use Rattle.dpj_front.specs.Front.{AreNames, HasNamed, HasProgram, IsFault, IsPassed, IsTokenFault, first_place};
-ghost use Rattle.dpj_front.specs.Judging.{HasNames, HasTable, IsAccepted, IsFaulty, CanRun, names_of_passed, names_with, typed_of, typed_with};
+ghost use Rattle.dpj_classes.specs.Build.{HasTable};
+ghost use Rattle.dpj_front.specs.Judging.{HasNames, IsAccepted, IsFaulty, CanRun, names_of_passed, names_with, typed_of, typed_with};
 
 use dpj_assembly::program;
 use dpj_base::{Bytes, Items, NoMemory, Place, Stop};

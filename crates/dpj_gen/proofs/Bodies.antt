@@ -3,6 +3,7 @@ use Rattle.std.proofs.Common.{◌≡◌, ◌<◌, ◌≤◌, ◌⊎◌, inl, inr
 use Rattle.dpj_base.specs.declared.place.Place.{Place}
 use Rattle.dpj_typed.specs.Plain.{of_array, of_part, TypedStmt, statement, TypedStmts, no_stmts, more_stmts, TypedBranches, no_branches, more_branches, PlainMember, PlainProgram}
 use Rattle.dpj_typed.specs.Plain.{StmtForm as form}
+use Rattle.dpj_typed.specs.Resolved.{gives_value, StmtFits, StmtsFit, BranchesFit, Resolved}
 use Rattle.dpj_typed.specs.Scope.{member_at}
 use Rattle.dpj_meaning.specs.Actions.{Frame, Work}
 use Rattle.dpj_code.specs.declared.instr.Instr.{Instr}
@@ -11,7 +12,6 @@ use Rattle.dpj_code.specs.Machine.{copies_of}
 use Rattle.dpj_gen.specs.Pieces.{Branch, Piece, Next, past, nothing, line, with_site, with_branches, beside}
 use Rattle.dpj_gen.specs.Scheme.{closes, stmt_piece, stmts_piece, branches_of}
 use Rattle.dpj_gen.specs.Stands.{BodyIs}
-use Rattle.dpj_gen.specs.Resolved.{gives_value, StmtFits, StmtsFit, BranchesFit, Resolved}
 use Rattle.dpj_gen.specs.Compiled.{Compiled}
 use Rattle.dpj_gen.specs.Whole.{weight_all, place_of, branch_piece_of, branch_piece, closing, member_piece, generate, in_member, member_output, past_output, members_output, first, compiled}
 use Rattle.dpj_gen.specs.Laws.{work_of}

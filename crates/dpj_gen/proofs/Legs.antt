@@ -2,6 +2,7 @@
 use Rattle.std.proofs.Common.{ℕ, List, [], ◌∷◌, reverse, subst}
 use Rattle.std.proofs.lemmas.List.{reverse-append}
 use Rattle.dpj_typed.specs.Plain.{PlainProgram}
+use Rattle.dpj_typed.specs.Resolved.{Resolved}
 use Rattle.dpj_meaning.specs.Values.{Naming}
 use Rattle.dpj_meaning.specs.Actions.{Task, Action, Answer}
 use Rattle.dpj_meaning.specs.Asking.{ask}
@@ -10,7 +11,6 @@ use Rattle.dpj_code.specs.Machine.{Start, State, begins_at}
 use Rattle.dpj_code.proofs.Legs.{Run, legs_are_solo, leg_ends, past_halts}
 use Rattle.dpj_gen.specs.Compiled.{Compiled, SameReply}
 use Rattle.dpj_gen.specs.Laws.{LegsEndOf}
-use Rattle.dpj_gen.specs.Resolved.{Resolved}
 use Rattle.dpj_gen.specs.Whole.{number_in, compiled}
 use Rattle.dpj_gen.proofs.Theorems.{code_is_right, one_reply}
 use Rattle.dpj_gen.proofs.Whole.{laid_out}

@@ -6,12 +6,13 @@ use Rattle.dpj_typed.specs.Plain.{ExprForm as expr}
 use Rattle.dpj_typed.specs.Plain.{StmtForm as form}
 use Rattle.dpj_typed.specs.declared.stmt.Forking.{Forking}
 use Rattle.dpj_typed.specs.declared.stmt.Forking.TheVariants.{Deterministic}
+use Rattle.dpj_typed.specs.Resolved.{is_void}
 use Rattle.dpj_code.specs.declared.instr.Instr.{Instr}
 use Rattle.dpj_code.specs.declared.instr.Instr.TheVariants as i
 use Rattle.dpj_code.specs.Plain.{Line, Site, fork_site, spread_site, of_branch, PlainCode, body_at}
 use Rattle.dpj_code.specs.Machine.{copies_at, copies_of}
 use Rattle.dpj_gen.specs.Pieces.{Next, nothing, line, with_site}
-use Rattle.dpj_gen.specs.Scheme.{is_void, after_expr, after_exprs, after_stmt, after_stmts, after_regions, expr_piece, exprs_piece, stmt_piece, stmts_piece, regions_piece, numbers, copy_lists, branches_of, spread_piece}
+use Rattle.dpj_gen.specs.Scheme.{after_expr, after_exprs, after_stmt, after_stmts, after_regions, expr_piece, exprs_piece, stmt_piece, stmts_piece, regions_piece, numbers, copy_lists, branches_of, spread_piece}
 use Rattle.dpj_gen.specs.Stands.{SitedAt, ExprAt, ExprsAt, PoppedAt, RegionsAt, first_place, BranchEnds, SpreadAt, StmtAt, StmtsAt, BranchesAt}
 use Rattle.dpj_gen.proofs.Pieces.{Holds, all_of, BranchStands, Far, far, next, stop, sited, texted, branched, Queued, Laid, cut, here, here_sited, here_texted, here_branched, one_line}
 

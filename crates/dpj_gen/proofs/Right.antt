@@ -8,6 +8,7 @@ use Rattle.dpj_base.specs.Types.{PlainType}
 use Rattle.dpj_base.specs.Types.{PlainType as ty}
 use Rattle.dpj_typed.specs.Plain.{PlainProgram, PlainMember, TypedExpr, typed, TypedExprs, no_exprs, more_exprs}
 use Rattle.dpj_typed.specs.Plain.{ExprForm as expr}
+use Rattle.dpj_typed.specs.Resolved.{gives_value, RowGives, IsArray, ExprFits, ExprsFit, Resolved}
 use Rattle.dpj_typed.specs.Scope as program
 use Rattle.dpj_meaning.specs.Values.{Value, Int, Boolean, Null, Object, Region, An_object, An_array, Naming}
 use Rattle.dpj_meaning.specs.Actions.{Frame, New, Do}
@@ -24,7 +25,6 @@ use Rattle.dpj_code.specs.Plain.{PlainCode, call_site, new_site, body_at, parent
 use Rattle.dpj_code.specs.Machine.{State, Level, Stand, Goes, Waits, spot, exec, exec_line, step, or_trap, deeper, unless_long, reads, writes, cell_read, cell_written, taken, operates, called, calls, enters, calls_method, entered, created, creates, makes_array, array_of, returned, left_with}
 use Rattle.dpj_gen.specs.Scheme.{many, after_expr, after_exprs, first_constant, site_of_array, owner_of}
 use Rattle.dpj_gen.specs.Stands.{LineAt, SitedAt, ExprAt, ExprsAt, LaidOut}
-use Rattle.dpj_gen.specs.Resolved.{gives_value, RowGives, IsArray, ExprFits, ExprsFit, Resolved}
 use Rattle.dpj_gen.proofs.Does.{after, does_on}
 use Rattle.dpj_gen.proofs.Sim.{Sim, sim_here, sim_step, sim_last, sim_value, sim_off, sim_trap, sim_then, sim_act}
 use Rattle.dpj_gen.proofs.Tables.{first_is, entered_gives, parents_are, classes_many, method_is, constructor_is, fields_are}

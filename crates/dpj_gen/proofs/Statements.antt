@@ -8,6 +8,7 @@ use Rattle.dpj_typed.specs.declared.stmt.Forking.TheVariants.{Deterministic}
 use Rattle.dpj_typed.specs.Plain.{PlainProgram, TypedExpr, typed, type_of, of_array, of_part, TypedStmt, statement, TypedStmts, no_stmts, more_stmts, TypedBranches, no_branches, more_branches}
 use Rattle.dpj_typed.specs.Plain.{ExprForm as expr}
 use Rattle.dpj_typed.specs.Plain.{StmtForm as form}
+use Rattle.dpj_typed.specs.Resolved.{is_void, ExprFits, PerformFits, StmtFits, StmtsFit, BranchesFit, Resolved}
 use Rattle.dpj_typed.specs.Statements.{completes, all_complete}
 use Rattle.dpj_meaning.specs.Values.{Value, Int, Naming}
 use Rattle.dpj_meaning.specs.Actions.{Frame, Print, Do, Begin}
@@ -20,9 +21,8 @@ use Rattle.dpj_code.specs.declared.instr.Instr.TheVariants as i
 use Rattle.dpj_code.specs.Plain.{PlainCode, body_at, Site, fork_site, spread_site}
 use Rattle.dpj_code.specs.Machine.{State, Level, Start, Stand, Goes, Waits, Turns, Off, On, Rested, spot, exec, step, trapped, or_trap, deeper, returned, left_with, all_copied, forked, spread, started, each_started, below, waiting, joins, joins_site, joins_fork, joins_spread, site_of, line_before, enters_block, rested_line}
 use Rattle.dpj_code.specs.Machine as machine
-use Rattle.dpj_gen.specs.Scheme.{is_void, after_expr, after_stmt, after_stmts, after_regions, copy_lists}
+use Rattle.dpj_gen.specs.Scheme.{after_expr, after_stmt, after_stmts, after_regions, copy_lists}
 use Rattle.dpj_gen.specs.Stands.{LineAt, SitedAt, ExprAt, PoppedAt, RegionsAt, first_place, BeginsAt, BranchEnds, SpreadAt, ForkAt, PartsAt, StmtAt, StmtsAt, BranchesAt, LaidOut}
-use Rattle.dpj_gen.specs.Resolved.{ExprFits, PerformFits, StmtFits, StmtsFit, BranchesFit, Resolved}
 use Rattle.dpj_gen.specs.Compiled.{Compiled, AllCompiled}
 use Rattle.dpj_gen.proofs.Sim.{Sim, sim_here, sim_step, sim_last, sim_value, sim_return, sim_off, sim_then, sim_act, sim_make, sim_loop, sim_split}
 use Rattle.dpj_gen.proofs.Right as right

@@ -7,6 +7,7 @@ use Rattle.std.specs.Option.{option_map_or}
 use Rattle.dpj_base.specs.Types.{PlainType}
 use Rattle.dpj_base.specs.Types.{PlainType as ty}
 use Rattle.dpj_typed.specs.Plain.{PlainProgram, PlainClass, PlainField}
+use Rattle.dpj_typed.specs.Resolved.{RowGives, Resolved}
 use Rattle.dpj_typed.specs.Scope as program
 use Rattle.dpj_meaning.specs.Values.{Region}
 use Rattle.dpj_meaning.specs.Counts.{class_entered}
@@ -15,7 +16,6 @@ use Rattle.dpj_code.proofs.Below.{entered_has}
 use Rattle.dpj_code.specs.Plain.{PlainCode, parent_of, method_at, constructor_of, fields_of, class_at}
 use Rattle.dpj_code.specs.Machine.{first_value}
 use Rattle.dpj_gen.specs.Scheme.{first_constant, method_code, class_code}
-use Rattle.dpj_gen.specs.Resolved.{RowGives, Resolved}
 use Rattle.dpj_gen.specs.Stands.{LaidOut}
 
 pub first_is : {N : Type 0} (t : PlainType) → first_value {N = N} (first_constant t) ≡ first_of t

@@ -1,6 +1,7 @@
 -- Code that is laid out by the scheme does what its program means, stands at one reply and is never stuck.
 use Rattle.std.proofs.Common.{◌≡◌, inl, inr, ℕ, zero, suc, Bool, true, false, not, if◌then◌else◌, ◌==◌, List, [], ◌∷◌, reverse, refl, sym, ap, ◌∙◌, subst, arith, Option, Some, None}
 use Rattle.dpj_typed.specs.Plain.{PlainProgram}
+use Rattle.dpj_typed.specs.Resolved.{is_void, gives_value, StmtsFit, Resolved}
 use Rattle.dpj_typed.specs.Statements.{all_complete}
 use Rattle.dpj_meaning.specs.Values.{Value, Naming}
 use Rattle.dpj_meaning.specs.Actions.{Frame, Task, Work, Returned, Assigned, Action, Do, Rest, Answer, Reply, Next, Over, Unknown}
@@ -12,9 +13,8 @@ use Rattle.dpj_meaning.specs.Statements.{begun, of_stmts}
 use Rattle.dpj_meaning.specs.Asking.{meaning, most_turns, Reported, ended, ending, replied, ask}
 use Rattle.dpj_code.specs.Plain.{PlainCode, body_at}
 use Rattle.dpj_code.specs.Machine.{State, Off, Start, Stand, Goes, Turns, Makes, Waits, Ends, Stuck, Solos, answered, turned, stood, step, solo, spot, begins_at, Solo}
-use Rattle.dpj_gen.specs.Scheme.{is_void, closes, after_stmts}
+use Rattle.dpj_gen.specs.Scheme.{closes, after_stmts}
 use Rattle.dpj_gen.specs.Stands.{MemberEnds, EndsAt, StmtsAt, BodyIs, first_place, BeginsAt, LaidOut}
-use Rattle.dpj_gen.specs.Resolved.{gives_value, StmtsFit, Resolved}
 use Rattle.dpj_gen.specs.Compiled.{Compiled, SameReply, Right}
 use Rattle.dpj_gen.proofs.Closing.{leaves_nothing, never_ends}
 use Rattle.dpj_gen.proofs.Does.{after, room, most_pos, Does, does_end}

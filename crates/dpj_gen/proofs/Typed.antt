@@ -4,6 +4,7 @@ use Rattle.dpj_base.specs.declared.region.Rpl.{Rpl}
 use Rattle.dpj_base.specs.Types.{PlainType, int, boolean, void, null, class, array, type_with, unnamed, SameType}
 use Rattle.dpj_typed.specs.Plain.{PlainProgram, PlainClass, PlainParent, PlainMember, TypedExpr, type_of, form_of, ExprForm, TypedExprs, TypedStmt, TypedStmts, TypedBranches}
 use Rattle.dpj_typed.specs.Plain.{ExprForm as form}
+use Rattle.dpj_typed.specs.Resolved.{is_void, gives_value, RowGives, ExprFits, ExprsFit, VoidCall, PerformFits, StmtFits, StmtsFit, BranchesFit, Resolved}
 use Rattle.dpj_typed.specs.Scope.{Scope, class_at, member_at, constructor_of, parent_of}
 use Rattle.dpj_typed.specs.Types.{Subtype, ints, booleans, null_object, null_array, objects, arrays, inherits}
 use Rattle.dpj_typed.specs.Effects.{Own}
@@ -19,8 +20,6 @@ use Rattle.dpj_typed.specs.Statements.{AllPass as all}
 use Rattle.dpj_typed.specs.Statements.{BranchesPass as branches}
 use Rattle.dpj_typed.specs.Table.{KeepsRow}
 use Rattle.dpj_typed.specs.WellTyped.{WellTyped}
-use Rattle.dpj_gen.specs.Scheme.{is_void}
-use Rattle.dpj_gen.specs.Resolved.{gives_value, RowGives, ExprFits, ExprsFit, VoidCall, PerformFits, StmtFits, StmtsFit, BranchesFit, Resolved}
 
 with_void : (args : List Rpl) (t : PlainType) → is_void (type_with args t) ≡ is_void t
 with_void args int = refl

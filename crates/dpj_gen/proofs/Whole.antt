@@ -4,15 +4,15 @@ use Rattle.dpj_base.specs.declared.place.Place.{Place}
 use Rattle.dpj_typed.specs.Plain.{TypedExpr, typed, type_of, TypedExprs, no_exprs, more_exprs, of_array, of_part, TypedStmt, statement, TypedStmts, no_stmts, more_stmts, TypedBranches, no_branches, more_branches, PlainMember, PlainProgram}
 use Rattle.dpj_typed.specs.Plain.{ExprForm as expr}
 use Rattle.dpj_typed.specs.Plain.{StmtForm as form}
+use Rattle.dpj_typed.specs.Resolved.{is_void, gives_value, Resolved}
 use Rattle.dpj_typed.specs.Scope.{member_at}
 use Rattle.dpj_typed.specs.Statements.{all_complete}
 use Rattle.dpj_code.specs.declared.instr.Instr.{Instr}
 use Rattle.dpj_code.specs.declared.instr.Instr.TheVariants as i
 use Rattle.dpj_code.specs.Plain.{Line, Title, Site, PlainBody, body_or_none, PlainCode, body_at}
 use Rattle.dpj_gen.specs.Pieces.{Branch, Piece, Next, past, nothing, line, with_site, with_text, with_branches, beside}
-use Rattle.dpj_gen.specs.Scheme.{is_void, closes, after_expr, after_stmt, after_stmts, expr_piece, exprs_piece, stmt_piece, stmts_piece, regions_piece, branches_of, class_code}
+use Rattle.dpj_gen.specs.Scheme.{closes, after_expr, after_stmt, after_stmts, expr_piece, exprs_piece, stmt_piece, stmts_piece, regions_piece, branches_of, class_code}
 use Rattle.dpj_gen.specs.Stands.{LineAt, StmtAt, StmtsAt, MemberEnds, MemberIs, EndsAt, BodyIs, LaidOut}
-use Rattle.dpj_gen.specs.Resolved.{gives_value, Resolved}
 use Rattle.dpj_gen.specs.Compiled.{Compiled}
 use Rattle.dpj_gen.specs.Laws.{work_of}
 use Rattle.dpj_meaning.specs.Actions.{Frame}

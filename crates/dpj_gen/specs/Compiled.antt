@@ -1,11 +1,11 @@
 -- When a start in a code is that of a task, and what it means that the code does what the task's meaning says.
 use Rattle.std.specs.Prelude.{◌≡◌, Bool, List, [], ◌∷◌}
 use Rattle.dpj_typed.specs.Plain.{PlainProgram}
+use Rattle.dpj_typed.specs.Resolved.{StmtsFit}
 use Rattle.dpj_meaning.specs.Values.{Naming}
 use Rattle.dpj_meaning.specs.Actions.{Task, Action, Do, Fork, Begin, Join, End, Answer, Reply, Next, Over, Unknown}
 use Rattle.dpj_code.specs.Plain.{PlainCode, body_at}
 use Rattle.dpj_code.specs.Machine.{Start, Solo}
-use Rattle.dpj_gen.specs.Resolved.{StmtsFit}
 use Rattle.dpj_gen.specs.Stands.{BodyIs}
 
 -- a start is that of the task: its body is the task's, and its frame

@@ -1,6 +1,7 @@
 -- What the code of a program promises. N names objects, and M made local regions.
 use Rattle.std.specs.Prelude.{◌≡◌, ◌<◌, ℕ, true, List, [], length, Some, None}
 use Rattle.dpj_typed.specs.Plain.{PlainProgram, PlainMember}
+use Rattle.dpj_typed.specs.Resolved.{Resolved}
 use Rattle.dpj_typed.specs.Scope.{member_at}
 use Rattle.dpj_typed.specs.WellTyped.{WellTyped}
 use Rattle.dpj_meaning.specs.Values.{Naming}
@@ -10,7 +11,6 @@ use Rattle.dpj_code.specs.Plain.{PlainCode}
 use Rattle.dpj_code.specs.Legs.{Halt, Asks, Leg, Halts, said}
 use Rattle.dpj_code.specs.Machine.{Start, State, begins_at, Solo}
 use Rattle.dpj_gen.specs.Whole.{number_in, compiled}
-use Rattle.dpj_gen.specs.Resolved.{Resolved}
 use Rattle.dpj_gen.specs.Compiled.{Compiled, SameReply, Right}
 
 -- of each task whose start is compiled, whatever it is answered, the solo run stands at the action, after as many turns, that

@@ -1,7 +1,6 @@
 pub mod Pieces
 pub mod Scheme
 pub mod Stands
-pub mod Resolved
 pub mod Compiled
 pub mod Whole
 pub mod Laws

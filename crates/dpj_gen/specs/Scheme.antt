@@ -11,6 +11,7 @@ use Rattle.dpj_typed.specs.declared.stmt.Forking.TheVariants.{Deterministic}
 use Rattle.dpj_typed.specs.Plain.{TypedExpr, typed, type_of, TypedExprs, no_exprs, more_exprs, of_array, of_part, TypedStmt, statement, TypedStmts, no_stmts, more_stmts, TypedBranches, no_branches, more_branches, PlainClass, PlainMember, PlainProgram}
 use Rattle.dpj_typed.specs.Plain.{ExprForm as expr}
 use Rattle.dpj_typed.specs.Plain.{StmtForm as form}
+use Rattle.dpj_typed.specs.Resolved.{is_void}
 use Rattle.dpj_typed.specs.Scope.{member_at}
 use Rattle.dpj_typed.specs.Statements.{all_complete}
 use Rattle.dpj_meaning.specs.Expressions.{class_in}
@@ -18,10 +19,6 @@ use Rattle.dpj_code.specs.declared.instr.Instr.{Instr}
 use Rattle.dpj_code.specs.declared.instr.Instr.TheVariants as i
 use Rattle.dpj_code.specs.Plain.{of_branch, Method, ClassCode, Site, fork_site, spread_site, block_site, call_site, new_site, array_site}
 use Rattle.dpj_gen.specs.Pieces.{Branch, Piece, Next, nothing, line, with_site, with_text, with_branches, then_next}
-
-abbrev pub is_void : PlainType → Bool
-is_void ty.void = true
-is_void t = false
 
 -- a body that gives no value leaves where it completes
 abbrev pub closes : PlainMember → Bool

@@ -5,6 +5,7 @@ use Rattle.dpj_typed.specs.declared.stmt.Forking.TheVariants.{Deterministic}
 use Rattle.dpj_typed.specs.Plain.{TypedExpr, typed, type_of, TypedExprs, no_exprs, more_exprs, of_array, of_part, TypedStmt, statement, TypedStmts, no_stmts, more_stmts, TypedBranches, no_branches, more_branches, PlainMember, PlainProgram}
 use Rattle.dpj_typed.specs.Plain.{ExprForm as expr}
 use Rattle.dpj_typed.specs.Plain.{StmtForm as form}
+use Rattle.dpj_typed.specs.Resolved.{is_void}
 use Rattle.dpj_typed.specs.Scope.{member_at}
 use Rattle.dpj_typed.specs.Statements.{all_complete}
 use Rattle.dpj_meaning.specs.Actions.{Work}
@@ -13,7 +14,7 @@ use Rattle.dpj_code.specs.declared.instr.Instr.{Instr}
 use Rattle.dpj_code.specs.declared.instr.Instr.TheVariants as i
 use Rattle.dpj_code.specs.Plain.{Line, PlainBody, Site, fork_site, spread_site, block_site, call_site, new_site, PlainCode, body_at}
 use Rattle.dpj_code.specs.Machine.{copies_of}
-use Rattle.dpj_gen.specs.Scheme.{is_void, closes, many, after_expr, after_exprs, after_stmt, after_stmts, site_of_array, copy_lists, class_code}
+use Rattle.dpj_gen.specs.Scheme.{closes, many, after_expr, after_exprs, after_stmt, after_stmts, site_of_array, copy_lists, class_code}
 
 -- at p stands this instruction
 abbrev pub LineAt : List Line → ℕ → Instr → Place → Type 0

@@ -5,6 +5,7 @@ use Rattle.dpj_base.specs.declared.effect.Effect.{Effect}
 use Rattle.dpj_base.specs.declared.outcome.Limits.{Limits}
 use Rattle.dpj_base.specs.declared.outcome.Outcome.{Outcome}
 use Rattle.dpj_typed.specs.Plain.{PlainProgram}
+use Rattle.dpj_typed.specs.Resolved.{Resolved, HasMain}
 use Rattle.dpj_meaning.specs.Actions.{End}
 use Rattle.dpj_meaning.specs.Actions as meaning
 use Rattle.dpj_code.specs.declared.code.Code.{Code}
@@ -13,7 +14,6 @@ use Rattle.dpj_code.specs.Machine.{Start, State, Solo, root_start}
 use Rattle.dpj_code.specs.Plain.{PlainCode, plain_code}
 use Rattle.dpj_gen.specs.Compiled.{Compiled}
 use Rattle.dpj_gen.specs.Laws.{LegsEndOf}
-use Rattle.dpj_gen.specs.Resolved.{Resolved}
 use Rattle.dpj_gen.specs.Whole.{number_in, compiled}
 use Rattle.dpj_gen.proofs.Bodies.{bodies_are_compiled}
 use Rattle.dpj_gen.proofs.Legs.{legs_end}
@@ -38,7 +38,7 @@ use Rattle.dpj_machine.specs.Premise.{GoesOn, GoesOnAble}
 use Rattle.dpj_machine.specs.Replay.{Moment, Standing, NextOf, CanBeMade, StartsIn, Moves, made, over, Opens, opened, no_room, LeadsTo, with_task, with_branch, goes_on, begun, after, root_alone, limited}
 use Rattle.dpj_machine.specs.Running.{Running, Goes, at_start, answered, front}
 use Rattle.dpj_going.proofs.Legs.{leg_counted, TellsCounts, front_counts, ComesTo, at_first, next_leg, comes_on, never_dead}
-use Rattle.dpj_going.specs.Going.{HasMain, CompiledGoesOn}
+use Rattle.dpj_going.specs.Going.{CompiledGoesOn}
 use Rattle.dpj_going.proofs.Trees.{IsLive, root_live, changed_live, begun_live, ended_live, ended_begun}
 
 module _ (code : Code) (L : Limits) (few : L.steps ≤ 20000000) (Good : Start ℕ (ℕ × ℕ) → Type 0)

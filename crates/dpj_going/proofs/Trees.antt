@@ -4,8 +4,8 @@ use Rattle.std.specs.Ordering.{nat_cmp, eq_by_cmp}
 use Rattle.std.specs.Cmp.{nat_cmp_total, Equal-is, tied_itself}
 use Rattle.std.specs.FinMap.{FinMap, empty, get, insert, remove, get-empty, get-insert, get-remove, nat_cmp-IsAntisymmetric}
 use Rattle.dpj_base.specs.declared.place.Place.{Place}
+use Rattle.dpj_base.specs.declared.value.SlotValue.{SlotValue}
 use Rattle.dpj_base.specs.declared.value.Trap.{Trap}
-use Rattle.dpj_legs.specs.declared.action.SlotValue.{SlotValue}
 use Rattle.dpj_tasks.specs.Scope.{with_branch, with_end}
 use Rattle.dpj_tasks.specs.Tree.{Tasks, Tree, only_root, task_at, fresh, changed_to, changed, with_scope, next_origin, with_task, end_noted, without_task, end_of, origin_of}
 use Rattle.dpj_tasks.specs.declared.end.TaskEnd.{TaskEnd}

@@ -1,17 +1,12 @@
 -- That compiled code goes on, wherever a schedule leads.
-use Rattle.std.specs.Prelude.{◌≡◌, ◌≤◌, ℤ, Some}
+use Rattle.std.specs.Prelude.{◌≡◌, ◌≤◌, ℤ}
 use Rattle.dpj_base.specs.declared.outcome.Limits.{Limits}
-use Rattle.dpj_typed.specs.Plain.{PlainProgram, PlainMember}
-use Rattle.dpj_typed.specs.Scope.{member_at}
+use Rattle.dpj_typed.specs.Plain.{PlainProgram}
+use Rattle.dpj_typed.specs.Resolved.{Resolved, HasMain}
 use Rattle.dpj_code.specs.declared.code.Code.{Code}
 use Rattle.dpj_code.specs.Plain.{plain_code}
-use Rattle.dpj_gen.specs.Resolved.{Resolved}
 use Rattle.dpj_gen.specs.Whole.{compiled}
 use Rattle.dpj_machine.specs.Premise.{GoesOnAble}
-
--- the program has the member with which a run begins
-abbrev pub HasMain : PlainProgram → Type 0
-HasMain P = (m : PlainMember) × (member_at P P.main_member ≡ Some m)
 
 -- the most steps that a job may ask for
 abbrev pub CompiledGoesOn : Type 0

@@ -1,5 +1,6 @@
 -- A task that runs, as the machine of one task has it; its actions and its answers.
 use Rattle.std.specs.Prelude.{◌≡◌, ℕ, List, map, length, false}
+use Rattle.dpj_base.specs.declared.value.SlotValue.{SlotValue}
 use Rattle.dpj_meaning.specs.Values.{Value, Region, An_object, An_array}
 use Rattle.dpj_meaning.specs.Actions as meaning
 use Rattle.dpj_meaning.specs.Actions.{Branches}
@@ -12,7 +13,6 @@ use Rattle.dpj_legs.specs.declared.action.Answer.{Answer}
 use Rattle.dpj_legs.specs.declared.action.Answer.TheVariants as answer
 use Rattle.dpj_legs.specs.declared.action.Ending.{Ending}
 use Rattle.dpj_legs.specs.declared.action.Ending.TheVariants as ending
-use Rattle.dpj_legs.specs.declared.action.SlotValue.{SlotValue}
 use Rattle.dpj_legs.specs.declared.task.Level.{Level}
 use Rattle.dpj_legs.specs.declared.task.Standing.{Standing}
 use Rattle.dpj_legs.specs.declared.task.Standing.TheVariants as standing

@@ -1,15 +1,8 @@
-ghost use Rattle.std.specs.Prelude.{◌≡◌, ◌↔◌, IsTrue, IfOk};
+ghost use Rattle.std.specs.Prelude.{◌≡◌, IfOk};
 
-use dpj_base::{Bytes, Effect, Items, NoMemory, Place, Plain, Region, Trap, Value};
+use dpj_base::{Bytes, Effect, Items, NoMemory, Place, Plain, Region, SlotValue, Trap, Value};
 use dpj_typed::Forking;
 use std::alloc::Global;
-
-/// A value of a slot.
-#[derive(Clone, Copy, Debug, PartialEq, Eq)]
-pub struct SlotValue {
-    pub slot: u32,
-    pub value: Value,
-}
 
 /// How a task ends.
 #[derive(Drop)]
@@ -81,16 +74,6 @@ pub enum Answer {
     /// The slots that a join copies back.
     Joined(Items<SlotValue>),
     Fell(Trap, Place),
-}
-
-impl Plain for SlotValue {
-    fn copy(&self, _alloc: Global) -> Result<SlotValue, NoMemory> {
-        Ok(*self)
-    }
-
-    fn same(&self, other: &SlotValue) -> bool {
-        *self == *other
-    }
 }
 
 impl Ending {

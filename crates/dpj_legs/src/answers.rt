@@ -7,9 +7,9 @@ ghost use Rattle.dpj_frames.specs.Names.{plain_value};
 ghost use Rattle.dpj_legs.specs.Steps.{HasNext};
 ghost use Rattle.dpj_legs.specs.Tasks.{plain_level, plain_answer, plain_slot};
 
-use crate::action::{Answer, Ending, SlotValue};
+use crate::action::{Answer, Ending};
 use crate::task::{Level, Standing};
-use dpj_base::{Items, NoMemory, Place, Trap, Value};
+use dpj_base::{Items, NoMemory, Place, SlotValue, Trap, Value};
 use dpj_frames::set_slot;
 
 /// The value that a read is answered; None where the index is out of bounds.

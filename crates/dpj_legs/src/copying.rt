@@ -5,8 +5,7 @@ ghost use Rattle.dpj_code.specs.Machine.{all_copied};
 ghost use Rattle.dpj_frames.specs.Names.{plain_value};
 ghost use Rattle.dpj_legs.specs.Tasks.{plain_slot};
 
-use crate::action::SlotValue;
-use dpj_base::{Items, Value};
+use dpj_base::{Items, SlotValue, Value};
 use dpj_code::BranchCopies;
 use dpj_frames::set_slot;
 

@@ -6,11 +6,11 @@ ghost use Rattle.dpj_frames.specs.Names.{plain_value};
 ghost use Rattle.dpj_legs.specs.Steps.{Acts, Comes, JoinsFork, JoinsSpread, next_branch};
 ghost use Rattle.dpj_legs.specs.Tasks.{plain_slot, plain_level};
 
-use crate::action::{Action, Ending, SlotValue};
+use crate::action::{Action, Ending};
 use crate::lines::line;
 use crate::step::Step;
 use crate::task::Level;
-use dpj_base::{Items, NoMemory, Value};
+use dpj_base::{Items, NoMemory, SlotValue, Value};
 use dpj_code::{Code, Instr, Site, Title};
 use dpj_frames::{Stack, how_many, number, slot};
 use std::alloc::Global;

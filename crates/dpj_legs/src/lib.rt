@@ -37,7 +37,7 @@ mod task;
 mod walk;
 mod way;
 
-pub use action::{Action, Answer, Ending, SlotValue};
+pub use action::{Action, Answer, Ending};
 pub use lines::line;
 pub use regions::concrete_effect;
 pub use starts::main_start;

@@ -2,6 +2,7 @@
 use Rattle.std.proofs.Common.{arith, ◌≡◌, ◌<◌, ◌^◌, ℕ, ℤ, pos, negsuc, Bool, true, false, cond, List, length, refl, sym, ap, ◌∙◌, subst, Option, Some, None, slice_get}
 use Rattle.dpj_base.specs.declared.effect.Effect.{Effect}
 use Rattle.dpj_base.specs.declared.place.Place.{Place}
+use Rattle.dpj_base.specs.declared.value.SlotValue.{SlotValue}
 use Rattle.dpj_base.specs.declared.value.Trap.{Trap}
 use Rattle.dpj_base.specs.declared.value.Value.{Value}
 use Rattle.dpj_meaning.specs.Actions as meaning
@@ -16,7 +17,6 @@ use Rattle.dpj_legs.specs.declared.action.Action.TheVariants as action
 use Rattle.dpj_legs.specs.declared.action.Answer.{Answer}
 use Rattle.dpj_legs.specs.declared.action.Answer.TheVariants as answer
 use Rattle.dpj_legs.specs.declared.action.Ending.{Ending}
-use Rattle.dpj_legs.specs.declared.action.SlotValue.{SlotValue}
 use Rattle.dpj_tasks.specs.Join.{first_trap, all_slots}
 use Rattle.dpj_tasks.specs.Tree.{ends_in, task_at}
 use Rattle.dpj_world.specs.World.{got, read_at, has_index, wrote_at, seen, fell_or, answer_at, FitsAt}

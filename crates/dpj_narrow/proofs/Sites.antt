@@ -9,6 +9,7 @@ use Rattle.dpj_typed.specs.declared.stmt.Forking.TheVariants.{Deterministic}
 use Rattle.dpj_typed.specs.Plain.{TypedExpr, typed, type_of, TypedExprs, no_exprs, more_exprs, of_array, of_part, TypedStmt, statement, TypedStmts, no_stmts, more_stmts, TypedBranches, no_branches, more_branches, PlainMember, PlainProgram}
 use Rattle.dpj_typed.specs.Plain.{ExprForm as expr}
 use Rattle.dpj_typed.specs.Plain.{StmtForm as form}
+use Rattle.dpj_typed.specs.Resolved.{is_void}
 use Rattle.dpj_code.specs.declared.code.Code.{Code}
 use Rattle.dpj_code.specs.declared.code.Site.{Site as DeclaredSite}
 use Rattle.dpj_code.specs.declared.code.Site.TheVariants as declared
@@ -16,7 +17,7 @@ use Rattle.dpj_code.specs.declared.instr.Instr.{Instr}
 use Rattle.dpj_code.specs.declared.instr.Instr.TheVariants as i
 use Rattle.dpj_code.specs.Plain.{of_branch, Site, fork_site, spread_site, block_site, call_site, new_site, array_site, plain_site, PlainCode, plain_code}
 use Rattle.dpj_gen.specs.Pieces.{Branch, Piece, Next, past, nothing, line, with_site, with_text, with_branches, beside}
-use Rattle.dpj_gen.specs.Scheme.{is_void, closes, numbers, site_of_array, branches_of, expr_piece, exprs_piece, stmt_piece, stmts_piece, regions_piece}
+use Rattle.dpj_gen.specs.Scheme.{closes, numbers, site_of_array, branches_of, expr_piece, exprs_piece, stmt_piece, stmts_piece, regions_piece}
 use Rattle.dpj_gen.specs.Whole.{weight_all, place_of, branch_piece_of, branch_piece, closing, member_piece, generate, in_member, member_output, past_output, members_output, first, compiled}
 use Rattle.dpj_legs.specs.Halts.{IsFew}
 use Rattle.dpj_narrow.proofs.Narrow.{width, Narrow, AllNarrow, BranchesNarrow}

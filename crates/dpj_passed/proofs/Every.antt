@@ -16,7 +16,8 @@ use Rattle.dpj_table.specs.declared.table.Table.{Table}
 use Rattle.dpj_typed.specs.Plain.{PlainProgram}
 use Rattle.dpj_assembly.specs.Assembled.{program_of}
 use Rattle.dpj_front.specs.Front.{first_place, of_grammar, of_program}
-use Rattle.dpj_front.specs.Judging.{HasTable, IsAccepted, IsFaulty, of_table, of_bodies}
+use Rattle.dpj_classes.specs.Build.{HasTable}
+use Rattle.dpj_front.specs.Judging.{IsAccepted, IsFaulty, of_table, of_bodies}
 use Rattle.dpj_judged.specs.Laws.{EachJudged, PassedKeeps}
 use Rattle.dpj_passed.specs.Laws.{HasVerdict}
 use Rattle.dpj_read.specs.Laws.{EachText, EachReading}

@@ -4,12 +4,11 @@ use Rattle.dpj_base.specs.declared.place.Place.{Place}
 use Rattle.dpj_base.specs.declared.refusal.Refusal.{Refusal}
 use Rattle.dpj_typed.specs.Names.{ProgramNames}
 use Rattle.dpj_typed.specs.Plain.{PlainProgram}
+use Rattle.dpj_typed.specs.Resolved.{Resolved, HasMain}
 use Rattle.dpj_typed.specs.WellTyped.{WellTyped}
 use Rattle.dpj_code.specs.declared.code.Code.{Code}
 use Rattle.dpj_code.specs.Plain.{plain_code}
-use Rattle.dpj_gen.specs.Resolved.{Resolved}
 use Rattle.dpj_gen.specs.Whole.{compiled}
-use Rattle.dpj_going.specs.Going.{HasMain}
 use Rattle.dpj_legs.specs.Halts.{IsFew}
 use Rattle.dpj_front.specs.Front.{AreNames, IsFault, IsPassed}
 

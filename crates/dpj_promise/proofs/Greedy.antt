@@ -4,11 +4,11 @@ use Rattle.std.proofs.lemmas.Bool.{cases_lt}
 use Rattle.std.proofs.lemmas.List.{reverse-append}
 use Rattle.dpj_base.specs.declared.outcome.Limits.{Limits as DeclaredLimits}
 use Rattle.dpj_typed.specs.Plain.{PlainProgram}
+use Rattle.dpj_typed.specs.Resolved.{Resolved, HasMain}
 use Rattle.dpj_meaning.specs.Elision.{elided}
 use Rattle.dpj_meaning.specs.Outcomes.{Limited as LimitedIn}
 use Rattle.dpj_code.specs.Plain.{plain_code}
 use Rattle.dpj_code.specs.declared.code.Code.{Code}
-use Rattle.dpj_gen.specs.Resolved.{Resolved}
 use Rattle.dpj_gen.specs.Whole.{compiled}
 use Rattle.dpj_runs.specs.Actions.{Program}
 use Rattle.dpj_runs.specs.Blocks.{Allowed, Legal}
@@ -27,7 +27,7 @@ use Rattle.dpj_machine.specs.Keeping.{GreedilyOn, IsAfter, Played, further, here
 use Rattle.dpj_machine.specs.Premise.{GoesOnAble}
 use Rattle.dpj_machine.specs.Replay.{LeadsTo, Moment, Moves}
 use Rattle.dpj_machine.specs.Replay.{made as made_so, over as over_so}
-use Rattle.dpj_going.specs.Going.{CompiledGoesOn, HasMain}
+use Rattle.dpj_going.specs.Going.{CompiledGoesOn}
 use Rattle.dpj_recorded.specs.Laws.{MachinesRecord, Records, limits, reported}
 use Rattle.dpj_recorded.proofs.Ready.{ready_there}
 use Rattle.dpj_recorded.proofs.Recorded.{LedTo, led_to, right}

@@ -4,12 +4,11 @@ use Rattle.std.specs.Int.{w32}
 use Rattle.dpj_base.specs.declared.outcome.Ending.TheVariants as came
 use Rattle.dpj_base.specs.declared.outcome.Outcome.{Outcome as Declared}
 use Rattle.dpj_typed.specs.Plain.{PlainProgram}
+use Rattle.dpj_typed.specs.Resolved.{Resolved, HasMain}
 use Rattle.dpj_typed.specs.WellTyped.{WellTyped}
 use Rattle.dpj_code.specs.Plain.{plain_code}
 use Rattle.dpj_determined.specs.Laws.{stepped_inside}
-use Rattle.dpj_gen.specs.Resolved.{Resolved}
 use Rattle.dpj_gen.specs.Whole.{compiled}
-use Rattle.dpj_going.specs.Going.{HasMain}
 use Rattle.dpj_machine.specs.Keeping.{Played, IsReplayed}
 use Rattle.dpj_moving.specs.Laws.{IsMoved}
 use Rattle.dpj_moving.specs.Moved.{move}

@@ -6,6 +6,7 @@ use Rattle.dpj_base.specs.declared.outcome.Ending.TheVariants as came
 use Rattle.dpj_base.specs.declared.outcome.Limits.{Limits}
 use Rattle.dpj_base.specs.declared.outcome.Outcome.{Outcome}
 use Rattle.dpj_typed.specs.Plain.{PlainProgram}
+use Rattle.dpj_typed.specs.Resolved.{Resolved, HasMain}
 use Rattle.dpj_typed.specs.WellTyped.{WellTyped}
 use Rattle.dpj_meaning.specs.Actions.{Ending, Returned, Assigned, Trapped}
 use Rattle.dpj_meaning.specs.Counts.{number}
@@ -13,9 +14,7 @@ use Rattle.dpj_meaning.specs.Elision.{elided}
 use Rattle.dpj_meaning.specs.Outcomes.{Outcome as ElidedOutcome, Came as came_out, Limited}
 use Rattle.dpj_code.specs.Plain.{plain_code}
 use Rattle.dpj_code.specs.declared.code.Code.{Code}
-use Rattle.dpj_gen.specs.Resolved.{Resolved}
 use Rattle.dpj_gen.specs.Whole.{compiled}
-use Rattle.dpj_going.specs.Going.{HasMain}
 use Rattle.dpj_legs.specs.Halts.{IsFew}
 use Rattle.dpj_machine.specs.declared.halted.Halted.TheVariants.{Stuck}
 use Rattle.dpj_machine.specs.Keeping.{Played, GreedilyOn, HaltsGreedily, HasEnded, IsReplayed}

@@ -3,11 +3,10 @@ use Rattle.std.specs.Prelude.{ℕ, ℤ, ◌≡◌, ◌≤◌, FitsSigned, List, 
 use Rattle.std.specs.Int.{w32}
 use Rattle.dpj_base.specs.declared.outcome.Outcome.{Outcome as Declared}
 use Rattle.dpj_typed.specs.Plain.{PlainProgram}
+use Rattle.dpj_typed.specs.Resolved.{Resolved, HasMain}
 use Rattle.dpj_typed.specs.WellTyped.{WellTyped}
 use Rattle.dpj_code.specs.Plain.{plain_code}
-use Rattle.dpj_gen.specs.Resolved.{Resolved}
 use Rattle.dpj_gen.specs.Whole.{compiled}
-use Rattle.dpj_going.specs.Going.{HasMain}
 use Rattle.dpj_machine.specs.Keeping.{Played, IsReplayed}
 use Rattle.dpj_moving.specs.Laws.{IsGathered}
 use Rattle.dpj_recorded.specs.Laws.{limits, reported}

@@ -4,12 +4,13 @@ use Rattle.dpj_base.specs.declared.place.Place.{Place}
 use Rattle.dpj_typed.specs.Plain.{TypedExpr, typed, type_of, TypedExprs, no_exprs, more_exprs, of_array, of_part, TypedStmt, statement, TypedStmts, no_stmts, more_stmts, PlainMember, PlainProgram}
 use Rattle.dpj_typed.specs.Plain.{ExprForm as expr}
 use Rattle.dpj_typed.specs.Plain.{StmtForm as form}
+use Rattle.dpj_typed.specs.Resolved.{is_void}
 use Rattle.dpj_code.specs.declared.instr.Instr.{Instr}
 use Rattle.dpj_code.specs.declared.instr.Instr.TheVariants as i
 use Rattle.dpj_code.specs.Plain.{Line, PlainBody, Site, PlainCode, body_at, body_or_none}
 use Rattle.dpj_code.specs.Machine.{branch_site}
 use Rattle.dpj_gen.specs.Pieces.{Branch, Piece, Next, past, nothing, line, with_site, with_text, with_branches, beside}
-use Rattle.dpj_gen.specs.Scheme.{is_void, closes, expr_piece, exprs_piece, stmt_piece, stmts_piece, regions_piece}
+use Rattle.dpj_gen.specs.Scheme.{closes, expr_piece, exprs_piece, stmt_piece, stmts_piece, regions_piece}
 use Rattle.dpj_gen.specs.Whole.{weight_all, branch_piece_of, branch_piece, place_of, closing, member_piece, generate, in_member, member_output, past_output, members_output, first, compiled}
 
 -- what stands after a fork or a spread

@@ -4,6 +4,7 @@ use Rattle.std.specs.FinMap.{get}
 use Rattle.dpj_base.specs.declared.outcome.Limits.{Limits as DeclaredLimits}
 use Rattle.dpj_base.specs.declared.outcome.Outcome.{Outcome as DeclaredOutcome}
 use Rattle.dpj_typed.specs.Plain.{PlainProgram}
+use Rattle.dpj_typed.specs.Resolved.{Resolved, HasMain}
 use Rattle.dpj_runs.specs.Actions.{Branches, Do, Ending, Exit, Fork, Program}
 use Rattle.dpj_runs.specs.Blocks.{Legal, Out_of, hold}
 use Rattle.dpj_runs.specs.Objects.{Path}
@@ -18,12 +19,11 @@ use Rattle.dpj_steps.specs.Steps.{stepped}
 use Rattle.dpj_elided.specs.Laws.{NamesAreKnown}
 use Rattle.dpj_code.specs.Plain.{plain_code}
 use Rattle.dpj_code.specs.declared.code.Code.{Code}
-use Rattle.dpj_gen.specs.Resolved.{Resolved}
 use Rattle.dpj_gen.specs.Whole.{compiled}
 use Rattle.dpj_legs.specs.declared.action.Action.{Action}
 use Rattle.dpj_legs.specs.declared.action.Action.TheVariants as action
 use Rattle.dpj_heap.specs.Heap.{object_at, values_of}
-use Rattle.dpj_going.specs.Going.{CompiledGoesOn, HasMain}
+use Rattle.dpj_going.specs.Going.{CompiledGoesOn}
 use Rattle.dpj_tasks.specs.declared.task.Task.{Task as Live}
 use Rattle.dpj_machine.specs.Premise.{GoesOnAble}
 use Rattle.dpj_machine.specs.Replay.{CanBeMade, IsStuck, LeadsTo, Moment, NextOf}

@@ -9,10 +9,10 @@ use Rattle.dpj_base.specs.declared.effect.Effect.{Effect as PathEffect}
 use Rattle.dpj_base.specs.declared.outcome.Limits.{Limits as DeclaredLimits}
 use Rattle.dpj_base.specs.declared.outcome.Outcome.{Outcome as DeclaredOutcome}
 use Rattle.dpj_typed.specs.Plain.{PlainProgram}
+use Rattle.dpj_typed.specs.Resolved.{Resolved, HasMain}
 use Rattle.dpj_code.specs.Plain.{PlainCode, plain_code}
 use Rattle.dpj_code.specs.declared.code.Code.{Code}
 use Rattle.dpj_gen.proofs.Legs.{legs_are_right}
-use Rattle.dpj_gen.specs.Resolved.{Resolved}
 use Rattle.dpj_gen.specs.Whole.{compiled}
 use Rattle.dpj_runs.specs.Actions.{Ending, Program, Rule}
 use Rattle.dpj_runs.specs.Blocks.{hold}
@@ -27,7 +27,6 @@ use Rattle.dpj_runs.proofs.Standing.{above_nil, above_step}
 use Rattle.dpj_runs.proofs.Written.{allowed_from}
 use Rattle.dpj_steps.specs.Interfering.{lets}
 use Rattle.dpj_steps.specs.Steps.{named_by, stepped}
-use Rattle.dpj_going.specs.Going.{HasMain}
 use Rattle.dpj_heap.specs.Heap.{instance, object_at, values_of, with_object}
 use Rattle.dpj_heap.specs.Heap.{written as contents_written}
 use Rattle.dpj_legs.specs.declared.action.Action.{Action as DeclaredAction}

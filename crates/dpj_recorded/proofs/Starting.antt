@@ -10,6 +10,7 @@ use Rattle.dpj_base.specs.Types.{PlainType}
 use Rattle.dpj_base.specs.Types.{PlainType as ty}
 use Rattle.dpj_base.specs.declared.outcome.Limits.{Limits}
 use Rattle.dpj_typed.specs.Plain.{PlainProgram, PlainMember, PlainClass, PlainField}
+use Rattle.dpj_typed.specs.Resolved.{Resolved, HasMain}
 use Rattle.dpj_typed.specs.Scope.{member_at}
 use Rattle.dpj_meaning.specs.Elision.{at_start, enters_main, main_object, root_task}
 use Rattle.dpj_meaning.specs.Expressions.{entered, class_fields, first_of}
@@ -21,7 +22,6 @@ use Rattle.dpj_code.specs.Plain.{PlainCode, plain_code, plain_class, body_at, cl
 use Rattle.dpj_code.specs.declared.code.ClassCode.{ClassCode}
 use Rattle.dpj_code.specs.declared.code.Code.{Code}
 use Rattle.dpj_gen.specs.Compiled.{Compiled}
-use Rattle.dpj_gen.specs.Resolved.{Resolved}
 use Rattle.dpj_gen.specs.Scheme.{class_code, first_constant}
 use Rattle.dpj_gen.specs.Stands.{MemberIs}
 use Rattle.dpj_gen.specs.Whole.{compiled, number_in}
@@ -36,7 +36,6 @@ use Rattle.dpj_runs.proofs.Cost.{total_nil}
 use Rattle.dpj_runs.proofs.Mine.{mine_nil}
 use Rattle.dpj_runs.proofs.Numbers.{begins_nil}
 use Rattle.dpj_steps.specs.Steps.{first_name, named_by, stepped}
-use Rattle.dpj_going.specs.Going.{HasMain}
 use Rattle.dpj_heap.specs.Heap.{instance, with_object}
 use Rattle.dpj_heap.specs.Heap.{Object as HeapObject}
 use Rattle.dpj_frames.specs.Names.{plain_value}

@@ -5,17 +5,16 @@ use Rattle.dpj_base.specs.declared.outcome.Ending.TheVariants as came
 use Rattle.dpj_base.specs.declared.outcome.Limits.{Limits as DeclaredLimits}
 use Rattle.dpj_base.specs.declared.outcome.Outcome.{Outcome as DeclaredOutcome}
 use Rattle.dpj_typed.specs.Plain.{PlainProgram}
+use Rattle.dpj_typed.specs.Resolved.{Resolved, HasMain}
 use Rattle.dpj_meaning.specs.Counts.{number}
 use Rattle.dpj_code.specs.Plain.{plain_code}
 use Rattle.dpj_code.specs.declared.code.Code.{Code}
-use Rattle.dpj_gen.specs.Resolved.{Resolved}
 use Rattle.dpj_gen.specs.Whole.{compiled}
 use Rattle.dpj_runs.specs.Actions.{Ending, Program, Returned, Assigned, Trapped}
 use Rattle.dpj_runs.specs.Order.{Came as came_out, Limited, Outcome}
 use Rattle.dpj_runs.specs.Runs.{Run}
 use Rattle.dpj_runs.specs.Schedules.{Finished, Limits, Ran}
 use Rattle.dpj_steps.specs.Steps.{stepped}
-use Rattle.dpj_going.specs.Going.{HasMain}
 use Rattle.std.specs.FinMap.{get}
 use Rattle.dpj_legs.specs.declared.action.Action.{Action}
 use Rattle.dpj_legs.specs.declared.action.Action.TheVariants as action

@@ -19,6 +19,7 @@ use Rattle.dpj_types.specs.Same.{same_type}
 use Rattle.dpj_tree.specs.declared.class.Method.{Method}
 use Rattle.dpj_tree.specs.declared.class.Program.{Program}
 use Rattle.dpj_typed.specs.Plain.{PlainProgram, PlainClass, PlainMember, PlainParent}
+use Rattle.dpj_typed.specs.Resolved.{is_void, gives_value, RowGives}
 use Rattle.dpj_typed.specs.Scope.{class_at, member_at, row_at}
 use Rattle.dpj_typed.specs.Scope.{parent_of as typed_parent, constructor_of as typed_constructor}
 use Rattle.dpj_table.specs.declared.rows.MethodRow.{MethodRow}
@@ -32,8 +33,6 @@ use Rattle.dpj_table.specs.Places.{last_from, by_id, is_constructor_of, construc
 use Rattle.dpj_table.specs.Table.{headers_of, methods_of, method_of, numbered, row_of, own_method, constructor_of, overridden_by, parent_args_of, own_field}
 use Rattle.dpj_assembly.specs.Assembled.{PlainBody, member_of, members_of, class_of, parent_at, program_of}
 use Rattle.dpj_check.specs.Deciding.{has_value}
-use Rattle.dpj_gen.specs.Resolved.{gives_value, RowGives}
-use Rattle.dpj_gen.specs.Scheme.{is_void}
 use Rattle.dpj_rows.proofs.Facts.{Facts, facts_of, named_is}
 use Rattle.dpj_rows.proofs.Numbers.{owner_of}
 use Rattle.dpj_rows.proofs.Stand.{methods_stand, rows_kept}

@@ -35,6 +35,7 @@ use Rattle.dpj_tree.specs.declared.region.RplTree.{RplTree}
 use Rattle.dpj_tree.specs.Plain as tree
 use Rattle.dpj_typed.specs.Plain.{PlainProgram, TypedExpr, typed, type_of}
 use Rattle.dpj_typed.specs.Plain.{ExprForm as form}
+use Rattle.dpj_typed.specs.Resolved.{is_void, RowGives, ExprFits, ExprsFit, VoidCall}
 use Rattle.dpj_table.specs.declared.rows.FieldRow.{FieldRow}
 use Rattle.dpj_table.specs.declared.rows.MethodRow.{MethodRow}
 use Rattle.dpj_table.specs.declared.table.Table.{Table}
@@ -53,8 +54,6 @@ use Rattle.dpj_exprs.specs.Operations.{unary_takes, unary_typed, both, comparabl
 use Rattle.dpj_exprs.specs.Typed.{type_in, node_at, nodes_at, may_be, is_int, is_boolean, is_reference, is_value, is_array, FitsAs, AllFit}
 use Rattle.dpj_exprs.specs.Typing.{answer, created, leaf_typed, AllAnswer, all_give, one_refused, Typing, TypingArray, TypingAll}
 use Rattle.dpj_exprs.specs.Uses.{args_of, owned_method, named_method, method_through, called, formals_of, UseReported, use_faults, CallOf, CallOn, Call, CreationOf, Creation}
-use Rattle.dpj_gen.specs.Resolved.{RowGives, ExprFits, ExprsFit, VoidCall}
-use Rattle.dpj_gen.specs.Scheme.{is_void}
 use Rattle.dpj_resolved.proofs.Free.{none_reported, append_none, fault_none, not_false}
 use Rattle.dpj_resolved.proofs.Known.{judged_valued}
 use Rattle.dpj_resolved.proofs.Lists.{some_same, ok_same}

@@ -15,6 +15,7 @@ use Rattle.dpj_tree.specs.declared.class.Method.{Method}
 use Rattle.dpj_tree.specs.declared.class.Program.{Program}
 use Rattle.dpj_tree.specs.Plain.{plain_stmt, plain_stmts}
 use Rattle.dpj_typed.specs.Plain.{PlainProgram, PlainMember, TypedStmt}
+use Rattle.dpj_typed.specs.Resolved.{is_void, gives_value, StmtsFit}
 use Rattle.dpj_typed.specs.Scope.{member_at}
 use Rattle.dpj_typed.specs.Statements.{all_complete}
 use Rattle.dpj_table.specs.declared.rows.MethodRow.{MethodRow}
@@ -28,8 +29,6 @@ use Rattle.dpj_check.specs.Deciding.{has_value}
 use Rattle.dpj_check.specs.Methods.{MethodChecking, of_method, formals_declared, formal_types, summary_of, body_begun, typed_body, method_reported, reported, method_judged}
 use Rattle.dpj_check.specs.Simple.{has_room, local_declared}
 use Rattle.dpj_check.specs.Walks.{Walk, Verdict, passes, refused}
-use Rattle.dpj_gen.specs.Resolved.{gives_value, StmtsFit}
-use Rattle.dpj_gen.specs.Scheme.{is_void}
 use Rattle.dpj_resolved.specs.Accepted.{IsAccepted}
 use Rattle.dpj_resolved.proofs.Assembled.{P, made, is_member, signed_at, signs, kind_is}
 use Rattle.dpj_resolved.proofs.Bodies.{InBody, local_declared_in}

@@ -6,6 +6,7 @@ use Rattle.dpj_base.specs.declared.effect.Constraint.{Constraint}
 use Rattle.dpj_base.specs.declared.ty.Ty.{Ty}
 use Rattle.dpj_base.specs.Types.{plain_type}
 use Rattle.dpj_base.specs.Types.{PlainType as ty}
+use Rattle.dpj_typed.specs.Resolved.{is_void}
 use Rattle.dpj_headers.specs.declared.faults.Order.TheVariants as order
 use Rattle.dpj_headers.specs.declared.header.Headers.{Headers}
 use Rattle.dpj_headers.specs.Faults.{none_by}
@@ -32,7 +33,6 @@ use Rattle.dpj_classes.specs.Rows.{method_row, said_scope, said_faults, method_s
 use Rattle.dpj_classes.specs.Signatures.{known_type, known_type_faults, field_region_faults, formal_faults, result_type, result_faults, summary_faults, constraints_faults}
 use Rattle.dpj_table.specs.Table.{headers_of, fields_of, methods_of}
 use Rattle.dpj_check.specs.Deciding.{has_value}
-use Rattle.dpj_gen.specs.Scheme.{is_void}
 use Rattle.dpj_rows.proofs.Facts.{got_either}
 use Rattle.dpj_resolved.proofs.Free.{none_reported, append_none, joined_free}
 use Rattle.dpj_resolved.proofs.Known.{type_known, meant_valued}

@@ -24,6 +24,7 @@ use Rattle.dpj_typed.specs.Plain.{PlainProgram, TypedExpr, typed, type_of, Sourc
 use Rattle.dpj_typed.specs.Plain.{ExprForm as expr}
 use Rattle.dpj_typed.specs.Plain.{StmtForm as form}
 use Rattle.dpj_typed.specs.Plain as typed
+use Rattle.dpj_typed.specs.Resolved.{is_void, ExprFits, PerformFits, StmtFits, StmtsFit, BranchesFit}
 use Rattle.dpj_typed.specs.Statements.{completes, all_complete}
 use Rattle.dpj_locals.specs.declared.branch.Touched.{Touched}
 use Rattle.dpj_table.specs.declared.rows.MethodRow.{MethodRow}
@@ -46,8 +47,6 @@ use Rattle.dpj_check.specs.Deciding.{is_misplaced, local_fault, Returned, whole_
 use Rattle.dpj_check.specs.Noting.{with_found, with_fault_if, node_at as noted_at, fault_of}
 use Rattle.dpj_check.specs.Simple.{place_of, node_of, declared_type, declared_reported, declaration_noted, stored, target_fault, may_print, printed_form, Declaring, AssigningLocal, AssigningPlace, Performing, Returning, Printing}
 use Rattle.dpj_check.specs.Walks.{Walk, Verdict, passes, refused, left_scope, judged, following}
-use Rattle.dpj_gen.specs.Resolved.{ExprFits, PerformFits, StmtFits, StmtsFit, BranchesFit}
-use Rattle.dpj_gen.specs.Scheme.{is_void}
 use Rattle.dpj_resolved.proofs.Bodies.{InBody, around_of, local_declared_in, regions_declared_in, left_in, variable_in, parts_in, free_if, free_found, declared_free, parts_free, regions_free, follows_none}
 use Rattle.dpj_resolved.proofs.Expressions.{value, nothing, Given, fits_value, used, as_value, stands_holds, seen_through, SeenFits, part_local, part_fits, PartFits, element_fits, ElementFits, typing_answered, and_split, int_value, boolean_value}
 use Rattle.dpj_resolved.proofs.Free.{or_false, not_false}

@@ -5,7 +5,7 @@ use Rattle.dpj_base.specs.declared.region.Rpl.{Rpl}
 use Rattle.dpj_base.specs.declared.ty.Super.{Super}
 use Rattle.dpj_base.specs.Types.{PlainType, type_with, type_at, Subtype}
 use Rattle.dpj_base.specs.Types.PlainType.{int, boolean, void, null, class, array}
-use Rattle.dpj_gen.specs.Scheme.{is_void}
+use Rattle.dpj_typed.specs.Resolved.{is_void}
 
 -- neither `void` nor an array of what isn't one
 abbrev pub valued : PlainType → Bool

@@ -5,12 +5,12 @@ use Rattle.dpj_tree.specs.declared.class.Program.{Program}
 use Rattle.dpj_table.specs.declared.table.Table.{Table}
 use Rattle.dpj_tree.specs.Size.{program_size}
 use Rattle.dpj_typed.specs.Plain.{PlainMember}
+use Rattle.dpj_typed.specs.Resolved.{Resolved}
 use Rattle.dpj_typed.specs.Scope.{member_at}
 use Rattle.dpj_classes.specs.Build.{AreWellNamed, IsTable, first_of, table_faults}
 use Rattle.dpj_table.specs.Main.{main_method}
 use Rattle.dpj_assembly.specs.Assembled.{PlainBody, program_of}
 use Rattle.dpj_check.specs.Methods.{BodiesChecking}
-use Rattle.dpj_gen.specs.Resolved.{Resolved}
 use Rattle.dpj_rows.specs.Rows.{HasRows}
 
 -- names and signatures are free of faults, and this is their table; it has no fault as a whole; and all bodies pass, of

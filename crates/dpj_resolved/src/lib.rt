@@ -2,7 +2,7 @@
 //! checked bodies and of the assembled program, with no code of its own.
 //!
 //! The compiler asks of a program that its rows and members are there, and that what is called as a value gives one
-//! (`Resolved` of `dpj_gen`). `specs/Accepted.antt` says that the typed bodies which the checker answers make such a
+//! (`Resolved` of `dpj_typed`). `specs/Accepted.antt` says that the typed bodies which the checker answers make such a
 //! program.
 #![tactic(auto)]
 

@@ -1,7 +1,6 @@
 ghost use Rattle.std.specs.Prelude.{◌≤◌, IfOk};
-ghost use Rattle.dpj_gen.specs.Resolved.{Resolved};
-ghost use Rattle.dpj_going.specs.Going.{HasMain};
 ghost use Rattle.dpj_typed.specs.Plain.{plain_program};
+ghost use Rattle.dpj_typed.specs.Resolved.{Resolved, HasMain};
 ghost use Rattle.dpj_run.specs.Rounding.{ComesByRounds};
 
 use crate::opening::open;

@@ -1,8 +1,7 @@
 ghost use Rattle.std.specs.Prelude.{◌≤◌, IfErr, IfOk, OnOk};
-ghost use Rattle.dpj_gen.specs.Resolved.{Resolved};
-ghost use Rattle.dpj_going.specs.Going.{HasMain};
 ghost use Rattle.dpj_machine.specs.Keeping.{HasEnded};
 ghost use Rattle.dpj_typed.specs.Plain.{plain_program};
+ghost use Rattle.dpj_typed.specs.Resolved.{Resolved, HasMain};
 ghost use Rattle.dpj_run.specs.Seeding.{ComesBySeed, SeedBreaksOff, WasSeeded};
 
 use crate::drawing::{drawn, next_state};

@@ -11,7 +11,7 @@ use Rattle.dpj_headers.specs.Way.{IsCounted}
 use Rattle.dpj_reach.specs.declared.reach.Edge.{Edge}
 use Rattle.dpj_table.specs.declared.table.Table.{Table}
 use Rattle.dpj_reach.specs.Bodies.{class_marks, override_edges}
-use Rattle.dpj_classes.specs.Build.{AreWellNamed, IsTable, IsReported, first_of, table_faults, text_faults}
+use Rattle.dpj_classes.specs.Build.{AreWellNamed, IsTable, HasTable, IsReported, first_of, table_faults, text_faults}
 use Rattle.dpj_classes.specs.Build.IsReported.{in_classes, in_members, in_signatures, in_table}
 use Rattle.dpj_reach.specs.Edges.{call_edges}
 use Rattle.dpj_members.specs.Overridden.{overridden_in}
@@ -20,7 +20,6 @@ use Rattle.dpj_classes.specs.Rows.{all_constraints, supers_meant, fields_meant, 
 use Rattle.dpj_table.specs.Table.{headers_of, methods_of, supers_of}
 use Rattle.dpj_classes.proofs.Back.{super_back, field_back, method_back}
 use Rattle.dpj_classes.proofs.Rising.{extending_ordered}
-use Rattle.dpj_front.specs.Judging.{HasTable}
 use Rattle.dpj_tabled.specs.Laws.{EachTable}
 use Rattle.dpj_tabled.proofs.Marks.{Marks, all_reached}
 use Rattle.dpj_tabled.proofs.Rounds.{first_reported}

@@ -4,8 +4,7 @@ use Rattle.dpj_base.specs.declared.refusal.Refusal.{Refusal}
 use Rattle.dpj_tree.specs.declared.class.Program.{Program}
 use Rattle.dpj_headers.specs.Way.{IsCounted}
 use Rattle.dpj_table.specs.declared.table.Table.{Table}
-use Rattle.dpj_classes.specs.Build.{IsReported}
-use Rattle.dpj_front.specs.Judging.{HasTable}
+use Rattle.dpj_classes.specs.Build.{HasTable, IsReported}
 
 -- a program of fewer classes than numbers has a first fault of names and signatures, or it has a class table
 abbrev pub EachTable : Type 0

@@ -6,8 +6,8 @@ use Rattle.std.specs.FinMap.{FinMap, code, empty, get, insert, remove}
 use Rattle.dpj_base.specs.declared.path.PathStep.{PathStep}
 use Rattle.dpj_tasks.specs.Scope.{Branches, no_branch_yet, with_branch, with_end, can_go_on, all_begun, all_ended}
 use Rattle.dpj_base.specs.declared.place.Place.{Place}
+use Rattle.dpj_base.specs.declared.value.SlotValue.{SlotValue}
 use Rattle.dpj_base.specs.declared.value.Trap.{Trap}
-use Rattle.dpj_legs.specs.declared.action.SlotValue.{SlotValue}
 use Rattle.dpj_tasks.specs.Join.{joined_out}
 use Rattle.dpj_tasks.specs.declared.end.TaskEnd.{TaskEnd}
 use Rattle.dpj_tasks.specs.declared.task.Origin.{Origin}

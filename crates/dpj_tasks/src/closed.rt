@@ -3,8 +3,7 @@ ghost use Rattle.dpj_tasks.specs.Join.{closed_as};
 
 use crate::end::TaskEnd;
 use crate::kept::Kept;
-use dpj_base::{Bytes, Items, Place, Trap};
-use dpj_legs::SlotValue;
+use dpj_base::{Bytes, Items, Place, SlotValue, Trap};
 use std::alloc::Global;
 use std::marker::Model;
 

@@ -1,5 +1,4 @@
-use dpj_base::{Bytes, Items, Place, Trap};
-use dpj_legs::SlotValue;
+use dpj_base::{Bytes, Items, Place, SlotValue, Trap};
 
 /// How a task ended.
 #[derive(Debug, Drop)]

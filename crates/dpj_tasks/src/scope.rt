@@ -4,8 +4,7 @@ ghost use Rattle.dpj_tasks.specs.Scope.{no_branch_yet, with_branch, with_end, ca
 
 use crate::closed::Closed;
 use crate::end::Joined;
-use dpj_base::{Bytes, Items, NoMemory, Place, Trap};
-use dpj_legs::SlotValue;
+use dpj_base::{Bytes, Items, NoMemory, Place, SlotValue, Trap};
 use std::alloc::Global;
 use std::marker::Model;
 

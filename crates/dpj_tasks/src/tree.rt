@@ -7,8 +7,7 @@ use crate::end::{Joined, TaskEnd};
 use crate::kept::Kept;
 use crate::live::Live;
 use crate::task::{Origin, State, Task};
-use dpj_base::{Bytes, Items, NoMemory, Path, PathStep, Place, Trap};
-use dpj_legs::SlotValue;
+use dpj_base::{Bytes, Items, NoMemory, Path, PathStep, Place, SlotValue, Trap};
 use std::alloc::Global;
 use std::marker::Model;
 

@@ -7,11 +7,11 @@ use Rattle.std.proofs.lemmas.List.{reverse-append, take_all}
 use Rattle.dpj_base.specs.declared.outcome.Limits.{Limits}
 use Rattle.dpj_base.specs.declared.outcome.Outcome.{Outcome}
 use Rattle.dpj_typed.specs.Plain.{PlainProgram}
+use Rattle.dpj_typed.specs.Resolved.{Resolved, HasMain}
 use Rattle.dpj_code.specs.declared.code.Code.{Code}
 use Rattle.dpj_code.specs.Plain.{plain_code}
-use Rattle.dpj_gen.specs.Resolved.{Resolved}
 use Rattle.dpj_gen.specs.Whole.{compiled}
-use Rattle.dpj_going.specs.Going.{CompiledGoesOn, HasMain}
+use Rattle.dpj_going.specs.Going.{CompiledGoesOn}
 use Rattle.dpj_history.specs.Replaying.{GoesWrong, after_end, not_ready, too_early}
 use Rattle.dpj_machine.specs.Keeping.{IsReplayed, Played}
 use Rattle.dpj_machine.specs.Premise.{GoesOnAble}

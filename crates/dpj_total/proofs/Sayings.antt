@@ -3,6 +3,7 @@ use Rattle.std.proofs.Common.{◌≡◌, ◌∙◌, ℕ, ℤ, pos, negsuc, suc, 
 use Rattle.dpj_base.specs.declared.elems.Elem.{Elem}
 use Rattle.dpj_base.specs.declared.place.Place.{Place}
 use Rattle.dpj_base.specs.declared.region.Region.{Region as DeclaredRegion}
+use Rattle.dpj_base.specs.declared.value.SlotValue.{SlotValue}
 use Rattle.dpj_base.specs.declared.value.Trap.{Trap}
 use Rattle.dpj_base.specs.declared.value.Trap.TheVariants as trap
 use Rattle.dpj_base.specs.declared.value.Value.{Value as Constant}
@@ -25,7 +26,6 @@ use Rattle.dpj_legs.specs.declared.action.Action.{Action as DeclaredAction}
 use Rattle.dpj_legs.specs.declared.action.Action.TheVariants as action
 use Rattle.dpj_legs.specs.declared.action.Ending.{Ending as DeclaredEnding}
 use Rattle.dpj_legs.specs.declared.action.Ending.TheVariants as ending
-use Rattle.dpj_legs.specs.declared.action.SlotValue.{SlotValue}
 use Rattle.dpj_machine.specs.Wants.{noted, noted_part}
 use Rattle.dpj_total.proofs.Codes.{map_back}
 

@@ -2,6 +2,7 @@ pub mod Effects
 pub mod Laws
 pub mod Names
 pub mod Plain
+pub mod Resolved
 pub mod Samples
 pub mod Scope
 pub mod Statements

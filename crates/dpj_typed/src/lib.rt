@@ -9,7 +9,8 @@
 //! text, without reuse. So the identity of an index variable comes from counting, and two are never one.
 //!
 //! `specs/Plain.antt` has the same program as plain data, and `specs/WellTyped.antt` says when it keeps the rules
-//! of the language: the judgement that soundness and determinism are proved from.
+//! of the language: the judgement that soundness and determinism are proved from. `specs/Resolved.antt` is the part of it that
+//! a run asks for: each row and member that is named is there, and a call gives a value exactly where one is used.
 #![tactic(auto)]
 
 mod expr;

@@ -4,6 +4,7 @@ use Rattle.std.specs.FinMap.{empty, get, insert, remove}
 use Rattle.dpj_base.specs.declared.effect.Effect.{Effect}
 use Rattle.dpj_base.specs.declared.outcome.Limits.{Limits}
 use Rattle.dpj_base.specs.declared.place.Place.{Place}
+use Rattle.dpj_base.specs.declared.value.SlotValue.{SlotValue}
 use Rattle.dpj_base.specs.declared.value.Trap.{Trap}
 use Rattle.dpj_base.specs.declared.value.Value.{Value}
 use Rattle.dpj_code.specs.declared.code.Code.{Code}
@@ -14,7 +15,6 @@ use Rattle.dpj_legs.specs.declared.action.Answer.{Answer}
 use Rattle.dpj_legs.specs.declared.action.Answer.TheVariants as answer
 use Rattle.dpj_legs.specs.declared.action.Ending.{Ending}
 use Rattle.dpj_legs.specs.declared.action.Ending.TheVariants as ending
-use Rattle.dpj_legs.specs.declared.action.SlotValue.{SlotValue}
 use Rattle.dpj_locks.specs.Locks.{Standings, AllRoot, MayEnter, HasEntry, is_inside, entered, exited, adopted}
 use Rattle.dpj_tasks.specs.declared.end.Joined.{Joined}
 use Rattle.dpj_tasks.specs.declared.end.TaskEnd.{TaskEnd}

@@ -1,6 +1,6 @@
 use Rattle.std.proofs.Common.{◌∙◌, ap, sym}
 use Rattle.dpj_typed.specs.Plain.{plain_expr}
-use Rattle.dpj_gen.specs.Scheme.{is_void}
+use Rattle.dpj_typed.specs.Resolved.{is_void}
 use Rattle.dpj_compile.proofs.Emits.{on_ok}
 use Rattle.dpj_compile.proofs.Forms.{type_is}
 use Rattle.dpj_compile.proofs.Statements.{perform_dropped, perform_popped}

@@ -1,4 +1,4 @@
--- What the code asks of a program: rows and members are there, and what is called as a value gives one.
+-- What a run asks of a program: each row and member that is named is there, and a call gives a value exactly where one is used.
 use Rattle.std.specs.Prelude.{◌≡◌, ◌⊎◌, IsTrue, ℕ, Bool, true, false, not, Some}
 use Rattle.dpj_base.specs.Types.{PlainType}
 use Rattle.dpj_base.specs.Types.{PlainType as ty}
@@ -7,7 +7,10 @@ use Rattle.dpj_typed.specs.Plain.{ExprForm as expr}
 use Rattle.dpj_typed.specs.Plain.{StmtForm as form}
 use Rattle.dpj_typed.specs.Scope.{member_at, row_at, constructor_of, parent_of}
 use Rattle.dpj_typed.specs.Statements.{completes, all_complete}
-use Rattle.dpj_gen.specs.Scheme.{is_void}
+
+abbrev pub is_void : PlainType → Bool
+is_void ty.void = true
+is_void t = false
 
 -- a member gives a value unless its result is void
 abbrev pub gives_value : PlainMember → Bool
@@ -99,3 +102,7 @@ pub record Resolved (P : PlainProgram) : Type 0 where
   pub bodies : (n : ℕ) (m : PlainMember) → member_at P n ≡ Some m → StmtsFit P (gives_value m) m.body
   -- a body that gives a value ends by a return
   pub ends : (n : ℕ) (m : PlainMember) → member_at P n ≡ Some m → gives_value m ≡ true → all_complete m.body ≡ false
+
+-- the program has the member with which a run begins
+abbrev pub HasMain : PlainProgram → Type 0
+HasMain P = (m : PlainMember) × (member_at P P.main_member ≡ Some m)
