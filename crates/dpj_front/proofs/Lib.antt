@@ -1,3 +1,2 @@
 pub mod Reported
 pub mod Judgements
-pub mod Runnable

@@ -1,16 +1,14 @@
 -- What becomes of a program after its grammar: it is accepted as a typed program, or refused for the first fault of its class
 -- table or of its bodies.
-use Rattle.std.specs.Prelude.{◌≡◌, ℕ, List, map, Ok, Err}
+use Rattle.std.specs.Prelude.{◌≡◌, List, map, Ok, Err}
 use Rattle.dpj_base.specs.declared.refusal.Refusal.{Refusal}
 use Rattle.dpj_tree.specs.declared.class.Program.{Program}
 use Rattle.dpj_table.specs.declared.table.Table.{Table}
 use Rattle.dpj_classes.specs.Build.{HasTable, IsReported}
-use Rattle.dpj_check.specs.declared.accepted.Accepted.{Accepted}
 use Rattle.dpj_check.specs.Keeping.{ProgramKeeps}
 use Rattle.dpj_tree.specs.Nd.{program_uses_nd}
 use Rattle.dpj_typed.specs.Names.{ProgramNames}
 use Rattle.dpj_typed.specs.Plain.{PlainProgram}
-use Rattle.dpj_typed.specs.Resolved.{Resolved, HasMain}
 use Rattle.dpj_assembly.specs.Assembled.{PlainBody, plain_body, program_of}
 use Rattle.dpj_assembly.specs.Named.{names_in}
 use Rattle.dpj_check.specs.Methods.{BodiesChecking}
@@ -40,22 +38,12 @@ pub data IsFaulty (program : Program) (refusal : Refusal) : Type 0 where
   of_bodies : (table : Table) → HasTable program table → BodiesChecking program table (Err refusal) → IsFaulty program refusal
 
 -- the typed program that a class table, the names of a text and what the checker made of its bodies are put together to
-abbrev pub typed_with : Table → List (List ℕ) → Accepted → PlainProgram
-typed_with table names checked = program_of table names checked.uses_nd (map plain_body checked.bodies)
-
 abbrev pub typed_of : Passed → PlainProgram
-typed_of passed = typed_with passed.table passed.names passed.checked
+typed_of passed = program_of passed.table passed.names passed.checked.uses_nd (map plain_body passed.checked.bodies)
 
 -- and its names
-abbrev pub names_with : Table → List (List ℕ) → Accepted → ProgramNames
-names_with table names checked = names_in table names (map plain_body checked.bodies)
-
 abbrev pub names_of_passed : Passed → ProgramNames
-names_of_passed passed = names_with passed.table passed.names passed.checked
-
--- what a run asks of a typed program
-abbrev pub CanRun : PlainProgram → Type 0
-CanRun P = Resolved P × HasMain P
+names_of_passed passed = names_in passed.table passed.names (map plain_body passed.checked.bodies)
 
 -- a program has one verdict at most: it is accepted as one typed program with one list of names, or it has one fault
 pub record OneJudgement : Type 0 where

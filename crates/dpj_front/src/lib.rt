@@ -2,7 +2,7 @@
 //!
 //! What it promises (`specs/Front.antt`, `specs/Judging.antt`): where `front` answers a program, the text is cut into tokens
 //! that derive a tree, the tree has a class table without faults, its bodies pass the rules of the language, and the typed
-//! program is what table and bodies make, and so are its names; it can be compiled and run. Where it answers a refusal, that is a first fault of the
+//! program is what table and bodies make, and so are its names. Where it answers a refusal, that is a first fault of the
 //! text. A program has one verdict at most (`one_judgement`).
 #![tactic(auto)]
 

@@ -2,17 +2,14 @@ ghost use Rattle.std.specs.Prelude.{◌≡◌, ◌≤◌, length, IfOk, IfErr};
 ghost use Rattle.dpj_base.specs.Refused.{IfRefused};
 ghost use Rattle.dpj_headers.specs.Second.{AreCounted};
 ghost use Rattle.dpj_tokens.specs.Cutting.{StandInOrder};
-ghost use Rattle.dpj_tree.specs.Size.{program_size};
 ghost use Rattle.dpj_front.specs.Front.{AreNames, HasNamed, HasProgram, IsFault, IsPassed, IsTokenFault, first_place};
-ghost use Rattle.dpj_classes.specs.Build.{HasTable};
-ghost use Rattle.dpj_front.specs.Judging.{HasNames, IsAccepted, IsFaulty, CanRun, names_of_passed, names_with, typed_of, typed_with};
+ghost use Rattle.dpj_front.specs.Judging.{HasNames, IsAccepted, IsFaulty, names_of_passed, typed_of};
 
 use dpj_assembly::program;
 use dpj_base::{Bytes, Items, NoMemory, Place, Stop};
 use dpj_check::{Accepted, check};
 use dpj_classes::build;
 use dpj_parse::parse;
-use dpj_resolved::laws::{law_begins, law_has_rows, law_resolved};
 use dpj_table::Table;
 use dpj_tokens::{Tokens, tokens};
 use dpj_tree::Program as Tree;
@@ -61,7 +58,6 @@ pub fn front(alloc: Global, text: &[u8]) -> Result<Passed, Stop>
     requires { length text.now ≤ 1048576 }
     ensures accepted { IfOk result (λ passed. IsPassed text.now passed.place (typed_of passed)) }
     ensures named { IfOk result (λ passed. AreNames text.now (names_of_passed passed)) }
-    ensures can_run { IfOk result (λ passed. CanRun (typed_of passed)) }
     ensures fault { IfErr result (λ stop. IfRefused stop (IsFault text.now)) }
 {
     let tokens = tokens(alloc, text)?;
@@ -74,7 +70,6 @@ fn judge_text(alloc: Global, text: &[u8], tokens: &Tokens) -> Result<Passed, Sto
     requires stand { StandInOrder text.now 0 tokens.now.list }
     ensures accepted { IfOk result (λ passed. HasProgram text.now tokens.now.list (typed_of passed)) }
     ensures named { IfOk result (λ passed. HasNamed text.now tokens.now.list (names_of_passed passed)) }
-    ensures can_run { IfOk result (λ passed. CanRun (typed_of passed)) }
     ensures place { IfOk result (λ passed. passed.place ≡ first_place tokens.now.list tokens.now.end) }
     ensures fault { IfErr result (λ stop. IfRefused stop (IsTokenFault text.now tokens.now.list tokens.now.end)) }
 {
@@ -85,15 +80,13 @@ fn judge_text(alloc: Global, text: &[u8], tokens: &Tokens) -> Result<Passed, Sto
 /// The program of a tree whose text begins here, or the first fault of its class table or of its bodies.
 fn judge_program(alloc: Global, tree: Tree, place: Place) -> Result<Passed, Stop>
     requires counted { AreCounted (length tree.names) tree.classes }
-    requires small { program_size tree ≤ 1048576 }
     ensures accepted { IfOk result (λ passed. IsAccepted tree (typed_of passed)) }
     ensures named { IfOk result (λ passed. HasNames tree (names_of_passed passed)) }
-    ensures can_run { IfOk result (λ passed. CanRun (typed_of passed)) }
     ensures place { IfOk result (λ passed. passed.place ≡ place) }
     ensures fault { IfErr result (λ stop. IfRefused stop (IsFaulty tree)) }
 {
     let table = build(alloc, &tree)?;
-    let checked = judge_bodies(alloc, &tree, &table)?;
+    let checked = check(alloc, &tree, &table)?;
     let Tree { names, .. } = tree;
     Ok(Passed {
         names,
@@ -101,23 +94,6 @@ fn judge_program(alloc: Global, tree: Tree, place: Place) -> Result<Passed, Stop
         checked,
         place,
     })
-}
-
-/// What the checker makes of the bodies, or the first fault in them, where this is the program's class table.
-fn judge_bodies(alloc: Global, tree: &Tree, table: &Table) -> Result<Accepted, Stop>
-    requires counted { AreCounted (length tree.now.names) tree.now.classes }
-    requires small { program_size tree.now ≤ 1048576 }
-    requires has_table { HasTable tree.now table.now }
-    ensures accepted { IfOk result (λ checked. IsAccepted tree.now (typed_with table.now tree.now.names checked)) }
-    ensures named { IfOk result (λ checked. HasNames tree.now (names_with table.now tree.now.names checked)) }
-    ensures can_run { IfOk result (λ checked. CanRun (typed_with table.now tree.now.names checked)) }
-    ensures fault { IfErr result (λ stop. IfRefused stop (IsFaulty tree.now)) }
-{
-    let accepted = check(alloc, tree, table)?;
-    law_resolved();
-    law_begins();
-    law_has_rows();
-    Ok(accepted)
 }
 
 /// Where the first token stands, or the end of a text without one.

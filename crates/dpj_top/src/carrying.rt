@@ -1,8 +1,9 @@
 ghost use Rattle.std.specs.Int.{w32};
 ghost use Rattle.std.specs.Prelude.{◌≡◌, ◌≢◌, FitsSigned, IfOk};
 ghost use Rattle.dpj_front.specs.Front.{AreNames};
-ghost use Rattle.dpj_front.specs.Judging.{CanRun, names_of_passed, typed_of};
+ghost use Rattle.dpj_front.specs.Judging.{names_of_passed, typed_of};
 ghost use Rattle.dpj_typed.specs.Plain.{plain_program};
+ghost use Rattle.dpj_typed.specs.Resolved.{Resolved, HasMain};
 ghost use Rattle.dpj_words.specs.Jobs.{IsInRange};
 ghost use Rattle.dpj_words.specs.declared.command.Command.TheVariants.{Replay};
 ghost use Rattle.dpj_top.specs.Answer.{IsAcceptedAs, IsAnswer, IsElided, IsListing, IsRan, IsRunBy, TellsEffects, limits_of, verdict_of};
@@ -17,6 +18,7 @@ use dpj_front::Passed;
 use dpj_infer::{infer, lines};
 use dpj_listing::laws::law_plain;
 use dpj_listing::listing;
+use dpj_passed::laws::law_passed;
 use dpj_run::{Recorded, run, run_rounds, run_seeded};
 use dpj_trace::trace_text;
 use dpj_typed::Program;
@@ -38,7 +40,6 @@ pub fn carry_out<R: Threads + Wait + Sync, G: Gate + Sync>(
     requires in_range { IsInRange job.now }
     requires accepted { IsAcceptedAs text.now passed.place (typed_of passed) }
     requires named { AreNames text.now (names_of_passed passed) }
-    requires can_run { CanRun (typed_of passed) }
     requires no_replay { job.now.command ≢ Replay }
     ensures { IfOk result (IsAnswer job.now text.now) }
 {
@@ -64,10 +65,10 @@ fn ran<R: Threads + Wait + Sync, G: Gate + Sync>(
 ) -> Result<Answered, NoMemory>
     requires in_range { IsInRange job.now }
     requires accepted { IsAcceptedAs text.now passed.place (typed_of passed) }
-    requires can_run { CanRun (typed_of passed) }
     ensures { IfOk result (IsRan job.now text.now (typed_of passed)) }
 {
     promise();
+    law_passed();
     let typed = passed.typed(alloc)?;
     let Some(run) = made(rt, alloc, job, &typed, gate)? else {
         unreachable!("an accepted program goes on until it has come out")
@@ -96,7 +97,8 @@ fn made<R: Threads + Wait + Sync, G: Gate + Sync>(
     gate: &G,
 ) -> Result<Option<Recorded>, NoMemory>
     requires in_range { IsInRange job.now }
-    requires can_run { CanRun (plain_program typed.now) }
+    requires resolved { Resolved (plain_program typed.now) }
+    requires main { HasMain (plain_program typed.now) }
     ensures run { IfOk result (IsRunBy job.now.mode (plain_program typed.now) (limits_of job.now) job.now.arg job.now.workers) }
     ensures fits { FitsSigned w32 job.now.arg }
 {

@@ -1,5 +1,5 @@
 ghost use Rattle.std.specs.Prelude.{◌≤◌, length, IfOk};
-ghost use Rattle.dpj_front.specs.Judging.{CanRun, typed_of};
+ghost use Rattle.dpj_front.specs.Judging.{typed_of};
 ghost use Rattle.dpj_trace.specs.Reading.{AreLimits, IsTrace};
 ghost use Rattle.dpj_top.specs.Answer.{IsAcceptedAs};
 ghost use Rattle.dpj_top.specs.Replaying.{IsAnswerOnTrace, IsReplayOf, IsReplayed};
@@ -9,6 +9,7 @@ use crate::answers::MAX_TEXT;
 use crate::laws::promise;
 use dpj_base::{Kind, NoMemory, Stop};
 use dpj_front::{Passed, front};
+use dpj_passed::laws::law_passed;
 use dpj_run::{Replayed, replay};
 use dpj_trace::{Trace, TraceStop, read_trace, trace_line};
 use dpj_words::Verdict;
@@ -48,11 +49,11 @@ fn on_trace(alloc: Global, bytes: &[u8], trace: &Trace) -> Result<Answered, NoMe
 /// The answer to a trace of an accepted program, which a text is.
 fn follow(alloc: Global, trace: &Trace, text: &[u8], passed: Passed) -> Result<Answered, NoMemory>
     requires accepted { IsAcceptedAs text.now passed.place (typed_of passed) }
-    requires can_run { CanRun (typed_of passed) }
     requires limits { AreLimits trace.now.limits }
     ensures { IfOk result (IsReplayOf trace.now (typed_of passed)) }
 {
     promise();
+    law_passed();
     let typed = passed.typed(alloc)?;
     let schedule = trace.schedule.as_slice();
     match replay(alloc, &typed, trace.limits, trace.arg, schedule)? {

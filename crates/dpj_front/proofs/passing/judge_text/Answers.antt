@@ -10,18 +10,14 @@ use Rattle.dpj_front.proofs.passing.judge_text.Goals as goal
 few : (classes size bytes : ℕ) → classes ≤ size → size ≤ bytes → bytes ≤ 1048576 → classes < 4294967295
 few classes size bytes h k l = omega (arith, h, k, l)
 
-within : (size bytes : ℕ) → size ≤ bytes → bytes ≤ 1048576 → size ≤ 1048576
-within size bytes h k = omega (arith, h, k)
-
-pub judge_program-requires-clause-counted : goal.judge_program-requires-clause-counted
-judge_program-requires-clause-counted c =
-    counted_when_named c.in_ok-tree.tree
-    (few (length c.in_ok-tree.tree.classes) (program_size c.in_ok-tree.tree) (length c.args.text.now) (classes_counted c.in_ok-tree.tree) c.in_ok-tree.ensures.sized
-    c.requires.short)
-    c.in_ok-tree.ensures.named
-
-pub judge_program-requires-clause-small : goal.judge_program-requires-clause-small
-judge_program-requires-clause-small c = within (program_size c.in_ok-tree.tree) (length c.args.text.now) c.in_ok-tree.ensures.sized c.requires.short
+pub judge_program-requires : goal.judge_program-requires
+judge_program-requires c = record {
+  counted =
+      counted_when_named c.in_ok-tree.tree
+      (few (length c.in_ok-tree.tree.classes) (program_size c.in_ok-tree.tree) (length c.args.text.now) (classes_counted c.in_ok-tree.tree) c.in_ok-tree.ensures.sized
+      c.requires.short)
+      c.in_ok-tree.ensures.named;
+}
 
 pub returns-clause-fault : goal.returns-clause-fault
 returns-clause-fault c =

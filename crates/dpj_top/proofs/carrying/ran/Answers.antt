@@ -1,11 +1,19 @@
 use Rattle.std.proofs.Common.{sym, subst}
-use Rattle.dpj_front.specs.Judging.{CanRun, typed_of}
+use Rattle.dpj_typed.specs.Resolved.{Resolved, HasMain}
+use Rattle.dpj_front.specs.Judging.{typed_of}
 use Rattle.dpj_top.specs.Answer.{IsRunBy, limits_of}
 use Rattle.dpj_top.proofs.Verdicts.{ran-so}
 use Rattle.dpj_top.proofs.carrying.ran.Goals as goal
 
-pub made-requires-clause-can_run : goal.made-requires-clause-can_run
-made-requires-clause-can_run g c κs within = subst CanRun (sym c.in_ok-typed.ensures.typed) c.requires.can_run
+pub made-requires-clause-resolved : goal.made-requires-clause-resolved
+made-requires-clause-resolved g c κs within =
+    let keeps = c.law_passed.ensures.keeps c.args.text.now c.args.passed.place (typed_of c.args.passed) c.requires.accepted.0 c.requires.accepted.1 in
+    subst Resolved (sym c.in_ok-typed.ensures.typed) keeps.resolved
+
+pub made-requires-clause-main : goal.made-requires-clause-main
+made-requires-clause-main g c κs within =
+    let keeps = c.law_passed.ensures.keeps c.args.text.now c.args.passed.place (typed_of c.args.passed) c.requires.accepted.0 c.requires.accepted.1 in
+    subst HasMain (sym c.in_ok-typed.ensures.typed) keeps.has_main
 
 pub returns : goal.returns
 returns g c =

@@ -1,8 +1,9 @@
-use Rattle.std.proofs.Common.{rules, ◌∙◌, ap, refl, subst}
+use Rattle.std.proofs.Common.{rules, ◌∙◌, ap, refl, subst, sym}
 use Rattle.std.proofs.Math.Facts.{to_z-of_z}
 use mir.Val.{SFits}
 use Rattle.std.specs.Int.{w32}
 use Rattle.dpj_typed.specs.Plain.{plain_program}
+use Rattle.dpj_typed.specs.Resolved.{Resolved, HasMain}
 use Rattle.dpj_front.specs.Judging.{typed_of}
 use Rattle.dpj_run.specs.Replays.{IsFollowed}
 use Rattle.dpj_base.specs.declared.refusal.Kind.TheVariants.{Schedule}
@@ -11,6 +12,16 @@ use Rattle.dpj_top.specs.Answer.{only, refused_at}
 use Rattle.dpj_top.specs.Replaying.{ran, unfit}
 use Rattle.dpj_top.proofs.Traces.{followed_as}
 use Rattle.dpj_top.proofs.replays.follow.Goals as goal
+
+pub replay-requires-clause-resolved : goal.replay-requires-clause-resolved
+replay-requires-clause-resolved c =
+    let keeps = c.law_passed.ensures.keeps c.args.text.now c.args.passed.place (typed_of c.args.passed) c.requires.accepted.0 c.requires.accepted.1 in
+    subst Resolved (sym c.in_ok-typed.ensures.typed) keeps.resolved
+
+pub replay-requires-clause-main : goal.replay-requires-clause-main
+replay-requires-clause-main c =
+    let keeps = c.law_passed.ensures.keeps c.args.text.now c.args.passed.place (typed_of c.args.passed) c.requires.accepted.0 c.requires.accepted.1 in
+    subst HasMain (sym c.in_ok-typed.ensures.typed) keeps.has_main
 
 pub unreachable-requires : goal.unreachable-requires
 unreachable-requires c =
