@@ -17,7 +17,7 @@ use Rattle.dpj_gen.specs.Stands.{first_place, BeginsAt}
 use Rattle.dpj_gen.specs.Whole.{number_in, compiled}
 use Rattle.dpj_gen.proofs.Tables.{parents_are, method_is, constructor_is}
 use Rattle.dpj_code.proofs.Safe.{fit_is_safe, members_are_safe}
-use Rattle.dpj_gen.proofs.Typed.{typed_is_resolved}
+use Rattle.dpj_typed.proofs.Resolved.{typed_is_resolved}
 use Rattle.dpj_gen.proofs.Whole.{laid_out, members_at}
 use Rattle.dpj_fit.specs.Closed.{IsFirst, Keeps, IsAbove, itself, through_parent, ExtendsCode, RowOf, CodeClosed}
 use Rattle.dpj_fit.specs.Laws.{SafeCode}

@@ -10,6 +10,5 @@ pub mod Placed
 pub mod Whole
 pub mod Branched
 pub mod Bodies
-pub mod Typed
 pub mod Samples
 pub mod Legs

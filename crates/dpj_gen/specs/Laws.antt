@@ -3,7 +3,6 @@ use Rattle.std.specs.Prelude.{◌≡◌, ◌<◌, ℕ, true, List, [], length, S
 use Rattle.dpj_typed.specs.Plain.{PlainProgram, PlainMember}
 use Rattle.dpj_typed.specs.Resolved.{Resolved}
 use Rattle.dpj_typed.specs.Scope.{member_at}
-use Rattle.dpj_typed.specs.WellTyped.{WellTyped}
 use Rattle.dpj_meaning.specs.Values.{Naming}
 use Rattle.dpj_meaning.specs.Actions.{Frame, Work, Task, Action, Answer, Reply, Unknown}
 use Rattle.dpj_meaning.specs.Asking.{ask}
@@ -64,7 +63,3 @@ pub record LegsEndOf {N M : Type 0} (names : Naming N M) (C : PlainCode) (b : St
 abbrev pub LegsEnd : Type 0 → Type 0 → Type 0
 LegsEnd N M =
     (names : Naming N M) (P : PlainProgram) → Resolved P → (b : Start N M) (t : Task N M) → Compiled (compiled P) P b t → LegsEndOf names (compiled P) b
-
--- a well-typed program is resolved: so all of this holds of its code
-abbrev pub WellTypedIsResolved : Type 0
-WellTypedIsResolved = (P : PlainProgram) → WellTyped P → Resolved P

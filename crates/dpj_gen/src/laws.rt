@@ -2,7 +2,7 @@
 //! made local regions.
 
 ghost use Rattle.dpj_gen.specs.Samples.{SamplesStand};
-ghost use Rattle.dpj_gen.specs.Laws.{CodeIsRight, MembersAreCompiled, BodiesAreCompiled, OneReply, NeverStuck, LegsAreRight, LegsEnd, WellTypedIsResolved};
+ghost use Rattle.dpj_gen.specs.Laws.{CodeIsRight, MembersAreCompiled, BodiesAreCompiled, OneReply, NeverStuck, LegsAreRight, LegsEnd};
 
 /// The code of a program does what the program means, whatever its tasks are answered.
 pub fn law_code<N, M>()
@@ -21,11 +21,6 @@ pub fn law_solo<N, M>()
 pub fn law_legs<N, M>()
     ensures right { LegsAreRight N M }
     ensures ends { LegsEnd N M }
-{}
-
-/// What the code asks of a program is had of every well-typed one.
-pub fn law_typed()
-    ensures resolved { WellTypedIsResolved }
 {}
 
 /// Small programs have the code that a person writes.

@@ -30,8 +30,7 @@ use Rattle.dpj_table.specs.Main.{begins_runs, is_int, is_main, is_spelled, main_
 use Rattle.dpj_table.specs.Table.{headers_of, methods_of, constructor_of}
 use Rattle.dpj_resolved.specs.Accepted.{IsAccepted}
 use Rattle.dpj_resolved.proofs.Assembled.{facts, has_member, number_is}
-use Rattle.dpj_resolved.proofs.Expressions.{and_split}
-use Rattle.dpj_resolved.proofs.Free.{append_none, fault_none, none_reported, not_false}
+use Rattle.dpj_resolved.proofs.Free.{append_none, fault_none, none_reported, not_false, and_split}
 use Rattle.dpj_resolved.proofs.Lists.{some_same, and_then_there, map_there, there, made_there}
 use Rattle.dpj_written.specs.Written.{IsWritten}
 use Rattle.dpj_inherited.specs.Laws.{AcceptedHasMain}

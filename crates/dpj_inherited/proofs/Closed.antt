@@ -26,8 +26,7 @@ use Rattle.dpj_table.specs.Table.{headers_of, methods_of, numbered, constructor_
 use Rattle.dpj_assembly.specs.Assembled.{PlainBody, member_of}
 use Rattle.dpj_resolved.specs.Accepted.{IsAccepted}
 use Rattle.dpj_resolved.proofs.Assembled.{facts, has_member}
-use Rattle.dpj_resolved.proofs.Expressions.{and_split}
-use Rattle.dpj_resolved.proofs.Free.{append_none, fault_none, none_reported}
+use Rattle.dpj_resolved.proofs.Free.{append_none, fault_none, none_reported, and_split}
 use Rattle.dpj_resolved.proofs.Lists.{some_same, and_then_there, map_there, got_mapped}
 use Rattle.dpj_written.specs.Written.{IsWritten}
 use Rattle.dpj_inherited.proofs.Above.{P}

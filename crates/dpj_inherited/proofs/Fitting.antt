@@ -18,8 +18,7 @@ use Rattle.dpj_typed.specs.Effects.{effect_with}
 use Rattle.dpj_typed.specs.Table.{constraint_with}
 use Rattle.dpj_table.specs.declared.rows.MethodRow.{MethodRow}
 use Rattle.dpj_classes.specs.Overriding.{same_kinds, same_path_with, same_constraints, same_with, same_types, fits, is_covered, override_fault}
-use Rattle.dpj_resolved.proofs.Expressions.{and_split}
-use Rattle.dpj_resolved.proofs.Free.{fault_none, not_false}
+use Rattle.dpj_resolved.proofs.Free.{fault_none, not_false, and_split}
 
 same_mark : (a b : Bool) → same_bool a b ≡ true → a ≡ b
 same_mark true b e = sym e

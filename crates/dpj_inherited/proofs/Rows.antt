@@ -21,7 +21,7 @@ use Rattle.dpj_table.specs.Table.{headers_of, methods_of, overridden_by, row_of}
 use Rattle.dpj_assembly.specs.Assembled.{PlainBody, member_of}
 use Rattle.dpj_resolved.specs.Accepted.{IsAccepted}
 use Rattle.dpj_resolved.proofs.Assembled.{facts, has_member}
-use Rattle.dpj_resolved.proofs.Expressions.{and_split}
+use Rattle.dpj_resolved.proofs.Free.{and_split}
 use Rattle.dpj_resolved.proofs.Lists.{some_same, map_there}
 use Rattle.dpj_rows.proofs.Facts.{parent_is}
 use Rattle.dpj_inherited.proofs.Above.{P, parent_there}

@@ -7,14 +7,17 @@ use Rattle.dpj_tokens.proofs.Spans.{cuts-stand}
 use Rattle.dpj_parse.proofs.Promised.{named_in, sized_in}
 use Rattle.dpj_accepted.specs.Laws.{AcceptedIsWellTyped}
 use Rattle.dpj_narrow.specs.Laws.{AcceptedIsNarrow}
-use Rattle.dpj_resolved.specs.Accepted.{AcceptedBegins, AcceptedIsResolved, SmallHasRows}
+use Rattle.dpj_resolved.specs.Accepted.{SmallHasRows}
 use Rattle.dpj_resolved.specs.Accepted.{IsAccepted as Passes}
 use Rattle.dpj_written.specs.Laws.{TextsAreWritten}
+use Rattle.dpj_typed.specs.Laws.{WellTypedIsResolved}
+use Rattle.dpj_typed.specs.WellTyped.{WellTyped}
 use Rattle.dpj_tree.specs.Nd.{program_uses_nd}
+use Rattle.dpj_assembly.specs.Assembled.{program_of}
 use Rattle.dpj_passed.specs.Laws.{Keeps, PassedKeeps}
 
-pub passed_keeps : AcceptedIsWellTyped → TextsAreWritten → AcceptedIsNarrow → AcceptedIsResolved → AcceptedBegins → SmallHasRows → PassedKeeps
-passed_keeps well_typed written narrow resolved begins has_rows text place typed short passed =
+pub passed_keeps : AcceptedIsWellTyped → WellTypedIsResolved → TextsAreWritten → AcceptedIsNarrow → SmallHasRows → PassedKeeps
+passed_keeps well_typed resolved written narrow has_rows text place typed short passed =
     let program = passed.has_program.program in
     let accepted = passed.has_program.accepted in
     let derived = passed.has_program.derived in
@@ -26,9 +29,12 @@ passed_keeps well_typed written narrow resolved begins has_rows text place typed
       whole = accepted.has_table.whole;
       checked = accepted.checked;
     } in
+    let made = program_of accepted.table program.names (program_uses_nd program) accepted.bodies in
+    let well : WellTyped made = well_typed program accepted.table accepted.bodies (written text passed.tokens passed.end program short passed.cut derived) passes in
+    let runs = resolved made well in
     subst Keeps (sym accepted.typed_so) (record {
-      well_typed = well_typed program accepted.table accepted.bodies (written text passed.tokens passed.end program short passed.cut derived) passes;
-      resolved = resolved program accepted.table accepted.bodies passes program.names (program_uses_nd program);
-      has_main = begins program accepted.table accepted.bodies passes (program_uses_nd program);
+      well_typed = well;
+      resolved = runs.0;
+      has_main = runs.1;
       narrow = λ code is. narrow program accepted.table accepted.bodies small passes code is;
     })

@@ -8,9 +8,10 @@ use dpj_judged::laws::law_each_judged;
 use dpj_narrow::laws::law_narrow;
 use dpj_parse::{one_program, one_refusal};
 use dpj_read::laws::{law_each_reading, law_each_text};
-use dpj_resolved::laws::{law_begins, law_has_rows, law_resolved};
+use dpj_resolved::laws::law_has_rows;
 use dpj_tabled::laws::law_each_table;
 use dpj_tokens::one_cutting;
+use dpj_typed::laws::law_resolved;
 use dpj_written::laws::law_written;
 
 /// The typed program of a text that passes is well typed, can be compiled and run, and has no fork that is too wide.
@@ -18,10 +19,9 @@ pub fn law_passed()
     ensures keeps { PassedKeeps }
 {
     law_well_typed();
+    law_resolved();
     law_written();
     law_narrow();
-    law_resolved();
-    law_begins();
     law_has_rows();
 }
 

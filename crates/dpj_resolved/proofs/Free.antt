@@ -1,5 +1,5 @@
 -- Where no fault is reported, none was found.
-use Rattle.std.proofs.Common.{◌≡◌, Bool, true, false, ◌||◌, not, List, [], ◌∷◌, ◌++◌, flat_map, Option, Some, None, refl}
+use Rattle.std.proofs.Common.{◌≡◌, Bool, true, false, ◌&&◌, ◌||◌, not, List, [], ◌∷◌, ◌++◌, flat_map, Option, Some, None, refl}
 use Rattle.std.specs.Option.{option_or}
 use Rattle.dpj_base.specs.declared.place.Place.{Place}
 use Rattle.dpj_base.specs.declared.refusal.Kind.{Kind}
@@ -67,3 +67,7 @@ last_false true b c h = cc
 pub not_false : (b : Bool) → not b ≡ false → b ≡ true
 not_false true h = refl
 not_false false h = cc
+
+pub and_split : (a b : Bool) → (a && b) ≡ true → (a ≡ true) × (b ≡ true)
+and_split true b h = (refl, h)
+and_split false b h = cc

@@ -1,5 +1,5 @@
--- A written type without faults is known, and it is that of a value.
-use Rattle.std.proofs.Common.{◌≡◌, ◌∙◌, ℕ, suc, ◌+◌, ◌==◌, ◌&&◌, Bool, true, false, not, is_none, cond, List, [], ◌∷◌, ◌++◌, length, flat_map, filter_map, inl, inr, Option, None, Some, option_map, option_and_then, refl, ap, sym}
+-- A written type without faults is known.
+use Rattle.std.proofs.Common.{◌≡◌, ◌∙◌, ℕ, suc, ◌+◌, ◌==◌, ◌&&◌, Bool, true, false, not, is_none, cond, List, [], ◌∷◌, ◌++◌, length, flat_map, filter_map, inl, inr, Option, None, Some, option_map, option_and_then, refl, ap}
 use Rattle.std.proofs.lemmas.Bool.Decides.{eqb_tells}
 use Rattle.std.specs.List.{list_any, list_all, cons_option}
 use Rattle.std.specs.Option.{option_map_or, option_or, option_flatten}
@@ -12,7 +12,7 @@ use Rattle.dpj_base.specs.declared.refusal.Kind.{Kind}
 use Rattle.dpj_base.specs.declared.refusal.Kind.TheVariants as kind
 use Rattle.dpj_base.specs.declared.region.Rpl.{Rpl}
 use Rattle.dpj_base.specs.Types.{PlainType}
-use Rattle.dpj_base.specs.Types.PlainType.{int, boolean, class, array}
+use Rattle.dpj_base.specs.Types.PlainType.{int, boolean, class}
 use Rattle.dpj_headers.specs.declared.header.Headers.{Headers}
 use Rattle.dpj_headers.specs.declared.header.ParamRow.{ParamRow}
 use Rattle.dpj_headers.specs.Headers.{class_of, region_of}
@@ -28,21 +28,17 @@ use Rattle.dpj_tree.specs.declared.region.RplHead.TheVariants as head
 use Rattle.dpj_tree.specs.declared.region.RplTree.{RplTree}
 use Rattle.dpj_tree.specs.declared.region.Suffix.{Suffix}
 use Rattle.dpj_tree.specs.declared.region.TypeTree.{TypeTree}
-use Rattle.dpj_resolve.specs.declared.base.ReadBase.{ReadBase}
-use Rattle.dpj_resolve.specs.declared.base.ReadBase.TheVariants as read
-use Rattle.dpj_resolve.specs.declared.base.ReadType.{ReadType}
 use Rattle.dpj_resolve.specs.declared.paths.Need.{Need}
 use Rattle.dpj_resolve.specs.declared.scope.ParamFound.{ParamFound}
 use Rattle.dpj_resolve.specs.Args.{root_path, roots, args_given, args_faults, local_fault, is_unfit}
-use Rattle.dpj_resolve.specs.Classes.{params_in, class_args, class_faults, class_type}
+use Rattle.dpj_resolve.specs.Classes.{params_in, class_faults, class_type}
 use Rattle.dpj_resolve.specs.Index.{PlainIndex, index_name}
 use Rattle.dpj_resolve.specs.Paths.{region_meant, region_faults, second_faults, is_specified, is_plain, misfits}
 use Rattle.dpj_resolve.specs.Reading.{elem_meant, elem_faults, is_barred, is_misplaced, head_param, head_local, below_root, begun, head_meant, head_faults, path_atomic, longer, longer_if, goes_on, path_meant, path_faults, arg_need, each_faults, arg_faults, args_read}
 use Rattle.dpj_resolve.specs.Scoped.{value_in}
 use Rattle.dpj_resolve.specs.Scopes.{PlainScope}
-use Rattle.dpj_resolve.specs.Written.{no_need, base_read, base_parts, at_suffix, suffix_meant, suffix_parts, paths_from, parts_from, type_read, type_parts, base_type, base_faults, is_indexed, arrays_from, judged_type, judged_faults, type_index, type_meant, type_faults}
+use Rattle.dpj_resolve.specs.Written.{no_need, base_read, base_parts, at_suffix, suffix_meant, suffix_parts, paths_from, parts_from, type_read, type_parts, base_type, base_faults, arrays_from, judged_faults, type_index, type_meant, type_faults}
 use Rattle.dpj_resolved.proofs.Free.{append_none, fault_none, NoFaults, free_split, or_false, last_false}
-use Rattle.dpj_resolved.proofs.Valued.{valued}
 
 some_there : {A : Type 0} (o : Option A) (reason : Kind) (place : Place) → fault_if (is_none o) reason place ≡ [] → (x : A) × (o ≡ Some x)
 some_there None reason place free = cc
@@ -162,37 +158,6 @@ base_known scope around (base.Class name args) place parts free = by (class_of s
         let fit = fault_none (is_unfit (length args) params) kind.RegionArgs place g.1 in
         let w = given_known (length args) (filter_map (path_meant scope around) args) params (args_known scope around (arg_need params false (length args)) 0 args parts) fit in
         (class at w.0, ap (option_map (class at)) w.1)
-
-arrays_valued : (around : PlainIndex) (at : ℕ) (t : PlainType) (rpls : List Rpl) → valued (arrays_from around at t rpls) ≡ valued t
-arrays_valued around at t [] = refl
-arrays_valued around at t (rpl ∷ rpls) = arrays_valued around (at + 1) (array t rpl (is_indexed around at)) rpls
-
-base_valued : (scope : PlainScope) (r : ReadBase) (t : PlainType) → base_type scope r ≡ Some t → valued t ≡ true
-base_valued scope read.Int t is = let same : int ≡ t = cc in ap valued (sym same)
-base_valued scope read.Bool t is = let same : boolean ≡ t = cc in ap valued (sym same)
-base_valued scope (read.Class name o args) t is = by o is
-  where
-    with_args : (at : ℕ) (rs : Option (List Rpl)) → option_map (class at) rs ≡ Some t → valued t ≡ true
-    with_args at None is = cc
-    with_args at (Some found) is = let same : class at found ≡ t = cc in ap valued (sym same)
-
-    by : (o : Option ℕ) → class_type scope.headers o args ≡ Some t → valued t ≡ true
-    by None is = cc
-    by (Some at) is = with_args at (class_args scope.headers at args) is
-
--- what is read is that of a value, where it is known
-pub judged_valued : (scope : PlainScope) (around : PlainIndex) (ty : ReadType) (t : PlainType) → judged_type scope around ty ≡ Some t → valued t ≡ true
-judged_valued scope around ty t is = by (length ty.paths == length around.suffixes) (base_type scope ty.base) (base_valued scope ty.base) is
-  where
-    by : (b : Bool) (o : Option PlainType) → ((u : PlainType) → o ≡ Some u → valued u ≡ true) → cond b (option_map (λ elem. arrays_from around 0 elem ty.paths) o) None ≡ Some t → valued t ≡ true
-    by false o v is = cc
-    by true None v is = cc
-    by true (Some u) v is =
-        let same : arrays_from around 0 u ty.paths ≡ t = cc in
-        ap valued (sym same) ∙ arrays_valued around 0 u ty.paths ∙ v u refl
-
-pub meant_valued : (scope : PlainScope) (tree : TypeTree) (t : PlainType) → type_meant scope tree ≡ Some t → valued t ≡ true
-meant_valued scope tree t is = judged_valued scope (type_index tree) (type_read scope (type_index tree) tree.base) t is
 
 -- a written type without faults is known
 pub type_known : (scope : PlainScope) (tree : TypeTree) → NoFaults (type_faults scope tree) → (t : PlainType) × (type_meant scope tree ≡ Some t)

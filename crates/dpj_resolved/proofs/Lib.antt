@@ -1,12 +1,8 @@
 pub mod Assembled
-pub mod Beginning
 pub mod Bodies
-pub mod Expressions
+pub mod Counting
 pub mod Free
 pub mod Known
 pub mod Lists
-pub mod Methods
-pub mod Numbering
+pub mod Rows
 pub mod Signatures
-pub mod Statements
-pub mod Valued

@@ -1,5 +1,5 @@
 -- Elements of lists by their places, and where an optional value comes from.
-use Rattle.std.proofs.Common.{◌≡◌, ◌∙◌, ℕ, zero, suc, ◌+◌, ◌<◌, List, [], ◌∷◌, ◌++◌, length, map, take, Option, Some, None, option_map, option_and_then, Result, Ok, refl, ap, sym, subst, arith}
+use Rattle.std.proofs.Common.{◌≡◌, ◌∙◌, ℕ, zero, suc, ◌+◌, ◌<◌, List, [], ◌∷◌, ◌++◌, length, map, Option, Some, None, option_map, option_and_then, Result, Ok, refl, ap, sym, subst, arith}
 use Rattle.std.proofs.lemmas.Option.{slice_get-map, slice_get_within, slice_get-get_or}
 use Rattle.std.proofs.lemmas.List.FromFn.{get_or-range_with_len, length-range_with_len}
 use Rattle.std.specs.List.{range_with_len}
@@ -30,12 +30,6 @@ got_later [] ys i j x is e = let same : j ≡ i = omega (arith, is) in subst (λ
 got_later (y ∷ xs) ys zero j x is e = absurd (omega (arith, is))
 got_later (y ∷ xs) ys (suc i) j x is e = got_later xs ys i j x (omega (arith, is)) e
 
-pub got_taken : {A : Type 0} (n : ℕ) (xs : List A) (i : ℕ) (x : A) → slice_get (take n xs) i ≡ Some x → slice_get xs i ≡ Some x
-got_taken zero xs i x e = cc
-got_taken (suc n) [] i x e = cc
-got_taken (suc n) (y ∷ xs) zero x e = e
-got_taken (suc n) (y ∷ xs) (suc i) x e = got_taken n xs i x e
-
 -- an element of a list with one more after
 pub got_last : {A : Type 0} (xs : List A) (y : A) (i : ℕ) (x : A) → (P : A → Type 0) → ((j : ℕ) (z : A) → slice_get xs j ≡ Some z → P z) → P y → slice_get (xs ++ y ∷ []) i ≡ Some x → P x
 got_last [] y zero x P all p e = subst P (some_same e) p
@@ -51,7 +45,7 @@ there [] i l = absurd (omega (arith, l))
 there (x ∷ xs) zero l = (x, refl)
 there (x ∷ xs) (suc i) l = there xs i (omega (arith, l))
 
-pub range_there : (n i : ℕ) → i < n → slice_get (range_with_len 0 n) i ≡ Some i
+range_there : (n i : ℕ) → i < n → slice_get (range_with_len 0 n) i ≡ Some i
 range_there n i l =
     let long : i < length (range_with_len 0 n) = subst (λ k. i < k) (sym (length-range_with_len 0 n)) l in
     let plain : 0 + i ≡ i = omega arith in

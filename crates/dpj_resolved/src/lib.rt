@@ -1,9 +1,9 @@
-//! The program that is put together of an accepted text is resolved: a law over the definitions of the class table, of
-//! checked bodies and of the assembled program, with no code of its own.
+//! What accepted programs have that no code asks for: lemmas for the laws which say that such a program is well typed, and one law.
 //!
-//! The compiler asks of a program that its rows and members are there, and that what is called as a value gives one
-//! (`Resolved` of `dpj_typed`). `specs/Accepted.antt` says that the typed bodies which the checker answers make such a
-//! program.
+//! `specs/Accepted.antt` says what it is that the checker accepts: a class table that has rows and no fault, and bodies that pass.
+//! The law says that the table of a text which isn't too long has rows. The lemmas are cited by `dpj_declared`, `dpj_inherited` and
+//! `dpj_accepted`: where no fault is reported none was found, what is written without faults is known, and each method of the table
+//! has a member in the program that is put together.
 #![tactic(auto)]
 
 pub mod laws;

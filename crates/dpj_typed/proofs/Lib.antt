@@ -1,3 +1,4 @@
 mod Mended
 mod Refused
+pub mod Resolved
 mod Single

@@ -1,6 +1,12 @@
--- The judgement on small programs: what is refused, and its mended form.
+-- What the judgement gives; and on small programs, what it refuses, and the mended form of that.
+use Rattle.dpj_typed.specs.Plain.{PlainProgram}
+use Rattle.dpj_typed.specs.Resolved.{Resolved, HasMain}
 use Rattle.dpj_typed.specs.Samples.{two_writes, filled, linked, in_a, any_below_a}
 use Rattle.dpj_typed.specs.WellTyped.{WellTyped}
+
+-- a well-typed program is what a run asks for
+abbrev pub WellTypedIsResolved : Type 0
+WellTypedIsResolved = (P : PlainProgram) → WellTyped P → Resolved P × HasMain P
 
 -- two branches of a `cobegin` write one field: a race; two fields in regions of their own: none
 pub record OneFieldTwice : Type 0 where

@@ -1,4 +1,4 @@
-use Rattle.dpj_resolved.proofs.Beginning.{small_has_rows}
+use Rattle.dpj_resolved.proofs.Rows.{small_has_rows}
 use Rattle.dpj_resolved.proofs.laws.law_has_rows.Goals as goal
 
 pub returns : goal.returns
