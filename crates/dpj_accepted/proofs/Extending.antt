@@ -1,9 +1,8 @@
 -- The superclasses in the class table of an accepted text: of each class one, with as many region arguments as it has parameters.
-use Rattle.std.proofs.Common.{◌≡◌, ◌∙◌, ◌⊎◌, ℕ, zero, suc, ◌+◌, ◌<◌, ◌≤◌, ◌==◌, ◌&&◌, Bool, true, false, not, cond, List, [], ◌∷◌, length, filter_map, inl, inr, Option, None, Some, option_map, option_and_then, refl, sym, ap, subst, arith}
+use Rattle.std.proofs.Common.{◌≡◌, ◌∙◌, ◌⊎◌, ℕ, zero, suc, ◌+◌, ◌<◌, ◌≤◌, ◌==◌, Bool, true, false, cond, List, [], ◌∷◌, length, filter_map, inl, inr, Option, None, Some, option_map, option_and_then, refl, sym, ap, subst, arith}
 use Rattle.std.proofs.lemmas.Bool.{eqb-true, eq-eqb}
 use Rattle.std.proofs.lemmas.List.{length-append, length-map}
 use Rattle.std.proofs.lemmas.Option.{slice_get_within}
-use Rattle.std.specs.List.{list_any, cons_option}
 use Rattle.std.specs.Option.{option_map_or}
 use Rattle.std.specs.Prelude.{slice_get, unwrap_or}
 use Rattle.dpj_base.specs.declared.effect.Constraint.{Constraint}
@@ -20,11 +19,9 @@ use Rattle.dpj_headers.specs.Numbers.{as_number}
 use Rattle.dpj_tree.specs.declared.class.Class.{Class}
 use Rattle.dpj_tree.specs.declared.class.Parent.{Parent}
 use Rattle.dpj_tree.specs.declared.class.Program.{Program}
-use Rattle.dpj_tree.specs.declared.region.RplTree.{RplTree}
-use Rattle.dpj_resolve.specs.declared.paths.Need.{Need}
-use Rattle.dpj_resolve.specs.Args.{roots, args_given, args_faults, local_fault, is_unfit}
+use Rattle.dpj_resolve.specs.Args.{args_given, args_faults, local_fault, is_unfit}
 use Rattle.dpj_resolve.specs.Classes.{params_in}
-use Rattle.dpj_resolve.specs.Index.{PlainIndex, no_index}
+use Rattle.dpj_resolve.specs.Index.{no_index}
 use Rattle.dpj_resolve.specs.Reading.{path_meant, each_faults, arg_need, args_read}
 use Rattle.dpj_resolve.specs.Scopes.{PlainScope}
 use Rattle.dpj_table.specs.declared.table.Table.{Table}
@@ -36,29 +33,12 @@ use Rattle.dpj_classes.specs.Signatures.{parent_meant, parent_arg_faults, fit_fa
 use Rattle.dpj_table.specs.Table.{headers_of, supers_of, parent_type_of, parent_args_of, class_paths}
 use Rattle.dpj_rows.specs.Rows.{HasRows}
 use Rattle.dpj_rows.proofs.Facts.{got_either}
-use Rattle.dpj_resolved.proofs.Free.{NoFaults, append_none, fault_none, joined_free}
-use Rattle.dpj_resolved.proofs.Known.{path_known}
+use Rattle.dpj_resolved.proofs.Free.{append_none, fault_none, joined_free}
+use Rattle.dpj_resolved.proofs.Known.{args_known, given_known}
 use Rattle.dpj_resolved.proofs.Lists.{some_same, and_then_there, map_there, got_mapped}
 use Rattle.dpj_accepted.proofs.Closed.{args_closed}
 use Rattle.dpj_accepted.proofs.Declarations.{class_closed, class_free, signatures_free}
 use Rattle.dpj_accepted.proofs.InParams.{PathsIn}
-
--- arguments without faults are known, and as many as there are parameters
-args_known : (scope : PlainScope) (around : PlainIndex) (need : ℕ → Need) (at : ℕ) (trees : List RplTree) → NoFaults (each_faults scope around need at trees) → length (filter_map (path_meant scope around) trees) ≡ length trees
-args_known scope around need at [] free = refl
-args_known scope around need at (tree ∷ trees) free =
-    let p = path_known scope around (need at) tree free.0 in
-    ap (λ o. length (cons_option o (filter_map (path_meant scope around) trees))) p.1 ∙ ap suc (args_known scope around need (at + 1) trees free.1)
-
-given_known : (written : ℕ) (known : List Rpl) (params : List ParamRow) → length known ≡ written → is_unfit written params ≡ false → (rs : List Rpl) × (args_given written known params ≡ Some rs)
-given_known written known params same fit =
-    by (written == 0) (written == length params) (length known == written) (list_any (λ param. param.atomic) params) (eq-eqb (length known) written same) fit
-  where
-    by : (b c d any : Bool) → d ≡ true → cond b any (not c) ≡ false → (rs : List Rpl) × (cond b (Some (roots params)) (cond (c && d) (Some known) None) ≡ Some rs)
-    by true c d any e fit = (roots params, refl)
-    by false true true any e fit = (known, refl)
-    by false true false any e fit = cc
-    by false false d any e fit = cc
 
 -- the arguments that a class gives its superclass
 record ArgsSaid (headers : Headers) (all : List (List Constraint)) (number : ℕ) (tree : Parent) (parent : ℕ) : Type 0 where

@@ -1,6 +1,6 @@
 -- A written type without faults is known.
-use Rattle.std.proofs.Common.{◌≡◌, ◌∙◌, ℕ, suc, ◌+◌, ◌==◌, ◌&&◌, Bool, true, false, not, is_none, cond, List, [], ◌∷◌, ◌++◌, length, flat_map, filter_map, inl, inr, Option, None, Some, option_map, option_and_then, refl, ap}
-use Rattle.std.proofs.lemmas.Bool.Decides.{eqb_tells}
+use Rattle.std.proofs.Common.{◌≡◌, ◌∙◌, ℕ, suc, ◌+◌, ◌==◌, ◌&&◌, Bool, true, false, not, is_none, cond, List, [], ◌∷◌, ◌++◌, length, flat_map, filter_map, Option, None, Some, option_map, option_and_then, refl, ap}
+use Rattle.std.proofs.lemmas.Bool.{eq-eqb}
 use Rattle.std.specs.List.{list_any, list_all, cons_option}
 use Rattle.std.specs.Option.{option_map_or, option_or, option_flatten}
 use Rattle.dpj_base.specs.declared.elems.Elem.{Elem}
@@ -109,18 +109,16 @@ module _ (scope : PlainScope) (around : PlainIndex)
         let r = on_known tree.elems h.0 g.1 p in
         (r.0, ap (λ o. goes_on scope around o tree.elems) h.1 ∙ r.1)
 
-    args_known : (need : ℕ → Need) (at : ℕ) (trees : List RplTree) → NoFaults (each_faults scope around need at trees) → length (filter_map (path_meant scope around) trees) ≡ length trees
+    -- arguments without faults are known, and as many as are written
+    pub args_known : (need : ℕ → Need) (at : ℕ) (trees : List RplTree) → NoFaults (each_faults scope around need at trees) → length (filter_map (path_meant scope around) trees) ≡ length trees
     args_known need at [] free = refl
     args_known need at (tree ∷ trees) free =
         let p = path_known (need at) tree free.0 in
         ap (λ o. length (cons_option o (filter_map (path_meant scope around) trees))) p.1 ∙ ap suc (args_known need (at + 1) trees free.1)
 
-same_tells : (a b : ℕ) → a ≡ b → (a == b) ≡ true
-same_tells a b e = elim (eqb_tells a b) [ inl p ↦ p.0 | inr q ↦ absurd (q.1 e) ]
-
-given_known : (written : ℕ) (known : List Rpl) (params : List ParamRow) → length known ≡ written → is_unfit written params ≡ false → (rs : List Rpl) × (args_given written known params ≡ Some rs)
+pub given_known : (written : ℕ) (known : List Rpl) (params : List ParamRow) → length known ≡ written → is_unfit written params ≡ false → (rs : List Rpl) × (args_given written known params ≡ Some rs)
 given_known written known params same fit =
-    by (written == 0) (written == length params) (length known == written) (list_any (λ param. param.atomic) params) (same_tells (length known) written same) fit
+    by (written == 0) (written == length params) (length known == written) (list_any (λ param. param.atomic) params) (eq-eqb (length known) written same) fit
   where
     by : (b c d any : Bool) → d ≡ true → cond b any (not c) ≡ false → (rs : List Rpl) × (cond b (Some (roots params)) (cond (c && d) (Some known) None) ≡ Some rs)
     by true c d any e fit = (roots params, refl)
@@ -170,6 +168,6 @@ type_known scope tree free =
     let n = paths_known scope around 0 tree.suffixes g.1 in (
       arrays_from around 0 b.0 (paths_from scope around 0 tree.suffixes),
       ap (λ z. cond z (option_map (λ elem. arrays_from around 0 elem (paths_from scope around 0 tree.suffixes)) (base_type scope (base_read scope around tree.base))) None)
-          (same_tells (length (paths_from scope around 0 tree.suffixes)) (length tree.suffixes) n)
+          (eq-eqb (length (paths_from scope around 0 tree.suffixes)) (length tree.suffixes) n)
           ∙ ap (option_map (λ elem. arrays_from around 0 elem (paths_from scope around 0 tree.suffixes))) b.1,
     )
