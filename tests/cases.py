@@ -5,14 +5,16 @@
 A case is an object with "name", "words", "source", "stdout" and "status"; its name says the rule that it tries, and no two
 cases share one. The source is a text, or is made:
 {"pad": TEXT, "to": N} is TEXT and then spaces up to N bytes, {"repeat": TEXT, "times": N} repeats TEXT,
-{"classes": N} is N empty classes, and "source_hex" gives the bytes in hex. With no FILE, every tests/cases/*.json is run;
+{"classes": N} is N empty classes, and "source_hex" gives the bytes in hex. With no FILE, every tests/cases/KIND/RULE.json is run;
 every examples/NAME.dpj, which must write examples/NAME.out with status 0; every examples/check/NAME.dpj, for which `check`
 must answer NAME.out, and where NAME.ran is there, `run` and `elide` on 10 what that holds; every examples/kernels/NAME.dpj, which
 writes NAME.ran on 40, elided, by 1, 4 and 64 workers, and by rounds; every program of README.md, docs/*.md
 and examples/README.md, which stands in a fence that begins with ```dpj check: ANSWER, ```dpj run: LINE, LINE or ```dpj elide: LINE, LINE;
-and prefixes of accepted programs (tests/prefixes.py), of three examples where the program is unproved. Where it is proved, random
-programs follow (tests/random_programs.py), programs with random schedules (tests/schedules.py), a few in orders that were worked out
-(tests/worked_orders.py), programs with seeds and their costs (tests/seeds.py), and the accepted texts with their inferred summaries (tests/inferred.py), each of which passes or fails; `--only random` asks for these alone. It is an error, and no pass, where a fence isn't understood or no case is left.
+and prefixes of accepted programs (tests/generate/prefixes.py), of three examples where the program is unproved. Where it is proved, random
+programs follow (tests/generate/random_programs.py), programs with random schedules (tests/oracle/schedules.py), a few in orders that were worked out
+(tests/oracle/worked_orders.py), programs with seeds and their costs (tests/oracle/seeds.py), and the accepted texts with their
+inferred summaries (tests/inferred.py), each of which passes or fails; `--only random` asks for these alone. It is an error, and no
+pass, where a fence isn't understood or no case is left.
 
 The program is out/dpj where ./build or the gate made it of these sources; else it is built once, unproved, by `rt try`.
 """
@@ -28,13 +30,11 @@ import sys
 import tempfile
 
 import inferred
-import prefixes
-import random_programs
-import schedules
-import seeds
-import worked_orders
+from generate import prefixes, random_programs
+from oracle import schedules, seeds, worked_orders
 
 TOP = pathlib.Path(__file__).resolve().parent.parent
+CASES = TOP / "tests" / "cases"
 PROVED = TOP / "out" / "dpj"
 CRATE = TOP / "crates" / "dpj_cli"
 SECONDS = 120
@@ -68,9 +68,11 @@ def bytes_of(case):
 
 
 def from_json(path):
+    file = path.resolve()
+    name = file.relative_to(CASES) if file.is_relative_to(CASES) else file.name
     for case in json.loads(path.read_text(encoding="utf-8")):
         yield {
-            "name": f"{path.name}: {case['name']}",
+            "name": f"{name}: {case['name']}",
             "words": case["words"],
             "source": bytes_of(case),
             "stdout": case["stdout"].encode(),
@@ -173,7 +175,7 @@ def from_prefixes(programs):
 def load(files, is_proved):
     if files:
         return [case for file in files for case in from_json(pathlib.Path(file))]
-    cases = [case for file in sorted((TOP / "tests" / "cases").glob("*.json")) for case in from_json(file)]
+    cases = [case for file in sorted(CASES.rglob("*.json")) for case in from_json(file)]
     cases += [from_example(file) for file in sorted((TOP / "examples").glob("*.dpj"))]
     cases += [from_checked_example(file) for file in sorted((TOP / "examples" / "check").glob("*.dpj"))]
     cases += [case for file in sorted((TOP / "examples" / "check").glob("*.ran")) for case in from_run_example(file, ("run", "elide"), 10)]

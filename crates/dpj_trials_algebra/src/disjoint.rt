@@ -4,7 +4,7 @@ use dpj_regions::includes;
 use std::alloc::Global;
 use std::test::Fail;
 
-/// Pairs of paths, made by `tests/algebra.py` at the top of the repository: two paths, the number of the constraints in
+/// Pairs of paths, made by `tests/oracle/algebra.py` at the top of the repository: two paths, the number of the constraints in
 /// force, and the answers. R is `Root`, p and q are parameters, A to C names, 0 and 1 literals, u and v index variables,
 /// w the renamed copy of v, l and m local regions. I and D say what the paths mean (the first lies in the second, they
 /// have no region in common), i and d what the rules say of it.
