@@ -11,5 +11,5 @@
 mod record;
 mod replaying;
 
-pub use record::{Record, shares_sum};
+pub use record::Record;
 pub use replaying::{ReplayStop, replay};

@@ -1,6 +1,3 @@
-ghost use Rattle.std.specs.Prelude.{◌≡◌, ◌<◌, ◌^◌};
-ghost use Rattle.std.specs.List.{sum};
-
 use dpj_base::Items;
 use dpj_machine::Machine;
 
@@ -15,16 +12,4 @@ pub struct Record {
     pub own: u64,
     /// How many rounds it was made by, 0 where it wasn't made in rounds.
     pub rounds: u64,
-}
-
-/// How many events the workers made.
-pub fn shares_sum(made: &Record) -> u64
-    requires { sum made.now.shares < 2 ^ 64 }
-    ensures { result ≡ sum made.now.shares }
-{
-    let mut sum = 0;
-    for share in made.shares.as_slice() {
-        sum += *share;
-    }
-    sum
 }

@@ -1,5 +1,5 @@
 //! Region paths: when one lies in another, when one is fully specified, and what a path is with arguments
-//! put in for its parameter or with a variable made general.
+//! put in for its parameter.
 //!
 //! Each call is exactly its definition in `dpj_base`. What they are good for is said in `laws`: what lies in a
 //! path matches only regions that the path matches, whatever parameters, indices and local regions stand for; what
@@ -13,4 +13,4 @@ mod covers;
 pub mod laws;
 mod path;
 
-pub use path::{generalise, includes, is_full, subst};
+pub use path::{includes, is_full, subst};

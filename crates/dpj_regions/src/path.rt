@@ -1,8 +1,8 @@
 ghost use Rattle.std.specs.Prelude.{◌≡◌, ◌<◌, ℕ, length, IfOk};
-ghost use Rattle.dpj_base.specs.Regions.{fully_specified, within, substituted, generalised};
+ghost use Rattle.dpj_base.specs.Regions.{fully_specified, within, substituted};
 
 use crate::covers::covers;
-use dpj_base::{Elem, Elems, Head, Index, NoMemory, Plain, Rpl};
+use dpj_base::{Elem, Head, NoMemory, Plain, Rpl};
 use std::alloc::Global;
 
 /// Whether every region that the inner path can name the outer path can name too, by the rule of inclusion.
@@ -55,22 +55,4 @@ fn subst_given(alloc: Global, rpl: &Rpl, args: &[Rpl]) -> Result<Rpl, NoMemory>
             Ok(made)
         }
     }
-}
-
-/// The path with `[?]` for each index that is the variable.
-#[tactic(auto, unfolding(dpj_base::specs::Regions::generalised))]
-pub fn generalise(alloc: Global, rpl: &Rpl, var: u32) -> Result<Rpl, NoMemory>
-    ensures { IfOk result (λ made. made ≡ generalised var rpl.now) }
-{
-    let mut elems = Elems::new(alloc);
-    for elem in rpl.elems.as_slice() {
-        elems.push(match *elem {
-            Elem::At(Index::Variable(v)) if v == var => Elem::Any,
-            other => other,
-        })?;
-    }
-    Ok(Rpl {
-        head: rpl.head,
-        elems,
-    })
 }
