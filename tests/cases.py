@@ -36,7 +36,7 @@ from oracle import schedules, seeds, worked_orders
 TOP = pathlib.Path(__file__).resolve().parent.parent
 CASES = TOP / "tests" / "cases"
 PROVED = TOP / "out" / "dpj"
-CRATE = TOP / "crates" / "dpj_cli"
+CRATE = TOP / "crates" / "tool_cli"
 SECONDS = 120
 
 # The examples whose prefixes are tried on an unproved program, which is slow to ask.

@@ -13,7 +13,7 @@ import subprocess
 import sys
 import time
 
-PROGRAM = "dpj_cli"
+PROGRAM = "tool_cli"
 TOP = pathlib.Path(__file__).resolve().parent.parent
 OUT = TOP / "out"
 LIBC = ctypes.CDLL(None)

@@ -1,0 +1,131 @@
+-- Statements one after the other: what is said of each step of the loop over them.
+use Rattle.std.proofs.Common.{◌≡◌, ◌∙◌, ℕ, suc, ◌+◌, ◌<◌, ◌&&◌, IsTrue, Bool, true, false, not, List, [], ◌∷◌, ◌++◌, map, length, append_assoc, append-nil, None, get_or, drop, drop-cons, add-one, refl, sym, ap, subst}
+use Rattle.lang_base.specs.declared.refusal.Refusal.{Refusal}
+use Rattle.syntax_tree.specs.declared.stmt.Stmt.{Stmt}
+use Rattle.syntax_tree.specs.Plain.{PlainStmts, plain_stmt, plain_stmts}
+use Rattle.lang_typed.specs.Plain.{TypedStmt}
+use Rattle.body_check.specs.declared.node.Around.{Around}
+use Rattle.body_check.specs.Checking.{Standing, InOrder, none_left, statement_refused, then_others}
+use Rattle.body_check.specs.Completes.{completes, all_complete}
+use Rattle.body_check.specs.Keeping.{Keeps, MayFollow, AllKeep, BranchesKeep, inside}
+use Rattle.body_check.specs.Walks.{Walk, Verdict, passes, refused, following}
+
+-- the next statement stands first in what is left
+pub next_is : (all : List Stmt) (i : ℕ) (s : Stmt) → i < length all → s ≡ get_or all i s → drop i all ≡ s ∷ drop (i + 1) all
+next_is all i s below is = drop-cons all i s below ∙ ap (λ x. x ∷ drop (suc i) all) (sym is) ∙ ap (λ k. s ∷ drop k all) (sym (add-one i))
+
+next_refused : (params own : List Bool) (around : Around) (complete : Bool) (all : List Stmt) (i : ℕ) (s : Stmt) (w : Walk) (q : Refusal) →
+    own ≡ params → i < length all → s ≡ get_or all i s → Standing own around (not complete) (plain_stmt s) w (refused q) →
+    InOrder params around complete (plain_stmts (map plain_stmt (drop i all))) w (refused q)
+next_refused params own around complete all i s w q same below is d =
+    subst (λ ss. InOrder params around complete (plain_stmts (map plain_stmt ss)) w (refused q)) (sym (next_is all i s below is))
+    (statement_refused (subst (λ (z : List Bool). Standing z around (not complete) (plain_stmt s) w (refused q)) same d))
+
+-- one more of what is made
+map_more : {X Y : Type 0} (f : X → Y) (xs : List X) (x : X) → map f (xs ++ x ∷ []) ≡ map f xs ++ f x ∷ []
+map_more f [] x = refl
+map_more f (y ∷ ys) x = ap (λ zs. f y ∷ zs) (map_more f ys x)
+
+pub map_pushed : {X Y : Type 0} (f : X → Y) (xs pushed : List X) (x : X) → pushed ≡ xs ++ x ∷ [] → map f pushed ≡ map f xs ++ f x ∷ []
+map_pushed f xs pushed x is = ap (map f) is ∙ map_more f xs x
+
+-- the statements so far, and what is made of the others
+abbrev pub after_stmts : List TypedStmt → Verdict (List TypedStmt) → Verdict (List TypedStmt)
+after_stmts made v = following None (λ others. made ++ others) v
+
+after_one : (made : List TypedStmt) (one : TypedStmt) (v : Verdict (List TypedStmt)) →
+    after_stmts made (following None (λ others. one ∷ others) v) ≡ after_stmts (made ++ one ∷ []) v
+after_one made one (passes others w) = ap (λ (z : List TypedStmt). passes z w) (sym (append_assoc made (one ∷ []) others))
+after_one made one (refused q) = refl
+
+after_all : (made : List TypedStmt) (w : Walk) → after_stmts made (passes [] w) ≡ passes made w
+after_all made w = ap (λ (z : List TypedStmt). passes z w) (append-nil made)
+
+-- the statements so far passed, and what is said of the others is said of all
+abbrev pub OrderSoFar : List Bool → Around → List Stmt → Walk → ℕ → Bool → List TypedStmt → Walk → Type 0
+OrderSoFar params around all w i complete made u =
+    (v : Verdict (List TypedStmt)) → InOrder params around complete (plain_stmts (map plain_stmt (drop i all))) u v →
+    InOrder params around true (plain_stmts (map plain_stmt all)) w (after_stmts made v)
+
+pub order_refused : (params own : List Bool) (around : Around) (all : List Stmt) (w : Walk) (i : ℕ) (complete : Bool) (made : List TypedStmt) (s : Stmt)
+    (u : Walk) (q : Refusal) → OrderSoFar params around all w i complete made u → own ≡ params → i < length all → s ≡ get_or all i s →
+    Standing own around (not complete) (plain_stmt s) u (refused q) → InOrder params around true (plain_stmts (map plain_stmt all)) w (refused q)
+order_refused params own around all w i complete made s u q before same below is d =
+    before (refused q) (next_refused params own around complete all i s u q same below is d)
+
+pub order_more : (params own : List Bool) (around : Around) (complete done next : Bool) (all : List Stmt) (i : ℕ) (made more : List TypedStmt)
+    (one : TypedStmt) (s : Stmt) (w u x : Walk) → OrderSoFar params around all w i complete made u → own ≡ params → i < length all →
+    s ≡ get_or all i s → Standing own around (not complete) (plain_stmt s) u (passes one x) → done ≡ completes (plain_stmt s) →
+    next ≡ (complete && done) → more ≡ made ++ one ∷ [] → OrderSoFar params around all w (i + 1) next more x
+order_more params own around complete done next all i made more one s w u x before same below is d done_is next_so more_is v rest =
+    let here : InOrder params around complete (plain_stmts (map plain_stmt (s ∷ drop (i + 1) all))) u (following None (λ others. one ∷ others) v) =
+    then_others (subst (λ (z : List Bool). Standing z around (not complete) (plain_stmt s) u (passes one x)) same d)
+    (subst (λ (z : Bool). InOrder params around z (plain_stmts (map plain_stmt (drop (i + 1) all))) x v)
+    (next_so ∙ ap (λ (z : Bool). complete && z) done_is) rest) refl in
+    subst (λ (z : Verdict (List TypedStmt)). InOrder params around true (plain_stmts (map plain_stmt all)) w z)
+    (after_one made one v ∙ ap (λ (z : List TypedStmt). after_stmts z v) (sym more_is))
+    (before _ (subst (λ ss. InOrder params around complete (plain_stmts (map plain_stmt ss)) u (following None (λ others. one ∷ others) v))
+    (sym (next_is all i s below is)) here))
+
+none_after : (params : List Bool) (around : Around) (complete : Bool) (all : List Stmt) (i : ℕ) (w : Walk) → drop i all ≡ [] →
+    InOrder params around complete (plain_stmts (map plain_stmt (drop i all))) w (passes [] w)
+none_after params around complete all i w none =
+    subst (λ ss. InOrder params around complete (plain_stmts (map plain_stmt ss)) w (passes [] w)) (sym none) none_left
+
+pub order_all : (params : List Bool) (around : Around) (complete : Bool) (all : List Stmt) (i : ℕ) (made : List TypedStmt) (w u : Walk) →
+    OrderSoFar params around all w i complete made u → drop i all ≡ [] → InOrder params around true (plain_stmts (map plain_stmt all)) w (passes made u)
+order_all params around complete all i made w u before none =
+    subst (λ (z : Verdict (List TypedStmt)). InOrder params around true (plain_stmts (map plain_stmt all)) w z) (after_all made u)
+    (before (passes [] u) (none_after params around complete all i u none))
+
+-- what else a step through the statements keeps
+and_step : (c d : Bool) (a : Bool) → ((c && d) && a) ≡ (c && (d && a))
+and_step true d a = refl
+and_step false d a = refl
+
+pub and_then_so : (c d o : Bool) → c ≡ true → o ≡ d → o ≡ (c && d)
+and_then_so c d o holds is = is ∙ ap (λ (z : Bool). z && d) (sym holds)
+
+pub and_else_so : (c d o : Bool) → c ≡ false → o ≡ false → o ≡ (c && d)
+and_else_so c d o fails is = is ∙ ap (λ (z : Bool). z && d) (sym fails)
+
+pub complete_step : (all : List Stmt) (i : ℕ) (s : Stmt) (complete done next : Bool) → i < length all → s ≡ get_or all i s →
+    done ≡ completes (plain_stmt s) → next ≡ (complete && done) →
+    (complete && all_complete (plain_stmts (map plain_stmt (drop i all)))) ≡ all_complete (plain_stmts (map plain_stmt all)) →
+    (next && all_complete (plain_stmts (map plain_stmt (drop (i + 1) all)))) ≡ all_complete (plain_stmts (map plain_stmt all))
+complete_step all i s complete done next below is done_is next_so so_far =
+    ap (λ (z : Bool). z && all_complete (plain_stmts (map plain_stmt (drop (i + 1) all)))) (next_so ∙ ap (λ (z : Bool). complete && z) done_is)
+    ∙ and_step complete (completes (plain_stmt s)) (all_complete (plain_stmts (map plain_stmt (drop (i + 1) all))))
+    ∙ ap (λ ss. complete && all_complete (plain_stmts (map plain_stmt ss))) (sym (next_is all i s below is))
+    ∙ so_far
+
+follow_so : (complete done next : Bool) (rest : PlainStmts) → not complete ≡ false → next ≡ (complete && done) → MayFollow next rest → MayFollow done rest
+follow_so true done next rest on next_so h = subst (λ (z : Bool). MayFollow z rest) next_so h
+follow_so false done next rest on next_so h = cc
+
+was_true : (complete : Bool) → not complete ≡ false → IsTrue complete
+was_true true on = refl
+was_true false on = cc
+
+pub keep_step : (around : Around) (all : List Stmt) (i : ℕ) (s : Stmt) (complete done next : Bool) → i < length all → s ≡ get_or all i s →
+    not complete ≡ false → Keeps around (plain_stmt s) → done ≡ completes (plain_stmt s) → next ≡ (complete && done) →
+    (MayFollow complete (plain_stmts (map plain_stmt (drop i all))) → AllKeep around (plain_stmts (map plain_stmt (drop i all))) →
+    AllKeep around (plain_stmts (map plain_stmt all))) →
+    MayFollow next (plain_stmts (map plain_stmt (drop (i + 1) all))) → AllKeep around (plain_stmts (map plain_stmt (drop (i + 1) all))) →
+    AllKeep around (plain_stmts (map plain_stmt all))
+keep_step around all i s complete done next below is on keeps done_is next_so so_far follows rest =
+    let may : MayFollow done (plain_stmts (map plain_stmt (drop (i + 1) all))) =
+    follow_so complete done next (plain_stmts (map plain_stmt (drop (i + 1) all))) on next_so follows in
+    so_far (subst (λ ss. MayFollow complete (plain_stmts (map plain_stmt ss))) (sym (next_is all i s below is)) (was_true complete on))
+    (subst (λ ss. AllKeep around (plain_stmts (map plain_stmt ss))) (sym (next_is all i s below is))
+    (keeps, subst (λ (z : Bool). MayFollow z (plain_stmts (map plain_stmt (drop (i + 1) all)))) done_is may, rest))
+
+-- one branch more
+pub fork_keeps : (around within : Around) (all : List Stmt) (i : ℕ) (branch : Stmt) → i < length all → branch ≡ get_or all i branch →
+    within ≡ inside around → Keeps within (plain_stmt branch) →
+    (BranchesKeep (inside around) (plain_stmts (map plain_stmt (drop i all))) → BranchesKeep (inside around) (plain_stmts (map plain_stmt all))) →
+    BranchesKeep (inside around) (plain_stmts (map plain_stmt (drop (i + 1) all))) → BranchesKeep (inside around) (plain_stmts (map plain_stmt all))
+fork_keeps around within all i branch below is within_is keeps before rest =
+    let here : BranchesKeep (inside around)
+    (plain_stmts (map plain_stmt (branch ∷ drop (i + 1) all))) = (subst (λ (z : Around). Keeps z (plain_stmt branch)) within_is keeps, rest) in
+    before (subst (λ (z : List Stmt). BranchesKeep (inside around) (plain_stmts (map plain_stmt z))) (sym (next_is all i branch below is)) here)

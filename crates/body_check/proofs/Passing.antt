@@ -1,0 +1,91 @@
+-- What is passed on from a part of a statement to the statement.
+use Rattle.std.proofs.Common.{◌≡◌, ◌∙◌, Bool, Result, Ok, Err, Option, Some, None, sym, ap, subst}
+use Rattle.std.specs.Result.{IsErrAnd}
+use Rattle.lang_base.specs.declared.refusal.Kind.{Kind}
+use Rattle.lang_base.specs.declared.refusal.Refusal.{Refusal}
+use Rattle.lang_base.specs.declared.refusal.Stop.{Stop}
+use Rattle.lang_base.specs.declared.refusal.Stop.TheVariants as stop
+use Rattle.lang_base.specs.Refused.{IfRefused}
+use Rattle.decl_headers.specs.Faults.{settled}
+use Rattle.body_exprs.specs.declared.env.Env.{Env}
+use Rattle.body_exprs.specs.declared.env.Mark.{Mark}
+use Rattle.body_exprs.specs.declared.found.Found.{Found}
+use Rattle.body_exprs.specs.Answer.{Says}
+use Rattle.body_exprs.specs.Env.{left_to, mark_of}
+use Rattle.body_check.specs.declared.body.Body.{Body}
+use Rattle.body_check.specs.declared.leaving.Leaving.{Leaving}
+use Rattle.body_check.specs.declared.leaving.Marks.{Marks}
+use Rattle.body_check.specs.declared.node.Node.{Node}
+use Rattle.body_check.specs.Checking.{closed}
+use Rattle.body_check.specs.Gathering.{taken_in}
+use Rattle.body_check.specs.Leaving.{from_here}
+use Rattle.body_check.specs.Noting.{fault_of, settled_node, with_fault_if}
+use Rattle.body_check.specs.Walks.{Walk, Verdict, passes, refused, judged, found_so, walk_of}
+
+pub said_of : (P Q : Refusal → Type 0) (s : Stop) → ((q : Refusal) → P q → Q q) → IfRefused s P → IfRefused s Q
+said_of P Q (stop.Refused q) next h = next q h
+said_of P Q stop.NoMemory next h = tt
+
+-- at the exit of a `?`
+pub stopped : {T M : Type 0} (P : Refusal → Type 0) (Q : Verdict M → Type 0) (r : Result T Stop) (made : T → Verdict M) (s : Stop) →
+    IsErrAnd r (λ x. x ≡ s) → ((q : Refusal) → P q → Q (refused q)) → IfRefused s P → Says r made refused Q
+stopped P Q (Ok x) made s is next h = absurd is
+stopped P Q (Err x) made s is next h = said_of P (λ q. Q (refused q)) x next (subst (λ (z : Stop). IfRefused z P) (sym is) h)
+
+-- what stops where the faults of a node are reported
+pub settled_stop : (reported : Option Refusal) (s : Stop) → settled reported ≡ Err s → IfRefused s (λ q. reported ≡ Some q)
+settled_stop None s is = cc
+settled_stop (Some q) s is = of_stop q s is
+  where
+    of_stop : (p : Refusal) (x : Stop) → settled (Some p) ≡ Err x → IfRefused x (λ z. Some p ≡ Some z)
+    of_stop p (stop.Refused z) e = cc
+    of_stop p stop.NoMemory e = cc
+
+-- at the exit of a `?` where the faults of a node are reported
+pub settle_stopped : {T M : Type 0} (Q : Verdict M → Type 0) (reported : Option Refusal) (r : Result T Stop) (s : Stop) (made : T → Verdict M) →
+    IsErrAnd r (λ z. z ≡ s) → Err s ≡ settled reported → ((q : Refusal) → reported ≡ Some q → Q (refused q)) → Says r made refused Q
+settle_stopped Q reported r s made is settle next = stopped (λ q. reported ≡ Some q) Q r made s is next (settled_stop reported s (sym settle))
+
+-- a piece whose outcome is passed on
+pub says_all : {T M : Type 0} (P Q : Verdict M → Type 0) (r : Result T Stop) (made : T → Verdict M) → ((v : Verdict M) → P v → Q v) →
+    Says r made refused P → Says r made refused Q
+says_all P Q (Ok t) made next h = next (made t) h
+says_all P Q (Err s) made next h = said_of (λ q. P (refused q)) (λ q. Q (refused q)) s (λ q. next (refused q)) h
+
+-- the verdict of a node, by what was noted of it
+pub judged_at : {M : Type 0} (m n : Node) (made : M) (w : Walk) → n ≡ m → judged (fault_of m) made w ≡ judged (fault_of n) made w
+judged_at m n made w is = ap (λ (z : Node). judged (fault_of z) made w) (sym is)
+
+pub judged_none : {M : Type 0} (reported : Option Refusal) (made : M) (w : Walk) → reported ≡ None → judged reported made w ≡ passes made w
+judged_none reported made w is = ap (λ (z : Option Refusal). judged z made w) is
+
+pub judged_some : {M : Type 0} (reported : Option Refusal) (made : M) (w : Walk) (q : Refusal) → reported ≡ Some q → judged reported made w ≡ refused q
+judged_some reported made w q is = ap (λ (z : Option Refusal). judged z made w) is
+
+-- a piece that passes, as it was made
+pub passes_so : {M : Type 0} (m made : M) (w u : Walk) → m ≡ made → w ≡ u → passes made u ≡ passes m w
+passes_so m made w u m_is w_is = ap (λ (z : Walk). passes made z) (sym w_is) ∙ ap (λ z. passes z w) (sym m_is)
+
+-- what is noted of a node by two tests, the second after the faults of the first were reported
+pub noted_twice : (second second' settle third : Node) (reason reason' : Kind) (there there' : Bool) →
+    second ≡ second' → settle ≡ settled_node second → reason ≡ reason' → there ≡ there' → third ≡ with_fault_if settle reason there →
+    third ≡ with_fault_if (settled_node second') reason' there'
+noted_twice second second' settle third reason reason' there there' second_is settle_is reason_is there_is is =
+    is ∙ ap (λ (z : Node). with_fault_if z reason there) (settle_is ∙ ap settled_node second_is)
+    ∙ ap (λ (z : Kind). with_fault_if (settled_node second') z there) reason_is
+    ∙ ap (λ (z : Bool). with_fault_if (settled_node second') reason' z) there_is
+
+abbrev pub walk_from : Env → Found → Walk
+walk_from env found = record { env = env; found = found }
+
+-- a scope that was left
+pub closed_is : (b s : Body) (env : Env) (scope : Mark) (leaving : Leaving) (marking marking' : Marks) (f g inner inner' rest out : Found) →
+    scope ≡ mark_of b.env → env ≡ left_to s.env scope → leaving ≡ from_here b.env marking → marking ≡ marking' → inner ≡ inner' → out ≡ taken_in leaving g inner →
+    closed (found_so (walk_of b f) g) marking' inner' (walk_of s rest) ≡ walk_from env out
+closed_is b s env scope leaving marking marking' f g inner inner' rest out scope_is env_is leaving_is kept_is inner_is out_is =
+    let env_so : env ≡ left_to s.env (mark_of b.env) = env_is ∙ ap (λ (z : Mark). left_to s.env z) scope_is in
+    let out_so : out ≡ taken_in (from_here b.env marking') g inner' =
+    out_is ∙ ap (λ (z : Leaving). taken_in z g inner) (leaving_is ∙ ap (from_here b.env) kept_is)
+    ∙ ap (λ (z : Found). taken_in (from_here b.env marking') g z) inner_is in
+    ap (λ (z : Env). walk_from z (taken_in (from_here b.env marking') g inner')) (sym env_so)
+    ∙ ap (λ (z : Found). walk_from env z) (sym out_so)

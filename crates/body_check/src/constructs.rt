@@ -1,0 +1,196 @@
+ghost use Rattle.std.specs.Prelude.{◌≡◌, ◌↔◌, ◌||◌, ◌++◌, ◌∷◌, [], None, false, true, map, IsTrue, IfOk, OnOk};
+ghost use Rattle.syntax_tree.specs.Nd.{holds_nd, some_holds_nd};
+ghost use Rattle.syntax_tree.specs.Plain.{plain_stmt, plain_stmts};
+ghost use Rattle.syntax_tree.specs.Plain.{StmtForm as form};
+ghost use Rattle.body_check.specs.Checking.{slots_of, Checking, Forking, Iterating};
+ghost use Rattle.body_check.specs.Deciding.{interference, marks_after, AssignsOuter};
+ghost use Rattle.body_check.specs.Keeping.{inside, Keeps, AllKeep, BranchesKeep};
+ghost use Rattle.body_check.specs.Noting.{fault_of};
+ghost use Rattle.body_check.specs.Walks.{home_of, passes, refused, walk_of};
+ghost use Rattle.body_exprs.specs.Answer.{Says};
+ghost use Rattle.body_exprs.specs.Typed.{plain_node as typed_expr};
+ghost use Rattle.lang_typed.specs.Plain.{plain_stmt as typed_stmt};
+
+use crate::body::Body;
+use crate::gathered::{all_effects, entered, take_in};
+use crate::leaving::{Leaving, Marks};
+use crate::made;
+use crate::meet::{branches_pass, iterations_interfere};
+use crate::node::{Around, Node};
+use crate::statements::{Checked, block, scoped};
+use body_exprs::Found;
+use body_locals::{has_clash, touched};
+use lang_base::{Items, Kind, NoMemory, Stop};
+use lang_typed::{Branch, Expr, Slot};
+use std::alloc::Global;
+use syntax_tree::{Named, Stmt};
+
+/// The fault of a construct whose branches interfere.
+fn interference(nd: bool) -> Kind
+    ensures { result ≡ interference nd }
+{
+    if nd {
+        Kind::InterferesNd
+    } else {
+        Kind::Interferes
+    }
+}
+
+/// After an nd construct marks are kept, and after any other they are dropped.
+fn marks_after(nd: bool) -> Marks
+    ensures { result ≡ marks_after nd }
+{
+    if nd { Marks::Kept } else { Marks::Dropped }
+}
+
+/// `cobegin { .. }`
+#[cycle(statements)]
+pub fn cobegin(
+    body: &mut Body,
+    around: Around,
+    node: Node,
+    nd: bool,
+    branches: &[Stmt],
+    out: &mut Found,
+) -> Result<Checked, Stop>
+    ensures completes { IfOk result (λ done. done.completes ≡ true) }
+    ensures clean { OnOk result (fault_of node ≡ None) }
+    ensures keeps { OnOk result (BranchesKeep (inside around) (plain_stmts (map plain_stmt branches.now))) }
+    ensures nd { OnOk result (IsTrue (out.old.reaches_nd || (nd || some_holds_nd (plain_stmts (map plain_stmt branches.now)))) → IsTrue out.new.reaches_nd) }
+    ensures home { OnOk result (home_of body.new ≡ home_of body.old) }
+    ensures checks { Says result (λ made. passes (typed_stmt made.stmt) (walk_of body.new out.new)) refused (Forking body.old.atomic_params around node nd (plain_stmts (map plain_stmt branches.now)) (walk_of body.old out.old)) }
+{
+    let place = node.place;
+    let mut node = node;
+    let mut effects = Items::new(body.alloc);
+    let mut locals = Items::new(body.alloc);
+    let mut made = Items::new(body.alloc);
+    for branch in branches {
+        let leaving = Leaving::from_here(&body.env, marks_after(nd));
+        let mut inner = Found::new(body.alloc);
+        let names = touched(body.alloc, branch)?;
+        let copies = slots_of(body, names.writes.as_slice())?;
+        let done = scoped(body, around.inside(), branch, &mut inner)?;
+        let checked = done.stmt.into_inner();
+        made.push(Branch {
+            copies,
+            body: checked,
+        })?;
+        locals.push(names)?;
+        effects.push(all_effects(body.alloc, &inner)?)?;
+        take_in(out, inner, leaving)?;
+    }
+    out.reaches_nd = out.reaches_nd || nd;
+    node.note_if(Kind::Assign, has_clash(body.alloc, locals.as_slice())?);
+    node.settle()?;
+    let passes = branches_pass(body, nd, effects.as_slice())?;
+    node.note_if(interference(nd), !passes);
+    node.settle()?;
+    Ok(Checked {
+        completes: true,
+        stmt: made::forked(place, nd, made),
+    })
+}
+
+/// The slots of the locals in scope with these names.
+fn slots_of(body: &Body, names: &[u32]) -> Result<Items<Slot>, NoMemory>
+    ensures { IfOk result (λ slots. map (λ slot. slot.number) slots ≡ slots_of body.now.env names.now) }
+{
+    let mut slots = Items::new(body.alloc);
+    for name in names {
+        add_slot(body, *name, &mut slots)?;
+    }
+    Ok(slots)
+}
+
+/// Adds the slot of the local of that name, where one is in scope.
+fn add_slot(body: &Body, name: u32, slots: &mut Items<Slot>) -> Result<(), NoMemory>
+    ensures { OnOk result (map (λ slot. slot.number) slots.new ≡ map (λ slot. slot.number) slots.old ++ slots_of body.now.env (name ∷ [])) }
+{
+    match body.env.local(name) {
+        Some(row) => slots.push(Slot { number: row.slot }),
+        None => Ok(()),
+    }
+}
+
+/// `foreach (int var in ..) iteration`, after the start and the count.
+#[cycle(statements)]
+pub fn foreach(
+    body: &mut Body,
+    around: Around,
+    node: Node,
+    nd: bool,
+    var: Named,
+    range: (Expr, Expr),
+    iteration: &Stmt,
+    out: &mut Found,
+) -> Result<Checked, Stop>
+    ensures completes { IfOk result (λ done. done.completes ≡ true) }
+    ensures clean { OnOk result (fault_of node ≡ None) }
+    ensures keeps { OnOk result (Keeps (inside around) (plain_stmt iteration.now)) }
+    ensures locals { OnOk result (¬ AssignsOuter (plain_stmt iteration.now)) }
+    ensures nd { OnOk result (IsTrue (out.old.reaches_nd || (nd || holds_nd (plain_stmt iteration.now))) → IsTrue out.new.reaches_nd) }
+    ensures home { OnOk result (home_of body.new ≡ home_of body.old) }
+    ensures checks { Says result (λ made. passes (typed_stmt made.stmt) (walk_of body.new out.new)) refused (Iterating body.old.atomic_params around node nd var (typed_expr range.0) (typed_expr range.1) (plain_stmt iteration.now) (walk_of body.old out.old)) }
+{
+    let place = node.place;
+    let mut node = node;
+    body.note_declaration(var.name, var.place, &mut node);
+    let slot = body.env.slots();
+    let leaving = Leaving::from_here(&body.env, marks_after(nd));
+    let mut inner = Found::new(body.alloc);
+    let scope = body.env.mark();
+    body.declare_variable(var)?;
+    let done = scoped(body, around.inside(), iteration, &mut inner)?;
+    body.env.leave(scope);
+    inner.reaches_nd = inner.reaches_nd || nd;
+    node.note_if(Kind::Assign, assigns_outer(body.alloc, iteration)?);
+    node.settle()?;
+    let clash = iterations_interfere(body, nd, &inner, slot)?;
+    node.note_if(interference(nd), clash);
+    node.settle()?;
+    take_in(out, inner, leaving)?;
+    Ok(Checked {
+        completes: true,
+        stmt: made::iterated(place, nd, slot, range, done.stmt),
+    })
+}
+
+/// Whether a statement assigns a local that is declared outside of it.
+pub fn assigns_outer(alloc: Global, stmt: &Stmt) -> Result<bool, NoMemory>
+    ensures { IfOk result (λ assigns. IsTrue assigns ↔ AssignsOuter (plain_stmt stmt.now)) }
+{
+    Ok(!touched(alloc, stmt)?.writes.is_empty())
+}
+
+/// `atomic { .. }`
+#[cycle(statements)]
+pub fn atomic(
+    body: &mut Body,
+    around: Around,
+    node: Node,
+    stmts: &[Stmt],
+    out: &mut Found,
+) -> Result<Checked, Stop>
+    ensures completes { IfOk result (λ done. done.completes ≡ true) }
+    ensures clean { OnOk result (fault_of node ≡ None) }
+    ensures keeps { OnOk result (AllKeep (inside around) (plain_stmts (map plain_stmt stmts.now))) }
+    ensures quiet { OnOk result (some_holds_nd (plain_stmts (map plain_stmt stmts.now)) ≡ false) }
+    ensures nd { OnOk result (IsTrue (out.old.reaches_nd || some_holds_nd (plain_stmts (map plain_stmt stmts.now))) → IsTrue out.new.reaches_nd) }
+    ensures home { OnOk result (home_of body.new ≡ home_of body.old) }
+    ensures checks { Says result (λ made. passes (typed_stmt made.stmt) (walk_of body.new out.new)) refused (Checking body.old.atomic_params around node (form.atomic (plain_stmts (map plain_stmt stmts.now))) (walk_of body.old out.old)) }
+{
+    let place = node.place;
+    let mut node = node;
+    let leaving = Leaving::from_here(&body.env, Marks::Set);
+    let mut inner = Found::new(body.alloc);
+    let done = block(body, around.inside(), stmts, &mut inner)?;
+    node.note_if(Kind::AtomicBody, inner.reaches_nd);
+    node.settle()?;
+    let effects = entered(body.alloc, &inner)?;
+    take_in(out, inner, leaving)?;
+    Ok(Checked {
+        completes: true,
+        stmt: made::entered(place, effects, done.stmts),
+    })
+}

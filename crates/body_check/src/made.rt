@@ -1,0 +1,223 @@
+//! Statements of the typed program, each with its plain form in its clause.
+ghost use Rattle.std.specs.Prelude.{◌≡◌, map, option_map};
+ghost use Rattle.lang_base.specs.Types.{plain_type};
+ghost use Rattle.lang_typed.specs.Plain.{statement, stmts_of, branches_of, choice_form, plain_source};
+ghost use Rattle.lang_typed.specs.Plain.{StmtForm as form};
+ghost use Rattle.body_exprs.specs.Typed.{plain_node as typed_expr};
+ghost use Rattle.lang_typed.specs.Plain.{plain_stmt as typed_stmt};
+ghost use Rattle.body_check.specs.Checking.{plain_branch, forking_of};
+ghost use Rattle.body_check.specs.Simple.{printed_form, stored};
+ghost use Rattle.body_exprs.specs.Targeting.{plain_spot};
+ghost use Rattle.body_exprs.specs.Typed.{is_boolean};
+
+use body_exprs::Spot;
+use lang_base::{Boxed, Bytes, Effect, Items, Place, Ty};
+use lang_typed::{Branch, Expr, Forking, LocalRegion, PartSource, Slot, Stmt, StmtForm};
+
+/// A declaration of a local in a slot.
+#[tactic(auto, using(crate::proofs::Making::made_Declare))]
+pub fn declaration(place: Place, slot: u32, ty: Ty, is_final: bool, value: Expr) -> Stmt
+    ensures { typed_stmt result ≡ statement place (form.declare slot (plain_type ty) is_final (typed_expr value)) }
+{
+    let form = StmtForm::Declare {
+        slot: Slot { number: slot },
+        ty,
+        is_final,
+        value,
+    };
+    Stmt { place, form }
+}
+
+/// An assignment to the local in a slot.
+#[tactic(auto, using(crate::proofs::Making::made_Store))]
+pub fn store(place: Place, slot: u32, value: Expr) -> Stmt
+    ensures { typed_stmt result ≡ statement place (form.store slot (typed_expr value)) }
+{
+    let form = StmtForm::Store {
+        slot: Slot { number: slot },
+        value,
+    };
+    Stmt { place, form }
+}
+
+/// A call or a creation.
+#[tactic(auto, using(crate::proofs::Making::made_Perform))]
+pub fn performed(place: Place, value: Expr) -> Stmt
+    ensures { typed_stmt result ≡ statement place (form.perform (typed_expr value)) }
+{
+    let form = StmtForm::Perform(value);
+    Stmt { place, form }
+}
+
+/// A block.
+#[tactic(auto, using(crate::proofs::Making::made_Block))]
+pub fn blocked(place: Place, stmts: Items<Stmt>) -> Stmt
+    ensures { typed_stmt result ≡ statement place (form.block (stmts_of (map typed_stmt stmts))) }
+{
+    let form = StmtForm::Block(stmts);
+    Stmt { place, form }
+}
+
+/// `return;`
+#[tactic(auto, using(crate::proofs::Making::made_Return_nothing))]
+pub fn leaving(place: Place) -> Stmt
+    ensures { typed_stmt result ≡ statement place (form.return_nothing) }
+{
+    let form = StmtForm::Return(None);
+    Stmt { place, form }
+}
+
+/// `return value;`
+#[tactic(auto, using(crate::proofs::Making::made_Return_value))]
+pub fn leaving_with(place: Place, value: Expr) -> Stmt
+    ensures { typed_stmt result ≡ statement place (form.return_value (typed_expr value)) }
+{
+    let form = StmtForm::Return(Some(value));
+    Stmt { place, form }
+}
+
+/// `print` of a text.
+#[tactic(auto, using(crate::proofs::Making::made_PrintText))]
+pub fn text(place: Place, text: Bytes) -> Stmt
+    ensures { typed_stmt result ≡ statement place (form.print_text text) }
+{
+    let form = StmtForm::PrintText(text);
+    Stmt { place, form }
+}
+
+/// An atomic block, with the effects with which it is entered.
+#[tactic(auto, using(crate::proofs::Making::made_Atomic))]
+pub fn entered(place: Place, effects: Items<Effect>, body: Items<Stmt>) -> Stmt
+    ensures { typed_stmt result ≡ statement place (form.atomic effects (stmts_of (map typed_stmt body))) }
+{
+    let form = StmtForm::Atomic { effects, body };
+    Stmt { place, form }
+}
+
+/// `if (test) then`, with an `else` where there is one.
+#[tactic(auto, using(crate::proofs::Making::made_If))]
+pub fn choice(place: Place, test: Expr, then: Boxed<Stmt>, other: Option<Boxed<Stmt>>) -> Stmt
+    ensures { typed_stmt result ≡ statement place (choice_form (typed_expr test) (typed_stmt then) (option_map typed_stmt other)) }
+{
+    let form = StmtForm::If { test, then, other };
+    Stmt { place, form }
+}
+
+/// `while (test) body`
+#[tactic(auto, using(crate::proofs::Making::made_While))]
+pub fn repeated(place: Place, test: Expr, body: Boxed<Stmt>) -> Stmt
+    ensures { typed_stmt result ≡ statement place (form.while_loop (typed_expr test) (typed_stmt body)) }
+{
+    let form = StmtForm::While { test, body };
+    Stmt { place, form }
+}
+
+/// `print` of an int or a boolean.
+#[tactic(auto, using(crate::proofs::Making::printed_boolean, crate::proofs::Making::printed_int))]
+pub fn printed(place: Place, value: Expr) -> Stmt
+    ensures { typed_stmt result ≡ statement place (printed_form (typed_expr value)) }
+{
+    let form = if is_boolean(&value.ty) {
+        StmtForm::PrintBool(value)
+    } else {
+        StmtForm::PrintInt(value)
+    };
+    Stmt { place, form }
+}
+
+fn is_boolean(ty: &Ty) -> bool
+    ensures { result ≡ is_boolean (plain_type ty.now) }
+{
+    matches!(ty, Ty::Bool)
+}
+
+/// An assignment to a field, to an element, or to an element of a part.
+#[tactic(auto, using(crate::proofs::Making::stored_field, crate::proofs::Making::stored_element, crate::proofs::Making::stored_part))]
+pub fn stored(place: Place, spot: Spot, value: Expr) -> Stmt
+    ensures { typed_stmt result ≡ statement place (stored (plain_spot spot) (typed_expr value)) }
+{
+    match spot {
+        Spot::Field { of, class, field } => Stmt {
+            place,
+            form: StmtForm::StoreField {
+                of,
+                class,
+                field,
+                value,
+            },
+        },
+        Spot::Element { array, index } => Stmt {
+            place,
+            form: StmtForm::StoreElement {
+                array,
+                index,
+                value,
+            },
+        },
+        Spot::Part { part, index } => Stmt {
+            place,
+            form: StmtForm::StorePart { part, index, value },
+        },
+    }
+}
+
+/// A `cobegin`.
+#[tactic(auto, using(crate::proofs::Making::made_Cobegin))]
+pub fn forked(place: Place, nd: bool, branches: Items<Branch>) -> Stmt
+    ensures { typed_stmt result ≡ statement place (form.cobegin (forking_of nd) (branches_of (map plain_branch branches))) }
+{
+    let form = StmtForm::Cobegin {
+        forking: forking(nd),
+        branches,
+    };
+    Stmt { place, form }
+}
+
+fn forking(nd: bool) -> Forking
+    ensures { result ≡ forking_of nd }
+{
+    if nd {
+        Forking::Nondeterministic
+    } else {
+        Forking::Deterministic
+    }
+}
+
+/// A `foreach`, whose variable has the slot.
+#[tactic(auto, using(crate::proofs::Making::made_Foreach))]
+pub fn iterated(place: Place, nd: bool, slot: u32, range: (Expr, Expr), body: Boxed<Stmt>) -> Stmt
+    ensures { typed_stmt result ≡ statement place (form.foreach (forking_of nd) slot (typed_expr range.0) (typed_expr range.1) (typed_stmt body)) }
+{
+    let (start, count) = range;
+    let form = StmtForm::Foreach {
+        forking: forking(nd),
+        slot: Slot { number: slot },
+        start,
+        count,
+        body,
+    };
+    Stmt { place, form }
+}
+
+/// A `foreach_parts`, whose part has the slot.
+#[tactic(auto, using(crate::proofs::Making::made_ForeachParts))]
+pub fn parted(place: Place, part: u32, source: PartSource, count: Expr, body: Boxed<Stmt>) -> Stmt
+    ensures { typed_stmt result ≡ statement place (form.foreach_parts part (plain_source source) (typed_expr count) (typed_stmt body)) }
+{
+    let form = StmtForm::ForeachParts {
+        part: Slot { number: part },
+        source,
+        count,
+        body,
+    };
+    Stmt { place, form }
+}
+
+/// `region ..;`
+#[tactic(auto, using(crate::proofs::Making::made_Regions))]
+pub fn regions(place: Place, regions: Items<LocalRegion>) -> Stmt
+    ensures { typed_stmt result ≡ statement place (form.local_regions (map (λ region. region.number) regions)) }
+{
+    let form = StmtForm::Regions(regions);
+    Stmt { place, form }
+}

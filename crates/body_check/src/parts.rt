@@ -1,0 +1,191 @@
+ghost use Rattle.std.specs.Prelude.{◌≡◌, ◌||◌, None, Some, option_map, true, false, IsTrue, IfErr, IfOk, OnOk};
+ghost use Rattle.lang_base.specs.Refused.{IfRefused};
+ghost use Rattle.lang_base.specs.Types.{plain_type};
+ghost use Rattle.syntax_tree.specs.Nd.{holds_nd};
+ghost use Rattle.syntax_tree.specs.Plain.{plain_expr, plain_stmt};
+ghost use Rattle.body_exprs.specs.Answer.{Answer as answer};
+ghost use Rattle.body_exprs.specs.Env.{part_of};
+ghost use Rattle.body_exprs.specs.Typing.{Typing};
+ghost use Rattle.lang_typed.specs.Plain.{plain_source, of_array};
+ghost use Rattle.body_exprs.specs.Typed.{node_at, plain_typed};
+ghost use Rattle.body_exprs.specs.Typed.{plain_node as typed_expr};
+ghost use Rattle.body_check.specs.Checking.{cut_fault, cut_type, opened, not_opened, outer_part, Cutting, Opening, Parting};
+ghost use Rattle.body_check.specs.Deciding.{whole_fault, AssignsOuter};
+ghost use Rattle.body_check.specs.Keeping.{inside, Keeps};
+ghost use Rattle.body_check.specs.Noting.{fault_of};
+ghost use Rattle.body_check.specs.Simple.{has_room};
+ghost use Rattle.body_check.specs.Walks.{home_of, passes, refused, walk_of};
+ghost use Rattle.body_exprs.specs.Answer.{Says};
+ghost use Rattle.lang_typed.specs.Plain.{plain_stmt as typed_stmt};
+
+use crate::body::Body;
+use crate::constructs::assigns_outer;
+use crate::gathered::{hand_on_uses, take_in};
+use crate::leaving::{Leaving, Marks};
+use crate::made;
+use crate::meet::parts_pass;
+use crate::node::{Around, Node};
+use crate::statements::{Checked, scoped};
+use body_exprs::{Found, Typed};
+use lang_base::{Kind, NoMemory, Place, Plain, Stop, Ty};
+use lang_typed::{Expr as TypedExpr, PartSource, Slot};
+use region_paths::is_full;
+use std::alloc::Global;
+use syntax_tree::{Expr, Named, Stmt};
+
+/// What a `foreach_parts` cuts into parts.
+#[derive(Drop)]
+struct Whole {
+    ty: Ty,
+    source: PartSource,
+    fault: Option<Kind>,
+}
+
+/// `foreach_parts (view, int var in array, count) iteration`
+#[cycle(statements)]
+pub fn foreach_parts(
+    body: &mut Body,
+    around: Around,
+    node: Node,
+    view: &Named,
+    var: &Named,
+    array: &Expr,
+    count: &Expr,
+    iteration: &Stmt,
+    out: &mut Found,
+) -> Result<Checked, Stop>
+    ensures completes { IfOk result (λ done. done.completes ≡ true) }
+    ensures clean { OnOk result (fault_of node ≡ None) }
+    ensures keeps { OnOk result (Keeps (inside around) (plain_stmt iteration.now)) }
+    ensures locals { OnOk result (¬ AssignsOuter (plain_stmt iteration.now)) }
+    ensures nd { OnOk result (IsTrue (out.old.reaches_nd || holds_nd (plain_stmt iteration.now)) → IsTrue out.new.reaches_nd) }
+    ensures home { OnOk result (home_of body.new ≡ home_of body.old) }
+    ensures checks { Says result (λ made. passes (typed_stmt made.stmt) (walk_of body.new out.new)) refused (Parting body.old.atomic_params around node view.now var.now (plain_expr array.now) (plain_expr count.now) (plain_stmt iteration.now) (walk_of body.old out.old)) }
+{
+    let place = node.place;
+    let mut node = node;
+    let part = body.env.slots();
+    let leaving = Leaving::from_here(&body.env, Marks::Dropped);
+    let mut inner = Found::new(body.alloc);
+    let scope = body.env.mark();
+    let names = (*view, *var);
+    let range = (array, count);
+    let (source, count) = open(body, &mut node, names, range, out)?;
+    let done = scoped(body, around.inside(), iteration, &mut inner)?;
+    body.env.leave(scope);
+    node.note_if(Kind::Assign, assigns_outer(body.alloc, iteration)?);
+    node.settle()?;
+    // The part has four slots, and the variable the one after them.
+    let passes = parts_pass(body, &inner, part, part + 4)?;
+    node.note_if(Kind::Interferes, !passes);
+    node.settle()?;
+    let inner = hand_on_uses(body.alloc, inner, part, outer_part(&source))?;
+    take_in(out, inner, leaving)?;
+    Ok(Checked {
+        completes: true,
+        stmt: made::parted(place, part, source, count, done.stmt),
+    })
+}
+
+/// Reads the array and the count, and puts the part and the variable in scope. Gives what is cut, and
+/// the count.
+fn open(
+    body: &mut Body,
+    node: &mut Node,
+    names: (Named, Named),
+    range: (&Expr, &Expr),
+    out: &mut Found,
+) -> Result<(PartSource, TypedExpr), Stop>
+    ensures clean { OnOk result (fault_of node.new ≡ None → fault_of node.old ≡ None) }
+    ensures room { OnOk result (fault_of node.new ≡ None → has_room body.old.env ≡ true) }
+    ensures nd { OnOk result (IsTrue out.old.reaches_nd → IsTrue out.new.reaches_nd) }
+    ensures home { OnOk result (home_of body.new ≡ home_of body.old) }
+    ensures opening { Says result (λ range. opened (plain_source range.0) (typed_expr range.1) node.new (walk_of body.new out.new)) not_opened (Opening node.old names.0 names.1 (plain_expr range.entry.0.now) (plain_expr range.entry.1.now) (walk_of body.old out.old)) }
+{
+    let (view, var) = names;
+    let (array, count) = range;
+    let whole = whole_of(body, array, out)?;
+    node.note_found(whole.fault);
+    let given = body.int(count, out, node)?;
+    let Whole { ty, source, .. } = whole;
+    body.note_declaration(view.name, view.place, node);
+    body.declare_part(view.name, ty)?;
+    body.note_declaration(var.name, var.place, node);
+    body.declare_variable(var)?;
+    Ok((source, given.into_node(count.place)))
+}
+
+/// The slot of the part that is cut, where it is one.
+fn outer_part(source: &PartSource) -> Option<u32>
+    ensures { result ≡ outer_part (plain_source source.now) }
+{
+    match source {
+        PartSource::Part(slot) => Some(slot.number),
+        PartSource::Array(_) => None,
+    }
+}
+
+/// What the array of a `foreach_parts` is. A part in its place is no use of that part.
+fn whole_of(body: &Body, array: &Expr, out: &mut Found) -> Result<Whole, Stop>
+    ensures nd { OnOk result (IsTrue out.old.reaches_nd → IsTrue out.new.reaches_nd) }
+    ensures ok { IfOk result (λ whole. Cutting body.now.env (plain_expr array.now) out.old (plain_type whole.ty) (plain_source whole.source) whole.fault out.new) }
+    ensures unnamed { IfErr result (λ stop. IfRefused stop (λ refusal. part_of body.now.env (plain_expr array.now) ≡ None)) }
+    ensures fault { IfErr result (λ stop. IfRefused stop (λ refusal. Typing body.now.env (plain_expr array.now) out.old (answer.refused refusal))) }
+{
+    if let Some(whole) = part_of_part(body, array)? {
+        return Ok(whole);
+    }
+    let given = body.typed(array, out)?;
+    Ok(array_whole(body.alloc, array.place, given)?)
+}
+
+/// What the array expression at a place is, which gives this.
+fn array_whole(alloc: Global, place: Place, given: Typed) -> Result<Whole, NoMemory>
+    ensures ty { IfOk result (λ whole. plain_type whole.ty ≡ cut_type (plain_typed given)) }
+    ensures source { IfOk result (λ whole. plain_source whole.source ≡ of_array (node_at place (plain_typed given))) }
+    ensures fault { IfOk result (λ whole. whole.fault ≡ cut_fault (plain_typed given)) }
+{
+    match given {
+        Typed::Known(made) => {
+            let ty = made.ty.copy(alloc)?;
+            let fault = whole_fault(&made.ty);
+            let source = PartSource::Array(made);
+            Ok(Whole { ty, source, fault })
+        }
+        // It comes from a part of what is no array, and is none itself. That is reported at the outer construct.
+        Typed::Any => Ok(Whole {
+            ty: Ty::Void,
+            source: PartSource::Array(Typed::Any.into_node(place)),
+            fault: None,
+        }),
+    }
+}
+
+/// What is wrong with what is cut into parts.
+fn whole_fault(ty: &Ty) -> Option<Kind>
+    ensures { result ≡ whole_fault (plain_type ty.now) }
+{
+    match ty {
+        Ty::Array {
+            rpl,
+            named: false,
+            ..
+        } if is_full(rpl) => None,
+        Ty::Array { named: false, .. } => Some(Kind::RegionArgs),
+        _ => Some(Kind::Type),
+    }
+}
+
+/// The part that the array expression names, where it names one.
+fn part_of_part(body: &Body, array: &Expr) -> Result<Option<Whole>, NoMemory>
+    ensures { IfOk result (λ found. found ≡ option_map (λ row. record { ty = row.ty; source = PartSource.Part (record { number = row.slot }); fault = None }) (part_of body.now.env (plain_expr array.now))) }
+{
+    let Some(row) = body.env.part(array) else {
+        return Ok(None);
+    };
+    Ok(Some(Whole {
+        ty: row.ty.copy(body.alloc)?,
+        source: PartSource::Part(Slot { number: row.slot }),
+        fault: None,
+    }))
+}

@@ -1,0 +1,336 @@
+ghost use Rattle.std.specs.Prelude.{◌≡◌, ◌||◌, None, Some, false, true, not, IsTrue, IfErr, IfOk, OnOk};
+ghost use Rattle.lang_base.specs.Refused.{IfRefused};
+ghost use Rattle.lang_base.specs.Types.{plain_type};
+ghost use Rattle.body_exprs.specs.declared.found.Found.{Found};
+ghost use Rattle.syntax_tree.specs.Plain.{plain_expr};
+ghost use Rattle.body_check.specs.Deciding.{is_misplaced, local_fault};
+ghost use Rattle.body_check.specs.Noting.{fault_of, with_fault_if};
+ghost use Rattle.body_check.specs.Simple.{declared_type, declared_reported, is_region_name, may_print, region_noted, regions_declared, target_fault, AssigningLocal, AssigningPlace, Declaring, Performing, Printing, Putting, Returning};
+ghost use Rattle.body_check.specs.Walks.{home_of, judged, passes, refused, walk_of, Walk};
+ghost use Rattle.body_exprs.specs.Answer.{Says};
+ghost use Rattle.lang_typed.specs.Plain as typed;
+ghost use Rattle.body_exprs.specs.Targeting.{plain_target};
+ghost use Rattle.body_exprs.specs.Typed.{is_value, may_be, node_at, plain_typed, value_type};
+ghost use Rattle.lang_typed.specs.Plain.{plain_stmt as typed_stmt};
+
+use crate::body::Body;
+use crate::made;
+use crate::node::{Around, Node};
+use crate::statements::Checked;
+use body_exprs::{Found, Target, Typed, read_target};
+use decl_headers::Faults;
+use decl_resolve::ty;
+use lang_base::{Bytes, Items, Kind, Place, Plain, Stop, Ty};
+use lang_typed::LocalRegion;
+use syntax_tree::{Expr, Named, TypeTree};
+
+/// `ty name = value;`
+pub fn declare(
+    body: &mut Body,
+    node: Node,
+    is_final: bool,
+    tree: &TypeTree,
+    name: u32,
+    value: &Expr,
+    out: &mut Found,
+) -> Result<Checked, Stop>
+    ensures completes { IfOk result (λ done. done.completes ≡ true) }
+    ensures clean { OnOk result (fault_of node ≡ None) }
+    ensures nd { OnOk result (IsTrue out.old.reaches_nd → IsTrue out.new.reaches_nd) }
+    ensures home { OnOk result (home_of body.new ≡ home_of body.old) }
+    ensures checks { Says result (λ made. passes (typed_stmt made.stmt) (walk_of body.new out.new)) refused (Declaring node is_final tree.now name (plain_expr value.now) (walk_of body.old out.old)) }
+{
+    let place = node.place;
+    let mut node = node;
+    let declared = declared_type(body, tree)?;
+    let given = body.typed(value, out)?;
+    body.note_declaration(name, place, &mut node);
+    let fits = body.fits(&given, &declared)?;
+    node.note_if(Kind::Type, !fits);
+    node.settle()?;
+    let slot = body.env.slots();
+    let ty = declared.copy(body.alloc)?;
+    body.declare(name, ty, is_final)?;
+    let value = given.into_node(value.place);
+    Ok(Checked {
+        completes: true,
+        stmt: made::declaration(place, slot, declared, is_final, value),
+    })
+}
+
+/// The type that a declaration names. In a body a type with a fault is refused at once.
+fn declared_type(body: &Body, tree: &TypeTree) -> Result<Ty, Stop>
+    ensures ty { IfOk result (λ ty. plain_type ty ≡ declared_type body.now.env tree.now) }
+    ensures unreported { OnOk result (declared_reported body.now.env tree.now ≡ None) }
+    ensures reported { IfErr result (λ stop. IfRefused stop (λ refusal. declared_reported body.now.env tree.now ≡ Some refusal)) }
+{
+    let mut faults = Faults::by_number();
+    match ty(body.alloc, &body.env.scope(), &mut faults, tree)? {
+        Some(ty) => Ok(ty),
+        None => Ok(Ty::Void),
+    }
+}
+
+/// `target = value;` for a local.
+pub fn assign_local(
+    body: &Body,
+    node: Node,
+    target: Named,
+    value: &Expr,
+    out: &mut Found,
+) -> Result<Checked, Stop>
+    ensures completes { IfOk result (λ done. done.completes ≡ true) }
+    ensures clean { OnOk result (fault_of node ≡ None) }
+    ensures nd { OnOk result (IsTrue out.old.reaches_nd → IsTrue out.new.reaches_nd) }
+    ensures checks { Says result (λ made. passes (typed_stmt made.stmt) (walk_of body.now out.new)) refused (AssigningLocal node target (plain_expr value.now) (walk_of body.now out.old)) }
+{
+    let mut node = node;
+    let given = body.typed(value, out)?;
+    let Some(row) = body.env.local(target.name) else {
+        return Err(node.refused_at(Kind::Unknown, target.place));
+    };
+    node.note_found(local_fault(body.fits(&given, &row.ty)?, row.is_final));
+    node.settle()?;
+    Ok(Checked {
+        completes: true,
+        stmt: made::store(target.place, row.slot, given.into_node(value.place)),
+    })
+}
+
+/// The fault of an assignment to a local: the value doesn't fit, or the local is final.
+fn local_fault(fit: bool, is_final: bool) -> Option<Kind>
+    ensures { result ≡ local_fault fit is_final }
+{
+    if !fit {
+        return Some(Kind::Type);
+    }
+    if is_final { Some(Kind::Assign) } else { None }
+}
+
+/// `written = value;` for a field or an element.
+pub fn assign_place(
+    body: &Body,
+    node: Node,
+    written: &Expr,
+    value: &Expr,
+    out: &mut Found,
+) -> Result<Checked, Stop>
+    ensures completes { IfOk result (λ done. done.completes ≡ true) }
+    ensures clean { OnOk result (fault_of node ≡ None) }
+    ensures nd { OnOk result (IsTrue out.old.reaches_nd → IsTrue out.new.reaches_nd) }
+    ensures checks { Says result (λ made. passes (typed_stmt made.stmt) (walk_of body.now out.new)) refused (AssigningPlace node (plain_expr written.now) (plain_expr value.now) (walk_of body.now out.old)) }
+{
+    let target = read_target(body.alloc, &body.env, out, written)?;
+    let given = body.typed(value, out)?;
+    match target {
+        Some(target) => assign_target(body, node, written.place, target, given, value.place, out),
+        None => assign_anything(node, written.place, given, value.place),
+    }
+}
+
+/// An assignment of a value to a target that was read.
+fn assign_target(
+    body: &Body,
+    node: Node,
+    place: Place,
+    target: Target,
+    given: Typed,
+    value: Place,
+    out: &mut Found,
+) -> Result<Checked, Stop>
+    ensures completes { IfOk result (λ done. done.completes ≡ true) }
+    ensures clean { OnOk result (fault_of node ≡ None) }
+    ensures nd { OnOk result (IsTrue out.old.reaches_nd → IsTrue out.new.reaches_nd) }
+    ensures checks { Says result (λ made. passes (typed_stmt made.stmt) (walk_of body.now out.new)) refused (Putting node place (plain_target target) (plain_typed given) (node_at value (plain_typed given)) (walk_of body.now out.old)) }
+{
+    let mut node = node;
+    let fits = body.fits(&given, &target.ty)?;
+    node.note_found(target_fault(fits, target.may_write));
+    node.settle()?;
+    let spot = target.write(out)?;
+    Ok(Checked {
+        completes: true,
+        stmt: made::stored(place, spot, given.into_node(value)),
+    })
+}
+
+/// An assignment to what comes from a part of what is no array, where every value fits.
+fn assign_anything(node: Node, place: Place, given: Typed, value: Place) -> Result<Checked, Stop>
+    ensures completes { IfOk result (λ done. done.completes ≡ true) }
+    ensures clean { OnOk result (fault_of node ≡ None) }
+    ensures checks { (w : Walk) → Says result (λ made. passes (typed_stmt made.stmt) w) refused (λ v. judged (fault_of (with_fault_if node Kind.Type (not (may_be is_value (value_type given))))) (typed.statement place (typed.perform (node_at value (plain_typed given)))) w ≡ v) }
+{
+    let mut node = node;
+    node.note_if(Kind::Type, !given.is_value());
+    node.settle()?;
+    Ok(Checked {
+        completes: true,
+        stmt: made::performed(place, given.into_node(value)),
+    })
+}
+
+/// The fault of an assignment to a field or an element: the value doesn't fit, or the target may not be written.
+fn target_fault(fit: bool, may_write: bool) -> Option<Kind>
+    ensures { result ≡ target_fault fit may_write }
+{
+    if !fit {
+        return Some(Kind::Type);
+    }
+    if may_write {
+        None
+    } else {
+        Some(Kind::PartialWrite)
+    }
+}
+
+/// A call or a creation as a statement.
+pub fn perform(body: &Body, node: Node, e: &Expr, out: &mut Found) -> Result<Checked, Stop>
+    ensures completes { IfOk result (λ done. done.completes ≡ true) }
+    ensures clean { OnOk result (fault_of node ≡ None) }
+    ensures nd { OnOk result (IsTrue out.old.reaches_nd → IsTrue out.new.reaches_nd) }
+    ensures checks { Says result (λ made. passes (typed_stmt made.stmt) (walk_of body.now out.new)) refused (Performing node (plain_expr e.now) (walk_of body.now out.old)) }
+{
+    let place = node.place;
+    let mut node = node;
+    let given = body.typed(e, out)?;
+    node.settle()?;
+    Ok(Checked {
+        completes: true,
+        stmt: made::performed(place, given.into_node(e.place)),
+    })
+}
+
+/// `return;`
+pub fn leave(body: &Body, around: Around, node: Node) -> Result<Checked, Stop>
+    ensures completes { IfOk result (λ done. done.completes ≡ false) }
+    ensures placed { OnOk result (is_misplaced around false ≡ false) }
+    ensures clean { OnOk result (fault_of node ≡ None) }
+    ensures checks { (found : Found) → Says result (λ made. passes (typed_stmt made.stmt) (walk_of body.now found)) refused (λ v. judged (fault_of (with_fault_if node Kind.Return (is_misplaced around false))) (typed.statement node.place typed.return_nothing) (walk_of body.now found) ≡ v) }
+{
+    let place = node.place;
+    let mut node = node;
+    node.note_if(Kind::Return, is_misplaced(around, false));
+    node.settle()?;
+    Ok(Checked {
+        completes: false,
+        stmt: made::leaving(place),
+    })
+}
+
+/// `return value;`
+pub fn leave_with(
+    body: &Body,
+    around: Around,
+    node: Node,
+    value: &Expr,
+    out: &mut Found,
+) -> Result<Checked, Stop>
+    ensures completes { IfOk result (λ done. done.completes ≡ false) }
+    ensures placed { OnOk result (is_misplaced around true ≡ false) }
+    ensures clean { OnOk result (fault_of node ≡ None) }
+    ensures nd { OnOk result (IsTrue out.old.reaches_nd → IsTrue out.new.reaches_nd) }
+    ensures checks { Says result (λ made. passes (typed_stmt made.stmt) (walk_of body.now out.new)) refused (Returning around node (plain_expr value.now) (walk_of body.now out.old)) }
+{
+    let place = node.place;
+    let mut node = node;
+    node.note_if(Kind::Return, is_misplaced(around, true));
+    let given = body.typed(value, out)?;
+    let fits = body.is_returned(around, &given)?;
+    node.note_if(Kind::Type, !fits);
+    node.settle()?;
+    Ok(Checked {
+        completes: false,
+        stmt: made::leaving_with(place, given.into_node(value.place)),
+    })
+}
+
+/// A `return`, with or without a value, stands in a branch or an atomic block, or doesn't fit the method.
+fn is_misplaced(around: Around, valued: bool) -> bool
+    ensures { result ≡ is_misplaced around valued }
+{
+    around.enclosed || valued != around.has_result
+}
+
+/// `print(value);`
+pub fn print(body: &Body, node: Node, value: &Expr, out: &mut Found) -> Result<Checked, Stop>
+    ensures completes { IfOk result (λ done. done.completes ≡ true) }
+    ensures clean { OnOk result (fault_of node ≡ None) }
+    ensures nd { OnOk result (IsTrue out.old.reaches_nd → IsTrue out.new.reaches_nd) }
+    ensures checks { Says result (λ made. passes (typed_stmt made.stmt) (walk_of body.now out.new)) refused (Printing node (plain_expr value.now) (walk_of body.now out.old)) }
+{
+    let place = node.place;
+    let mut node = node;
+    let given = body.typed(value, out)?;
+    node.note_if(Kind::Type, !may_print(&given));
+    node.settle()?;
+    Ok(Checked {
+        completes: true,
+        stmt: made::printed(place, given.into_node(value.place)),
+    })
+}
+
+/// `print` of a text.
+pub fn print_text(body: &Body, node: Node, text: &Bytes) -> Result<Checked, Stop>
+    ensures completes { IfOk result (λ done. done.completes ≡ true) }
+    ensures clean { OnOk result (fault_of node ≡ None) }
+    ensures checks { (found : Found) → Says result (λ made. passes (typed_stmt made.stmt) (walk_of body.now found)) refused (λ v. judged (fault_of node) (typed.statement node.place (typed.print_text text.now)) (walk_of body.now found) ≡ v) }
+{
+    let place = node.place;
+    let mut node = node;
+    node.settle()?;
+    Ok(Checked {
+        completes: true,
+        stmt: made::text(place, text.copy(body.alloc)?),
+    })
+}
+
+/// An int or a boolean is printed, and no reference.
+fn may_print(value: &Typed) -> bool
+    ensures { result ≡ may_print (value_type value.now) }
+{
+    value.is_int() || value.is_boolean()
+}
+
+/// `region name, ..;`
+pub fn declare_regions(body: &mut Body, node: Node, names: &[Named]) -> Result<Checked, Stop>
+    ensures completes { IfOk result (λ done. done.completes ≡ true) }
+    ensures clean { OnOk result (fault_of node ≡ None) }
+    ensures home { OnOk result (home_of body.new ≡ home_of body.old) }
+    ensures checks { (found : Found) → Says result (λ made. passes (typed_stmt made.stmt) (walk_of body.new found)) refused (λ v. regions_declared node names.now (walk_of body.old found) ≡ v) }
+{
+    let place = node.place;
+    let mut node = node;
+    let mut regions = Items::new(body.alloc);
+    for named in names {
+        note_region(body, *named, &mut node);
+        regions.push(LocalRegion {
+            number: body.env.regions_declared(),
+        })?;
+        body.declare_region(named.name)?;
+    }
+    node.settle()?;
+    Ok(Checked {
+        completes: true,
+        stmt: made::regions(place, regions),
+    })
+}
+
+/// A local region whose name a region in scope has is a fault, and so is one for which there is no room.
+fn note_region(body: &Body, named: Named, node: &mut Node)
+    ensures node { node.new ≡ region_noted body.now.env named node.old }
+    ensures clean { fault_of node.new ≡ None → fault_of node.old ≡ None }
+{
+    if is_region(body, named.name) {
+        node.note_at(Kind::Duplicate, named.place);
+    }
+    body.note_room(named.place, node);
+}
+
+/// Whether a region parameter or a local region in scope, or a region of the class or a superclass has the name.
+fn is_region(body: &Body, name: u32) -> bool
+    ensures { result ≡ is_region_name body.now.env name }
+{
+    let env = &body.env;
+    let declared = env.table().headers().region(env.class, name);
+    env.has_param(name) || env.has_local_region(name) || declared.is_some()
+}

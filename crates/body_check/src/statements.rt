@@ -1,0 +1,336 @@
+ghost use Rattle.std.specs.Prelude.{◌≡◌, ◌||◌, Bool, List, None, false, true, is_some, map, option_map, IsTrue, IfOk, OnOk};
+ghost use Rattle.std.specs.Option.{option_copied, option_map_or};
+ghost use Rattle.syntax_tree.specs.Nd.{holds_nd, form_holds_nd, some_holds_nd};
+ghost use Rattle.syntax_tree.specs.Plain.{plain_expr, plain_stmt, plain_stmts, return_form};
+ghost use Rattle.syntax_tree.specs.Plain.{choice_form as if_form};
+ghost use Rattle.syntax_tree.specs.Plain.{StmtForm as form};
+ghost use Rattle.body_check.specs.Checking.{Checking, Choosing, InBlock, InOrder, InScope, Standing};
+ghost use Rattle.body_check.specs.Completes.{completes, form_completes, all_complete};
+ghost use Rattle.body_check.specs.Deciding.{is_misplaced, AssignsOuter};
+ghost use Rattle.body_check.specs.Keeping.{inside, Keeps, FormKeeps, AllKeep};
+ghost use Rattle.body_check.specs.Noting.{fault_of};
+ghost use Rattle.body_check.specs.Walks.{home_of, passes, refused, walk_of};
+ghost use Rattle.body_exprs.specs.Answer.{Says};
+ghost use Rattle.lang_typed.specs.Plain.{statement, choice_form};
+ghost use Rattle.body_exprs.specs.Typed.{plain_node as typed_expr};
+ghost use Rattle.lang_typed.specs.Plain.{plain_stmt as typed_stmt};
+
+use crate::body::Body;
+use crate::constructs::{atomic, cobegin, foreach};
+use crate::gathered::take_in;
+use crate::leaving::{Leaving, Marks};
+use crate::made;
+use crate::node::{Around, Node};
+use crate::parts::foreach_parts;
+use crate::simple::{
+    assign_local, assign_place, declare, declare_regions, leave, leave_with, perform, print,
+    print_text,
+};
+use body_exprs::Found;
+use lang_base::{Boxed, Items, Place, Stop};
+use lang_typed::{Expr as TypedExpr, Stmt as TypedStmt};
+use syntax_tree::{Expr, Named, Stmt, StmtKind};
+
+/// A statement that passed: whether it completes, and the typed one.
+#[derive(Drop)]
+pub struct Checked {
+    pub completes: bool,
+    pub stmt: TypedStmt,
+}
+
+/// A branch or a body that passed: whether it completes, and the typed one in a box, in which most constructs hold it.
+#[derive(Drop)]
+pub struct Part {
+    pub completes: bool,
+    pub stmt: Boxed<TypedStmt>,
+}
+
+/// The statements of a block that passed: whether they all complete, and the typed ones.
+#[derive(Drop)]
+pub struct CheckedBlock {
+    pub completes: bool,
+    pub stmts: Items<TypedStmt>,
+}
+
+/// Checks a statement, and says whether it completes. `follows` says that it stands after one that doesn't.
+///
+/// A function fills the room of all its arms at each call, so each form has a function of its own.
+#[cycle(statements)]
+pub fn statement(
+    body: &mut Body,
+    around: Around,
+    stmt: &Stmt,
+    follows: bool,
+    out: &mut Found,
+) -> Result<Checked, Stop>
+    ensures completes { IfOk result (λ done. done.completes ≡ completes (plain_stmt stmt.now)) }
+    ensures after { OnOk result (follows ≡ false) }
+    ensures keeps { OnOk result (Keeps around (plain_stmt stmt.now)) }
+    ensures nd { OnOk result (IsTrue (out.old.reaches_nd || holds_nd (plain_stmt stmt.now)) → IsTrue out.new.reaches_nd) }
+    ensures home { OnOk result (home_of body.new ≡ home_of body.old) }
+    ensures checks { Says result (λ made. passes (typed_stmt made.stmt) (walk_of body.new out.new)) refused (Standing body.old.atomic_params around follows (plain_stmt stmt.now) (walk_of body.old out.old)) }
+{
+    let node = Node::of(stmt, follows);
+    match &stmt.kind {
+        StmtKind::Block(all) => nested(body, around, node, all.as_slice(), out),
+        StmtKind::Declare {
+            is_final,
+            ty,
+            name,
+            value,
+        } => declare(body, node, *is_final, ty, *name, value, out),
+        StmtKind::AssignLocal { target, value } => assign_local(body, node, *target, value, out),
+        StmtKind::AssignField { target, value } => assign_place(body, node, target, value, out),
+        StmtKind::AssignElement { target, value } => assign_place(body, node, target, value, out),
+        StmtKind::Do(value) => perform(body, node, value, out),
+        StmtKind::If { test, then, other } => {
+            branching(body, around, node, test, then.get(), other.as_ref(), out)
+        }
+        StmtKind::While { test, body: turn } => repeat(body, around, node, test, turn.get(), out),
+        StmtKind::Return(value) => returning(body, around, node, value.as_ref(), out),
+        StmtKind::Print(value) => print(body, node, value, out),
+        StmtKind::PrintText(text) => print_text(body, node, text),
+        StmtKind::Cobegin { nd, branches } => {
+            cobegin(body, around, node, *nd, branches.as_slice(), out)
+        }
+        StmtKind::Foreach {
+            nd,
+            var,
+            start,
+            count,
+            body: turn,
+        } => iterating(body, around, node, *nd, *var, start, count, turn.get(), out),
+        StmtKind::ForeachParts {
+            view,
+            var,
+            array,
+            count,
+            body: turn,
+        } => foreach_parts(body, around, node, view, var, array, count, turn.get(), out),
+        StmtKind::Atomic(all) => atomic(body, around, node, all.as_slice(), out),
+        StmtKind::Region { names } => declare_regions(body, node, names.as_slice()),
+    }
+}
+
+/// A block.
+#[cycle(statements)]
+fn nested(
+    body: &mut Body,
+    around: Around,
+    node: Node,
+    all: &[Stmt],
+    out: &mut Found,
+) -> Result<Checked, Stop>
+    ensures completes { IfOk result (λ done. done.completes ≡ all_complete (plain_stmts (map plain_stmt all.now))) }
+    ensures clean { OnOk result (fault_of node ≡ None) }
+    ensures keeps { OnOk result (AllKeep around (plain_stmts (map plain_stmt all.now))) }
+    ensures nd { OnOk result (IsTrue (out.old.reaches_nd || some_holds_nd (plain_stmts (map plain_stmt all.now))) → IsTrue out.new.reaches_nd) }
+    ensures home { OnOk result (home_of body.new ≡ home_of body.old) }
+    ensures checks { Says result (λ made. passes (typed_stmt made.stmt) (walk_of body.new out.new)) refused (Checking body.old.atomic_params around node (form.block (plain_stmts (map plain_stmt all.now))) (walk_of body.old out.old)) }
+{
+    let place = node.place;
+    let mut node = node;
+    let done = block(body, around, all, out)?;
+    node.settle()?;
+    Ok(Checked {
+        completes: done.completes,
+        stmt: made::blocked(place, done.stmts),
+    })
+}
+
+/// `if (test) then`, with or without an `else`.
+#[cycle(statements)]
+fn branching(
+    body: &mut Body,
+    around: Around,
+    node: Node,
+    test: &Expr,
+    then: &Stmt,
+    other: Option<&Boxed<Stmt>>,
+    out: &mut Found,
+) -> Result<Checked, Stop>
+    ensures completes { IfOk result (λ done. done.completes ≡ form_completes (if_form (plain_expr test.now) (plain_stmt then.now) (option_map plain_stmt (option_copied other.entry)))) }
+    ensures clean { OnOk result (fault_of node ≡ None) }
+    ensures keeps { OnOk result (FormKeeps around (if_form (plain_expr test.now) (plain_stmt then.now) (option_map plain_stmt (option_copied other.entry)))) }
+    ensures nd { OnOk result (IsTrue (out.old.reaches_nd || form_holds_nd (if_form (plain_expr test.now) (plain_stmt then.now) (option_map plain_stmt (option_copied other.entry)))) → IsTrue out.new.reaches_nd) }
+    ensures home { OnOk result (home_of body.new ≡ home_of body.old) }
+    ensures checks { Says result (λ made. passes (typed_stmt made.stmt) (walk_of body.new out.new)) refused (Choosing body.old.atomic_params around node (plain_expr test.now) (plain_stmt then.now) (option_map plain_stmt (option_copied other.entry)) (walk_of body.old out.old)) }
+{
+    let place = node.place;
+    let mut node = node;
+    let given = body.boolean(test, out, &mut node)?;
+    let first = scoped(body, around, then, out)?;
+    let test = given.into_node(test.place);
+    match other {
+        Some(other) => {
+            let second = scoped(body, around, other.get(), out)?;
+            node.settle()?;
+            Ok(choose(place, test, first, Some(second)))
+        }
+        None => {
+            node.settle()?;
+            Ok(choose(place, test, first, None))
+        }
+    }
+}
+
+/// An `if` whose parts passed.
+fn choose(place: Place, test: TypedExpr, first: Part, second: Option<Part>) -> Checked
+    ensures completes { result.completes ≡ (first.completes || option_map_or (λ part. part.completes) second true) }
+    ensures stmt { typed_stmt result.stmt ≡ statement place (choice_form (typed_expr test) (typed_stmt first.stmt) (option_map (λ part. typed_stmt part.stmt) second)) }
+{
+    let (other_completes, other) = match second {
+        Some(part) => (part.completes, Some(part.stmt)),
+        None => (true, None),
+    };
+    Checked {
+        completes: first.completes || other_completes,
+        stmt: made::choice(place, test, first.stmt, other),
+    }
+}
+
+/// `while (test) turn`
+#[cycle(statements)]
+fn repeat(
+    body: &mut Body,
+    around: Around,
+    node: Node,
+    test: &Expr,
+    turn: &Stmt,
+    out: &mut Found,
+) -> Result<Checked, Stop>
+    ensures completes { IfOk result (λ done. done.completes ≡ true) }
+    ensures clean { OnOk result (fault_of node ≡ None) }
+    ensures keeps { OnOk result (Keeps around (plain_stmt turn.now)) }
+    ensures nd { OnOk result (IsTrue (out.old.reaches_nd || holds_nd (plain_stmt turn.now)) → IsTrue out.new.reaches_nd) }
+    ensures home { OnOk result (home_of body.new ≡ home_of body.old) }
+    ensures checks { Says result (λ made. passes (typed_stmt made.stmt) (walk_of body.new out.new)) refused (Checking body.old.atomic_params around node (form.while_loop (plain_expr test.now) (plain_stmt turn.now)) (walk_of body.old out.old)) }
+{
+    let place = node.place;
+    let mut node = node;
+    let given = body.boolean(test, out, &mut node)?;
+    let done = scoped(body, around, turn, out)?;
+    node.settle()?;
+    let test = given.into_node(test.place);
+    Ok(Checked {
+        completes: true,
+        stmt: made::repeated(place, test, done.stmt),
+    })
+}
+
+/// `return;` or `return value;`
+fn returning(
+    body: &Body,
+    around: Around,
+    node: Node,
+    value: Option<&Expr>,
+    out: &mut Found,
+) -> Result<Checked, Stop>
+    ensures completes { IfOk result (λ done. done.completes ≡ false) }
+    ensures placed { OnOk result (is_misplaced around (is_some value.entry) ≡ false) }
+    ensures clean { OnOk result (fault_of node ≡ None) }
+    ensures nd { OnOk result (IsTrue out.old.reaches_nd → IsTrue out.new.reaches_nd) }
+    ensures checks { (params : List Bool) → Says result (λ made. passes (typed_stmt made.stmt) (walk_of body.now out.new)) refused (Checking params around node (return_form (option_copied value.entry)) (walk_of body.now out.old)) }
+{
+    match value {
+        None => leave(body, around, node),
+        Some(value) => leave_with(body, around, node, value, out),
+    }
+}
+
+/// `foreach (int var in start, count) turn`
+#[cycle(statements)]
+fn iterating(
+    body: &mut Body,
+    around: Around,
+    node: Node,
+    nd: bool,
+    var: Named,
+    start: &Expr,
+    count: &Expr,
+    turn: &Stmt,
+    out: &mut Found,
+) -> Result<Checked, Stop>
+    ensures completes { IfOk result (λ done. done.completes ≡ true) }
+    ensures clean { OnOk result (fault_of node ≡ None) }
+    ensures keeps { OnOk result (Keeps (inside around) (plain_stmt turn.now)) }
+    ensures locals { OnOk result (¬ AssignsOuter (plain_stmt turn.now)) }
+    ensures nd { OnOk result (IsTrue (out.old.reaches_nd || (nd || holds_nd (plain_stmt turn.now))) → IsTrue out.new.reaches_nd) }
+    ensures home { OnOk result (home_of body.new ≡ home_of body.old) }
+    ensures checks { Says result (λ made. passes (typed_stmt made.stmt) (walk_of body.new out.new)) refused (Checking body.old.atomic_params around node (form.foreach nd var (plain_expr start.now) (plain_expr count.now) (plain_stmt turn.now)) (walk_of body.old out.old)) }
+{
+    let mut node = node;
+    let first = body.int(start, out, &mut node)?;
+    let number = body.int(count, out, &mut node)?;
+    let range = (first.into_node(start.place), number.into_node(count.place));
+    foreach(body, around, node, nd, var, range, turn, out)
+}
+
+/// Checks the statements of a block in a scope of their own, and says whether they all complete. What they do is
+/// gathered by itself, and goes to what is gathered around the block without what the block declares.
+#[cycle(statements)]
+pub fn block(
+    body: &mut Body,
+    around: Around,
+    stmts: &[Stmt],
+    out: &mut Found,
+) -> Result<CheckedBlock, Stop>
+    ensures completes { IfOk result (λ done. done.completes ≡ all_complete (plain_stmts (map plain_stmt stmts.now))) }
+    ensures keeps { OnOk result (AllKeep around (plain_stmts (map plain_stmt stmts.now))) }
+    ensures nd { OnOk result (IsTrue (out.old.reaches_nd || some_holds_nd (plain_stmts (map plain_stmt stmts.now))) → IsTrue out.new.reaches_nd) }
+    ensures home { OnOk result (home_of body.new ≡ home_of body.old) }
+    ensures checks { Says result (λ made. passes (map typed_stmt made.stmts) (walk_of body.new out.new)) refused (InBlock body.old.atomic_params around (plain_stmts (map plain_stmt stmts.now)) (walk_of body.old out.old)) }
+{
+    let scope = body.env.mark();
+    let leaving = Leaving::from_here(&body.env, Marks::Kept);
+    let mut inner = Found::new(body.alloc);
+    let done = statements(body, around, stmts, &mut inner)?;
+    body.env.leave(scope);
+    take_in(out, inner, leaving)?;
+    Ok(done)
+}
+
+#[cycle(statements)]
+fn statements(
+    body: &mut Body,
+    around: Around,
+    stmts: &[Stmt],
+    out: &mut Found,
+) -> Result<CheckedBlock, Stop>
+    ensures completes { IfOk result (λ done. done.completes ≡ all_complete (plain_stmts (map plain_stmt stmts.now))) }
+    ensures keeps { OnOk result (AllKeep around (plain_stmts (map plain_stmt stmts.now))) }
+    ensures nd { OnOk result (IsTrue (out.old.reaches_nd || some_holds_nd (plain_stmts (map plain_stmt stmts.now))) → IsTrue out.new.reaches_nd) }
+    ensures home { OnOk result (home_of body.new ≡ home_of body.old) }
+    ensures checks { Says result (λ made. passes (map typed_stmt made.stmts) (walk_of body.new out.new)) refused (InOrder body.old.atomic_params around true (plain_stmts (map plain_stmt stmts.now)) (walk_of body.old out.old)) }
+{
+    let mut completes = true;
+    let mut made = Items::new(body.alloc);
+    for stmt in stmts {
+        let done = statement(body, around, stmt, !completes, out)?;
+        completes = completes && done.completes;
+        made.push(done.stmt)?;
+    }
+    Ok(CheckedBlock {
+        completes,
+        stmts: made,
+    })
+}
+
+/// Checks a branch or a body, which is a scope of its own even without braces.
+#[cycle(statements)]
+pub fn scoped(body: &mut Body, around: Around, stmt: &Stmt, out: &mut Found) -> Result<Part, Stop>
+    ensures completes { IfOk result (λ done. done.completes ≡ completes (plain_stmt stmt.now)) }
+    ensures keeps { OnOk result (Keeps around (plain_stmt stmt.now)) }
+    ensures nd { OnOk result (IsTrue (out.old.reaches_nd || holds_nd (plain_stmt stmt.now)) → IsTrue out.new.reaches_nd) }
+    ensures home { OnOk result (home_of body.new ≡ home_of body.old) }
+    ensures checks { Says result (λ made. passes (typed_stmt made.stmt) (walk_of body.new out.new)) refused (InScope body.old.atomic_params around (plain_stmt stmt.now) (walk_of body.old out.old)) }
+{
+    let scope = body.env.mark();
+    let done = statement(body, around, stmt, false, out)?;
+    body.env.leave(scope);
+    let stmt = Boxed::new(body.alloc, done.stmt)?;
+    Ok(Part {
+        completes: done.completes,
+        stmt,
+    })
+}

@@ -1,0 +1,222 @@
+ghost use Rattle.std.specs.Prelude.{◌≡◌, false, Ok, Err, option_map, OnOk, IsTrue};
+ghost use Rattle.lang_base.specs.Refused.{IfRefused};
+ghost use Rattle.lang_base.specs.Types.{plain_type};
+ghost use Rattle.syntax_tree.specs.Plain.{expression, plain_expr};
+ghost use Rattle.syntax_tree.specs.Plain.{ExprForm as form};
+ghost use Rattle.body_exprs.specs.declared.env.Env.{Env};
+ghost use Rattle.body_exprs.specs.declared.found.Found.{Found};
+ghost use Rattle.body_exprs.specs.Answer.{Says};
+ghost use Rattle.body_exprs.specs.Shape.{form_of, is_access};
+ghost use Rattle.body_exprs.specs.Targeting.{plain_target, aims, misses, field_target, element_target, part_target, Targeting};
+ghost use Rattle.body_exprs.specs.Typed.{plain_typed};
+
+use crate::env::{Env, LocalRow};
+use crate::fields::{FieldAt, PartElement, element_at, field_at, part_element};
+use crate::fitting::refused;
+use crate::found::Found;
+use crate::typed::Typed;
+use crate::typing::{expr, measured};
+use lang_base::{Access, Kind, NoMemory, Place, Rpl, Stop, Ty};
+use lang_typed::{ClassId, Expr, FieldSlot, Slot};
+use region_types::Element;
+use std::alloc::Global;
+use syntax_tree::{Expr as Tree, ExprKind};
+
+/// Where a value goes, told by the expressions that find it.
+#[derive(Drop)]
+pub enum Spot {
+    Field {
+        of: Expr,
+        class: ClassId,
+        field: FieldSlot,
+    },
+    Element {
+        array: Expr,
+        index: Expr,
+    },
+    /// An element of a part of an array.
+    Part {
+        part: Slot,
+        index: Expr,
+    },
+}
+
+/// What is assigned to.
+#[derive(Drop)]
+pub struct Target {
+    pub spot: Spot,
+    pub ty: Ty,
+    pub rpl: Rpl,
+    pub may_write: bool,
+}
+
+/// Reads the target of an assignment, a field or an element. It isn't read itself, and the write comes with
+/// `Target::write`. None where the target comes from a part of what is no array: every value fits there.
+pub fn read_target(
+    alloc: Global,
+    env: &Env,
+    found: &mut Found,
+    e: &Tree,
+) -> Result<Option<Target>, Stop>
+    ensures answer { Says result (λ target. aims (option_map plain_target target) found.new) misses (Targeting env.now (plain_expr e.now) found.old) }
+    ensures nd { OnOk result (IsTrue found.old.reaches_nd → IsTrue found.new.reaches_nd) }
+{
+    match &e.kind {
+        ExprKind::Field { of, name } => {
+            field_target(alloc, env, found, of.get(), *name, e.place)
+        }
+        ExprKind::Element { array, index } => {
+            element_target(alloc, env, found, array.get(), index.get(), e.place)
+        }
+        _ => Err(no_target(e)),
+    }
+}
+
+/// The refusal of what is no field and no element.
+fn no_target(e: &Tree) -> Stop
+    requires { is_access (form_of (plain_expr e.now)) ≡ false }
+    ensures { IfRefused result (λ refusal. (env : Env) (found : Found) → Targeting env (plain_expr e.now) found (misses refusal)) }
+{
+    refused(Kind::Type, e.place)
+}
+
+fn field_target(
+    alloc: Global,
+    env: &Env,
+    found: &mut Found,
+    of: &Tree,
+    name: u32,
+    place: Place,
+) -> Result<Option<Target>, Stop>
+    ensures answer { Says result (λ target. aims (option_map plain_target target) found.new) misses (Targeting env.now (expression place (form.field (plain_expr of.now) name)) found.old) }
+    ensures nd { OnOk result (IsTrue found.old.reaches_nd → IsTrue found.new.reaches_nd) }
+{
+    match measured(env, of, name) {
+        Some(_) => Err(refused(Kind::Type, place)),
+        None => {
+            let of = expr(alloc, env, found, of)?;
+            through(alloc, env, of, name, place)
+        }
+    }
+}
+
+/// The field of that name through what a receiver gives, as a target.
+fn through(
+    alloc: Global,
+    env: &Env,
+    of: Typed,
+    name: u32,
+    place: Place,
+) -> Result<Option<Target>, Stop>
+    ensures { Says result (λ target. Ok (option_map plain_target target)) Err (λ a. field_target env.now (plain_typed of) name place ≡ a) }
+{
+    let Typed::Known(of) = of else {
+        return Ok(None);
+    };
+    let FieldAt {
+        class,
+        slot,
+        ty,
+        rpl,
+        may_write,
+        ..
+    } = field_at(alloc, env, &of.ty, name, place)?;
+    let class = ClassId { number: class };
+    let field = FieldSlot { number: slot };
+    Ok(Some(Target {
+        spot: Spot::Field { of, class, field },
+        ty,
+        rpl,
+        may_write,
+    }))
+}
+
+fn element_target(
+    alloc: Global,
+    env: &Env,
+    found: &mut Found,
+    array: &Tree,
+    index: &Tree,
+    place: Place,
+) -> Result<Option<Target>, Stop>
+    ensures answer { Says result (λ target. aims (option_map plain_target target) found.new) misses (Targeting env.now (expression place (form.element (plain_expr array.now) (plain_expr index.now))) found.old) }
+    ensures nd { OnOk result (IsTrue found.old.reaches_nd → IsTrue found.new.reaches_nd) }
+{
+    match env.part(array) {
+        Some(row) => {
+            let at = expr(alloc, env, found, index)?;
+            in_part(alloc, row, at, place)
+        }
+        None => {
+            let array = expr(alloc, env, found, array)?;
+            let at = expr(alloc, env, found, index)?;
+            in_array(alloc, env, array, index, at, place)
+        }
+    }
+}
+
+/// The element of a part at an index, which gives something, as a target.
+fn in_part(alloc: Global, row: &LocalRow, at: Typed, place: Place) -> Result<Option<Target>, Stop>
+    ensures { Says result (λ target. Ok (option_map plain_target target)) Err (λ a. part_target row.now (plain_typed at) place ≡ a) }
+{
+    let Some(element) = part_element(alloc, row, &at, place)? else {
+        return Ok(None);
+    };
+    let PartElement { view, ty, rpl } = element;
+    let part = Slot { number: view };
+    let index = at.into_node(place);
+    Ok(Some(Target {
+        spot: Spot::Part { part, index },
+        ty,
+        rpl,
+        may_write: true,
+    }))
+}
+
+/// The element of an array at an index, which is written and gives something, as a target.
+fn in_array(
+    alloc: Global,
+    env: &Env,
+    array: Typed,
+    index: &Tree,
+    at: Typed,
+    place: Place,
+) -> Result<Option<Target>, Stop>
+    ensures { Says result (λ target. Ok (option_map plain_target target)) Err (λ a. element_target env.now (plain_typed array) (plain_expr index.now) (plain_typed at) place ≡ a) }
+{
+    let Some(element) = element_at(alloc, env, &array, index, &at, place)? else {
+        return Ok(None);
+    };
+    let Element {
+        ty,
+        rpl,
+        may_write,
+        ..
+    } = element;
+    let array = array.into_node(place);
+    let index = at.into_node(place);
+    Ok(Some(Target {
+        spot: Spot::Element { array, index },
+        ty,
+        rpl,
+        may_write,
+    }))
+}
+
+impl Target {
+    ghost use Rattle.std.specs.Prelude.{◌≡◌, IfOk, OnOk};
+    ghost use Rattle.body_exprs.specs.Targeting.{plain_spot, plain_target, with_write};
+
+    /// Adds the write of a value to the target, by itself or through the part that it lies in, and gives where it goes.
+    pub fn write(self, found: &mut Found) -> Result<Spot, NoMemory>
+        ensures spot { IfOk result (λ spot. plain_spot spot ≡ plain_spot self.spot) }
+        ensures found { OnOk result (found.new ≡ with_write found.old (plain_target self)) }
+    {
+        let Target { spot, rpl, .. } = self;
+        match &spot {
+            Spot::Part { part, .. } => found.part_use(part.number, rpl, Access::Write)?,
+            _ => found.access(rpl, Access::Write)?,
+        }
+        Ok(spot)
+    }
+}

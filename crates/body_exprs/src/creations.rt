@@ -1,0 +1,166 @@
+ghost use Rattle.std.specs.Prelude.{◌≡◌, false, None, Some, Ok, Err, map, IfOk, OnOk, IsTrue};
+ghost use Rattle.lang_base.specs.Types.{plain_type};
+ghost use Rattle.lang_base.specs.Types.{PlainType as plain};
+ghost use Rattle.decl_resolve.specs.Classes.{params_in};
+ghost use Rattle.decl_resolve.specs.Constraints.{all_hold};
+ghost use Rattle.decl_table.specs.Table.{headers_of, constructor_of, given_of};
+ghost use Rattle.body_exprs.specs.Answer.{gives, refused, Says};
+ghost use Rattle.body_exprs.specs.Env.{table_of, given_in};
+ghost use Rattle.body_exprs.specs.Typed.{plain_node, plain_typed, value_type};
+ghost use Rattle.body_exprs.specs.Uses.{args_of, args_reported, args_noted, created_params, formals_of, UseReported, with_constructor, CreationOf, Creation};
+
+use crate::actuals::{check_use, unknown_args};
+use crate::calls::read_full_args;
+use crate::env::Env;
+use crate::fitting::refused;
+use crate::found::Found;
+use crate::nodes;
+use crate::shapes::shapes_fit;
+use crate::typed::Typed;
+use decl_headers::{Faults, ParamRow};
+use decl_resolve::{ReadArgs, fit_args};
+use lang_base::{Items, Kind, NoMemory, Place, Rpl, Stop, Ty};
+use lang_typed::Expr;
+use std::alloc::Global;
+use syntax_tree::{Named, RplTree};
+
+/// Reads the region arguments of the creation of an object.
+pub fn read_new_args(
+    alloc: Global,
+    env: &Env,
+    class: Named,
+    trees: &[RplTree],
+) -> Result<ReadArgs, Stop>
+    ensures read { IfOk result (λ args. args ≡ args_of env.now trees.now) }
+    ensures reported { Says result (λ args. None) Some (λ t. args_reported env.now (created_params (table_of env.now) class) trees.now ≡ t) }
+{
+    read_full_args(alloc, env, trees, created_params(env, class))
+}
+
+/// The region parameters of the class that a creation names.
+fn created_params<'e>(env: &'e Env, class: Named) -> &'e [ParamRow]
+    ensures { result.now ≡ created_params (table_of env.now) class }
+{
+    match env.table().headers().class(class.name) {
+        Some(number) => class_params(env, number),
+        None => &[],
+    }
+}
+
+fn class_params<'e>(env: &'e Env, class: u32) -> &'e [ParamRow]
+    ensures { result.now ≡ params_in (headers_of (table_of env.now)) class }
+{
+    match env.table().headers().header(class) {
+        Some(header) => header.params.as_slice(),
+        None => &[],
+    }
+}
+
+/// The creation of an object, whose parts are read.
+pub fn creation(
+    alloc: Global,
+    env: &Env,
+    found: &mut Found,
+    class: Named,
+    regions: ReadArgs,
+    actuals: Items<Typed>,
+    place: Place,
+) -> Result<Expr, Stop>
+    ensures answer { Says result (λ e. gives (Some (plain_node e)) found.new) refused (Creation env.now class regions (map plain_typed actuals) place found.old) }
+    ensures nd { OnOk result (IsTrue found.old.reaches_nd → IsTrue found.new.reaches_nd) }
+{
+    match env.table().headers().class(class.name) {
+        Some(number) => creation_of(alloc, env, found, number, regions, actuals, place),
+        None => Err(refused(Kind::Unknown, class.place)),
+    }
+}
+
+/// The creation of an object of a class.
+fn creation_of(
+    alloc: Global,
+    env: &Env,
+    found: &mut Found,
+    class: u32,
+    regions: ReadArgs,
+    actuals: Items<Typed>,
+    place: Place,
+) -> Result<Expr, Stop>
+    ensures answer { Says result (λ e. gives (Some (plain_node e)) found.new) refused (CreationOf env.now class regions (map plain_typed actuals) place found.old) }
+    ensures nd { OnOk result (IsTrue found.old.reaches_nd → IsTrue found.new.reaches_nd) }
+{
+    let mut faults = Faults::by_number();
+    match fit_args(alloc, &mut faults, regions, class_params(env, class), place)? {
+        Some(args) => {
+            let shown = actuals.as_slice();
+            let ty = creation_with(alloc, env, found, faults, class, args, shown, place)?;
+            let actuals = nodes::nodes(alloc, actuals, place)?;
+            Ok(nodes::create(place, ty, actuals))
+        }
+        None => {
+            let fit = shapes_fit(
+                env.table().headers(),
+                actuals.as_slice(),
+                formals(env, class),
+            );
+            Err(unknown_args(faults, fit, place))
+        }
+    }
+}
+
+/// The type with region arguments, where faults may be noted already.
+fn creation_with(
+    alloc: Global,
+    env: &Env,
+    found: &mut Found,
+    faults: Faults,
+    class: u32,
+    args: Items<Rpl>,
+    actuals: &[Typed],
+    place: Place,
+) -> Result<Ty, Stop>
+    ensures reported { Says result (λ ty. None) Some (UseReported env.now faults args (map value_type actuals.now) (formals_of (table_of env.now) class) false (all_hold (given_in env.now) args (given_of (table_of env.now) class)) place) }
+    ensures ty { IfOk result (λ ty. plain_type ty ≡ plain.class class args) }
+    ensures found { OnOk result (found.new ≡ with_constructor (table_of env.now) found.old (constructor_of (table_of env.now) class) args) }
+    ensures nd { OnOk result (IsTrue found.old.reaches_nd → IsTrue found.new.reaches_nd) }
+{
+    check_use(
+        alloc,
+        env,
+        faults,
+        args.as_slice(),
+        actuals,
+        formals(env, class),
+        env.table().given(class),
+        false,
+        place,
+    )?;
+    add_constructor(alloc, env, found, class, args.as_slice())?;
+    Ok(Ty::Class { class, args })
+}
+
+/// The formals of the constructor of a class, which without one has none.
+fn formals<'e>(env: &'e Env, class: u32) -> &'e [Ty]
+    ensures { result.now ≡ formals_of (table_of env.now) class }
+{
+    match env.table().constructor(class) {
+        Some(row) => row.params.as_slice(),
+        None => &[],
+    }
+}
+
+/// Adds what the constructor does, where there is one.
+fn add_constructor(
+    alloc: Global,
+    env: &Env,
+    found: &mut Found,
+    class: u32,
+    args: &[Rpl],
+) -> Result<(), NoMemory>
+    ensures whole { OnOk result (found.new ≡ with_constructor (table_of env.now) found.old (constructor_of (table_of env.now) class) args.now) }
+    ensures nd { OnOk result (IsTrue found.old.reaches_nd → IsTrue found.new.reaches_nd) }
+{
+    match env.table().constructor(class) {
+        Some(row) => found.call(alloc, env.table(), row, args),
+        None => Ok(()),
+    }
+}

@@ -1,0 +1,43 @@
+-- The lines of summaries, piece by piece.
+use Rattle.std.proofs.Common.{◌≡◌, ◌∙◌, ◌-◌, ◌≤◌, ℕ, List, [], ◌∷◌, ◌++◌, map, codes, refl, ap, sym, append_assoc, ◌⊎◌, inl, inr, length, arith}
+use Rattle.std.specs.List.{flat_map}
+use Rattle.std.specs.Prelude.{None, option_map, slice_get, slice_index_or, unwrap_or}
+use Rattle.std.proofs.lemmas.List.{get_or-append_right, length-map}
+use Rattle.std.proofs.lemmas.Option.{slice_get-map, unwrap_or-slice_get}
+use Rattle.lang_typed.specs.declared.program.RegionParam.{RegionParam}
+use Rattle.lang_typed.specs.declared.program.Member.{Member}
+use Rattle.lang_typed.specs.Names.{ProgramNames, named_member}
+use Rattle.lang_typed.specs.Plain.{plain_member}
+use Rattle.body_infer.specs.declared.kept.Kept.{Kept}
+use Rattle.body_infer.specs.Kept.{members_kept}
+use Rattle.body_infer.specs.Lines.{listed, lines_from}
+
+-- texts after the first
+listed_more : (texts : List (List ℕ)) → flat_map (λ more. codes ", " ++ more) texts ≡ listed (codes ", ") texts
+listed_more [] = refl
+listed_more (text ∷ texts) = refl
+
+-- one text more
+pub listed_one : (out between text whole : List ℕ) (texts all : List (List ℕ)) → all ≡ text ∷ texts → out ++ listed between all ≡ whole
+    → out ++ between ++ text ++ listed (codes ", ") texts ≡ whole
+listed_one out between text whole texts all is so_far =
+    append_assoc (out ++ between) text (listed (codes ", ") texts) ∙ append_assoc out between (text ++ listed (codes ", ") texts)
+    ∙ ap (λ more. out ++ (between ++ (text ++ more))) (sym (listed_more texts))
+    ∙ ap (λ more. out ++ more) (sym (append_assoc between text (flat_map (λ more. codes ", " ++ more) texts)))
+    ∙ ap (λ ts. out ++ listed between ts) (sym is) ∙ so_far
+
+-- no line is left
+pub no_lines : (names : ProgramNames) (kept : List (List Kept)) (members : List Member) → (length members ≡ 0) ⊎ (length kept ≡ 0)
+    → lines_from names (members_kept kept (map plain_member members)) (map named_member members) ≡ []
+no_lines names [] members h = refl
+no_lines names (ks ∷ kept) [] h = refl
+no_lines names (ks ∷ kept) (m ∷ members) (inl h) = absurd (omega arith)
+no_lines names (ks ∷ kept) (m ∷ members) (inr h) = absurd (omega arith)
+
+-- a number after all region parameters has no name
+pub no_param : (given own : List RegionParam) (names : List (List ℕ)) (n : ℕ) (d : List ℕ) → map (λ param. param.text) given ≡ names → length given ≤ n
+    → None ≡ slice_get own (n - length given) → d ≡ slice_index_or (names ++ map (λ param. param.text) own) n d
+no_param given own names n d is past none =
+    sym (get_or-append_right names (map (λ param. param.text) own) (length given) n d (sym (ap length is) ∙ length-map given (λ param. param.text)) past
+    ∙ sym (unwrap_or-slice_get (map (λ param. param.text) own) (n - length given) d)
+    ∙ ap (λ o. unwrap_or o d) (slice_get-map (λ param. param.text) own (n - length given) ∙ ap (option_map (λ param. param.text)) (sym none)))

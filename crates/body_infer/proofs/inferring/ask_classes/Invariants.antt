@@ -1,0 +1,10 @@
+use Rattle.std.proofs.Common.{◌≡◌, ◌<◌, ℕ, false}
+use Rattle.lang_typed.specs.Plain.{plain_program}
+use Rattle.body_infer.specs.Passes.{MeetsRow, Rises}
+use Rattle.body_infer.proofs.inferring.ask_classes.Given as goal
+
+abbrev pub invariant-loop-number : goal.invariant-loop-number
+invariant-loop-number l = record {
+  rises : Rises (plain_program l.program) l.initial.kept l.kept l.has_risen;
+  met : l.has_risen ≡ false → (n r : ℕ) → n < l.number → MeetsRow (plain_program l.program) l.kept n r;
+}

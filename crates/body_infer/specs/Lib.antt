@@ -1,0 +1,11 @@
+pub mod Kept
+pub mod Places
+pub mod Finding
+pub mod Doing
+pub mod Walked
+pub mod PostFixpoint
+pub mod Asked
+pub mod Passes
+pub mod Covered
+pub mod Lines
+pub mod Once

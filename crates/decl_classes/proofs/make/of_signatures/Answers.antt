@@ -1,0 +1,40 @@
+use Rattle.std.proofs.Common.{◌≡◌, ◌∙◌, ◌<◌, ◌≤◌, List, Some, length, get_or, ap, sym, subst, arith}
+use Rattle.lang_base.specs.declared.refusal.Stop.{Stop}
+use Rattle.lang_base.specs.declared.refusal.Stop.TheVariants as stop
+use Rattle.lang_base.specs.Refused.{IfRefused}
+use Rattle.syntax_tree.specs.declared.class.Class.{Class}
+use Rattle.syntax_tree.specs.declared.class.Program.{Program}
+use Rattle.decl_headers.specs.declared.header.Headers.{Headers}
+use Rattle.decl_resolve.proofs.Reported.{passed_on}
+use Rattle.decl_classes.specs.Build.{first_of, text_faults}
+use Rattle.decl_classes.specs.Rows.{all_constraints, methods_meant}
+use Rattle.decl_classes.proofs.Overrides.{row_owned}
+use Rattle.decl_classes.proofs.Rising.{extending_within}
+use Rattle.decl_classes.proofs.make.of_signatures.Goals as goal
+
+abbrev Refuses : Headers → Program → Stop → Type 0
+Refuses headers program e = IfRefused e (λ fault. first_of (text_faults headers program.classes) ≡ Some fault)
+
+pub find_places-requires-clause-owned : goal.find_places-requires-clause-owned
+find_places-requires-clause-owned c =
+    let program = c.args.program.now in
+    let headers = c.args.headers in
+    let rows = c.in_ok-given.field-0.made.methods in
+    λ at row below.
+    subst (λ (cs : List Class). (get_or rows at row).owner < length cs) (sym c.as_slice-classes.ensures)
+    (row_owned program headers (all_constraints headers 0 program.classes) rows c.requires.counted
+    (c.in_ok-given.ensures.methods ∙ ap (λ (cs : List Class). methods_meant headers (all_constraints headers 0 cs) 0 0 cs) c.as_slice-classes.ensures) at row below)
+
+pub find_places-requires-clause-extending : goal.find_places-requires-clause-extending
+find_places-requires-clause-extending c =
+    let classes = c.as_slice-classes.result.now in
+    let few : length classes ≤ 4294967296 = omega (arith, c.requires.counted.0, ap length c.as_slice-classes.ensures) in
+    extending_within c.args.headers classes c.in_ok-given.field-0.made.supers c.in_ok-given.ensures.extending few
+
+pub returns-in_err-overrides-clause-refused : goal.returns-in_err-overrides-clause-refused
+returns-in_err-overrides-clause-refused c =
+    passed_on c.from_residual-in_err-overrides.result stop.NoMemory (Refuses c.args.headers c.args.program.now) c.from_residual-in_err-overrides.ensures.1 tt
+
+pub returns-in_err-rows-clause-refused : goal.returns-in_err-rows-clause-refused
+returns-in_err-rows-clause-refused c =
+    passed_on c.from_residual-in_err-rows.result stop.NoMemory (Refuses c.args.headers c.args.program.now) c.from_residual-in_err-rows.ensures.1 tt

@@ -1,0 +1,10 @@
+use Rattle.std.proofs.Common.{◌≡◌, drop}
+use Rattle.std.specs.Option.{option_map}
+use Rattle.std.specs.List.{position_from}
+use Rattle.std.specs.Str.{bytes_eq}
+use Rattle.decl_headers.specs.Numbers.{as_number}
+use Rattle.decl_headers.specs.Gathered.{name_number}
+use Rattle.decl_headers.proofs.gather.name_of.Given as goal
+
+abbrev pub invariant-loop-at : goal.invariant-loop-at
+invariant-loop-at l = option_map as_number (position_from (λ name. bytes_eq name l.text) l.at (drop l.at l.names)) ≡ name_number l.names l.text

@@ -1,0 +1,4 @@
+pub mod Declared
+pub mod Visible
+pub mod Above
+pub mod Finding

@@ -1,0 +1,15 @@
+use Rattle.std.proofs.Common.{◌≡◌, [], drop, map, length, replicate}
+use Rattle.decl_headers.specs.Headers.{class_count}
+use Rattle.decl_headers.specs.Inheriting.{made_at}
+use Rattle.decl_headers.specs.Way.{entered_on}
+use Rattle.decl_table.specs.Inherited.{fields_after}
+use Rattle.decl_table.specs.Plain.{plain_field}
+use Rattle.decl_table.specs.Table.{headers_of}
+use Rattle.decl_table.proofs.class_fields.on_way.Given as goal
+
+abbrev pub invariant-loop-step : goal.invariant-loop-step
+invariant-loop-step l = record {
+  as_many : length l.all.items ≡ length l.own;
+  made : entered_on (made_at (headers_of l.table) [] (fields_after l.table)) (map (map plain_field) l.all.items) (drop l.step-index l.steps)
+      ≡ entered_on (made_at (headers_of l.table) [] (fields_after l.table)) (replicate (class_count (headers_of l.table)) []) l.steps;
+}

@@ -1,0 +1,9 @@
+pub mod Inherited
+pub mod Overridden
+pub mod RowNumbers
+pub mod Visible
+pub mod Finding
+pub mod Main
+pub mod Places
+pub mod Plain
+pub mod Table

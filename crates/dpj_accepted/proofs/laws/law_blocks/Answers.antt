@@ -1,8 +1,0 @@
-use Rattle.dpj_accepted.proofs.Bodies.{block_agrees}
-use Rattle.dpj_accepted.proofs.laws.law_blocks.Goals as goal
-
-pub returns : goal.returns
-returns c = record {
-  blocks = λ P signed L params around reads assigns w ready all fits all_reads all_writes made u d room calm.
-      block_agrees P signed L params around reads assigns w ready all fits all_reads all_writes made u d room calm;
-}

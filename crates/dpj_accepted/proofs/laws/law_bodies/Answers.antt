@@ -1,5 +1,0 @@
-use Rattle.dpj_accepted.proofs.WellTyped.{all_bodies_pass}
-use Rattle.dpj_accepted.proofs.laws.law_bodies.Goals as goal
-
-pub returns : goal.returns
-returns c = record { bodies = all_bodies_pass }

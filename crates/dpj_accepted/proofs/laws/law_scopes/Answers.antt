@@ -1,5 +1,0 @@
-use Rattle.dpj_accepted.proofs.InScopeStatements.{all_names}
-use Rattle.dpj_accepted.proofs.laws.law_scopes.Goals as goal
-
-pub returns : goal.returns
-returns c = record { scopes = λ P signed L locals ss effects d. all_names P signed locals d }

@@ -1,5 +1,0 @@
-use Rattle.dpj_accepted.proofs.Meant.{declared_good}
-use Rattle.dpj_accepted.proofs.laws.law_types.Goals as goal
-
-pub returns : goal.returns
-returns c = record { types = λ P L env reads assigns tells sees tree few unreported. declared_good P L env reads assigns tells sees tree few unreported }

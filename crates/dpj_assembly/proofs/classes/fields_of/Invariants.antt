@@ -1,8 +1,0 @@
-use Rattle.std.proofs.Common.{◌≡◌, ◌++◌, map, drop}
-use Rattle.dpj_typed.specs.Plain.{plain_field as typed_field}
-use Rattle.dpj_table.specs.Plain.{plain_field}
-use Rattle.dpj_assembly.specs.Assembled.{field_of}
-use Rattle.dpj_assembly.proofs.classes.fields_of.Given as goal
-
-abbrev pub invariant-loop-row : goal.invariant-loop-row
-invariant-loop-row l = map typed_field l.made ++ map field_of (map plain_field (drop l.row-index l.row-items)) ≡ map field_of (map plain_field l.row-items)

@@ -1,6 +1,0 @@
-use Rattle.std.proofs.Common.{◌≡◌, map, take}
-use Rattle.dpj_check.specs.Gathering.{moved}
-use Rattle.dpj_check.proofs.gathered.moved.Given as goal
-
-abbrev pub invariant-loop-part_use : goal.invariant-loop-part_use
-invariant-loop-part_use l = l.made ≡ map (moved l.view l.outer) (take l.part_use-index l.uses)

@@ -1,7 +1,0 @@
-use Rattle.std.proofs.Common.{◌≡◌, ◌↔◌, drop}
-use Rattle.dpj_check.specs.Gathering.{all_left}
-use Rattle.dpj_check.proofs.leaving.Leaving.keeps_all.Given as goal
-
-abbrev pub invariant-loop-e : goal.invariant-loop-e
-invariant-loop-e l =
-    (all_left l.self (drop l.e-index l.effects) ≡ drop l.e-index l.effects) ↔ (all_left l.self l.effects ≡ l.effects)

@@ -1,8 +1,0 @@
-use Rattle.dpj_interfere.specs.Nd.{plain_nd}
-use Rattle.dpj_check.proofs.Meeting.{apart_where_none}
-use Rattle.dpj_check.proofs.meet.branches_apart.Goals as goal
-
-pub returns : goal.returns
-returns c =
-    apart_where_none c.args.given.now (plain_nd c.args.nd) c.args.branches.now c.in_ok-first_meeting.field-0 c.is_none.result
-    c.in_ok-first_meeting.ensures c.is_none.ensures

@@ -1,6 +1,0 @@
-use Rattle.std.proofs.Common.{◌≡◌, ◌++◌}
-use Rattle.dpj_classes.specs.Overriding.{params_from}
-use Rattle.dpj_classes.proofs.overriding.add_params.Given as goal
-
-abbrev pub invariant-loop-at : goal.invariant-loop-at
-invariant-loop-at l = l.paths ≡ l.initial.paths ++ params_from l.from l.at

@@ -1,6 +1,0 @@
-use Rattle.std.proofs.Common.{drop}
-use Rattle.dpj_compile.proofs.Generating.{Split}
-use Rattle.dpj_compile.proofs.bodies.split.Given as goal
-
-abbrev pub invariant-loop-line : goal.invariant-loop-line
-invariant-loop-line l = Split l.instrs l.places (drop l.line-index l.line-items) l.line-items

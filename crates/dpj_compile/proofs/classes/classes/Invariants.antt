@@ -1,9 +1,0 @@
-use Rattle.std.proofs.Common.{◌≡◌, ◌++◌, map, drop}
-use Rattle.dpj_typed.specs.Plain.{plain_class, plain_program}
-use Rattle.dpj_code.specs.Plain.{plain_class as plain_class_code}
-use Rattle.dpj_gen.specs.Scheme.{class_code}
-use Rattle.dpj_compile.specs.Classes.{number_from}
-use Rattle.dpj_compile.proofs.classes.classes.Given as goal
-
-abbrev pub invariant-loop-class : goal.invariant-loop-class
-invariant-loop-class l = map plain_class_code l.made ++ map (class_code (plain_program l.program) (number_from l.numbers)) (map plain_class (drop l.class-index l.class-items)) ≡ map (class_code (plain_program l.program) (number_from l.numbers)) (map plain_class l.class-items)

@@ -1,9 +1,0 @@
-use Rattle.std.proofs.Common.{◌≡◌, ◌++◌, map, drop}
-use Rattle.dpj_typed.specs.Plain.{plain_program}
-use Rattle.dpj_code.specs.Plain.{plain_method}
-use Rattle.dpj_gen.specs.Scheme.{method_code}
-use Rattle.dpj_compile.specs.Classes.{number_from}
-use Rattle.dpj_compile.proofs.classes.methods.Given as goal
-
-abbrev pub invariant-loop-row : goal.invariant-loop-row
-invariant-loop-row l = map plain_method l.made ++ map (λ row. method_code (plain_program l.program) (number_from l.numbers) row.number) (drop l.row-index l.row-items) ≡ map (λ row. method_code (plain_program l.program) (number_from l.numbers) row.number) l.row-items

@@ -1,9 +1,0 @@
-use Rattle.dpj_typed.specs.Plain.{plain_expr}
-use Rattle.dpj_compile.proofs.Emits.{on_ok}
-use Rattle.dpj_compile.proofs.Statements.{element_emitted}
-use Rattle.dpj_compile.proofs.stmts.store_element.Goals as goal
-
-pub returns : goal.returns
-returns c =
-    on_ok c.line.result (λ h. element_emitted _ _ _ _ _ c.args.place (plain_expr c.args.array.now) (plain_expr c.args.index.now) (plain_expr c.args.value.now)
-    c.in_ok-expr.ensures c.in_ok-expr-2.ensures c.in_ok-expr-3.ensures h) c.line.ensures

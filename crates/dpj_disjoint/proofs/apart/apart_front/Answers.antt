@@ -1,6 +1,0 @@
-use Rattle.std.proofs.Common.{◌∙◌, arith}
-use Rattle.dpj_disjoint.proofs.Walks.{apart_front-end}
-use Rattle.dpj_disjoint.proofs.apart.apart_front.Goals as goal
-
-pub returns : goal.returns
-returns c = apart_front-end c.args.a.now c.args.b.now c.loop-i.i (omega arith) ∙ c.loop-i.invariant

@@ -1,5 +1,0 @@
-use Rattle.dpj_disjoint.proofs.Envs.{no_common, stays_apart}
-use Rattle.dpj_disjoint.proofs.laws.law_disjoint.Goals as goal
-
-pub returns : goal.returns
-returns c = record { no_common = no_common; patterns = stays_apart }

@@ -1,7 +1,0 @@
-use Rattle.dpj_regions.proofs.Concrete.{matches_concrete, within_matches}
-use Rattle.dpj_disjoint.proofs.Envs.{matches-within}
-use Rattle.dpj_disjoint.proofs.laws.law_regions_as_paths.Goals as goal
-
-pub returns : goal.returns
-returns c = λ given env v a r.
-    (λ m. (matches_concrete given env v a r m, matches-within given env v a r m), λ h. within_matches given env v a r h.0 h.1)

@@ -1,6 +1,0 @@
-use Rattle.std.proofs.Common.{◌≡◌, drop}
-use Rattle.dpj_base.specs.Effects.{has_effect}
-use Rattle.dpj_effects.proofs.set.among.Given as goal
-
-abbrev pub invariant-loop-f : goal.invariant-loop-f
-invariant-loop-f l = has_effect (drop l.f-index l.effects) l.e ≡ has_effect l.effects l.e

@@ -1,6 +1,0 @@
-use Rattle.std.proofs.Common.{◌∙◌}
-use Rattle.dpj_effects.proofs.Sets.{eq-same}
-use Rattle.dpj_effects.proofs.set.same.Goals as goal
-
-pub returns : goal.returns
-returns c = c.eq.ensures ∙ eq-same c.args.e.now c.args.f.now

@@ -1,7 +1,0 @@
-use Rattle.std.proofs.Common.{◌≡◌, ◌==◌, drop, map}
-use Rattle.std.specs.List.{list_any}
-use Rattle.dpj_elide.proofs.copies.is_among.Given as goal
-
-abbrev pub invariant-loop-other : goal.invariant-loop-other
-invariant-loop-other l =
-    list_any (λ y. l.slot == y) (map (λ s. s.number) (drop l.other-index l.slots)) ≡ list_any (λ y. l.slot == y) (map (λ s. s.number) l.slots)

@@ -1,8 +1,0 @@
-use Rattle.dpj_frames.specs.Names.{In_order}
-use Rattle.dpj_elide.proofs.walker.Walker.call.Given as goal
-
-abbrev pub ghost-concrete_all : goal.ghost-concrete_all
-ghost-concrete_all a = In_order
-
-abbrev pub ghost-some_long : goal.ghost-some_long
-ghost-some_long a = In_order

@@ -1,6 +1,0 @@
-pub mod States
-pub mod Falls
-pub mod Forms
-pub mod Outcome
-pub mod Work
-pub mod Walks

@@ -1,5 +1,0 @@
-use Rattle.dpj_elided.proofs.Theorems.{none_costs_more_than_elision, runs_are_elided, schedules_are_elided}
-use Rattle.dpj_elided.proofs.laws.law_determinism.Goals as goal
-
-pub returns : goal.returns
-returns c = record { runs = runs_are_elided; schedules = schedules_are_elided; cost = none_costs_more_than_elision }

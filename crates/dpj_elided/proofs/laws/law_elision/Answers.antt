@@ -1,6 +1,0 @@
-use Rattle.dpj_elided.proofs.Scheduled.{elision_is_scheduled}
-use Rattle.dpj_elided.proofs.Theorems.{elision_is_legal}
-use Rattle.dpj_elided.proofs.laws.law_elision.Goals as goal
-
-pub returns : goal.returns
-returns c = record { legal = elision_is_legal; scheduled = elision_is_scheduled }

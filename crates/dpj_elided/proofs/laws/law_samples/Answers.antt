@@ -1,5 +1,0 @@
-use Rattle.dpj_elided.proofs.Samples.{determinism_needs_free, divides_elided, sums_elided}
-use Rattle.dpj_elided.proofs.laws.law_samples.Goals as goal
-
-pub returns : goal.returns
-returns c = record { divides = divides_elided; sums = sums_elided; race = determinism_needs_free }

@@ -1,8 +1,0 @@
-use Rattle.std.proofs.Common.{◌≡◌, map, drop}
-use Rattle.std.specs.List.{list_all}
-use Rattle.dpj_exprs.specs.Typed.{value_type, may_be, is_value}
-use Rattle.dpj_exprs.proofs.calls.all_values.Given as goal
-
-abbrev pub invariant-loop-actual : goal.invariant-loop-actual
-invariant-loop-actual l =
-    list_all (may_be is_value) (map value_type (drop l.actual-index l.actuals)) ≡ list_all (may_be is_value) (map value_type l.actuals)

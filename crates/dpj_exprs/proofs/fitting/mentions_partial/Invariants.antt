@@ -1,8 +1,0 @@
-use Rattle.std.proofs.Common.{◌≡◌, drop}
-use Rattle.dpj_base.specs.Types.{plain_type}
-use Rattle.dpj_exprs.specs.Partial.{mentions_partial}
-use Rattle.dpj_exprs.proofs.fitting.mentions_partial.Given as goal
-
-abbrev pub invariant-loop-number : goal.invariant-loop-number
-invariant-loop-number l =
-    mentions_partial (plain_type l.t) l.number (drop l.number l.args) ≡ mentions_partial (plain_type l.t) 0 l.args

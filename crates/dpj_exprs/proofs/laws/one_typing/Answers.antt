@@ -1,6 +1,0 @@
-use Rattle.dpj_exprs.proofs.Once.{typing-unique}
-use Rattle.dpj_exprs.proofs.OnceTargets.{targeting-unique}
-use Rattle.dpj_exprs.proofs.laws.one_typing.Goals as goal
-
-pub returns : goal.returns
-returns c = record { expressions = typing-unique; targets = targeting-unique }

@@ -1,8 +1,0 @@
-use Rattle.std.proofs.Common.{◌∙◌, ap, arith, reverse, drop}
-use Rattle.dpj_frames.proofs.Lists.{drop_reverse}
-use Rattle.dpj_frames.proofs.stack.Stack.drop_top.Goals as goal
-
-pub returns : goal.returns
-returns g c =
-    ap reverse c.truncate.ensures.items ∙ drop_reverse c.args.many c.saturating_sub.result c.self.inside.items.items (omega arith)
-    ∙ ap (λ l. drop c.args.many l) c.self.view_is

@@ -1,8 +1,0 @@
-//! The law of compiled code, the clause of a function that does nothing.
-
-ghost use Rattle.dpj_going.specs.Going.{CompiledGoesOn};
-
-/// The code of a resolved program that has a `main` goes on, within each limit of steps that a job may have.
-pub fn law_going()
-    ensures goes { CompiledGoesOn }
-{}

@@ -1,6 +1,0 @@
-use Rattle.std.proofs.Common.{◌≡◌, drop}
-use Rattle.dpj_headers.specs.Numbering.{counted_way}
-use Rattle.dpj_headers.proofs.fields.count_fields.Given as goal
-
-abbrev pub invariant-loop-step : goal.invariant-loop-step
-invariant-loop-step l = counted_way l.classes l.parents l.counts.items (drop l.step-index l.steps) ≡ counted_way l.classes l.parents l.initial.counts.items l.steps

@@ -1,6 +1,0 @@
-use Rattle.std.proofs.Common.{◌≡◌, ◌++◌, take}
-use Rattle.dpj_headers.specs.Way.{entered_below}
-use Rattle.dpj_headers.proofs.forest.push_entered.Given as goal
-
-abbrev pub invariant-loop-class : goal.invariant-loop-class
-invariant-loop-class l = l.pending ≡ l.initial.pending ++ entered_below (take l.class-index l.classes)

@@ -1,6 +1,0 @@
-use Rattle.std.proofs.Common.{◌≡◌, drop}
-use Rattle.dpj_headers.specs.Around.{around, methods_left}
-use Rattle.dpj_headers.proofs.members.Visible.leave_methods.Given as goal
-
-abbrev pub invariant-loop-member : goal.invariant-loop-member
-invariant-loop-member l = methods_left (around l.self) (drop l.member-index l.members) ≡ methods_left (around l.initial.self) l.members

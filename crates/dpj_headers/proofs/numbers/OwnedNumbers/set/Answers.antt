@@ -1,4 +1,0 @@
-use Rattle.dpj_headers.proofs.numbers.OwnedNumbers.set.Goals as goal
-
-pub returns : goal.returns
-returns c = λ owner name. c.in_ok-insert.ensures.updates.0 (record { owner = owner; name = name })

@@ -1,6 +1,0 @@
--- Two rows are equal where their regions are.
-use Rattle.dpj_heap.proofs.Keyed.{equal_rows}
-use Rattle.dpj_heap.proofs.row.RowPartialEq.eq.Goals as goal
-
-pub returns : goal.returns
-returns c = rw (← c.self.view_is, ← c.other.view_is) (equal_rows _ _ c.same.result c.same.ensures)

@@ -1,5 +1,0 @@
-use Rattle.dpj_infer.proofs.Alone.{one_inferred}
-use Rattle.dpj_infer.proofs.laws.law_one_inferred.Goals as goal
-
-pub returns : goal.returns
-returns c = one_inferred

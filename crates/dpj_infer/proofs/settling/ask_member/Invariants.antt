@@ -1,6 +1,0 @@
-use Rattle.dpj_typed.specs.Plain.{plain_program}
-use Rattle.dpj_infer.specs.Passes.{Climbs}
-use Rattle.dpj_infer.proofs.settling.ask_member.Given as goal
-
-abbrev pub invariant-loop-standing : goal.invariant-loop-standing
-invariant-loop-standing l = Climbs (plain_program l.program) l.initial.kept l.kept

@@ -1,6 +1,0 @@
-use Rattle.dpj_typed.specs.Plain.{plain_program}
-use Rattle.dpj_infer.specs.Passes.{Climbs}
-use Rattle.dpj_infer.proofs.settling.settle.Given as goal
-
-abbrev pub invariant-loop-round : goal.invariant-loop-round
-invariant-loop-round l = Climbs (plain_program l.program) l.initial.kept l.kept

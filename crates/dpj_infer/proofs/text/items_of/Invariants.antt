@@ -1,8 +1,0 @@
-use Rattle.std.proofs.Common.{◌≡◌, drop}
-use Rattle.std.specs.List.{filter}
-use Rattle.dpj_base.specs.Effects.{gathered, same_access}
-use Rattle.dpj_infer.specs.Lines.{items_of}
-use Rattle.dpj_infer.proofs.text.items_of.Given as goal
-
-abbrev pub invariant-loop-item : goal.invariant-loop-item
-invariant-loop-item l = gathered l.all (filter (λ item. same_access item.access l.access) (drop l.item-index l.item-items)) ≡ items_of l.access l.item-items

@@ -1,8 +1,0 @@
-use Rattle.std.proofs.Common.{◌≡◌, drop}
-use Rattle.dpj_base.specs.Branches.{atomic_path}
-use Rattle.dpj_interfere.specs.Nd.{plain_atomic}
-use Rattle.dpj_interfere.proofs.Ends.{atomic_from}
-use Rattle.dpj_interfere.proofs.atomic.is_atomic.Given as goal
-
-abbrev pub invariant-loop-elem : goal.invariant-loop-elem
-invariant-loop-elem l = atomic_from l.atomic.names.now (drop l.elem-index l.elem-items) l.ends_atomic ≡ atomic_path (plain_atomic l.atomic) l.rpl

@@ -1,6 +1,0 @@
-use Rattle.std.proofs.Common.{take}
-use Rattle.dpj_interfere.specs.InGroups.{Sorted}
-use Rattle.dpj_interfere.proofs.by_group.ByGroup.by.Given as goal
-
-abbrev pub invariant-loop-e : goal.invariant-loop-e
-invariant-loop-e l = Sorted l.key l.keyed l.unkeyed (take l.e-index l.effects)

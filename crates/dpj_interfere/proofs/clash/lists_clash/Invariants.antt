@@ -1,7 +1,0 @@
-use Rattle.std.proofs.Common.{◌≡◌, drop}
-use Rattle.dpj_base.specs.Branches.{lists_clash}
-use Rattle.dpj_interfere.specs.Nd.{plain_nd}
-use Rattle.dpj_interfere.proofs.clash.lists_clash.Given as goal
-
-abbrev pub invariant-loop-e : goal.invariant-loop-e
-invariant-loop-e l = lists_clash l.given (plain_nd l.nd) (drop l.e-index l.effects) l.others ≡ lists_clash l.given (plain_nd l.nd) l.effects l.others

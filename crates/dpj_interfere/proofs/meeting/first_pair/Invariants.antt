@@ -1,8 +1,0 @@
-use Rattle.std.proofs.Common.{IsTrue}
-use Rattle.dpj_base.specs.Pairs.{NoneBefore}
-use Rattle.dpj_base.specs.Branches.{lists_clash}
-use Rattle.dpj_interfere.specs.Nd.{plain_nd}
-use Rattle.dpj_interfere.proofs.meeting.first_pair.Given as goal
-
-abbrev pub invariant-loop-i : goal.invariant-loop-i
-invariant-loop-i l = NoneBefore (λ es fs. IsTrue (lists_clash l.given (plain_nd l.nd) es fs)) l.branches l.i

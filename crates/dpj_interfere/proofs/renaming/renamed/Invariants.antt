@@ -1,6 +1,0 @@
-use Rattle.std.proofs.Common.{◌≡◌, map, take}
-use Rattle.dpj_base.specs.Branches.{renamed_elem}
-use Rattle.dpj_interfere.proofs.renaming.renamed.Given as goal
-
-abbrev pub invariant-loop-elem : goal.invariant-loop-elem
-invariant-loop-elem l = l.elems ≡ map (renamed_elem l.var) (take l.elem-index l.elem-items)

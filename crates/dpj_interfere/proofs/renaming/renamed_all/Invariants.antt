@@ -1,6 +1,0 @@
-use Rattle.std.proofs.Common.{◌≡◌, map, take}
-use Rattle.dpj_base.specs.Branches.{renamed_effect}
-use Rattle.dpj_interfere.proofs.renaming.renamed_all.Given as goal
-
-abbrev pub invariant-loop-e : goal.invariant-loop-e
-invariant-loop-e l = l.made ≡ map (renamed_effect l.var) (take l.e-index l.effects)

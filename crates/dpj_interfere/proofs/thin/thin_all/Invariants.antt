@@ -1,5 +1,0 @@
-use Rattle.dpj_interfere.specs.Kept.{kept, FirstThinned}
-use Rattle.dpj_interfere.proofs.thin.thin_all.Given as goal
-
-abbrev pub invariant-loop-i : goal.invariant-loop-i
-invariant-loop-i l = FirstThinned (kept l.kinds) l.branches l.left l.i

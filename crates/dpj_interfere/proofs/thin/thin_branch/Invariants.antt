@@ -1,7 +1,0 @@
-use Rattle.std.proofs.Common.{◌≡◌, take}
-use Rattle.std.specs.List.{filter}
-use Rattle.dpj_interfere.specs.Kept.{kept}
-use Rattle.dpj_interfere.proofs.thin.thin_branch.Given as goal
-
-abbrev pub invariant-loop-e : goal.invariant-loop-e
-invariant-loop-e l = l.left ≡ filter (kept l.kinds l.branch) (take l.e-index l.effects)

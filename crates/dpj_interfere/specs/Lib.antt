@@ -1,6 +1,0 @@
-pub mod Groups
-pub mod InGroups
-pub mod Kept
-pub mod Laws
-pub mod Nd
-pub mod Thinned

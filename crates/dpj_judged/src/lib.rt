@@ -1,9 +1,0 @@
-//! Each program is judged: over its class table its bodies pass, or one of them has a first fault. Laws over the definitions of
-//! the checker's rules, with no code of their own.
-//!
-//! The rules of bodies (`dpj_exprs`, `dpj_check`) are relations. The laws of those crates say that there is one answer at most;
-//! `specs/Laws.antt` says that there is one, whatever the program and its table: no construct falls between the rules, and none
-//! is left to the checker's running. It says besides what a program whose bodies pass keeps to.
-#![tactic(auto)]
-
-pub mod laws;

@@ -1,5 +1,0 @@
-use Rattle.dpj_frames.specs.Names.{Of_task}
-use Rattle.dpj_legs.proofs.calls.after_creation.Given as goal
-
-abbrev pub ghost-concrete_all : goal.ghost-concrete_all
-ghost-concrete_all a = Of_task 0

@@ -1,5 +1,0 @@
-use Rattle.dpj_frames.specs.Names.{Of_task}
-use Rattle.dpj_legs.proofs.regions.concrete_effect.Given as goal
-
-abbrev pub ghost-concrete : goal.ghost-concrete
-ghost-concrete a = Of_task 0

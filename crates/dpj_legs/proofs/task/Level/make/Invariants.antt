@@ -1,8 +1,0 @@
-use Rattle.dpj_frames.specs.Names.{Of_task}
-use Rattle.dpj_legs.proofs.task.Level.make.Given as goal
-
-abbrev pub ghost-concrete_all : goal.ghost-concrete_all
-ghost-concrete_all a = Of_task 0
-
-abbrev pub ghost-some_long : goal.ghost-some_long
-ghost-some_long a = Of_task 0

@@ -1,6 +1,0 @@
-use Rattle.dpj_base.specs.Pairs.{NoneBetween}
-use Rattle.dpj_locals.specs.Clash.{Clash}
-use Rattle.dpj_locals.proofs.clashes.clash_after.Given as goal
-
-abbrev pub invariant-loop-j : goal.invariant-loop-j
-invariant-loop-j l = NoneBetween Clash l.branches l.fn.i l.j

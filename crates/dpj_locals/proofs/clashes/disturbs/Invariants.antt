@@ -1,6 +1,0 @@
-use Rattle.std.proofs.Common.{ℕ, ◌<◌, get_or}
-use Rattle.dpj_locals.specs.Clash.{Uses}
-use Rattle.dpj_locals.proofs.clashes.disturbs.Given as goal
-
-abbrev pub invariant-loop-local : goal.invariant-loop-local
-invariant-loop-local l = (k : ℕ) → k < l.local-index → Uses l.other (get_or l.local-items k 0) → ⊥

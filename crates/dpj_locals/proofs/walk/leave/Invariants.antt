@@ -1,7 +1,0 @@
-use Rattle.std.proofs.Common.{◌≡◌, ℕ, not, ◌&&◌, drop}
-use Rattle.dpj_locals.specs.Gains.{has, is_noted}
-use Rattle.dpj_locals.proofs.walk.leave.Given as goal
-
-abbrev pub invariant-loop-name : goal.invariant-loop-name
-invariant-loop-name l =
-    (x : ℕ) → (has l.inside x && not (is_noted (drop l.name-index l.declared) x)) ≡ (has l.fn.inside x && not (is_noted l.declared x))

@@ -1,6 +1,0 @@
-use Rattle.std.proofs.Common.{◌≤◌, length}
-use Rattle.dpj_machine.specs.Keeping.{GreedilyOn}
-use Rattle.dpj_machine.proofs.machine.Machine.finish.Given as goal
-
-abbrev pub invariant-loop-turn : goal.invariant-loop-turn
-invariant-loop-turn l = GreedilyOn l.fn.self l.self × (l._turn ≤ length l.self.schedule)

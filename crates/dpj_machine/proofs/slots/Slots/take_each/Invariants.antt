@@ -1,8 +1,0 @@
-use Rattle.std.proofs.Common.{◌≡◌, All}
-use Rattle.dpj_code.specs.Plain.{PlainCode}
-use Rattle.dpj_machine.specs.Away.{CanGoAway, EachCanGo, put_back}
-use Rattle.dpj_machine.proofs.slots.Slots.take_each.Given as goal
-
-abbrev pub invariant-loop-number : goal.invariant-loop-number
-invariant-loop-number l =
-    (put_back l.self l.away.items ≡ l.fn.self) × ((C : PlainCode) → EachCanGo C l.fn.self → EachCanGo C l.self × All (CanGoAway C) l.away.items)

@@ -1,4 +1,0 @@
-pub mod Inherited
-pub mod Overridden
-pub mod RowNumbers
-pub mod Visible

@@ -1,5 +1,0 @@
-use Rattle.dpj_parse.proofs.members.member.Goals as goal
-use Rattle.dpj_parse.proofs.MemberParts.{member_reads}
-
-pub returns-clause-reads : goal.returns-clause-reads
-returns-clause-reads c = member_reads c.in_ok-member.ensures.moves.level c.in_ok-member.ensures.reads

@@ -1,7 +1,0 @@
-use Rattle.std.proofs.Common.{◌≡◌, [], map, drop}
-use Rattle.dpj_base.specs.Effects.{gathered}
-use Rattle.dpj_parts.specs.Uses.{use_effect}
-use Rattle.dpj_parts.proofs.parts.as_effects.Given as goal
-
-abbrev pub invariant-loop-part_use : goal.invariant-loop-part_use
-invariant-loop-part_use l = gathered l.set (map use_effect (drop l.part_use-index l.uses)) ≡ gathered [] (map use_effect l.uses)

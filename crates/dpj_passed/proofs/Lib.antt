@@ -1,3 +1,0 @@
-pub mod Keeping
-pub mod Alone
-pub mod Every

@@ -1,6 +1,0 @@
-pub mod Joined
-pub mod Greedy
-pub mod Reducing
-pub mod Few
-pub mod Going
-pub mod Inside

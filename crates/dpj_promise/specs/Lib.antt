@@ -1,3 +1,0 @@
-pub mod Promise
-pub mod Reduced
-pub mod Inside

@@ -1,6 +1,0 @@
-use Rattle.std.proofs.Common.{◌≡◌, ◌++◌, drop}
-use Rattle.dpj_reach.specs.Edges.{edges_from}
-use Rattle.dpj_reach.proofs.forking.add_calls.Given as goal
-
-abbrev pub invariant-loop-to : goal.invariant-loop-to
-invariant-loop-to l = l.edges ++ edges_from l.from (drop l.to-index l.called) ≡ l.initial.edges ++ edges_from l.from l.called

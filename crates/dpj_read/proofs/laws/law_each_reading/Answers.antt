@@ -1,5 +1,0 @@
-use Rattle.dpj_read.proofs.Readings.{each_reading}
-use Rattle.dpj_read.proofs.laws.law_each_reading.Goals as goal
-
-pub returns : goal.returns
-returns c = record { some = each_reading c.one_refusal.ensures }

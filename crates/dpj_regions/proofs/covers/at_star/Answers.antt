@@ -1,7 +1,0 @@
-use Rattle.std.proofs.Common.{sym, ◌∙◌}
-use Rattle.dpj_base.specs.declared.elems.Elem.TheVariants.{Name}
-use Rattle.dpj_regions.proofs.Segments.{NoStar-push}
-use Rattle.dpj_regions.proofs.covers.at_star.Goals as goal
-
-pub loop-at-preserved : goal.loop-at-preserved
-loop-at-preserved c = NoStar-push c.args.path.now c.loop-at.at (Name 0) c.loop-at-test.true c.loop-at.invariant (sym c.is_star.ensures ∙ c.if-is_star.false)

@@ -1,6 +1,0 @@
-use Rattle.std.proofs.Common.{◌≡◌, drop}
-use Rattle.dpj_regions.specs.Segments.{after_first}
-use Rattle.dpj_regions.proofs.covers.skip_to.Given as goal
-
-abbrev pub invariant-loop-at : goal.invariant-loop-at
-invariant-loop-at l = after_first l.segment (drop l.at l.list) ≡ after_first l.segment l.list

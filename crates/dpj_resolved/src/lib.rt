@@ -1,9 +1,0 @@
-//! What accepted programs have that no code asks for: lemmas for the laws which say that such a program is well typed, and one law.
-//!
-//! `specs/Accepted.antt` says what it is that the checker accepts: a class table that has rows and no fault, and bodies that pass.
-//! The law says that the table of a text which isn't too long has rows. The lemmas are cited by `dpj_declared`, `dpj_inherited` and
-//! `dpj_accepted`: where no fault is reported none was found, what is written without faults is known, and each method of the table
-//! has a member in the program that is put together.
-#![tactic(auto)]
-
-pub mod laws;

@@ -1,6 +1,0 @@
-pub mod Facts
-pub mod Few
-pub mod Given
-pub mod Numbers
-pub mod Stand
-pub mod Way

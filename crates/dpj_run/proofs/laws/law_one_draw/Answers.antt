@@ -1,5 +1,0 @@
-use Rattle.dpj_run.proofs.Seeded.{one_draw}
-use Rattle.dpj_run.proofs.laws.law_one_draw.Goals as goal
-
-pub returns : goal.returns
-returns c = one_draw

@@ -1,4 +1,0 @@
-pub mod Run
-pub mod Replays
-pub mod Rounding
-pub mod Seeding

@@ -1,5 +1,0 @@
-use Rattle.dpj_runs.proofs.Finishing.{schedules_agree}
-use Rattle.dpj_runs.proofs.laws.law_determinism.Goals as goal
-
-pub returns : goal.returns
-returns c = record { schedules = λ P D free L ks js o q f g. schedules_agree P D free L ks js o q f g }

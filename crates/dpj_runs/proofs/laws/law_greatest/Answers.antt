@@ -1,6 +1,0 @@
-use Rattle.dpj_runs.proofs.Theorems.{greatest_first}
-use Rattle.dpj_runs.proofs.Finishing.{greatest_finishes}
-use Rattle.dpj_runs.proofs.laws.law_greatest.Goals as goal
-
-pub returns : goal.returns
-returns c = record { in_order = greatest_first; finishes = λ P D V T K C L w. greatest_finishes P D V T K C L w }

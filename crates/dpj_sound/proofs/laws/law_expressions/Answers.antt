@@ -1,6 +1,0 @@
-use Rattle.dpj_sound.proofs.Looking.{calls_enter_what_they_see}
-use Rattle.dpj_sound.proofs.Typed.{expressions_in_order}
-use Rattle.dpj_sound.proofs.laws.law_expressions.Goals as goal
-
-pub returns : goal.returns
-returns c = record { expressions = expressions_in_order; calls = calls_enter_what_they_see }

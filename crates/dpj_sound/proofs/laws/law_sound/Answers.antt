@@ -1,5 +1,0 @@
-use Rattle.dpj_sound.proofs.Keeping.{runs_are_sound}
-use Rattle.dpj_sound.proofs.laws.law_sound.Goals as goal
-
-pub returns : goal.returns
-returns c = runs_are_sound

@@ -1,7 +1,0 @@
-use Rattle.dpj_sound.proofs.Root.{root_in_order}
-use Rattle.dpj_sound.proofs.Statements.{forking_in_order}
-use Rattle.dpj_sound.proofs.Tasks.{tasks_in_order, branches_in_order}
-use Rattle.dpj_sound.proofs.laws.law_statements.Goals as goal
-
-pub returns : goal.returns
-returns c = record { statements = forking_in_order; tasks = tasks_in_order; branches = branches_in_order; root = root_in_order }

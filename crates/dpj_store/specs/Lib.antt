@@ -1,3 +1,0 @@
-pub mod Halts
-pub mod Stores
-pub mod Cells

@@ -1,9 +1,0 @@
-use Rattle.std.proofs.Common.{◌≡◌, ◌-◌, length}
-use Rattle.dpj_headers.specs.Headers.{chain, nearest, parent_of, upwards}
-use Rattle.dpj_table.specs.Table.{own_field}
-use Rattle.dpj_table.proofs.table.Table.field.Given as goal
-
-abbrev pub invariant-loop-step : goal.invariant-loop-step
-invariant-loop-step l =
-    nearest (λ above. own_field l.self above l.name) (chain (parent_of l.self.headers) (length l.self.headers.rows - l._step) l.at)
-    ≡ nearest (λ above. own_field l.self above l.name) (upwards l.self.headers l.class)

@@ -1,5 +1,0 @@
-pub mod Finding
-pub mod Main
-pub mod Places
-pub mod Plain
-pub mod Table

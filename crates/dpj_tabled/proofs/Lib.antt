@@ -1,4 +1,0 @@
-pub mod Rounds
-pub mod Marks
-pub mod Rows
-pub mod Tables

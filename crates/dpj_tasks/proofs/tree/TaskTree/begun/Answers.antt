@@ -1,9 +1,0 @@
--- No task from the count on.
-use Rattle.std.proofs.Common.{◌≡◌, ◌≤◌, ℕ, subst, sym, None}
-use Rattle.dpj_tasks.specs.Tree.{Tree, task_at}
-use Rattle.dpj_tasks.proofs.Numbers.{absent_from}
-use Rattle.dpj_tasks.proofs.tree.TaskTree.begun.Goals as goal
-
-pub returns-clause-all : goal.returns-clause-all
-returns-clause-all c =
-    subst (λ (t : Tree). (q : ℕ) → t.begun ≤ q → task_at t q ≡ None) c.self.view_is (absent_from c.self.inside.tasks c.self.inside.begun c.self.invariant)

@@ -1,7 +1,0 @@
-use Rattle.std.proofs.Common.{◌≡◌, ◌+◌, ◌-◌, ◌*◌, drop}
-use Rattle.std.specs.List.{fold}
-use Rattle.dpj_base.specs.Lexical.{decimal_value}
-use Rattle.dpj_terminals.proofs.spelling.number.Given as goal
-
-abbrev pub invariant-loop-digit : goal.invariant-loop-digit
-invariant-loop-digit l = fold (λ n b. 10 * n + (b - 48)) l.value (drop l.digit-index l.digits) ≡ decimal_value l.digits

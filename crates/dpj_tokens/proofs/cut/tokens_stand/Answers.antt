@@ -1,5 +1,0 @@
-use Rattle.dpj_tokens.proofs.Spans.{cuts-stand}
-use Rattle.dpj_tokens.proofs.cut.tokens_stand.Goals as goal
-
-pub returns : goal.returns
-returns c = cuts-stand

@@ -1,7 +1,0 @@
-use Rattle.std.proofs.Common.{◌≡◌, ◌≤◌, ◌+◌, ◌-◌, ◌*◌, drop}
-use Rattle.std.specs.List.{fold}
-use Rattle.dpj_base.specs.Lexical.{decimal_value}
-use Rattle.dpj_tokens.proofs.piece.is_too_great.Given as goal
-
-abbrev pub invariant-loop-digit : goal.invariant-loop-digit
-invariant-loop-digit l = (l.value ≤ 2147483647) × (fold (λ n b. 10 * n + (b - 48)) l.value (drop l.digit-index l.digits) ≡ decimal_value l.digits)

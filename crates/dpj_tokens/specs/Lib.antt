@@ -1,6 +1,0 @@
-pub mod Cutting
-pub mod Fault
-pub mod Piece
-pub mod Place
-pub mod Reading
-pub mod Spelling

@@ -1,8 +1,0 @@
-use Rattle.std.proofs.Common.{sym}
-use Rattle.dpj_top.proofs.Verdicts.{faulty-answer}
-use Rattle.dpj_top.proofs.answers.answer.Goals as goal
-
-pub returns-in-Err-Refused : goal.returns-in-Err-Refused
-returns-in-Err-Refused g c =
-    let fault = rw c.in-Err-Refused.field-0-is at c.in-Err-Refused.ensures.fault in
-    faulty-answer c.args.job.now c.args.text.now c.in-Err-Refused.refusal _ c.refused.result (sym c.in-Err-Refused.refusal-is) c.refused.ensures c.requires.short fault

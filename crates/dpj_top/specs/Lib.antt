@@ -1,4 +1,0 @@
-pub mod Answer
-pub mod Call
-pub mod Replaying
-pub mod Promise

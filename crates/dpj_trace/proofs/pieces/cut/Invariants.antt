@@ -1,6 +1,0 @@
-use Rattle.std.proofs.Common.{take}
-use Rattle.dpj_trace.proofs.Cutting.{Without}
-use Rattle.dpj_trace.proofs.pieces.cut.Given as goal
-
-abbrev pub invariant-loop-at : goal.invariant-loop-at
-invariant-loop-at l = Without l.byte (take l.at l.text)

@@ -1,5 +1,0 @@
-use Rattle.dpj_types.proofs.Order.{subtype-refl, subtype-trans, subtype-parent}
-use Rattle.dpj_types.proofs.laws.law_subtyping.Goals as goal
-
-pub returns : goal.returns
-returns c = record { reflexive = subtype-refl; transitive = subtype-trans; superclass = subtype-parent }

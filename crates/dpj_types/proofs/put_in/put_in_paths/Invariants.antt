@@ -1,6 +1,0 @@
-use Rattle.std.proofs.Common.{◌≡◌, take, map}
-use Rattle.dpj_base.specs.Regions.{substituted}
-use Rattle.dpj_types.proofs.put_in.put_in_paths.Given as goal
-
-abbrev pub invariant-loop-path : goal.invariant-loop-path
-invariant-loop-path l = l.made ≡ map (substituted l.args) (take l.path-index l.paths)

@@ -1,3 +1,0 @@
-pub mod Depth
-pub mod Laws
-pub mod Same

@@ -1,3 +1,0 @@
-pub mod Agenda
-pub mod Walk
-pub mod Laws

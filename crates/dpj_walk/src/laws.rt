@@ -1,9 +1,0 @@
-//! Laws of the walk, each the clause of a function that does nothing.
-
-ghost use Rattle.dpj_walk.specs.Laws.{TellsElision, StaysOver};
-
-/// A walk that is over tells the elision's outcome, and one that is over a limit tells that the elision is.
-pub fn law_walk()
-    ensures tells { TellsElision }
-    ensures limited { StaysOver }
-{}

@@ -1,4 +1,0 @@
-pub mod Prefixes
-pub mod Values
-pub mod Numbers
-pub mod Texts

@@ -1,5 +1,0 @@
-use Rattle.dpj_words.proofs.Texts.{numbers_law, arguments_law}
-use Rattle.dpj_words.proofs.laws.law_values.Goals as goal
-
-pub returns : goal.returns
-returns c = record { numbers = numbers_law; arguments = arguments_law }

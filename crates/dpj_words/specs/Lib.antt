@@ -1,4 +1,0 @@
-pub mod Words
-pub mod Jobs
-pub mod Reports
-pub mod Laws

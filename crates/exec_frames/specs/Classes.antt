@@ -1,0 +1,12 @@
+-- A class with its region arguments.
+use Rattle.std.specs.Prelude.{ℕ, List, map}
+use Rattle.lang_meaning.specs.Values.{Region}
+use Rattle.lang_meaning.specs.Elision.{LocalRegion}
+use Rattle.exec_frames.specs.Names.{Reading, In_order, LocalOf, region_by}
+use Rattle.exec_frames.specs.declared.classes.Seen.{Seen}
+
+abbrev pub seen_by : (k : Reading) → Seen → ℕ × List (Region (LocalOf k))
+seen_by k s = (s.class, map (region_by k) s.regions)
+
+abbrev pub plain_seen : Seen → ℕ × List (Region LocalRegion)
+plain_seen = seen_by In_order

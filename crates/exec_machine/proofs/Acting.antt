@@ -1,0 +1,124 @@
+-- Actions after which a task goes on, and the answers to them.
+use Rattle.std.proofs.Common.{arith, ◌≡◌, ◌<◌, ◌^◌, ℕ, ℤ, pos, negsuc, Bool, true, false, cond, List, length, refl, sym, ap, ◌∙◌, subst, Option, Some, None, slice_get}
+use Rattle.lang_base.specs.declared.effect.Effect.{Effect}
+use Rattle.lang_base.specs.declared.place.Place.{Place}
+use Rattle.lang_base.specs.declared.value.SlotValue.{SlotValue}
+use Rattle.lang_base.specs.declared.value.Trap.{Trap}
+use Rattle.lang_base.specs.declared.value.Value.{Value}
+use Rattle.lang_meaning.specs.Actions as meaning
+use Rattle.code_instrs.specs.Legs.{Halt, Asks, Finished, Dead}
+use Rattle.code_instrs.specs.Machine.{State}
+use Rattle.code_instrs.specs.Plain.{PlainCode}
+use Rattle.exec_heap.specs.Heap.{Object, instance, array, object_at, values_of}
+use Rattle.exec_task.specs.Answers.{IsCounted}
+use Rattle.exec_task.specs.Halts.{Tells}
+use Rattle.exec_task.specs.declared.action.Action.{Action}
+use Rattle.exec_task.specs.declared.action.Action.TheVariants as action
+use Rattle.exec_task.specs.declared.action.Answer.{Answer}
+use Rattle.exec_task.specs.declared.action.Answer.TheVariants as answer
+use Rattle.exec_task.specs.declared.action.Ending.{Ending}
+use Rattle.exec_tasks.specs.Join.{first_trap, all_slots}
+use Rattle.exec_tasks.specs.Tree.{ends_in, task_at}
+use Rattle.exec_world.specs.World.{got, read_at, has_index, wrote_at, seen, fell_or, answer_at, FitsAt}
+use Rattle.exec_world.specs.declared.world.World.{World}
+use Rattle.exec_machine.specs.Running.{Running, answered}
+use Rattle.exec_machine.specs.Replay.{goes_on, with_branch, outcome_after, HasStart}
+use Rattle.exec_machine.specs.Wants.{WantsRightly}
+
+-- an action that neither begins a branch nor ends its task
+pub record IsOrdinary (a : Action) : Type 0 where
+  pub branch : (C : PlainCode) (z : State ℕ (ℕ × ℕ)) (n : ℕ) (tasks : ℕ → Option Running) → with_branch C z a n tasks ≡ tasks
+  pub on : (h : Halt ℕ (ℕ × ℕ)) (x : Answer) → goes_on a h x ≡ answered h x
+  pub out : (v w : World) (k : ℕ) → outcome_after v w k a ≡ None
+  pub start : (C : PlainCode) (z : State ℕ (ℕ × ℕ)) → HasStart C z a
+  pub no_end : (e : Ending) → a ≡ action.End e → ⊥
+
+pub ordinary : (a : Action) → ((b : ℕ) → a ≡ action.Begin b → ⊥) → ((e : Ending) → a ≡ action.End e → ⊥) → IsOrdinary a
+ordinary action.Rest b e = record { branch = λ C z n tasks. refl; on = λ h x. refl; out = λ v w k. refl; start = λ C z. tt; no_end = e }
+ordinary (action.Read n j) b e = record { branch = λ C z n tasks. refl; on = λ h x. refl; out = λ v w k. refl; start = λ C z. tt; no_end = e }
+ordinary (action.Write n j v) b e = record { branch = λ C z n tasks. refl; on = λ h x. refl; out = λ v w k. refl; start = λ C z. tt; no_end = e }
+ordinary (action.Look n) b e = record { branch = λ C z n tasks. refl; on = λ h x. refl; out = λ v w k. refl; start = λ C z. tt; no_end = e }
+ordinary (action.NewObject c rs constructor) b e = record { branch = λ C z n tasks. refl; on = λ h x. refl; out = λ v w k. refl; start = λ C z. tt; no_end = e }
+ordinary (action.NewArray region len first) b e = record { branch = λ C z n tasks. refl; on = λ h x. refl; out = λ v w k. refl; start = λ C z. tt; no_end = e }
+ordinary (action.Print bytes) b e = record { branch = λ C z n tasks. refl; on = λ h x. refl; out = λ v w k. refl; start = λ C z. tt; no_end = e }
+ordinary (action.Enter effects) b e = record { branch = λ C z n tasks. refl; on = λ h x. refl; out = λ v w k. refl; start = λ C z. tt; no_end = e }
+ordinary action.Exit b e = record { branch = λ C z n tasks. refl; on = λ h x. refl; out = λ v w k. refl; start = λ C z. tt; no_end = e }
+ordinary (action.Fork forking many) b e = record { branch = λ C z n tasks. refl; on = λ h x. refl; out = λ v w k. refl; start = λ C z. tt; no_end = e }
+ordinary (action.Begin n) b e = absurd (b n refl)
+ordinary action.Join b e = record { branch = λ C z n tasks. refl; on = λ h x. refl; out = λ v w k. refl; start = λ C z. tt; no_end = e }
+ordinary (action.End x) b e = absurd (e x refl)
+
+-- a task that makes an action which isn't its end stands where it is answered
+not_finished : (C : PlainCode) (a : Action) (turns : ℕ) (x : meaning.Ending ℕ) → ((e : Ending) → a ≡ action.End e → ⊥) → Tells C a (Finished turns x) → ⊥
+not_finished C action.Rest turns x n t = cc
+not_finished C (action.Read m j) turns x n t = cc
+not_finished C (action.Write m j v) turns x n t = cc
+not_finished C (action.Look m) turns x n t = cc
+not_finished C (action.NewObject c rs constructor) turns x n t = cc
+not_finished C (action.NewArray region len first) turns x n t = cc
+not_finished C (action.Print bytes) turns x n t = cc
+not_finished C (action.Enter effects) turns x n t = cc
+not_finished C action.Exit turns x n t = cc
+not_finished C (action.Fork forking many) turns x n t = let e = t.1 in cc
+not_finished C (action.Begin b) turns x n t = cc
+not_finished C action.Join turns x n t = cc
+not_finished C (action.End e) turns x n t = n e refl
+
+pub goes_further : (C : PlainCode) (a : Action) (h : Halt ℕ (ℕ × ℕ)) (x : Answer) → ((e : Ending) → a ≡ action.End e → ⊥) → Tells C a h
+    → (t : Running) × (answered h x ≡ Some t)
+goes_further C a (Asks turns made act on) x n t = (_, refl)
+goes_further C a (Finished turns e) x n t = absurd (not_finished C a turns e n t)
+goes_further C a Dead x n t = absurd t
+
+counted_got : (o : Option Value) → IsCounted (got o)
+counted_got None = tt
+counted_got (Some v) = tt
+
+counted_read : (o : Object) (j : ℤ) → IsCounted (read_at o j)
+counted_read o (pos k) = counted_got (slice_get (values_of o) k)
+counted_read o (negsuc k) = tt
+
+counted_write : (b : Bool) → IsCounted (cond b answer.Went answer.Out)
+counted_write true = tt
+counted_write false = tt
+
+counted_seen : (o : Object) → length (values_of o) < 2 ^ 31 → IsCounted (seen o)
+counted_seen (instance c rs fs) h = tt
+counted_seen (array p es) h = h
+
+counted_join : (o : Option (Trap × Place)) (slots : List SlotValue) → IsCounted (fell_or o slots)
+counted_join None slots = tt
+counted_join (Some trap) slots = tt
+
+-- an answer counts no more than a value holds
+pub counted : (w : World) (k : ℕ) (wants : Option (List Effect)) (a : Action) → FitsAt w k wants a → IsCounted (answer_at w k a)
+counted w k wants action.Rest f = tt
+counted w k wants (action.Read n j) f = counted_read (object_at w.heap n) j
+counted w k wants (action.Write n j v) f = counted_write (has_index (object_at w.heap n) j)
+counted w k wants (action.Look n) f = counted_seen (object_at w.heap n) f.1
+counted w k wants (action.NewObject c rs constructor) f = tt
+counted w k wants (action.NewArray region len first) f = tt
+counted w k wants (action.Print bytes) f = tt
+counted w k wants (action.Enter effects) f = tt
+counted w k wants action.Exit f = tt
+counted w k wants (action.Fork forking many) f = tt
+counted w k wants (action.Begin b) f = tt
+counted w k wants action.Join f = counted_join (first_trap (ends_in (task_at w.tree k))) (all_slots (ends_in (task_at w.tree k)))
+counted w k wants (action.End e) f = tt
+
+-- of a task that doesn't rest nothing is asked that it wants
+pub wants_nothing : (C : PlainCode) (z : State ℕ (ℕ × ℕ)) (turns : ℕ) (a : Action) (wants : Option (List Effect)) → (a ≡ action.Rest → ⊥)
+    → WantsRightly C z turns a wants
+wants_nothing C z turns action.Rest wants n = absurd (n refl)
+wants_nothing C z turns (action.Read m j) wants n = tt
+wants_nothing C z turns (action.Write m j v) wants n = tt
+wants_nothing C z turns (action.Look m) wants n = tt
+wants_nothing C z turns (action.NewObject c rs constructor) wants n = tt
+wants_nothing C z turns (action.NewArray region len first) wants n = tt
+wants_nothing C z turns (action.Print bytes) wants n = tt
+wants_nothing C z turns (action.Enter effects) wants n = tt
+wants_nothing C z turns action.Exit wants n = tt
+wants_nothing C z turns (action.Fork forking many) wants n = tt
+wants_nothing C z turns (action.Begin b) wants n = tt
+wants_nothing C z turns action.Join wants n = tt
+wants_nothing C z turns (action.End e) wants n = tt

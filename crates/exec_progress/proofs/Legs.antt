@@ -1,0 +1,84 @@
+-- The legs of tasks that began at good starts: a start is good where its legs end and it never is stuck.
+use Rattle.std.proofs.Common.{◌≡◌, ◌≤◌, ℕ, zero, suc, ◌+◌, Bool, true, false, if◌then◌else◌, ◌==◌, List, [], ◌∷◌, refl, sym, ap, ◌∙◌, subst, Option, Some, None, arith}
+use Rattle.lang_meaning.specs.Values.{Naming}
+use Rattle.lang_meaning.specs.Actions.{Rest, Action, Do, Answer, Unknown}
+use Rattle.lang_meaning.specs.Asking.{most_turns}
+use Rattle.code_instrs.specs.Plain.{PlainCode}
+use Rattle.code_instrs.specs.Machine.{Start, State, Stand, Goes, Turns, Makes, Waits, Ends, Stuck, step, begins_at, Solo}
+use Rattle.code_instrs.specs.Legs.{Halt, Asks, Finished, Dead, legged_turn, legged, leg, Leg, Halts, said}
+use Rattle.code_instrs.proofs.Legs.{legs_are_solo}
+use Rattle.code_scheme.specs.Laws.{LegsEndOf}
+use Rattle.exec_task.specs.Halts.{stands}
+use Rattle.exec_task.specs.Names.{names_of}
+use Rattle.exec_machine.specs.Running.{Running, at_start, front}
+
+-- a task makes no more local regions than turns
+module _ {N M : Type 0} (names : Naming N M) (C : PlainCode) where
+  abbrev Counted : (ℕ → ℕ → State N M → Option (Halt N M)) → Type 0
+  Counted more =
+      (turns made : ℕ) (s : State N M) (n m : ℕ) (a : Action N M (Start N M)) (k : Answer N M → State N M) → more turns made s ≡ Some (Asks n m a k) →
+      m + turns ≤ made + n
+
+  turn_counted : (more : ℕ → ℕ → State N M → Option (Halt N M)) → Counted more → (turns made : ℕ) (s : State N M) (n m : ℕ)
+      (a : Action N M (Start N M)) (k : Answer N M → State N M) → legged_turn more turns made s ≡ Some (Asks n m a k) → m + suc turns ≤ made + n
+  turn_counted more rec turns made s n m a k e = go (suc turns == most_turns) e
+    where
+      go : (b : Bool) → (if b then Some (Asks (suc turns) made (Do Rest) (λ x. s)) else more (suc turns) made s) ≡ Some (Asks n m a k) → m + suc turns ≤ made + n
+      go true i = let turns_are : suc turns ≡ n = cc in let made_are : made ≡ m = cc in omega (arith, turns_are, made_are)
+      go false i = rec (suc turns) made s n m a k i
+
+  stand_counted : (more : ℕ → ℕ → State N M → Option (Halt N M)) → Counted more → (turns made : ℕ) (o : Stand N M) (n m : ℕ)
+      (a : Action N M (Start N M)) (k : Answer N M → State N M) → legged names more turns made o ≡ Some (Asks n m a k) → m + turns ≤ made + n
+  stand_counted more rec turns made (Goes s) n m a k e = rec turns made s n m a k e
+  stand_counted more rec turns made (Turns s) n m a k e = let le = turn_counted more rec turns made s n m a k e in omega (arith, le)
+  stand_counted more rec turns made (Makes j) n m a k e = let le = turn_counted more rec turns (suc made) (j (names.made made)) n m a k e in omega (arith, le)
+  stand_counted more rec turns made (Waits b j) n m a k e = let turns_are : turns ≡ n = cc in let made_are : made ≡ m = cc in omega (arith, turns_are, made_are)
+  stand_counted more rec turns made (Ends d) n m a k e = absurd (cc)
+  stand_counted more rec turns made Stuck n m a k e = absurd (cc)
+
+  pub leg_counted : (fuel : ℕ) → Counted (λ turns made s. leg names C fuel turns made s)
+  leg_counted zero turns made s n m a k e = absurd (cc)
+  leg_counted (suc fuel) turns made s n m a k e = stand_counted (λ t q s. leg names C fuel t q s) (leg_counted fuel) turns made (step names C s) n m a k e
+
+-- where a task stands tells its turns and its local regions
+abbrev pub TellsCounts : ℕ → ℕ → Halt ℕ (ℕ × ℕ) → Type 0
+TellsCounts turns made (Asks n m a k) = (n ≡ turns) × (m ≡ made)
+TellsCounts turns made (Finished n e) = Unit {0}
+TellsCounts turns made Dead = Unit {0}
+
+pub front_counts : (C : PlainCode) (k turns made : ℕ) (z : State ℕ (ℕ × ℕ)) → TellsCounts turns made (front C k turns made z)
+front_counts C k turns made z = go (turns == most_turns)
+  where
+    at : (o : Stand ℕ (ℕ × ℕ)) → TellsCounts turns made (stands turns made o)
+    at (Waits a k) = (refl, refl)
+    at (Ends e) = tt
+    at (Goes s) = tt
+    at (Turns s) = tt
+    at (Makes k) = tt
+    at Stuck = tt
+
+    go : (b : Bool) → TellsCounts turns made (if b then Asks turns made (Do Rest) (λ x. z) else stands turns made (step (names_of k) C z))
+    go true = (refl, refl)
+    go false = at (step (names_of k) C z)
+
+-- where a task of a run may be that began so: at its start, or after an answer to where it stood
+pub data ComesTo (C : PlainCode) (k : ℕ) (b : Start ℕ (ℕ × ℕ)) : Running → Type 0 where
+  at_first : ComesTo C k b (at_start b)
+  after_answer : (got : List (Answer ℕ (ℕ × ℕ))) (n m : ℕ) (a : Action ℕ (ℕ × ℕ) (Start ℕ (ℕ × ℕ))) (f : Answer ℕ (ℕ × ℕ) → State ℕ (ℕ × ℕ)) →
+      Halts (names_of k) C b got (Asks n m a f) → (x : Answer ℕ (ℕ × ℕ)) → ComesTo C k b (record { state = f x; made = m })
+
+module _ (C : PlainCode) (k : ℕ) (b : Start ℕ (ℕ × ℕ)) where
+  pub next_leg : LegsEndOf (names_of k) C b → (t : Running) → ComesTo C k b t → (h : Halt ℕ (ℕ × ℕ)) × Leg (names_of k) C t.made t.state h
+  next_leg ends t at_first = ends.first
+  next_leg ends t (after_answer got n m a f halts x) = ends.later got n m a f halts x
+
+  -- after one more answer
+  pub comes_on : (t : Running) → ComesTo C k b t → (n m : ℕ) (a : Action ℕ (ℕ × ℕ) (Start ℕ (ℕ × ℕ))) (f : Answer ℕ (ℕ × ℕ) → State ℕ (ℕ × ℕ)) →
+      Leg (names_of k) C t.made t.state (Asks n m a f) → (x : Answer ℕ (ℕ × ℕ)) → ComesTo C k b (record { state = f x; made = m })
+  comes_on t at_first n m a f leg x = after_answer [] n m a f leg x
+  comes_on t (after_answer got n' m' a' f' halts y) n m a f leg x = after_answer (y ∷ got) n m a f (n', m', a', f', halts, leg) x
+
+  pub never_dead : ((got : List (Answer ℕ (ℕ × ℕ))) → Solo (names_of k) C b got Unknown → ⊥) → (t : Running) → ComesTo C k b t →
+      Leg (names_of k) C t.made t.state Dead → ⊥
+  never_dead never t at_first leg = never [] (legs_are_solo (names_of k) C b [] Dead leg)
+  never_dead never t (after_answer got n m a f halts y) leg = never (y ∷ got) (legs_are_solo (names_of k) C b (y ∷ got) Dead (n, m, a, f, halts, leg))

@@ -1,0 +1,7 @@
+pub mod Run
+pub mod Replays
+pub mod Rounding
+pub mod Seeding
+pub mod desk
+pub mod history
+pub mod rounds

@@ -1,0 +1,47 @@
+ghost use Rattle.std.specs.Prelude.{◌≡◌, OnOk, IfOk};
+ghost use Rattle.code_instrs.specs.Plain.{plain_code};
+ghost use Rattle.exec_task.specs.Halts.{Halts, OnTheWay, front_of, Tells, IsAsking, Ends, Paced};
+
+use crate::action::Action;
+use crate::task::{Start, Task};
+use crate::walk::walk;
+use crate::way::Way;
+use code_instrs::Code;
+use exec_frames::Frame;
+use lang_base::{Items, NoMemory};
+use std::alloc::Global;
+use std::mem;
+
+impl Task {
+    /// Takes the task to its next action. A second call before the answer changes nothing, and gives the same. After want of
+    /// memory the task is on its way there.
+    pub fn leg(&mut self, alloc: Global, code: &Code) -> Result<Action, NoMemory>
+        requires ends { Ends (plain_code code.now) self.old }
+        requires paced { Paced self.old }
+        ensures ends { Ends (plain_code code.now) self.new }
+        ensures paced { Paced self.new }
+        ensures number { self.new.number ≡ self.old.number }
+        ensures way { OnTheWay (plain_code code.now) self.old self.new }
+        ensures halts { OnOk result (Halts (plain_code code.now) self.new (front_of (plain_code code.now) self.new)) }
+        ensures tells { IfOk result (λ action. Tells (plain_code code.now) action (front_of (plain_code code.now) self.new)) }
+        ensures again { IsAsking (front_of (plain_code code.now) self.old) → self.new ≡ self.old }
+    {
+        let task = mem::replace(self, absent(alloc));
+        let mut way = Way { task, code };
+        let action = walk(&mut way, alloc);
+        let Way { task, .. } = way;
+        *self = task;
+        action
+    }
+}
+
+/// A task that stands where another is on its way.
+fn absent(alloc: Global) -> Task {
+    let frame = Frame {
+        values: Items::new(alloc),
+        regions: Items::new(alloc),
+        locals: Items::new(alloc),
+        left: 0,
+    };
+    Task::start(alloc, 0, Start { body: 0, frame })
+}

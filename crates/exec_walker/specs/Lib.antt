@@ -1,0 +1,12 @@
+pub mod States
+pub mod Falls
+pub mod Forms
+pub mod Outcome
+pub mod Work
+pub mod Walks
+pub mod Halts
+pub mod Stores
+pub mod Cells
+pub mod Agenda
+pub mod Walk
+pub mod Laws

@@ -1,0 +1,60 @@
+-- What an action costs, and when that is within the limits.
+use Rattle.std.specs.Prelude.{ℕ, ◌+◌, ◌≤◌, Bool, true, false, cond, List, [], length, Option, Some, None, slice_get}
+use Rattle.lang_base.specs.declared.value.Value.{Value}
+use Rattle.code_instrs.specs.declared.code.ClassCode.{ClassCode}
+use Rattle.code_instrs.specs.declared.code.Code.{Code}
+use Rattle.exec_task.specs.declared.action.Action.{Action}
+use Rattle.exec_task.specs.declared.action.Action.TheVariants as action
+use Rattle.exec_world.specs.declared.event.Event.{Event}
+use Rattle.exec_world.specs.declared.stop.Stop.{Stop}
+use Rattle.exec_world.specs.declared.stop.Stop.TheVariants as stop
+use Rattle.exec_world.specs.declared.world.World.{World}
+
+-- besides the turns. An entry of a method is the look at its receiver, and one of a constructor a second step of the creation
+abbrev pub steps_of : Action → ℕ
+steps_of action.Rest = 0
+steps_of (action.Read n i) = 1
+steps_of (action.Write n i v) = 1
+steps_of (action.Look n) = 1
+steps_of (action.NewObject c rs constructor) = cond constructor 2 1
+steps_of (action.NewArray region len first) = 1
+steps_of (action.Print bytes) = 1
+steps_of (action.Enter effects) = 1
+steps_of action.Exit = 1
+steps_of (action.Fork forking many) = 1
+steps_of (action.Begin b) = 1
+steps_of action.Join = 1
+steps_of (action.End e) = 0
+
+abbrev pub fields_of : Option ClassCode → List Value
+fields_of None = []
+fields_of (Some k) = k.fields
+
+-- the first values of the fields of a class
+abbrev pub first_fields : Code → ℕ → List Value
+first_fields C c = fields_of (slice_get C.classes c)
+
+-- an object or an array one and its size, a printed line its bytes
+abbrev pub cells_of : Code → Action → ℕ
+cells_of C action.Rest = 0
+cells_of C (action.Read n i) = 0
+cells_of C (action.Write n i v) = 0
+cells_of C (action.Look n) = 0
+cells_of C (action.NewObject c rs constructor) = length (first_fields C c) + 1
+cells_of C (action.NewArray region len first) = len + 1
+cells_of C (action.Print bytes) = length bytes
+cells_of C (action.Enter effects) = 0
+cells_of C action.Exit = 0
+cells_of C (action.Fork forking many) = 0
+cells_of C (action.Begin b) = 0
+cells_of C action.Join = 0
+cells_of C (action.End e) = 0
+
+-- an event keeps to both limits, with its turns
+abbrev pub Within : Code → World → Event → Type 0
+Within C w e = (w.steps + (e.turns + steps_of e.action) ≤ w.most_steps) × (w.heap.used + cells_of C e.action ≤ w.heap.limit)
+
+-- it is refused by a limit exactly where it doesn't keep to both
+abbrev pub Stops : Code → World → Event → Stop → Type 0
+Stops C w e stop.Limited = Within C w e → ⊥
+Stops C w e stop.NoMemory = Within C w e

@@ -1,0 +1,48 @@
+ghost use Rattle.std.specs.Prelude.{◌≡◌, ◌↔◌, ◌+◌, ◌≤◌, IsTrue};
+ghost use Rattle.exec_world.specs.Costs.{steps_of, cells_of, first_fields};
+
+use code_instrs::Code;
+use exec_task::Action;
+use lang_base::Value;
+
+/// The steps of an action besides its turns.
+pub fn steps_of(action: &Action) -> u64
+    ensures { result ≡ steps_of action.now }
+{
+    match action {
+        Action::Rest | Action::End(_) => 0,
+        Action::NewObject { constructor, .. } => { if *constructor { 2 } else { 1 } }
+        _ => 1,
+    }
+}
+
+/// The first values of the fields of a class: none, where there is no such class.
+pub fn first_fields(code: &Code, class: u32) -> &[Value]
+    ensures { result.now ≡ first_fields code.now class }
+{
+    match code.classes.get(class as usize) {
+        Some(class) => class.fields.as_slice(),
+        None => &[],
+    }
+}
+
+/// The cells of an action.
+pub fn cells_of(code: &Code, action: &Action) -> u64
+    ensures { result ≡ cells_of code.now action.now }
+{
+    match action {
+        Action::NewObject { class, .. } => first_fields(code, *class).len() as u64 + 1,
+        Action::NewArray { len, .. } => u64::from(*len) + 1,
+        Action::Print(bytes) => bytes.len() as u64,
+        _ => 0,
+    }
+}
+
+/// Whether so many turns and an action of so many steps more are within the limit of steps.
+pub fn has_steps(steps: u64, most: u64, turns: u32, more: u64) -> bool
+    requires { more ≤ 2 }
+    ensures { IsTrue result ↔ (steps + (turns + more) ≤ most) }
+{
+    let cost = u64::from(turns) + more;
+    steps <= most && cost <= most - steps
+}

@@ -1,0 +1,13 @@
+use exec_task::Action;
+use lang_base::{Effect, Items};
+
+/// What a task does next.
+#[derive(Drop)]
+pub struct Event {
+    pub task: u32,
+    /// How many turns it has made since its last event.
+    pub turns: u32,
+    pub action: Action,
+    /// Where it rests in front of an entry: the effects with which it is to enter.
+    pub wants: Option<Items<Effect>>,
+}

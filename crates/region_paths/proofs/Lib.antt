@@ -1,0 +1,13 @@
+pub mod ConcreteElems
+pub mod Envs
+pub mod Lists
+pub mod Paths
+pub mod Walks
+pub mod Concrete
+pub mod Fitting
+pub mod Inclusion
+pub mod Missing
+pub mod Putting
+pub mod Reading
+pub mod Same
+pub mod Segments

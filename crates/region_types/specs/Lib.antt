@@ -1,0 +1,4 @@
+pub mod Access
+pub mod Depth
+pub mod Laws
+pub mod Same

@@ -1,0 +1,24 @@
+//! The laws of recorded runs, each the clause of a function that does nothing.
+
+ghost use Rattle.runs_simulation.specs.Laws.{MachinesRecord, SomeTaskIsReady, SchedulesAreShort, StuckForFewReasons};
+
+use exec_progress::laws::law_code_progress;
+use runs_elision::laws::law_names;
+use runs_program::laws::law_steps;
+
+/// A schedule of a machine on compiled code records a run of the source.
+pub fn law_simulation()
+    ensures records { MachinesRecord }
+{}
+
+/// A machine on compiled code has a ready task until its run has come out, its schedules are short, and it is stuck for few
+/// reasons alone.
+pub fn law_lively()
+    ensures ready { SomeTaskIsReady }
+    ensures short { SchedulesAreShort }
+    ensures stuck { StuckForFewReasons }
+{
+    law_steps();
+    law_names();
+    law_code_progress();
+}

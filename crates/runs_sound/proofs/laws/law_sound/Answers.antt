@@ -1,0 +1,5 @@
+use Rattle.runs_sound.proofs.Keeping.{runs_are_sound}
+use Rattle.runs_sound.proofs.laws.law_sound.Goals as goal
+
+pub returns : goal.returns
+returns c = runs_are_sound

@@ -1,0 +1,64 @@
+-- How a machine's run comes out, by the source alone.
+use Rattle.std.specs.Prelude.{ℕ, ℤ, pos, ◌≡◌, ◌≤◌, FitsSigned, false, List, [], All, Some, None}
+use Rattle.std.specs.Int.{w32}
+use Rattle.lang_base.specs.declared.outcome.Ending.{Ending as Came}
+use Rattle.lang_base.specs.declared.outcome.Ending.TheVariants as came
+use Rattle.lang_base.specs.declared.outcome.Limits.{Limits}
+use Rattle.lang_base.specs.declared.outcome.Outcome.{Outcome}
+use Rattle.lang_typed.specs.Plain.{PlainProgram}
+use Rattle.lang_typed.specs.Resolved.{Resolved, HasMain}
+use Rattle.lang_typed.specs.WellTyped.{WellTyped}
+use Rattle.lang_meaning.specs.Actions.{Ending, Returned, Assigned, Trapped}
+use Rattle.lang_meaning.specs.Counts.{number}
+use Rattle.lang_meaning.specs.Elision.{elided}
+use Rattle.lang_meaning.specs.Outcomes.{Outcome as ElidedOutcome, Came as came_out, Limited}
+use Rattle.code_instrs.specs.Plain.{plain_code}
+use Rattle.code_instrs.specs.declared.code.Code.{Code}
+use Rattle.code_scheme.specs.Whole.{compiled}
+use Rattle.exec_task.specs.Halts.{IsWidthBounded}
+use Rattle.exec_machine.specs.declared.halted.Halted.TheVariants.{Stuck}
+use Rattle.exec_machine.specs.Keeping.{Played, GreedilyOn, HaltsGreedily, HasEnded, IsReplayed}
+use Rattle.exec_machine.specs.Replay.{IsStuck, LeadsTo, Moment}
+use Rattle.runs_simulation.specs.Laws.{limits}
+
+-- the outcome of an elision: `main` gives an int
+abbrev pub ending_of_elision : Ending ℕ → Came
+ending_of_elision (Returned v) = came.Done (number v)
+ending_of_elision (Assigned locals) = came.Done (pos 0)
+ending_of_elision (Trapped trap place) = came.Trapped trap place
+
+abbrev pub outcome_of_elision : ElidedOutcome ℕ → Outcome
+outcome_of_elision (came_out x output steps cells) = record { ending = ending_of_elision x; out = output; steps = steps; cells = cells }
+outcome_of_elision (Limited steps cells) = record { ending = came.Limited; out = []; steps = steps; cells = cells }
+
+-- the serial elision of a program on the argument of `main`, within limits
+abbrev pub elision : PlainProgram → Limits → ℤ → Outcome
+elision P L argument = outcome_of_elision (elided P argument (limits L))
+
+-- a machine that has finished a run of the code of a well-typed program without nd constructs tells the outcome of its elision
+abbrev pub MachinesComeOutAsElided : Type 0
+MachinesComeOutAsElided =
+    (P : PlainProgram) (p : Played) (o : Outcome) → WellTyped P → P.uses_nd ≡ false → Resolved P → HasMain P → plain_code p.code ≡ compiled P
+    → p.limits.steps ≤ 20000000 → FitsSigned w32 p.argument → IsReplayed p → p.outcome ≡ Some o → o ≡ elision P p.limits p.argument
+
+-- and of any resolved program with a `main`, nd constructs or not, well typed or not: a machine that has gone on from its start by steps of
+-- the greatest ready task alone, and has finished, tells the outcome of the elision
+abbrev pub GreedyMachinesElide : Type 0
+GreedyMachinesElide =
+    (P : PlainProgram) (start p : Played) (o : Outcome) → Resolved P → HasMain P → plain_code p.code ≡ compiled P → p.limits.steps ≤ 20000000
+    → start.schedule ≡ [] → GreedilyOn start p → IsReplayed p → p.outcome ≡ Some o → o ≡ elision P p.limits p.argument
+
+-- a machine on the code of a well-typed program is never stuck, within the limits that a job may have. No fork of the code has more
+-- branches than a value counts: on other code no machine is opened
+abbrev pub MachinesAreNotStuck : Type 0
+MachinesAreNotStuck =
+    (P : PlainProgram) (code : Code) (L : Limits) (argument : ℤ) → WellTyped P → Resolved P → HasMain P → plain_code code ≡ compiled P → All IsWidthBounded code.sites
+    → L.steps ≤ 20000000 → L.cells ≤ 16777216 → FitsSigned w32 argument
+    → (ks : List ℕ) (m : Moment) → LeadsTo code L argument ks m → (k : ℕ) → IsStuck (plain_code code) m k → ⊥
+
+-- a machine on it that hasn't come out has a ready task, may make more events, and can make those of the greatest ready task
+abbrev pub MachinesMakeProgress : Type 0
+MachinesMakeProgress =
+    (P : PlainProgram) (p : Played) → WellTyped P → Resolved P → HasMain P → plain_code p.code ≡ compiled P → All IsWidthBounded p.code.sites
+    → p.limits.steps ≤ 20000000 → p.limits.cells ≤ 16777216 → FitsSigned w32 p.argument → IsReplayed p
+    → (HaltsGreedily p Stuck → ⊥) × (p.outcome ≡ None → HasEnded p → ⊥)

@@ -1,0 +1,4 @@
+pub mod Laws
+pub mod Guarantee
+pub mod Reduced
+pub mod Inside

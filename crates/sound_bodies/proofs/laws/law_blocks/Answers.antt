@@ -1,0 +1,8 @@
+use Rattle.sound_bodies.proofs.Bodies.{block_agrees}
+use Rattle.sound_bodies.proofs.laws.law_blocks.Goals as goal
+
+pub returns : goal.returns
+returns c = record {
+  blocks = λ P signed L params around reads assigns w ready all fits all_reads all_writes made u d room nd_free.
+      block_agrees P signed L params around reads assigns w ready all fits all_reads all_writes made u d room nd_free;
+}

@@ -1,0 +1,5 @@
+use Rattle.sound_decls.proofs.Inheriting.{accepted_inherits}
+use Rattle.sound_decls.proofs.laws.law_inherits.Goals as goal
+
+pub returns : goal.returns
+returns c = record { inherits = accepted_inherits }

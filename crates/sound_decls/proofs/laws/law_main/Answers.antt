@@ -1,0 +1,5 @@
+use Rattle.sound_decls.proofs.Beginning.{accepted_main}
+use Rattle.sound_decls.proofs.laws.law_main.Goals as goal
+
+pub returns : goal.returns
+returns c = record { main = accepted_main }

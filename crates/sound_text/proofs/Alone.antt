@@ -1,0 +1,64 @@
+-- A text passes as one program, or it has one fault.
+use Rattle.std.proofs.Common.{◌≡◌, ◌≤◌, ◌∙◌, ℕ, List, length, inl, inr, ap, sym, subst}
+use Rattle.lang_base.specs.declared.place.Place.{Place}
+use Rattle.lang_base.specs.declared.refusal.Refusal.{Refusal}
+use Rattle.syntax_tokens.specs.declared.token.Token.{Token}
+use Rattle.syntax_tokens.specs.Cutting.{OneCutting}
+use Rattle.syntax_parse.specs.OneProgram.{OneProgram}
+use Rattle.syntax_parse.specs.OneRefusal.{OneRefusal}
+use Rattle.syntax_parse.specs.Program.{IsProgram}
+use Rattle.lang_typed.specs.Plain.{PlainProgram}
+use Rattle.tool_front.specs.Front.{first_place, IsFault, IsPassed, IsTokenFault, of_grammar, of_program}
+use Rattle.tool_front.specs.Judging.{HasNames, IsAccepted, IsFaulty, OneJudgement}
+use Rattle.sound_text.specs.Laws.{HasVerdict, OneNaming, OneVerdict, OnePassing}
+
+pub one_passing : OneCutting → OneProgram → OneJudgement → OnePassing
+one_passing cutting programs judgement text place other one another p q =
+    let same = (cutting.tokens text q.tokens p.tokens q.end p.end q.cut p.cut).0 in
+    let derived = subst (λ ts. IsProgram text ts q.has_program.program) same q.has_program.derived in
+    let tree : q.has_program.program ≡ p.has_program.program = programs text p.tokens q.has_program.program p.has_program.program derived p.has_program.derived in
+    judgement.one_program p.has_program.program one another p.has_program.accepted (subst (λ t. IsAccepted t another) tree q.has_program.accepted)
+
+pub one_naming : OneCutting → OneProgram → OneJudgement → OneNaming
+one_naming cutting programs judgement text first second p q =
+    let same = (cutting.tokens text q.tokens p.tokens q.end p.end q.cut p.cut).0 in
+    let derived = subst (λ ts. IsProgram text ts q.has_named.program) same q.has_named.derived in
+    let tree : q.has_named.program ≡ p.has_named.program = programs text p.tokens q.has_named.program p.has_named.program derived p.has_named.derived in
+    judgement.one_naming p.has_named.program first second p.has_named.has_names (subst (λ t. HasNames t second) tree q.has_named.has_names)
+
+pub one_verdict : ((text : List ℕ) → length text ≤ 1048576 → HasVerdict text) → OneCutting → OneProgram → OneRefusal → OneJudgement → OneVerdict
+one_verdict some cutting programs refusals judgement = record { some = some; one_fault = one_fault; not_both = not_both; one_place = one_place }
+  where
+    one_place : (text : List ℕ) (place other : Place) (one another : PlainProgram) → IsPassed text place one → IsPassed text other another → place ≡ other
+    one_place text place other one another p q =
+        let same = cutting.tokens text p.tokens q.tokens p.end q.end p.cut q.cut in
+        p.first ∙ ap (λ ts. first_place ts p.end) same.0 ∙ ap (λ end. first_place q.tokens end) same.1 ∙ sym q.first
+
+    -- two faults of one program, or of one grammar
+    later : (text : List ℕ) (tokens : List Token) (end : Place) (first second : Refusal) → IsTokenFault text tokens end first → IsTokenFault text tokens end second → first ≡ second
+    later text tokens end first second (of_grammar f) (of_grammar g) = refusals.reported_once text tokens end first second f g
+    later text tokens end first second (of_grammar f) (of_program program d faulty) = absurd (refusals.no_program text tokens end first program f d)
+    later text tokens end first second (of_program program d faulty) (of_grammar g) = absurd (refusals.no_program text tokens end second program g d)
+    later text tokens end first second (of_program program d faulty) (of_program other e broken) =
+        let tree : other ≡ program = programs text tokens other program e d in
+        judgement.one_fault program first second faulty (subst (λ t. IsFaulty t second) tree broken)
+
+    one_fault : (text : List ℕ) (first second : Refusal) → IsFault text first → IsFault text second → first ≡ second
+    one_fault text first second (inl f) (inl g) = cutting.faults text first second f g
+    one_fault text first second (inl f) (inr g) = absurd (cutting.either text g.tokens g.end first g.cut f)
+    one_fault text first second (inr f) (inl g) = absurd (cutting.either text f.tokens f.end second f.cut g)
+    one_fault text first second (inr f) (inr g) =
+        let same = cutting.tokens text g.tokens f.tokens g.end f.end g.cut f.cut in
+        later text f.tokens f.end first second f.fault (subst (λ ts. IsTokenFault text ts f.end second) same.0 (subst (λ end. IsTokenFault text g.tokens end second) same.1 g.fault))
+
+    faultless : (text : List ℕ) (place : Place) (typed : PlainProgram) (refusal : Refusal) (p : IsPassed text place typed) (end : Place) → IsTokenFault text p.tokens end refusal → ⊥
+    faultless text place typed refusal p end (of_grammar f) = refusals.no_program text p.tokens end refusal p.has_program.program f p.has_program.derived
+    faultless text place typed refusal p end (of_program program derived faulty) =
+        let tree : program ≡ p.has_program.program = programs text p.tokens program p.has_program.program derived p.has_program.derived in
+        judgement.not_both p.has_program.program typed refusal p.has_program.accepted (subst (λ t. IsFaulty t refusal) tree faulty)
+
+    not_both : (text : List ℕ) (place : Place) (typed : PlainProgram) (refusal : Refusal) → IsPassed text place typed → IsFault text refusal → ⊥
+    not_both text place typed refusal p (inl at) = cutting.either text p.tokens p.end refusal p.cut at
+    not_both text place typed refusal p (inr g) =
+        let same = (cutting.tokens text g.tokens p.tokens g.end p.end g.cut p.cut).0 in
+        faultless text place typed refusal p g.end (subst (λ ts. IsTokenFault text ts g.end refusal) same g.fault)

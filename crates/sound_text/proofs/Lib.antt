@@ -1,0 +1,7 @@
+pub mod Narrow
+pub mod Sites
+pub mod Statements
+pub mod Bodies
+pub mod Keeping
+pub mod Alone
+pub mod Every

@@ -1,0 +1,11 @@
+//! The laws of judged programs, the clauses of a function that does nothing.
+
+ghost use Rattle.sound_total.specs.Laws.{EachJudged, EachTyped, PassedKeeps};
+
+/// Each expression has an answer where it stands. Over a class table the bodies of a program pass, or there is a first fault in
+/// them; and what passes keeps to what every statement of an accepted body keeps to.
+pub fn law_each_judged()
+    ensures typed { EachTyped }
+    ensures judged { EachJudged }
+    ensures keeps { PassedKeeps }
+{}

@@ -1,0 +1,12 @@
+pub mod Lists
+pub mod Parts
+pub mod Fronts
+pub mod Cut
+pub mod Said
+pub mod Readings
+pub mod Numbers
+pub mod Left
+pub mod Expressions
+pub mod Statements
+pub mod Classes
+pub mod Texts

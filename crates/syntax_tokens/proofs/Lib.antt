@@ -1,0 +1,15 @@
+pub mod Meaning
+pub mod Naming
+pub mod Numbers
+pub mod Order
+pub mod Comments
+pub mod Faults
+pub mod Found
+pub mod Fronts
+pub mod OneCutting
+pub mod Runs
+pub mod Spans
+pub mod Steps
+pub mod Tables
+pub mod Texts
+pub mod Unique

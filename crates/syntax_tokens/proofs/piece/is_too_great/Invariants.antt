@@ -1,0 +1,7 @@
+use Rattle.std.proofs.Common.{◌≡◌, ◌≤◌, ◌+◌, ◌-◌, ◌*◌, drop}
+use Rattle.std.specs.List.{fold}
+use Rattle.lang_base.specs.Lexical.{decimal_value}
+use Rattle.syntax_tokens.proofs.piece.is_too_great.Given as goal
+
+abbrev pub invariant-loop-digit : goal.invariant-loop-digit
+invariant-loop-digit l = (l.value ≤ 2147483647) × (fold (λ n b. 10 * n + (b - 48)) l.value (drop l.digit-index l.digits) ≡ decimal_value l.digits)

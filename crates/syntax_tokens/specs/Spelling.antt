@@ -1,0 +1,68 @@
+-- How symbols and keywords are spelled.
+use Rattle.std.specs.Prelude.{ℕ, List, codes}
+use Rattle.syntax_tokens.specs.declared.token.Symbol.{Symbol}
+use Rattle.syntax_tokens.specs.declared.token.Symbol.TheVariants as symbol
+use Rattle.syntax_tokens.specs.declared.token.Keyword.{Keyword}
+use Rattle.syntax_tokens.specs.declared.token.Keyword.TheVariants as keyword
+
+-- the bytes of a symbol
+abbrev pub symbol_text : Symbol → List ℕ
+symbol_text symbol.AtMost = codes "<="
+symbol_text symbol.AtLeast = codes ">="
+symbol_text symbol.Equal = codes "=="
+symbol_text symbol.NotEqual = codes "!="
+symbol_text symbol.And = codes "&&"
+symbol_text symbol.Or = codes "||"
+symbol_text symbol.OpenBrace = codes "{"
+symbol_text symbol.CloseBrace = codes "}"
+symbol_text symbol.OpenParen = codes "("
+symbol_text symbol.CloseParen = codes ")"
+symbol_text symbol.OpenBracket = codes "["
+symbol_text symbol.CloseBracket = codes "]"
+symbol_text symbol.Less = codes "<"
+symbol_text symbol.Greater = codes ">"
+symbol_text symbol.Assign = codes "="
+symbol_text symbol.Plus = codes "+"
+symbol_text symbol.Minus = codes "-"
+symbol_text symbol.Star = codes "*"
+symbol_text symbol.Slash = codes "/"
+symbol_text symbol.Percent = codes "%"
+symbol_text symbol.Not = codes "!"
+symbol_text symbol.Semicolon = codes ";"
+symbol_text symbol.Comma = codes ","
+symbol_text symbol.Dot = codes "."
+symbol_text symbol.Colon = codes ":"
+symbol_text symbol.Hash = codes "#"
+symbol_text symbol.Bar = codes "|"
+symbol_text symbol.Question = codes "?"
+
+-- the bytes of a keyword
+abbrev pub keyword_text : Keyword → List ℕ
+keyword_text keyword.Class = codes "class"
+keyword_text keyword.Extends = codes "extends"
+keyword_text keyword.Region = codes "region"
+keyword_text keyword.Atomic = codes "atomic"
+keyword_text keyword.In = codes "in"
+keyword_text keyword.Reads = codes "reads"
+keyword_text keyword.Writes = codes "writes"
+keyword_text keyword.Pure = codes "pure"
+keyword_text keyword.Int = codes "int"
+keyword_text keyword.Boolean = codes "boolean"
+keyword_text keyword.Void = codes "void"
+keyword_text keyword.Final = codes "final"
+keyword_text keyword.If = codes "if"
+keyword_text keyword.Else = codes "else"
+keyword_text keyword.While = codes "while"
+keyword_text keyword.Return = codes "return"
+keyword_text keyword.Print = codes "print"
+keyword_text keyword.Cobegin = codes "cobegin"
+keyword_text keyword.CobeginNd = codes "cobegin_nd"
+keyword_text keyword.Foreach = codes "foreach"
+keyword_text keyword.ForeachNd = codes "foreach_nd"
+keyword_text keyword.ForeachParts = codes "foreach_parts"
+keyword_text keyword.New = codes "new"
+keyword_text keyword.This = codes "this"
+keyword_text keyword.True = codes "true"
+keyword_text keyword.False = codes "false"
+keyword_text keyword.Null = codes "null"
+keyword_text keyword.Root = codes "Root"

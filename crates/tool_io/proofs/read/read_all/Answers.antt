@@ -1,0 +1,16 @@
+use Rattle.std.proofs.Common.{rules, arith}
+use Rattle.std.specs.Result.{is_ok}
+use Rattle.std.proofs.lemmas.Grind.{common_steps}
+use Rattle.tool_io.proofs.Reported.{Took-more, extended}
+use Rattle.tool_io.proofs.read.read_all.Goals as goal
+
+pub loop-piece-preserved : goal.loop-piece-preserved
+loop-piece-preserved g c =
+    let was = c.loop-piece.invariant in
+    let fill = c.in_ok-count.ensures in
+    let count = c.in_ok-count.count in
+    record {
+      bound = grind (arith, common_steps);
+      never_falls = omega (arith, was.never_falls, fill.never_falls);
+      took = Took-more _ _ _ _ _ _ _ count was.took fill.filled fill.taken (extended (is_ok c.extend_from_slice.result) _ _ _ c.fill.new.buf count c.extend_from_slice.ensures.items (search rules) (search rules));
+    }

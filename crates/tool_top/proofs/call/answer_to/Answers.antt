@@ -1,0 +1,22 @@
+use Rattle.std.proofs.Common.{map}
+use Rattle.std.specs.String.{string_bytes}
+use Rattle.tool_top.proofs.Sources.{asked-so, never-untouched, no-usage-so, not-made, on-source, read-to-end-so}
+use Rattle.tool_top.proofs.Verdicts.{answer-no-usage}
+use Rattle.tool_top.proofs.call.answer_to.Goals as goal
+
+pub returns-in_ok-demonstrate-in-Demo-clause-usage : goal.returns-in_ok-demonstrate-in-Demo-clause-usage
+returns-in_ok-demonstrate-in-Demo-clause-usage g c reported = absurd (answer-no-usage _ _ _ c.in_ok-demonstrate-in-Demo.ensures reported)
+
+pub returns-in_default-command : goal.returns-in_default-command
+returns-in_default-command g c =
+    let words = map string_bytes c.args.words.now in
+    let read = not-made c.in-Ok.job.command c.in_default-command.not-Demo in
+    record {
+      ok = on-source words c.in-Ok.job c.in-Ok.ensures.given read (g.S.Source.left c.args.source.now) c.answer_source.result c.answer_source.ensures.ok;
+      usage = no-usage-so words c.in-Ok.job c.in-Ok.ensures.given read c.answer_source.result c.answer_source.ensures.no_usage;
+      asked = asked-so words c.in-Ok.job c.in-Ok.ensures.given read c.answer_source.result;
+      read_fault = c.answer_source.ensures.read_fault;
+      untouched = never-untouched words c.in-Ok.job c.in-Ok.ensures.given read;
+      read_to_end = read-to-end-so words c.in-Ok.job c.in-Ok.ensures.given read c.answer_source.result (g.S.Source.left c.args.source.now) _ c.answer_source.ensures.read_to_end;
+      count = c.answer_source.ensures.count;
+    }

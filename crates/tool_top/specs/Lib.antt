@@ -1,0 +1,4 @@
+pub mod Answer
+pub mod Call
+pub mod Replaying
+pub mod Guarantee

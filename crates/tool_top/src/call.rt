@@ -1,0 +1,232 @@
+ghost use Rattle.std.specs.Prelude.{◌≡◌, ◌≢◌, ◌<◌, ◌≤◌, [], Some, None, false, true, map, length, IfOk, IfErr, IfSome, IsSome, OnOk};
+ghost use Rattle.std.specs.String.{string_bytes};
+ghost use Rattle.tool_io.specs.Ends.{Rose};
+ghost use Rattle.tool_words.specs.Demo.{demo_text};
+ghost use Rattle.tool_words.specs.Jobs.{job, IsInRange};
+ghost use Rattle.tool_words.specs.Reports.{report_of, status_of};
+ghost use Rattle.tool_top.specs.Answer.{IsAnswer, most_bytes, only};
+ghost use Rattle.tool_top.specs.Guarantee.{MustElide, MustReduce, MustReplay, MustSummarise};
+ghost use Rattle.tool_top.specs.Call.{Answers, IsAnswered, TellsOfVerdict, Tells, BreaksOff, ReadToEnd, Appends, AppendsPart, asks_text, makes_text};
+
+use crate::answered::Answered;
+use crate::answers::{MAX_TEXT, answer};
+use crate::laws::promise;
+use crate::replays::{MAX_TRACE, replayed};
+use exec_run::history::Record;
+use exec_run::workers::Gate;
+use lang_base::{Kind, NoMemory};
+use sound_text::laws::law_one_passing;
+use std::alloc::Global;
+use std::sync::Wait;
+use std::thread::Threads;
+use tool_io::{ReadEnd, Sink, Source, WriteFault, read_all, write_all};
+use tool_words::{Command, Job, Status, Usage, Verdict, demo_source, read_words, report, status};
+
+/// How a call of the tool ended, and the record of the run that it made.
+#[derive(Drop)]
+pub struct Ended {
+    pub status: Status,
+    pub recorded: Option<Record>,
+}
+
+/// Carries out the job that the words give, on the text that the source holds, and writes one report after
+/// what the sink holds.
+///
+/// The report is made whole before its first byte is written. Words that give no job take nothing from the
+/// source, nor does a demo, which makes its text. A read fault, a write fault and being out of memory have statuses of their own.
+/// `gate` is called by each worker of a run before each of its turns.
+pub fn dpj<R: Threads + Wait + Sync, S: Source, K: Sink, G: Gate + Sync>(
+    rt: &R,
+    alloc: Global,
+    words: &[String],
+    source: &mut S,
+    sink: &mut K,
+    gate: &G,
+) -> Ended
+    // The answer to the words and the text is reported by its status and its whole report, and its record is kept.
+    ensures answered { TellsOfVerdict result.status
+        → Tells (map string_bytes words.now) (S.left source.old) (K.held sink.old) (K.held sink.new) result.status result.recorded }
+    ensures usage { result.status ≡ Status.Usage → job (map string_bytes words.now) ≡ None }
+    // The promise: a run of an accepted program without nd constructs is reported by its serial elision, whatever the workers did.
+    ensures promised { TellsOfVerdict result.status
+        → MustElide (map string_bytes words.now) (S.left source.old) (K.held sink.old) (K.held sink.new) result.status }
+    // With nd constructs or without, the recorded run is one of the source that can be gathered, and whose deterministic constructs can be
+    // put in sequence; and it is what is reported.
+    ensures reduced { TellsOfVerdict result.status
+        → MustReduce (map string_bytes words.now) (S.left source.old) (K.held sink.old) (K.held sink.new) result.status result.recorded }
+    // So is a run that a replay has made, which is reported by its outcome: without nd constructs that is the elision.
+    ensures replayed { TellsOfVerdict result.status
+        → MustReplay (map string_bytes words.now) (S.left source.old) (K.held sink.old) (K.held sink.new) result.status result.recorded }
+    // And what `effects` reports may stand in place of the written summaries: with it the program is well typed.
+    ensures summaries { TellsOfVerdict result.status
+        → MustSummarise (map string_bytes words.now) (S.left source.old) (K.held sink.old) (K.held sink.new) result.status }
+
+    // Every other status has its cause, and being out of memory alone needs none.
+    ensures read_fault { result.status ≡ Status.ReadFault → Rose (S.faults source.old) (S.faults source.new) }
+    ensures write_fault { result.status ≡ Status.WriteFault → Rose (K.faults sink.old) (K.faults sink.new) }
+    ensures broken_off { result.status ≡ Status.WriteFault
+        → BreaksOff (map string_bytes words.now) (S.left source.old) (K.held sink.old) (K.held sink.new) (K.room sink.old) result.recorded }
+    ensures unread { result.status ≡ Status.ReadFault → asks_text (job (map string_bytes words.now)) ≡ true × (sink.new ≡ sink.old) }
+    ensures unwritten { result.status ≡ Status.NoMemory → sink.new ≡ sink.old }
+    ensures unrecorded { result.status ≡ Status.ReadFault → result.recorded ≡ None }
+    ensures forgotten { result.status ≡ Status.NoMemory → result.recorded ≡ None }
+
+    // What becomes of the source: words that ask for no text leave it alone, and an answer has read it to its end.
+    ensures untouched { asks_text (job (map string_bytes words.now)) ≡ false → source.new ≡ source.old }
+    ensures read_to_end { result.status ≢ Status.ReadFault → result.status ≢ Status.NoMemory
+        → asks_text (job (map string_bytes words.now)) ≡ true → ReadToEnd (job (map string_bytes words.now)) (S.left source.old) (S.left source.new) }
+    ensures source_count { S.faults source.old ≤ S.faults source.new }
+    ensures sink_count { K.faults sink.old ≤ K.faults sink.new }
+{
+    promise();
+    law_one_passing();
+    match answer_to(rt, alloc, words, source, gate) {
+        Ok(answered) => tell(alloc, answered, sink),
+        Err(Unread::ReadFault) => Ended {
+            status: Status::ReadFault,
+            recorded: None,
+        },
+        Err(Unread::NoMemory) => Ended {
+            status: Status::NoMemory,
+            recorded: None,
+        },
+    }
+}
+
+/// Why there is no answer.
+#[derive(Clone, Copy, Debug, PartialEq, Eq)]
+enum Unread {
+    ReadFault,
+    NoMemory,
+}
+
+impl From<NoMemory> for Unread {
+    ghost use Rattle.std.specs.Prelude.{◌≡◌};
+    ghost use Rattle.tool_top.specs.declared.call.Unread.TheVariants.{NoMemory};
+
+    ghost from_gives = { λ _ unread. unread ≡ NoMemory };
+
+    fn from(_error: NoMemory) -> Unread {
+        Unread::NoMemory
+    }
+}
+
+/// The answer to the words, and to the text where they give a job on one.
+fn answer_to<R: Threads + Wait + Sync, S: Source, G: Gate + Sync>(
+    rt: &R,
+    alloc: Global,
+    words: &[String],
+    source: &mut S,
+    gate: &G,
+) -> Result<Answered, Unread>
+    ensures ok { IfOk result (IsAnswered (map string_bytes words.now) (S.left source.old)) }
+    ensures usage { IfOk result (λ answered. status_of answered.verdict ≡ Status.Usage → job (map string_bytes words.now) ≡ None) }
+    ensures asked { IfErr result (λ unread. unread ≡ Unread.ReadFault → asks_text (job (map string_bytes words.now)) ≡ true) }
+    ensures read_fault { IfErr result (λ unread. unread ≡ Unread.ReadFault → Rose (S.faults source.old) (S.faults source.new)) }
+    ensures untouched { asks_text (job (map string_bytes words.now)) ≡ false → source.new ≡ source.old }
+    ensures read_to_end { OnOk result (asks_text (job (map string_bytes words.now)) ≡ true
+        → ReadToEnd (job (map string_bytes words.now)) (S.left source.old) (S.left source.new)) }
+    ensures count { S.faults source.old ≤ S.faults source.new }
+{
+    let Ok(job) = read_words(words) else {
+        return Ok(Answered::only(Verdict::Usage));
+    };
+    match job.command {
+        Command::Demo => Ok(demonstrate(rt, alloc, &job, gate)?),
+        _ => answer_source(rt, alloc, &job, source, gate),
+    }
+}
+
+/// The answer to a demo, on the text that it makes.
+fn demonstrate<R: Threads + Wait + Sync, G: Gate + Sync>(
+    rt: &R,
+    alloc: Global,
+    job: &Job,
+    gate: &G,
+) -> Result<Answered, NoMemory>
+    requires in_range { IsInRange job.now }
+    requires made { makes_text job.now.command ≡ true }
+    ensures { IfOk result (IsAnswer job.now (demo_text job.now.n)) }
+{
+    let text = demo_source(alloc, job.n)?;
+    answer(rt, alloc, job, text.as_slice(), gate)
+}
+
+/// The answer to a job on a text that isn't too long for it.
+fn answer_text<R: Threads + Wait + Sync, G: Gate + Sync>(
+    rt: &R,
+    alloc: Global,
+    job: &Job,
+    text: &[u8],
+    gate: &G,
+) -> Result<Answered, NoMemory>
+    requires in_range { IsInRange job.now }
+    requires short { length text.now ≤ most_bytes job.now.command }
+    ensures { IfOk result (Answers job.now text.now) }
+{
+    match job.command {
+        Command::Replay => replayed(alloc, text),
+        _ => answer(rt, alloc, job, text, gate),
+    }
+}
+
+/// The answer to a job on the text that a source holds.
+fn answer_source<R: Threads + Wait + Sync, S: Source, G: Gate + Sync>(
+    rt: &R,
+    alloc: Global,
+    job: &Job,
+    source: &mut S,
+    gate: &G,
+) -> Result<Answered, Unread>
+    requires in_range { IsInRange job.now }
+    requires read { makes_text job.now.command ≡ false }
+    ensures ok { IfOk result (λ answered. IfSome (S.left source.old) (λ text. Answers job.now text answered)) }
+    ensures no_usage { IfOk result (λ answered. status_of answered.verdict ≢ Status.Usage) }
+    ensures read_fault { IfErr result (λ unread. unread ≡ Unread.ReadFault → Rose (S.faults source.old) (S.faults source.new)) }
+    ensures read_to_end { OnOk result (IfSome (S.left source.old) (λ text. length text ≤ most_bytes job.now.command → S.left source.new ≡ Some [])) }
+    ensures count { S.faults source.old ≤ S.faults source.new }
+{
+    match read_all(alloc, source, most_bytes(job.command)) {
+        Ok(text) => Ok(answer_text(rt, alloc, job, text.as_slice(), gate)?),
+        Err(ReadEnd::TooLong) => Ok(Answered::refused_at(Kind::TooLong, 1)),
+        Err(ReadEnd::ReadFault) => Err(Unread::ReadFault),
+        Err(ReadEnd::NoMemory) => Err(Unread::NoMemory),
+    }
+}
+
+/// The most bytes that are read for a job of this command.
+fn most_bytes(command: Command) -> usize
+    ensures { result ≡ most_bytes command }
+{
+    match command {
+        Command::Replay => MAX_TRACE,
+        _ => MAX_TEXT,
+    }
+}
+
+/// Writes the report of an answer, once it is whole.
+fn tell<K: Sink>(alloc: Global, answered: Answered, sink: &mut K) -> Ended
+    ensures whole { TellsOfVerdict result.status
+        → (result.status ≡ status_of answered.verdict) × Appends (K.held sink.old) (K.held sink.new) (report_of answered.verdict) }
+    ensures part { result.status ≡ Status.WriteFault → AppendsPart (K.held sink.old) (K.held sink.new) (report_of answered.verdict) }
+    ensures no_room { result.status ≡ Status.WriteFault → IfSome (K.room sink.old) (λ room. room < length (report_of answered.verdict)) }
+    ensures write_fault { result.status ≡ Status.WriteFault → Rose (K.faults sink.old) (K.faults sink.new) }
+    ensures unwritten { result.status ≡ Status.NoMemory → sink.new ≡ sink.old }
+    ensures kept { result.status ≢ Status.NoMemory → result.recorded ≡ answered.recorded }
+    ensures forgotten { result.status ≡ Status.NoMemory → result.recorded ≡ None }
+    ensures not_read { result.status ≢ Status.ReadFault }
+    ensures count { K.faults sink.old ≤ K.faults sink.new }
+{
+    let Answered { verdict, recorded } = answered;
+    let Ok(report) = report(alloc, &verdict) else {
+        return Ended {
+            status: Status::NoMemory,
+            recorded: None,
+        };
+    };
+    let status = match write_all(sink, report.as_slice()) {
+        Ok(()) => status(&verdict),
+        Err(WriteFault) => Status::WriteFault,
+    };
+    Ended { status, recorded }
+}

@@ -1,0 +1,170 @@
+ghost use Rattle.std.specs.Int.{w32};
+ghost use Rattle.std.specs.Prelude.{◌≡◌, ◌≢◌, FitsSigned, IfOk};
+ghost use Rattle.tool_front.specs.Front.{AreNames};
+ghost use Rattle.tool_front.specs.Judging.{names_of_passed, typed_of};
+ghost use Rattle.lang_typed.specs.Plain.{plain_program};
+ghost use Rattle.lang_typed.specs.Resolved.{Resolved, HasMain};
+ghost use Rattle.tool_words.specs.Jobs.{IsInRange};
+ghost use Rattle.tool_words.specs.declared.command.Command.TheVariants.{Replay};
+ghost use Rattle.tool_top.specs.Answer.{IsAcceptedAs, IsAnswer, IsElided, IsListing, IsRan, IsRunBy, TellsEffects, limits_of, verdict_of};
+
+use crate::answered::{Answered, limits};
+use crate::figures::figures;
+use crate::laws::promise;
+use body_infer::{infer, lines};
+use code_compile::compile;
+use code_listing::laws::law_plain;
+use code_listing::listing;
+use exec_run::workers::Gate;
+use exec_run::{Recorded, run, run_rounds, run_seeded};
+use exec_walker::elide;
+use lang_base::{NoMemory, Outcome};
+use lang_typed::Program;
+use sound_text::laws::law_passed;
+use std::alloc::Global;
+use std::sync::Wait;
+use std::thread::Threads;
+use tool_front::Passed;
+use tool_trace::trace_text;
+use tool_words::{Command, Job, Mode, Verdict};
+
+/// The answer to a job on the accepted program of a text.
+pub fn carry_out<R: Threads + Wait + Sync, G: Gate + Sync>(
+    rt: &R,
+    alloc: Global,
+    job: &Job,
+    text: &[u8],
+    passed: Passed,
+    gate: &G,
+) -> Result<Answered, NoMemory>
+    requires in_range { IsInRange job.now }
+    requires accepted { IsAcceptedAs text.now passed.place (typed_of passed) }
+    requires named { AreNames text.now (names_of_passed passed) }
+    requires no_replay { job.now.command ≢ Replay }
+    ensures { IfOk result (IsAnswer job.now text.now) }
+{
+    match job.command {
+        Command::Run | Command::Demo | Command::Trace | Command::Cost => {
+            ran(rt, alloc, job, text, passed, gate)
+        }
+        Command::Elide => elided(alloc, job, passed),
+        Command::List => listed(alloc, text, passed),
+        Command::Effects => inferred(alloc, text, passed),
+        _ => Ok(Answered::only(Verdict::Accepted)),
+    }
+}
+
+/// The run of an accepted program, with its record.
+fn ran<R: Threads + Wait + Sync, G: Gate + Sync>(
+    rt: &R,
+    alloc: Global,
+    job: &Job,
+    text: &[u8],
+    passed: Passed,
+    gate: &G,
+) -> Result<Answered, NoMemory>
+    requires in_range { IsInRange job.now }
+    requires accepted { IsAcceptedAs text.now passed.place (typed_of passed) }
+    ensures { IfOk result (IsRan job.now text.now (typed_of passed)) }
+{
+    promise();
+    law_passed();
+    let typed = passed.typed(alloc)?;
+    let Some(run) = made(rt, alloc, job, &typed, gate)? else {
+        unreachable!("an accepted program goes on until it has come out")
+    };
+    let Recorded { record, outcome } = run;
+    let verdict = verdict_on(
+        alloc,
+        job,
+        text,
+        record.machine.schedule(),
+        record.rounds,
+        outcome,
+    )?;
+    Ok(Answered {
+        verdict,
+        recorded: Some(record),
+    })
+}
+
+/// The run that the job's mode asks for: by workers, in rounds, or by a seed; none where it can't go on.
+fn made<R: Threads + Wait + Sync, G: Gate + Sync>(
+    rt: &R,
+    alloc: Global,
+    job: &Job,
+    typed: &Program,
+    gate: &G,
+) -> Result<Option<Recorded>, NoMemory>
+    requires in_range { IsInRange job.now }
+    requires resolved { Resolved (plain_program typed.now) }
+    requires main { HasMain (plain_program typed.now) }
+    ensures run { IfOk result (IsRunBy job.now.mode (plain_program typed.now) (limits_of job.now) job.now.arg job.now.workers) }
+    ensures fits { FitsSigned w32 job.now.arg }
+{
+    match job.mode {
+        Mode::Steps => run(rt, alloc, typed, limits(job), job.arg, job.workers, gate),
+        Mode::Rounds => run_rounds(rt, alloc, typed, limits(job), job.arg, job.workers),
+        Mode::Seeded(seed) => run_seeded(alloc, typed, limits(job), job.arg, job.workers, seed),
+    }
+}
+
+/// The verdict on a run of a text, by its schedule, the number of its rounds, and how it came out.
+fn verdict_on(
+    alloc: Global,
+    job: &Job,
+    text: &[u8],
+    schedule: &[u32],
+    rounds: u64,
+    outcome: Outcome,
+) -> Result<Verdict, NoMemory>
+    ensures { IfOk result (λ verdict. verdict ≡ verdict_of job.now text.now schedule.now rounds outcome) }
+{
+    Ok(match job.command {
+        Command::Demo => Verdict::Demo {
+            classes: job.n,
+            bytes: text.len() as u64,
+            outcome,
+        },
+        Command::Trace => Verdict::Traced {
+            outcome,
+            text: trace_text(alloc, job.arg, limits(job), schedule, text)?,
+        },
+        Command::Cost => Verdict::Cost {
+            outcome,
+            figures: figures(schedule, rounds),
+        },
+        _ => Verdict::Ran(outcome),
+    })
+}
+
+/// The elision of an accepted program.
+fn elided(alloc: Global, job: &Job, passed: Passed) -> Result<Answered, NoMemory>
+    requires in_range { IsInRange job.now }
+    ensures { IfOk result (IsElided job.now (typed_of passed)) }
+{
+    let typed = passed.typed(alloc)?;
+    let outcome = elide(alloc, &typed, job.arg, limits(job))?;
+    Ok(Answered::only(Verdict::Ran(outcome)))
+}
+
+/// The inferred summaries of an accepted program.
+fn inferred(alloc: Global, text: &[u8], passed: Passed) -> Result<Answered, NoMemory>
+    requires { AreNames text.now (names_of_passed passed) }
+    ensures { IfOk result (TellsEffects text.now (typed_of passed)) }
+{
+    let typed = passed.typed(alloc)?;
+    let kept = infer(alloc, &typed)?;
+    Ok(Answered::only(Verdict::Effects(lines(alloc, &typed, &kept)?)))
+}
+
+/// The listing of the code of an accepted program.
+fn listed(alloc: Global, text: &[u8], passed: Passed) -> Result<Answered, NoMemory>
+    requires { AreNames text.now (names_of_passed passed) }
+    ensures { IfOk result (IsListing text.now (typed_of passed)) }
+{
+    law_plain();
+    let typed = passed.typed(alloc)?;
+    let code = compile(alloc, &typed)?;
+    Ok(Answered::only(Verdict::Listed(listing(alloc, &code)?)))
+}
