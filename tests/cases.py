@@ -12,9 +12,9 @@ writes NAME.ran on 40, elided, by 1, 4 and 64 workers, and by rounds; every prog
 and examples/README.md, which stands in a fence that begins with ```dpj check: ANSWER, ```dpj run: LINE, LINE or ```dpj elide: LINE, LINE;
 and prefixes of accepted programs (tests/generate/prefixes.py), of three examples where the program is unproved. Where it is proved, random
 programs follow (tests/generate/random_programs.py), programs with random schedules (tests/oracle/schedules.py), a few in orders that were worked out
-(tests/oracle/worked_orders.py), programs with seeds and their costs (tests/oracle/seeds.py), and the accepted texts with their
-inferred summaries (tests/inferred.py), each of which passes or fails; `--only random` asks for these alone. It is an error, and no
-pass, where a fence isn't understood or no case is left.
+(tests/oracle/worked_orders.py), programs with seeds and their costs (tests/oracle/seeds.py), the short ones among all programs within just
+the limits that they cost (tests/oracle/costs.py), and the accepted texts with their inferred summaries (tests/inferred.py), each of
+which passes or fails; `--only random` asks for these alone. It is an error, and no pass, where a fence isn't understood or no case is left.
 
 The program is out/dpj where ./build or the gate made it of these sources; else it is built once, unproved, by `rt try`.
 """
@@ -31,7 +31,7 @@ import tempfile
 
 import inferred
 from generate import prefixes, random_programs
-from oracle import schedules, seeds, worked_orders
+from oracle import costs, schedules, seeds, worked_orders
 
 TOP = pathlib.Path(__file__).resolve().parent.parent
 CASES = TOP / "tests" / "cases"
@@ -238,15 +238,16 @@ def wants_campaigns(options, is_proved):
     """Whether the campaigns are to be made. In them a program is asked for many times, so an unproved one is too slow."""
     is_wanted = not options.files and re.search(options.only or "", "random programs and schedules, and inferred summaries")
     if is_wanted and not is_proved:
-        print("tests/run: random programs and schedules and inferred summaries are left out, since the sources run unproved")
+        print("tests/run: random programs and schedules, costs and inferred summaries are left out, since the sources run unproved")
     return is_wanted and is_proved
 
 
-def campaigns(sources, shows):
-    """How many random programs, programs with random schedules and texts with inferred summaries passed, and how many failed."""
+def campaigns(cases, shows):
+    """How many random programs, programs with random schedules or within their costs and texts with inferred summaries passed, and how many failed."""
+    sources = (case["source"] for case in cases if case["status"] != 2)
     counts = (
         random_programs.campaign(PROVED, shows=shows), schedules.campaign(PROVED), worked_orders.campaign(PROVED), seeds.campaign(PROVED),
-        inferred.campaign(PROVED, sources))
+        costs.campaign(PROVED, cases), inferred.campaign(PROVED, sources))
     return tuple(map(sum, zip(*counts)))
 
 
@@ -270,7 +271,7 @@ def main():
     else:
         print("tests/run: the sources are newer than the proved program, so they run unproved, which takes ten minutes and more", flush=True)
         run_unproved(cases)
-    passed, failed = campaigns((case["source"] for case in loaded if case["status"] != 2), options.show) if has_campaigns else (0, 0)
+    passed, failed = campaigns(loaded, options.show) if has_campaigns else (0, 0)
     for case in cases:
         wanted, got = (case["stdout"], case["status"]), case.get("got", (b"(not run)", None))
         if got != wanted:
