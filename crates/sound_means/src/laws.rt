@@ -1,0 +1,1 @@
+//! Laws of what is accepted, each the clause of a function that does nothing.
