@@ -16,11 +16,9 @@ use Rattle.code_scheme.specs.Scheme.{first_constant, owner_of, after_stmts, meth
 use Rattle.code_scheme.specs.Stands.{first_place, BeginsAt}
 use Rattle.code_scheme.specs.Whole.{number_in, compiled}
 use Rattle.code_scheme.proofs.Tables.{parents_are, method_is, constructor_is}
-use Rattle.code_instrs.proofs.Safe.{fit_is_safe, members_are_safe}
 use Rattle.lang_typed.proofs.Resolved.{typed_is_resolved}
 use Rattle.code_scheme.proofs.Whole.{laid_out, members_at}
 use Rattle.code_fit.specs.Closed.{IsFirst, Keeps, IsAbove, itself, through_parent, ExtendsCode, RowOf, CodeClosed}
-use Rattle.code_fit.specs.Laws.{SafeCode}
 use Rattle.code_fit.specs.Room.{RowTakes, Constructs, Roomy}
 use Rattle.code_fit.proofs.Typed.{through, row_there, parent_full, typed_is_roomy}
 use Rattle.code_fit.proofs.Lists.{some_is, none_is}
@@ -336,15 +334,4 @@ typed_is_closed P W = record {
   firsts = λ c. firsts_are P c;
   order = W.rank;
   parents = λ c p e. extends P W c p e;
-}
-
--- and its members begin safe
-pub typed_is_safe : {N M : Type 0} (P : PlainProgram) → WellTyped P → SafeCode N M P
-unfolding typed_is_closed code_is_fit
-typed_is_safe P W = record {
-  closed = typed_is_closed P W;
-  begins = λ n m e f h k. (let b = members_at P n m e in
-      members_are_safe (compiled P) (typed_is_closed P W).fit (number_in P n) (gives_value m) f (member_body P n m e) (h ∙ sym b.slots)
-      (k ∙ sym b.local_regions));
-  goes_on = λ names r s h. fit_is_safe (compiled P) (typed_is_closed P W).fit names r s h;
 }
