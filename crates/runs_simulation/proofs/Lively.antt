@@ -1,7 +1,6 @@
 -- A machine on compiled code has a ready task until its run has come out, and its schedules are short.
 use Rattle.std.proofs.Common.{inl, inr, ◌⊎◌, ℤ, ◌≡◌, ◌≤◌, ◌<◌, ℕ, ◌+◌, ◌*◌, ◌^◌, List, [], ◌∷◌, length, sym, subst, Option, Some, None, arith}
 use Rattle.std.specs.FinMap.{get}
-use Rattle.lang_base.specs.declared.outcome.Limits.{Limits as DeclaredLimits}
 use Rattle.lang_base.specs.declared.outcome.Outcome.{Outcome as DeclaredOutcome}
 use Rattle.lang_typed.specs.Plain.{PlainProgram}
 use Rattle.lang_typed.specs.Resolved.{Resolved, HasMain}
@@ -27,7 +26,7 @@ use Rattle.exec_progress.specs.Progress.{CodeMakesProgress}
 use Rattle.exec_tasks.specs.declared.task.Task.{Task as Live}
 use Rattle.exec_machine.specs.Premise.{CanProgress}
 use Rattle.exec_machine.specs.Replay.{CanBeMade, IsStuck, LeadsTo, Moment, NextOf}
-use Rattle.runs_simulation.specs.Laws.{LeftOpen, Records, SchedulesAreShort, SomeTaskIsReady, StuckForFewReasons, limits}
+use Rattle.runs_simulation.specs.Laws.{LeftOpen, Records, SchedulesAreShort, SomeTaskIsReady, StuckForFewReasons}
 use Rattle.runs_simulation.proofs.Acting.{event_of}
 use Rattle.runs_simulation.proofs.Blocks.{some_there}
 use Rattle.runs_simulation.proofs.Ready.{ready_there}
@@ -70,23 +69,23 @@ module _ (keeps : EachKeeps) (known : NamesAreKnown) (going : CodeMakesProgress)
           A.lives.unended 0 root.0 V.path root.1 V.there z (subst (λ p. Ended A.run p z) (sym path) g)
 
       r : (k : ℕ) × (e : Event) × Ready (stepped P arg) A.run k e
-      r = some_ready_event (stepped P arg) (keeps P arg).disciplined (keeps P arg).lively (known P arg) A.run (ran_legal (stepped P arg) (limits L) ks A.run A.ran) root_unended
+      r = some_ready_event (stepped P arg) (keeps P arg).disciplined (keeps P arg).lively (known P arg) A.run (ran_legal (stepped P arg) L ks A.run A.ran) root_unended
 
   pub short : SchedulesAreShort
   short code P L arg is resolved main few ks m leads = go m.outcome (recorded code P L arg is resolved main few ks m leads)
     where
-      go : (o : Option DeclaredOutcome) → Records (stepped P arg) (limits L) ks o → length ks ≤ 2 * L.steps + 2
-      go None h = (let b = ran_bounded (stepped P arg) (keeps P arg).disciplined (keeps P arg).paced (limits L) ks h.0 h.1 in omega (arith, b))
-      go (Some o) h = finished_bounded (stepped P arg) (keeps P arg).disciplined (keeps P arg).paced (limits L) ks h.0 h.1
+      go : (o : Option DeclaredOutcome) → Records (stepped P arg) L ks o → length ks ≤ 2 * L.steps + 2
+      go None h = (let b = ran_bounded (stepped P arg) (keeps P arg).disciplined (keeps P arg).paced L ks h.0 h.1 in omega (arith, b))
+      go (Some o) h = finished_bounded (stepped P arg) (keeps P arg).disciplined (keeps P arg).paced L ks h.0 h.1
 
   -- no object has more fields or elements than are counted
-  small_values : (code : Code) (P : PlainProgram) (L : DeclaredLimits) (arg : ℤ) (is : plain_code code ≡ compiled P) (resolved : Resolved P) (main : HasMain P) (few : L.steps ≤ 20000000)
+  small_values : (code : Code) (P : PlainProgram) (L : Limits) (arg : ℤ) (is : plain_code code ≡ compiled P) (resolved : Resolved P) (main : HasMain P) (few : L.steps ≤ 20000000)
       → L.cells ≤ 16777216 → (ks : List ℕ) (m : Moment) → LeadsTo code L arg ks m → LedTo code P L arg is resolved main few ks m
       → (n : ℕ) → length (values_of (object_at m.world.heap n)) < 2 ^ 31
   small_values code P L arg is resolved main few cells ks m leads A n =
       let c = object_charged m.world.heap n (all_charged code L arg ks m leads) in
       let u = A.tied.costs.cells in
-      let w = (ran_within (stepped P arg) (limits L) ks A.run A.ran).cells in omega (arith, c, u, w, cells)
+      let w = (ran_within (stepped P arg) L ks A.run A.ran).cells in omega (arith, c, u, w, cells)
 
   pub few_reasons : StuckForFewReasons
   few_reasons code P L arg is resolved main few cells ks m leads k s =
@@ -106,7 +105,7 @@ module _ (keeps : EachKeeps) (known : NamesAreKnown) (going : CodeMakesProgress)
     pub legal : Legal (stepped P arg) (event ∷ run)
     pub what : ((event.act ≡ Do Exit) × (hold (mine run event.path) ≡ Out_of)) ⊎ ((ts : Branches) × (event.act ≡ Fork ts) × (2 ^ 32 ≤ length ts.tasks))
 
-  pub stuck_run : (code : Code) (P : PlainProgram) (L : DeclaredLimits) (arg : ℤ) → plain_code code ≡ compiled P → Resolved P → HasMain P → L.steps ≤ 20000000
+  pub stuck_run : (code : Code) (P : PlainProgram) (L : Limits) (arg : ℤ) → plain_code code ≡ compiled P → Resolved P → HasMain P → L.steps ≤ 20000000
       → L.cells ≤ 16777216 → (ks : List ℕ) (m : Moment) → LeadsTo code L arg ks m → (k : ℕ) → IsStuck (plain_code code) m k → StuckRun P arg
   stuck_run code P L arg is resolved main few cells ks m leads k s =
       subst (λ j. (x : NextOf (plain_code code) m j s.event) → LeftOpen m.world j s.event.action → StuckRun P arg) s.next.stands.number
@@ -116,7 +115,7 @@ module _ (keeps : EachKeeps) (known : NamesAreKnown) (going : CodeMakesProgress)
       A = led_to code P L arg is resolved main few ks m leads s.next.unfinished
 
       legal : Legal (stepped P arg) A.run
-      legal = ran_legal (stepped P arg) (limits L) ks A.run A.ran
+      legal = ran_legal (stepped P arg) L ks A.run A.ran
 
       by_action : (a : Action) (x : NextOf (plain_code code) m s.event.task (event_of s.event.task s.event.turns s.event.wants a)) → LeftOpen m.world s.event.task a → StuckRun P arg
       by_action action.Exit x left =
