@@ -10,7 +10,7 @@ use Rattle.runs_theory.specs.Objects.{Path}
 use Rattle.runs_theory.specs.Runs.{Ended, Event, Run, mine}
 use Rattle.runs_theory.specs.Schedules.{Limits, Numbered, Ran, Ready, Within, branch_is, root_is}
 use Rattle.runs_theory.proofs.Bound.{finished_bounded, ran_bounded}
-use Rattle.runs_theory.proofs.Schedules.{ran_legal}
+use Rattle.runs_theory.proofs.Schedules.{one_run, ran_legal}
 use Rattle.runs_theory.proofs.Theorems.{some_ready_event}
 use Rattle.runs_program.specs.Interfering.{lets}
 use Rattle.runs_program.specs.Laws.{EachKeeps}
@@ -26,7 +26,7 @@ use Rattle.exec_progress.specs.Progress.{CodeMakesProgress}
 use Rattle.exec_tasks.specs.declared.task.Task.{Task as Live}
 use Rattle.exec_machine.specs.Premise.{CanProgress}
 use Rattle.exec_machine.specs.Replay.{CanBeMade, IsStuck, LeadsTo, Moment, NextOf}
-use Rattle.runs_simulation.specs.Laws.{LeftOpen, Records, SchedulesAreShort, SomeTaskIsReady, StuckForFewReasons}
+use Rattle.runs_simulation.specs.Laws.{LeftOpen, ReadyTasksAreReady, Records, SchedulesAreShort, SomeTaskIsReady, StuckForFewReasons}
 use Rattle.runs_simulation.proofs.Acting.{event_of}
 use Rattle.runs_simulation.proofs.Blocks.{some_there}
 use Rattle.runs_simulation.proofs.Ready.{ready_there}
@@ -46,18 +46,23 @@ root_path (root_is a b) = a
 root_path (branch_is q u G g a b c d n i) = absurd (omega (arith, i))
 
 module _ (keeps : EachKeeps) (known : NamesAreKnown) (going : CodeMakesProgress) where
-  pub some_ready : SomeTaskIsReady
-  some_ready code P L arg is resolved main few ks m leads none = (
-    r.0,
-    ready_there code P arg L (right code P L arg is resolved main few) A.tied A.blocks A.lives
-        (all_rest code L arg goes ks m leads) (λ k t e. (goes ks m leads).legs k t e) r.0 r.1 r.2,
-  )
+  pub all_ready : ReadyTasksAreReady
+  all_ready code P L arg is resolved main few ks m leads none R ran j f ready =
+      ready_there code P arg L (right code P L arg is resolved main few) A.tied A.blocks A.lives (all_rest code L arg goes ks m leads)
+      (λ k t e. (goes ks m leads).legs k t e) j f
+      (subst (λ S. Ready (stepped P arg) S j f) (one_run (stepped P arg) (keeps P arg).disciplined L ks R A.run ran A.ran) ready)
     where
       A : LedTo code P L arg is resolved main few ks m
       A = led_to code P L arg is resolved main few ks m leads none
 
       goes : CanProgress code L arg
       goes = going code P L arg is resolved main few
+
+  pub some_ready : SomeTaskIsReady
+  some_ready code P L arg is resolved main few ks m leads none = (r.0, all_ready code P L arg is resolved main few ks m leads none A.run A.ran r.0 r.1 r.2)
+    where
+      A : LedTo code P L arg is resolved main few ks m
+      A = led_to code P L arg is resolved main few ks m leads none
 
       root : (x : Live) × (get m.world.tree.tasks 0 ≡ Some x)
       root = some_there (get m.world.tree.tasks 0) (A.lives.root none)

@@ -11,8 +11,8 @@ use Rattle.code_instrs.specs.declared.code.Code.{Code}
 use Rattle.code_scheme.specs.Whole.{compiled}
 use Rattle.runs_theory.specs.Actions.{Ending, Program, Returned, Assigned, Trapped}
 use Rattle.runs_theory.specs.Order.{Came as came_out, Limited, Outcome}
-use Rattle.runs_theory.specs.Runs.{Run}
-use Rattle.runs_theory.specs.Schedules.{Finished, Limits, Ran}
+use Rattle.runs_theory.specs.Runs.{Event, Run}
+use Rattle.runs_theory.specs.Schedules.{Finished, Limits, Ran, Ready}
 use Rattle.runs_program.specs.Steps.{stepped}
 use Rattle.std.specs.FinMap.{get}
 use Rattle.exec_task.specs.declared.action.Action.{Action}
@@ -43,6 +43,13 @@ abbrev pub SomeTaskIsReady : Type 0
 SomeTaskIsReady =
     (code : Code) (P : PlainProgram) (L : Limits) (argument : ℤ) → plain_code code ≡ compiled P → Resolved P → HasMain P → L.steps ≤ 20000000
     → (ks : List ℕ) (m : Moment) → LeadsTo code L argument ks m → m.outcome ≡ None → (k : ℕ) × IsReady m.world k
+
+-- and each task that is ready in the run that its schedule records is ready in the machine
+abbrev pub ReadyTasksAreReady : Type 0
+ReadyTasksAreReady =
+    (code : Code) (P : PlainProgram) (L : Limits) (argument : ℤ) → plain_code code ≡ compiled P → Resolved P → HasMain P → L.steps ≤ 20000000
+    → (ks : List ℕ) (m : Moment) → LeadsTo code L argument ks m → m.outcome ≡ None → (R : Run) → Ran (stepped P argument) L ks R
+    → (k : ℕ) (e : Event) → Ready (stepped P argument) R k e → IsReady m.world k
 
 -- and a schedule has at most twice as many numbers as there are steps, and two more
 abbrev pub SchedulesAreShort : Type 0

@@ -15,7 +15,7 @@ use Rattle.runs_theory.specs.Order.{Limited, Outcome}
 use Rattle.runs_theory.specs.Runs.{Event, Run}
 use Rattle.runs_theory.specs.Schedules.{Finished, Greatest, Greedy, Limits, Numbered, Ran, Ready, Within, ended, no_room, over}
 use Rattle.runs_theory.proofs.Numbers.{number_same}
-use Rattle.runs_theory.proofs.Schedules.{one_run, ran_legal}
+use Rattle.runs_theory.proofs.Schedules.{ran_legal}
 use Rattle.runs_theory.proofs.Theorems.{comes_one_way}
 use Rattle.runs_program.specs.Laws.{EachKeeps}
 use Rattle.runs_program.specs.Steps.{stepped}
@@ -23,14 +23,9 @@ use Rattle.runs_elision.specs.Laws.{ComesOutAsElided, GreedyIsElided, GreedyOver
 use Rattle.exec_world.specs.Ready.{IsGreatestReady, IsReady}
 use Rattle.exec_world.specs.declared.world.World.{World}
 use Rattle.exec_machine.specs.Keeping.{GreedilyOn, IsAfter, Played, further, here}
-use Rattle.exec_machine.specs.Premise.{CanProgress}
 use Rattle.exec_machine.specs.Replay.{LeadsTo, Moment, Moves}
 use Rattle.exec_machine.specs.Replay.{made as made_so, over as over_so}
-use Rattle.exec_progress.specs.Progress.{CodeMakesProgress}
-use Rattle.runs_simulation.specs.Laws.{MachinesRecord, Records}
-use Rattle.runs_simulation.proofs.Ready.{ready_there}
-use Rattle.runs_simulation.proofs.Recorded.{LedTo, led_to, right}
-use Rattle.runs_simulation.proofs.Waiting.{all_rest}
+use Rattle.runs_simulation.specs.Laws.{MachinesRecord, ReadyTasksAreReady, Records}
 use Rattle.runs_theorem.specs.Guarantee.{GreedyMachinesElide}
 use Rattle.runs_theorem.proofs.Joined.{reported_renamed}
 use Rattle.lang_meaning.specs.Reported.{reported}
@@ -56,26 +51,12 @@ greedy_run Q L [] (e ∷ R) h ran = absurd ran
 greedy_run Q L (k ∷ ks) [] h ran = absurd ran
 greedy_run Q L (k ∷ ks) (e ∷ R) h ran = h R e ran.0 ran.1
 
-module _ (keeps : EachKeeps) (going : CodeMakesProgress) (P : PlainProgram) (resolved : Resolved P) (main : HasMain P) where
+module _ (all_ready : ReadyTasksAreReady) (P : PlainProgram) (resolved : Resolved P) (main : HasMain P) where
   module _ (code : Code) (L : Limits) (arg : ℤ) (is : plain_code code ≡ compiled P) (few : L.steps ≤ 20000000) where
     abbrev Q : Program
     Q = stepped P arg
 
-    -- a task that is ready in the run is ready in the machine
-    ready_so : (ks : List ℕ) (m : Moment) → LeadsTo code L arg ks m → m.outcome ≡ None → (R : Run) → Ran Q L ks R
-        → (j : ℕ) (f : Event) → Ready Q R j f → IsReady m.world j
-    ready_so ks m leads none R ran j f ready =
-        ready_there code P arg L (right code P L arg is resolved main few) A.tied A.blocks A.lives (all_rest code L arg goes ks m leads)
-        (λ k t e. (goes ks m leads).legs k t e) j f
-        (subst (λ S. Ready Q S j f) (one_run Q (keeps P arg).disciplined L ks R A.run ran A.ran) ready)
-      where
-        A : LedTo code P L arg is resolved main few ks m
-        A = led_to code P L arg is resolved main few ks m leads none
-
-        goes : CanProgress code L arg
-        goes = going code P L arg is resolved main few
-
-    -- so the greatest of the machine is the greatest of the run
+    -- the greatest of the machine is the greatest of the run
     greatest_so : (ks : List ℕ) (m : Moment) (w : World) (k : ℕ) → LeadsTo code L arg ks m → m.outcome ≡ None → w ≡ m.world → IsGreatestReady w k
         → (R : Run) (e : Event) → Ran Q L ks R → Ready Q R k e → Greatest Q R e
     greatest_so ks m w k leads none same most R e ran ready = record { none = below }
@@ -83,7 +64,7 @@ module _ (keeps : EachKeeps) (going : CodeMakesProgress) (P : PlainProgram) (res
         below : (f : Event) (j i : ℕ) → Allowed Q R f → Numbered R j f.path → Numbered R i e.path → j ≤ i
         below f j i allowed there own = elim (cases_lt k j) [
           | inl l ↦ absurd (let next : Ready Q R j f = record { allowed = allowed; number = there } in
-              most.greatest j l (subst (λ v. IsReady v j) (sym same) (ready_so ks m leads none R ran j f next)))
+              most.greatest j l (subst (λ v. IsReady v j) (sym same) (all_ready code P L arg is resolved main few ks m leads none R ran j f next)))
           | inr g ↦ (let n : k ≡ i = number_same ready.number own in omega (arith, g, n))
         ]
 
@@ -133,9 +114,9 @@ module _ (keeps : EachKeeps) (greedy : GreedyIsElided) (beyond_too : GreedyOverI
       limited_so (beyond_too P arg L (e ∷ R) (ready.allowed, ran_legal (stepped P arg) L ks R ran) (h R e ran ready) beyond)
   comes_out h (no_room beyond) = limited_so (beyond_too P arg L [] tt tt beyond)
 
-pub greedy_machines_elide : MachinesRecord → EachKeeps → CodeMakesProgress → GreedyIsElided → GreedyOverIsLimited → GreedyMachinesElide
-greedy_machines_elide records keeps going greedy beyond P start p o resolved main code_is small empty on replayed came =
+pub greedy_machines_elide : MachinesRecord → ReadyTasksAreReady → EachKeeps → GreedyIsElided → GreedyOverIsLimited → GreedyMachinesElide
+greedy_machines_elide records all_ready keeps greedy beyond P start p o resolved main code_is small empty on replayed came =
     let finished = subst (λ z. Records (stepped P p.argument) p.limits (reverse p.schedule) z) (sym replayed.outcome ∙ came)
     (records p.code P p.limits p.argument code_is resolved main small (reverse p.schedule) replayed.moment replayed.leads) in
-    let schedule = records_greedy keeps going P resolved main empty on code_is small in
+    let schedule = records_greedy all_ready P resolved main empty on code_is small in
     finished.2 ∙ comes_out keeps greedy beyond P p.argument p.limits schedule finished.1
