@@ -7,11 +7,10 @@ use Rattle.lang_typed.specs.Plain.{StmtForm as form}
 use Rattle.lang_typed.specs.Resolved.{is_void, gives_value, StmtFits, StmtsFit, BranchesFit, Resolved}
 use Rattle.lang_typed.specs.Scope.{member_at}
 use Rattle.lang_typed.specs.Statements.{all_complete}
-use Rattle.code_instrs.specs.declared.instr.Instr.{Instr}
 use Rattle.code_instrs.specs.declared.instr.Instr.TheVariants as i
-use Rattle.code_instrs.specs.Plain.{PlainBody, body_or_none, Site, PlainCode, body_at}
+use Rattle.code_instrs.specs.Plain.{PlainBody, body_or_none, PlainCode, body_at}
 use Rattle.code_instrs.specs.Fit.{is_branch, MemberBody}
-use Rattle.code_scheme.specs.Pieces.{Branch, Piece, Next, past, nothing, line, with_site, with_branches, beside}
+use Rattle.code_scheme.specs.Pieces.{Branch, Piece, Next, past, beside}
 use Rattle.code_scheme.specs.Scheme.{closes, after_stmts, stmt_piece, stmts_piece, branches_of}
 use Rattle.code_scheme.specs.Stands.{LineAt, first_place, BeginsAt, StmtsAt, MemberEnds}
 use Rattle.code_scheme.specs.Whole.{weight_all, place_of, branch_piece_of, branch_piece, closing, member_piece, generate, in_member, member_output, past_output, members_output, member_numbers, first, number_in, compiled}
@@ -19,7 +18,7 @@ use Rattle.code_scheme.proofs.Closing.{leaves_nothing, never_ends}
 use Rattle.code_scheme.proofs.Branched.{AllAre, all_on, Each, each_none, each_both, each_after, each_line, each_nothing, each_branches, each_site}
 use Rattle.code_scheme.proofs.Pieces.{Holds, split, all_of, Queued, queued, Laid}
 use Rattle.code_scheme.proofs.Placed.{stmt_far, stmts_far}
-use Rattle.code_scheme.proofs.Whole.{need, need_on, Needs, expr_needs, stmt_needs, branch_needs, member_needs, OutputAt, generated, member_queued, member_is, first_output, bodies_at}
+use Rattle.code_scheme.proofs.Whole.{need, need_on, expr_needs, stmt_needs, branch_needs, member_needs, OutputAt, generated, member_queued, member_is, first_output, bodies_at}
 use Rattle.code_fit.specs.Room.{StmtWithin, StmtsWithin, BranchesWithin, Roomy}
 use Rattle.code_fit.proofs.Lists.{index_is}
 use Rattle.code_fit.proofs.Linked.{Rooted, rooted, Stands, cut_here, skip, Linked, AllLinked, linked, all_linked}

@@ -1,10 +1,9 @@
 -- The code of each construct fits its marks.
-use Rattle.std.proofs.Common.{◌≡◌, ◌⊎◌, inl, inr, ◌<◌, ◌≤◌, ℕ, zero, suc, ◌+◌, pos, Bool, true, false, IsTrue, cond, ◌&&◌, ◌||◌, nat_lt, ltb-true, ltb-false, List, [], ◌∷◌, All, refl, sym, ap, ◌∙◌, subst, arith, Option, Some, slice_get}
+use Rattle.std.proofs.Common.{◌≡◌, ◌⊎◌, inl, inr, ◌<◌, ◌≤◌, ℕ, zero, suc, ◌+◌, pos, Bool, true, false, IsTrue, cond, ◌&&◌, ◌||◌, nat_lt, ltb-true, ltb-false, List, [], ◌∷◌, All, refl, sym, ap, ◌∙◌, subst, arith, Option, Some, None, slice_get}
 use Rattle.lang_base.specs.declared.effect.Effect.{Effect}
 use Rattle.lang_base.specs.declared.place.Place.{Place}
 use Rattle.lang_base.specs.declared.region.Rpl.{Rpl}
 use Rattle.lang_base.specs.declared.value.Value.{Value}
-use Rattle.lang_base.specs.Regions.{fully_specified}
 use Rattle.lang_base.specs.Types.{PlainType}
 use Rattle.lang_base.specs.Types.{PlainType as ty}
 use Rattle.lang_typed.specs.declared.stmt.Forking.{Forking}
@@ -17,13 +16,13 @@ use Rattle.lang_typed.specs.Statements.{completes, all_complete}
 use Rattle.code_instrs.specs.declared.instr.Instr.{Instr}
 use Rattle.code_instrs.specs.declared.instr.Instr.TheVariants as i
 use Rattle.code_instrs.specs.Plain as code
-use Rattle.code_instrs.specs.Plain.{Method, method_at, ClassCode, Line, PlainCode, body_at, array_site}
-use Rattle.code_instrs.specs.Machine.{site_of}
+use Rattle.code_instrs.specs.Plain.{Method, method_at, ClassCode, Line, Site, fork_site, spread_site, PlainCode, body_at, array_site}
+use Rattle.code_instrs.specs.Machine.{line_before, site_of}
 use Rattle.code_instrs.specs.Fit.{Mark, is_branch, Falls_to, puts_of, RowIs, left_by, site_at, Local}
 use Rattle.code_scheme.specs.Scheme.{first_constant, many, after_expr, after_exprs, after_stmt, after_stmts, after_regions, site_of_array, copy_lists}
 use Rattle.code_scheme.specs.Stands.{LineAt, ExprAt, ExprsAt, PoppedAt, RegionsAt, StmtAt, StmtsAt}
-use Rattle.code_fit.specs.Closed.{IsAbove, IsFirst, Keeps}
-use Rattle.code_fit.specs.Room.{RowTakes, Constructs, FullArray, BranchesWithin, ExprWithin, ExprsWithin, StmtWithin, StmtsWithin}
+use Rattle.code_fit.specs.Closed.{IsAbove, IsFirst, NoJoin, Keeps}
+use Rattle.code_fit.specs.Room.{RowTakes, Constructs, IsFull, FullArray, BranchesWithin, ExprWithin, ExprsWithin, StmtWithin, StmtsWithin}
 use Rattle.code_fit.proofs.Lists.{some_is, none_is}
 use Rattle.code_fit.proofs.Marks.{mark, reached, Marked, cut, top_expr, top_exprs, high, high_is, expr_marks, exprs_marks, expr_reach, exprs_reach, top_perform, perform_marks, top_regions, region_marks, spread_marks, parts_marks, top_stmt, top_stmts, stmt_marks, stmts_marks, stmt_reach, stmts_reach}
 use Rattle.code_fit.proofs.Linked.{ForkThere, SpreadThere, Linked, AllLinked}
@@ -36,10 +35,9 @@ first_is ty.null = tt
 first_is (ty.class c args) = tt
 first_is (ty.array t a named) = tt
 
-array_is : (t : PlainType) → FullArray t →
-    (a : Rpl) × (first : Value) × (site_of_array t ≡ array_site a first) × IsTrue (fully_specified a) × IsFirst first
-array_is (ty.array t a named) f = (_, _, refl, f, first_is t)
-array_is t f = absurd f
+array_is : (n : ℕ) (t : PlainType) → FullArray n t → (a : Rpl) × (first : Value) × (site_of_array t ≡ array_site a first) × IsFull n 1 a × IsFirst first
+array_is n (ty.array t a named) f = (_, _, refl, f, first_is t)
+array_is n t f = absurd f
 
 both_hold : (a b : Bool) → a ≡ true → b ≡ true → a && b ≡ true
 both_hold true b h k = k
@@ -63,9 +61,39 @@ pub record TablesFit (C : PlainCode) (P : PlainProgram) (gives : ℕ → Bool) :
 -- body j of a code, whose tables are those of a program
 module _ (C : PlainCode) (P : PlainProgram) (marks : ℕ → ℕ → Option Mark) (gives : ℕ → Bool)
     (tables : TablesFit C P gives) (j : ℕ) where
+  -- a join takes values off, and stands after a fork or spread: so none stands where a jump leads with nothing on the stack, or where another
+  -- line stands before
+  pub record Lands (q : ℕ) : Type 0 where
+    pub there : Mark
+    pub is_there : marks j q ≡ Some there
+    pub apart : (there.height ≡ 0) ⊎ (left_by (site_at C (site_of (line_before (body_at C j).lines q))) ≡ None)
+
+  abbrev pub Holds : ℕ → Mark → Instr → Type 0
+  Holds p m (i.Jump q) = Lands q
+  Holds p m (i.Unless q) = Lands q
+  Holds p m x = Keeps C (body_at C j) p m x
+
   abbrev pub Fine : ℕ → Type 0
-  Fine p = (m : Mark) → marks j p ≡ Some m → (l : Line) × (slice_get (body_at C j).lines p ≡ Some l) × Local C marks gives j p m l.instr ×
-      Keeps C (body_at C j) p m l.instr
+  Fine p = (m : Mark) → marks j p ≡ Some m → (l : Line) × (slice_get (body_at C j).lines p ≡ Some l) × Local C marks gives j p m l.instr × Holds p m l.instr
+
+  some_left : (s : Option Site) (n : ℕ) → left_by s ≡ Some n → n ≡ 0 → ⊥
+  some_left (Some (fork_site forking js copies)) n e z = let s = some_is e in absurd (omega arith)
+  some_left (Some (spread_site forking x y)) n e z = let s = some_is e in absurd (omega arith)
+  some_left s n e z = absurd (cc)
+
+  lands : ((p : ℕ) → Fine p) → (q : ℕ) → Lands q → NoJoin (body_at C j) q
+  lands fine q h l at join =
+      let x = fine q h.there h.is_there in
+      go h.apart (subst (λ z. Local C marks gives j q h.there z) (ap (λ z. z.instr) (some_is (sym x.1 ∙ at)) ∙ join) x.2)
+    where
+      go : (h.there.height ≡ 0) ⊎ (left_by (site_at C (site_of (line_before (body_at C j).lines q))) ≡ None) → Local C marks gives j q h.there i.Join → ⊥
+      go (inl z) s = let a = s.2.path.high in some_left _ s.0 s.1 (omega arith)
+      go (inr z) s = none_is (sym z ∙ s.1)
+
+  pub keeps_to : ((p : ℕ) → Fine p) → (p : ℕ) (m : Mark) (x : Instr) → Holds p m x → Keeps C (body_at C j) p m x
+  keeps_to fine p m (i.Jump q) h = lands fine q h
+  keeps_to fine p m (i.Unless q) h = lands fine q h
+  keeps_to fine p m x h = h
 
   pub record Covers (p q : ℕ) : Type 0 where
     pub each : (x : ℕ) → p ≤ x → x < q → Fine x
@@ -81,7 +109,7 @@ module _ (C : PlainCode) (P : PlainProgram) (marks : ℕ → ℕ → Option Mark
   covers_none {p} = record { each = λ x a b. absurd (omega arith) }
 
   pub covers_if : {p : ℕ} {x : Instr} {at : Place} (m : Mark) (b : Bool) → LineAt (body_at C j).lines p x at → marks j p ≡ reached b m →
-      (b ≡ true → Local C marks gives j p m x × Keeps C (body_at C j) p m x) → Covers p (suc p)
+      (b ≡ true → Local C marks gives j p m x × Holds p m x) → Covers p (suc p)
   covers_if {p} {x} {at} m b a e l = record { each = λ q u v. subst (λ q. Fine q) (omega arith) (go b refl) }
     where
       go : (t : Bool) → b ≡ t → Fine p
@@ -90,12 +118,11 @@ module _ (C : PlainCode) (P : PlainProgram) (marks : ℕ → ℕ → Option Mark
             record { instr = x; place = at },
             a,
             subst (λ w. Local C marks gives j p w x) same (l h).0,
-            subst (λ w. Keeps C (body_at C j) p w x) same (l h).1,
+            subst (λ w. Holds p w x) same (l h).1,
           )
       go false h n f = none_is (sym (e ∙ ap (λ t. reached t m) h) ∙ f)
 
-  pub covers_one : {p : ℕ} {x : Instr} {at : Place} {m : Mark} → LineAt (body_at C j).lines p x at → marks j p ≡ Some m → Keeps C (body_at C j) p m x →
-      Local C marks gives j p m x → Covers p (suc p)
+  pub covers_one : {p : ℕ} {x : Instr} {at : Place} {m : Mark} → LineAt (body_at C j).lines p x at → marks j p ≡ Some m → Holds p m x → Local C marks gives j p m x → Covers p (suc p)
   covers_one {m = m} a e k l = covers_if m true a e (λ h. (l, k))
 
   -- a step along which the rank falls, and the entries stay
@@ -120,6 +147,43 @@ module _ (C : PlainCode) (P : PlainProgram) (marks : ℕ → ℕ → Option Mark
 
   two_for_one : {h r z q : ℕ} → marks j q ≡ Some (mark (suc h) r z) → Falls_to (marks j) (mark (suc (suc h)) (suc r) z) q 2 1 0 0
   two_for_one e = falls 2 1 e (omega arith) (omega arith) (omega arith)
+
+  low : {q r z : ℕ} → marks j q ≡ Some (mark 0 r z) → Lands q
+  low e = record { there = _; is_there = e; apart = inl refl }
+
+  behind : {q : ℕ} {m : Mark} (o : Option Line) → slice_get (body_at C j).lines q ≡ o → site_of o ≡ None → marks j (suc q) ≡ Some m → Lands (suc q)
+  behind o a s e = record { there = _; is_there = e; apart = inr (ap (λ o. left_by (site_at C (site_of o))) a ∙ ap (λ s. left_by (site_at C s)) s) }
+
+  -- the last line of an expression forks nothing
+  record LastLine (q : ℕ) : Type 0 where
+    before : ℕ
+    is : q ≡ suc before
+    forks_none : site_of (slice_get (body_at C j).lines before) ≡ None
+
+  last_is : {q : ℕ} (o : Option Line) → slice_get (body_at C j).lines q ≡ o → site_of o ≡ None → LastLine (suc q)
+  last_is {q} o a s = record { before = q; is = refl; forks_none = ap site_of a ∙ s }
+
+  last_line : (e : TypedExpr) (p : ℕ) → ExprAt C (body_at C j).lines p e → LastLine (after_expr p e)
+  last_line (typed at t (expr.int n)) p a = last_is _ a refl
+  last_line (typed at t (expr.boolean b)) p a = last_is _ a refl
+  last_line (typed at t expr.null) p a = last_is _ a refl
+  last_line (typed at t (expr.local k)) p a = last_is _ a refl
+  last_line (typed at t (expr.field e c f)) p a = last_is _ a.1 refl
+  last_line (typed at t (expr.element b k)) p a = last_is _ a.2 refl
+  last_line (typed at t (expr.array_length b)) p a = last_is _ a.1 refl
+  last_line (typed at t (expr.call e c k regions es)) p a = last_is _ a.2.stands refl
+  last_line (typed at t (expr.create es)) p a = last_is _ a.1.stands refl
+  last_line (typed at t (expr.create_array n)) p a = last_is _ a.1.stands refl
+  last_line (typed at t (expr.unary o e)) p a = last_is _ a.1 refl
+  last_line (typed at t (expr.binary o b k)) p a = last_is _ a.2 refl
+  last_line (typed at t (expr.both b k)) p a = last_is _ a.4 refl
+  last_line (typed at t (expr.either b k)) p a = last_line k _ a.4
+  last_line (typed at t (expr.part_length k)) p a = last_is _ a refl
+  last_line (typed at t (expr.part_element k b)) p a = last_is _ a.2 refl
+
+  lands_after : (e : TypedExpr) (p : ℕ) {m : Mark} → ExprAt C (body_at C j).lines p e → marks j (after_expr p e) ≡ Some m → Lands (after_expr p e)
+  lands_after e p a y =
+      let l = last_line e p a in subst (λ q. Lands q) (sym l.is) (behind _ refl l.forks_none (ap (λ q. marks j q) (sym l.is) ∙ y))
 
   -- the mark of the first place
   mutual
@@ -185,7 +249,7 @@ module _ (C : PlainCode) (P : PlainProgram) (marks : ℕ → ℕ → Option Mark
         (covers_one a.1.stands u.1.0 (_, many es, _, a.1.site_is, tables.classes _ w.1.0 w.1.1, w.1.2, λ q e. tables.makes _ (many es) w.2 q e) (_, many es, _, a.1.site_is, new_falls es y))
     fit_expr (typed at t (expr.create_array n)) p h r z ok w a x y =
         let u = cut (marks j) _ (expr_reach n p _ _ _) x in
-        let s = array_is t w.1 in
+        let s = array_is (body_at C j).slots t w.1 in
         covers_then (fit_expr n p _ _ _ ok.0 w.0 a.0 u.0 u.1.0)
         (covers_one a.1.stands u.1.0 (s.0, s.1, a.1.site_is ∙ ap Some s.2, s.3, s.4) (s.0, s.1, a.1.site_is ∙ ap Some s.2, one_for_one y))
     fit_expr (typed at t (expr.unary o e)) p h r z ok w a x y =
@@ -201,16 +265,20 @@ module _ (C : PlainCode) (P : PlainProgram) (marks : ℕ → ℕ → Option Mark
         let v = cut (marks j) _ (expr_reach k _ _ _ _) u.1.1 in
         let f = expr_first k _ _ _ _ v.0 in
         covers_then (fit_expr b p _ _ _ ok.0 w.0 a.0 u.0 u.1.0)
-        (covers_then (covers_one a.1 u.1.0 tt (falls 1 0 v.1.1.0 (omega arith) (omega arith) (omega arith), falls 1 0 f (omega arith) (omega arith) (omega arith)))
+        (covers_then
+        (covers_one a.1 u.1.0 (behind _ a.3 refl v.1.1.0)
+        (falls 1 0 v.1.1.0 (omega arith) (omega arith) (omega arith), falls 1 0 f (omega arith) (omega arith) (omega arith)))
         (covers_then (fit_expr k _ _ _ _ ok.1 w.1 a.2 v.0 v.1.0)
-        (covers_then (covers_one a.3 v.1.0 tt (still y)) (covers_one a.4 v.1.1.0 tt (one_up y)))))
+        (covers_then (covers_one a.3 v.1.0 (behind _ a.4 refl y) (still y)) (covers_one a.4 v.1.1.0 tt (one_up y)))))
     fit_expr (typed at t (expr.either b k)) p h r z ok w a x y =
         let u = cut (marks j) _ (expr_reach b p _ _ _) x in
         let f = expr_first k _ _ _ _ u.1.1.1.1 in
         covers_then (fit_expr b p _ _ _ ok.0 w.0 a.0 u.0 u.1.0)
-        (covers_then (covers_one a.1 u.1.0 tt (falls 1 0 f (omega arith) (omega arith) (omega arith), falls 1 0 u.1.1.0 (omega arith) (omega arith) (omega arith)))
+        (covers_then
+        (covers_one a.1 u.1.0 (behind _ a.3 refl f)
+        (falls 1 0 f (omega arith) (omega arith) (omega arith), falls 1 0 u.1.1.0 (omega arith) (omega arith) (omega arith)))
         (covers_then (covers_one a.2 u.1.1.0 tt (one_up u.1.1.1.0))
-        (covers_then (covers_one a.3 u.1.1.1.0 tt (still y)) (fit_expr k _ _ _ _ ok.1 w.1 a.4 u.1.1.1.1 y))))
+        (covers_then (covers_one a.3 u.1.1.1.0 (lands_after k _ a.4 y) (still y)) (fit_expr k _ _ _ _ ok.1 w.1 a.4 u.1.1.1.1 y))))
     fit_expr (typed at t (expr.part_length k)) p h r z ok w a x y = covers_one a x.0 tt (omega arith, one_up y)
     fit_expr (typed at t (expr.part_element k b)) p h r z ok w a x y =
         let u = cut (marks j) _ (expr_reach b p _ _ _) x in
@@ -389,7 +457,8 @@ module _ (C : PlainCode) (P : PlainProgram) (marks : ℕ → ℕ → Option Mark
       let f = stmt_first s _ _ _ u.1.1 (λ c. y refl) in
       covers_then (fit_expr e p _ _ _ ok.0 w.0 a.0 u.0 u.1.0)
       (covers_then
-      (covers_one a.1 u.1.0 tt (falls 1 0 (y refl) (omega arith) (omega arith) (omega arith), falls 1 0 f (omega arith) (omega arith) (omega arith)))
+      (covers_one a.1 u.1.0 (low (y refl))
+      (falls 1 0 (y refl) (omega arith) (omega arith) (omega arith), falls 1 0 f (omega arith) (omega arith) (omega arith)))
       (fit_s may _ _ _ out ok.1 w.1 a.2 l u.1.1 (λ c. y refl)))
 
   fit_choice_else : (at : Place) (e : TypedExpr) (s : TypedStmt) (t : TypedStmt) → Fits s → Fits t → Fits (statement at (form.choice_else e s t))
@@ -399,9 +468,9 @@ module _ (C : PlainCode) (P : PlainProgram) (marks : ℕ → ℕ → Option Mark
       let f = stmt_first s _ _ _ v.0 (λ c. is_reached (completes s) _ v.1.0 c) in
       let g = stmt_first t _ _ _ v.1.1 (λ c. y (right_holds (completes s) (completes t) c)) in
       covers_then (fit_expr e p _ _ _ ok.0 w.0 a.0 u.0 u.1.0)
-      (covers_then (covers_one a.1 u.1.0 tt (falls 1 0 g (omega arith) (omega arith) (omega arith), falls 1 0 f (omega arith) (omega arith) (omega arith)))
+      (covers_then (covers_one a.1 u.1.0 (low g) (falls 1 0 g (omega arith) (omega arith) (omega arith), falls 1 0 f (omega arith) (omega arith) (omega arith)))
       (covers_then (fit_s may _ _ _ out ok.1 w.1 a.2 l.0 v.0 (λ c. is_reached (completes s) _ v.1.0 c))
-      (covers_then (covers_if _ (completes s) a.3 v.1.0 (λ c. (still (y (left_holds (completes s) (completes t) c)), tt)))
+      (covers_then (covers_if _ (completes s) a.3 v.1.0 (λ c. (let z = y (left_holds (completes s) (completes t) c) in (still z, low z))))
       (fit_t may _ _ _ out ok.2 w.2 a.4 l.1 v.1.1 (λ c. y (right_holds (completes s) (completes t) c))))))
 
   fit_while_loop : (at : Place) (e : TypedExpr) (s : TypedStmt) → Fits s → Fits (statement at (form.while_loop e s))
@@ -411,11 +480,11 @@ module _ (C : PlainCode) (P : PlainProgram) (marks : ℕ → ℕ → Option Mark
       let g = expr_first e p _ _ _ u.0 in
       let f = stmt_first s _ _ _ v.0 (λ c. is_reached (completes s) _ v.1.0 c) in
       covers_then (fit_expr e p _ _ _ ok.0 w.0 a.0 u.0 u.1.0)
-      (covers_then (covers_one a.1 u.1.0 tt (falls 1 0 (y refl) (omega arith) (omega arith) (omega arith), one_down u.1.1.0))
+      (covers_then (covers_one a.1 u.1.0 (low (y refl)) (falls 1 0 (y refl) (omega arith) (omega arith) (omega arith), one_down u.1.1.0))
       (covers_then
       (covers_one a.2 u.1.1.0 tt (record { there = _; is_there = f; high = omega arith; height = refl; open_too = omega arith; entries = refl }))
       (covers_then (fit_s may _ _ _ out ok.1 w.1 a.3 l v.0 (λ c. is_reached (completes s) _ v.1.0 c))
-      (covers_if _ (completes s) a.4 v.1.0 (λ c. (still g, tt))))))
+      (covers_if _ (completes s) a.4 v.1.0 (λ c. (still g, low g))))))
 
   fit_return_nothing : (at : Place) → Fits (statement at form.return_nothing)
   fit_return_nothing at may p r z out ok w a l x y = covers_one a x.0 (out w) ok

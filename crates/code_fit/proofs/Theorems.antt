@@ -16,16 +16,14 @@ use Rattle.code_scheme.specs.Scheme.{first_constant, owner_of, after_stmts, meth
 use Rattle.code_scheme.specs.Stands.{first_place, BeginsAt}
 use Rattle.code_scheme.specs.Whole.{number_in, compiled}
 use Rattle.code_scheme.proofs.Tables.{parents_are, method_is, constructor_is}
-use Rattle.code_instrs.proofs.Safe.{fit_is_safe, members_are_safe}
 use Rattle.lang_typed.proofs.Resolved.{typed_is_resolved}
 use Rattle.code_scheme.proofs.Whole.{laid_out, members_at}
 use Rattle.code_fit.specs.Closed.{IsFirst, Keeps, IsAbove, itself, through_parent, ExtendsCode, RowOf, CodeClosed}
-use Rattle.code_fit.specs.Laws.{SafeCode}
 use Rattle.code_fit.specs.Room.{RowTakes, Constructs, Roomy}
-use Rattle.code_fit.proofs.Typed.{through, row_there, typed_is_roomy}
+use Rattle.code_fit.proofs.Typed.{through, row_there, parent_full, typed_is_roomy}
 use Rattle.code_fit.proofs.Lists.{some_is, none_is}
 use Rattle.code_fit.proofs.Marks.{mark, reached, Marked, Reach, far, next, stop, cut, top_stmts, stmts_marks, stmts_reach}
-use Rattle.code_fit.proofs.Fitting.{first_is, TablesFit, Fine, Covers, covers_then, covers_none, covers_if, covers_one, still, is_reached, stmts_first, fit_stmts}
+use Rattle.code_fit.proofs.Fitting.{first_is, TablesFit, Fine, Covers, covers_then, covers_none, covers_if, covers_one, still, is_reached, stmts_first, fit_stmts, Holds, keeps_to}
 use Rattle.code_fit.proofs.Bodies.{TakesWithin, Ends, Known, gives_in, body_known, member_body}
 
 abbrev list_at : List (Option Mark) → ℕ → Option Mark
@@ -237,14 +235,16 @@ module _ (P : PlainProgram) where
       where
         go : (d : Choice j) → ((p : ℕ) → marks_in j p ≡ marks_when j d p) →
             (l : Line) × (slice_get (body_at (compiled P) j).lines p ≡ Some l) × Local (compiled P) marks_in (gives_in P) j p m l.instr ×
-            Keeps (compiled P) (body_at (compiled P) j) p m l.instr
+            Holds (compiled P) P marks_in (gives_in P) (tables_fit roomy) j p m l.instr
         go (inl k) h = body_fits (compiled P) P marks_in (gives_in P) (tables_fit roomy) j (body_known P resolved roomy j k) h p m e
         go (inr k) h = none_is (sym (h p) ∙ e)
 
     lines_keep : (j p : ℕ) (m : Mark) (l : Line) → marks_in j p ≡ Some m → slice_get (body_at (compiled P) j).lines p ≡ Some l →
         Keeps (compiled P) (body_at (compiled P) j) p m l.instr
     lines_keep j p m l e f =
-        let x = lines_fit j p m e in subst (λ z. Keeps (compiled P) (body_at (compiled P) j) p m z.instr) (some_is (sym x.1 ∙ f)) x.3
+        let x = lines_fit j p m e in
+        subst (λ z. Keeps (compiled P) (body_at (compiled P) j) p m z.instr) (some_is (sym x.1 ∙ f))
+        (keeps_to (compiled P) P marks_in (gives_in P) (tables_fit roomy) j (λ q. lines_fit j q) p m x.0.instr x.3)
 
     pub code_is_fit : CodeFit (compiled P)
     code_is_fit = record {
@@ -318,7 +318,7 @@ module _ (P : PlainProgram) where
         before = x.before;
         above = class_code P (number_in P) x.above;
         is = class_is p.class ∙ ap (λ o. option_map (class_code P (number_in P)) o) x.is;
-        full = x.full;
+        full = parent_full P k.0 p.args x.args.paths x.full;
         fields = omega arith;
       }
 
@@ -334,15 +334,4 @@ typed_is_closed P W = record {
   firsts = λ c. firsts_are P c;
   order = W.rank;
   parents = λ c p e. extends P W c p e;
-}
-
--- and its members begin safe
-pub typed_is_safe : {N M : Type 0} (P : PlainProgram) → WellTyped P → SafeCode N M P
-unfolding typed_is_closed code_is_fit
-typed_is_safe P W = record {
-  closed = typed_is_closed P W;
-  begins = λ n m e f h k. (let b = members_at P n m e in
-      members_are_safe (compiled P) (typed_is_closed P W).fit (number_in P n) (gives_value m) f (member_body P n m e) (h ∙ sym b.slots)
-      (k ∙ sym b.local_regions));
-  goes_on = λ names r s h. fit_is_safe (compiled P) (typed_is_closed P W).fit names r s h;
 }

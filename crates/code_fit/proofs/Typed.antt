@@ -1,11 +1,15 @@
 -- The bodies of a well-typed program keep to their slots and local regions, and its rows are members.
-use Rattle.std.proofs.Common.{◌≡◌, inl, inr, ◌<◌, ℕ, zero, suc, ◌+◌, ◌==◌, Bool, true, false, cond, List, [], ◌∷◌, All, map, length, slice_index_or, refl, ap, subst, arith, Option, Some, None, slice_get, option_map, option_and_then, sym, ◌∙◌}
+use Rattle.std.proofs.Common.{◌≡◌, ◌⊎◌, inl, inr, ◌<◌, ℕ, zero, suc, ◌+◌, ◌==◌, Bool, true, false, IsTrue, cond, List, [], ◌∷◌, All, map, length, slice_index_or, refl, ap, subst, arith, Option, Some, None, slice_get, option_map, option_and_then, sym, ◌∙◌}
 use Rattle.std.proofs.lemmas.Bool.{eqb-true}
 use Rattle.std.proofs.lemmas.List.{length-map}
 use Rattle.std.proofs.lemmas.List.Elements.{length_all_zip}
 use Rattle.std.proofs.lemmas.Option.{slice_get_within}
 use Rattle.std.specs.List.{list_any}
-use Rattle.lang_base.specs.Types.{type_with, PlainType, int}
+use Rattle.lang_base.specs.declared.elems.Elem.{Elem}
+use Rattle.lang_base.specs.declared.elems.Elem.TheVariants.{Name, At, Any, Star, Local as LocalRegion}
+use Rattle.lang_base.specs.declared.elems.Index.TheVariants.{Literal, Variable, Renamed, Own as OwnIndex}
+use Rattle.lang_base.specs.Regions.{fully_specified}
+use Rattle.lang_base.specs.Types.{type_with, PlainType, int, array}
 use Rattle.lang_base.specs.declared.region.Rpl.{Rpl}
 use Rattle.lang_typed.specs.Plain.{PlainProgram, PlainClass, PlainParent, PlainMember, TypedExpr, TypedExprs, Source, TypedStmt, TypedStmts, TypedBranches}
 use Rattle.lang_typed.specs.Scope.{Scope, Local, variable, frozen, constant, part, reserved, with_local, in_loop_branch, read_alone, seen_in_branch, class_at, row_at, member_at, parent_of, constructor_of}
@@ -17,11 +21,12 @@ use Rattle.lang_typed.specs.Statements.{declared_as, with_part, IsFree, Cuts, cu
 use Rattle.lang_typed.specs.Statements.{Passes as passes}
 use Rattle.lang_typed.specs.Statements.{AllPass as all}
 use Rattle.lang_typed.specs.Statements.{BranchesPass as branches}
-use Rattle.lang_typed.specs.Table.{KeepsRow, RowIsThere, first_locals}
+use Rattle.lang_typed.specs.Table.{KeepsRow, RowIsThere, class_scope, first_locals}
+use Rattle.lang_typed.specs.Types.{GoodElem, GoodPath, LocalPath, IsFlat, GoodType}
 use Rattle.lang_typed.specs.WellTyped.{WellTyped}
 use Rattle.code_scheme.specs.Scheme.{many}
 use Rattle.code_fit.proofs.Lists.{some_is, index_is}
-use Rattle.code_fit.specs.Room.{RowTakes, ExprWithin, ExprsWithin, SourceWithin, StmtWithin, StmtsWithin, BranchesWithin, Roomy}
+use Rattle.code_fit.specs.Room.{IndexWithin, IsFull, AllFull, RowTakes, ExprWithin, ExprsWithin, SourceWithin, StmtWithin, StmtsWithin, BranchesWithin, Roomy}
 
 -- how many slots a local needs beside its own
 abbrev beside : Local → ℕ
@@ -87,6 +92,32 @@ first_fit k m room (suc x) l e = go (slice_get m.formals x) refl e
 all_free : {n : ℕ} (k : ℕ) (L : Scope) → L.slots ≡ n → All (λ i. IsFree L (k + i)) (0 ∷ 1 ∷ 2 ∷ 3 ∷ 4 ∷ []) → k + 4 < n
 all_free {n} k L e free = let a = (free 4 0 (omega arith)).1 in omega arith
 
+-- a good path names variables by slots of the locals in scope
+module _ (P : PlainProgram) (L : Scope) {n : ℕ} (fit : LocalsFit n L.local) where
+  index_within : (own : ℕ) (k : Elem) → GoodElem P L own k → IndexWithin n own k
+  index_within own (Name m) g = tt
+  index_within own (At (Literal m)) g = tt
+  index_within own (At (Variable x)) g = let l = fit x _ g in omega arith
+  index_within own (At (Renamed x)) g = g
+  index_within own (At (OwnIndex d)) g = g
+  index_within own Any g = tt
+  index_within own Star g = tt
+  index_within own (LocalRegion x m) g = tt
+
+  pub args_full : (args : List Rpl) → All (GoodPath P L 0) args → All (λ a. IsTrue (fully_specified a)) args → AllFull n args
+  args_full args paths full k d l = (full k d l, λ q e m. index_within 0 _ ((paths k d l).elems q e m))
+
+  in_local : (r : ℕ) (rest : List Elem) → All (GoodElem P L 1) rest → All (IndexWithin n 1) (LocalRegion r 0 ∷ rest)
+  in_local r rest g zero d l = tt
+  in_local r rest g (suc k) d l = index_within 1 _ (g k d (omega arith))
+
+  array_full : {t : PlainType} {a : Rpl} {named : Bool} → GoodType P L 0 (array t a named) → IsTrue (fully_specified a) → IsFull n 1 a
+  array_full {t} {a} g full = (full, go g.0)
+    where
+      go : GoodPath P L 1 a ⊎ (LocalPath P L 1 a × IsFlat t × ◌≡◌ {A = ℕ} 0 0) → All (IndexWithin n 1) a.elems
+      go (inl p) = λ k d l. index_within 1 _ (p.elems k d l)
+      go (inr p) = subst (λ z. All (IndexWithin n 1) z.elems) (sym p.0.is) (in_local p.0.region p.0.rest p.0.elems)
+
 module _ (P : PlainProgram) (n r : ℕ) where
   readable : {L : Scope} {may : Bool} → Room n r may L → (x : ℕ) (t : PlainType) → Holds (L.local x) t → x < n
   readable room x t (inl h) = let a = room.locals x _ h in omega arith
@@ -118,16 +149,16 @@ module _ (P : PlainProgram) (n r : ℕ) where
     expr_within u (has.read_field h q f k t) = expr_within u h
     expr_within u (has.read_element h q i s k t) = (expr_within u h, expr_within u i)
     expr_within u (has.length_of_array h q) = expr_within u h
-    expr_within u (has.call_method h q row member above good full known readable actuals nd_free t) = (
+    expr_within {L} u (has.call_method h q row member above good full known readable actuals nd_free t) = (
       expr_within u h,
       exprs_within u actuals,
-      full,
+      args_full P L u.locals _ good.paths full,
       record { number = _; member = _; row = row; is_there = member; many = sym (length-map _ _) ∙ sym (fit_many actuals) },
     )
-    expr_within u (has.create_object {c = c} {k = class} k g a z) = (tt, (class, k, a), λ n e. absurd (none_made c class k z n e))
-    expr_within u (has.construct_object {c = c} {args = args} {k = class} k g a z m f nd_free) =
-        (exprs_within u f, (class, k, a), λ q e. made c args class k z m f q e)
-    expr_within u (has.make_array g a h q) = (expr_within u h, a)
+    expr_within {L} u (has.create_object {c = c} {k = class} k g a z) = (tt, (class, k, args_full P L u.locals _ g.paths a), λ n e. absurd (none_made c class k z n e))
+    expr_within {L} u (has.construct_object {c = c} {args = args} {k = class} k g a z m f nd_free) =
+        (exprs_within u f, (class, k, args_full P L u.locals _ g.paths a), λ q e. made c args class k z m f q e)
+    expr_within {L} u (has.make_array g a h q) = (expr_within u h, array_full P L u.locals g a)
     expr_within u (has.negative h q) = expr_within u h
     expr_within u (has.negation h q) = expr_within u h
     expr_within u (has.operation h i o t) = (expr_within u h, expr_within u i)
@@ -244,6 +275,11 @@ below_takes P W c r n p e g =
     let same : a.0 ≡ x.above = some_is (sym a.1 ∙ x.is) in
     let row = x.rows r g.number (ap (λ z. slice_get z.rows r) (sym same) ∙ a.2) in
     kept_takes P c r g.number row.0 n k.0 g.member k.1 row.1 g.is_there g.many row.2
+
+-- the regions that a superclass is extended by name no variable
+pub parent_full : (P : PlainProgram) (k : PlainClass) (args : List Rpl) → All (GoodPath P (class_scope k) 0) args →
+    All (λ a. IsTrue (fully_specified a)) args → AllFull 0 args
+parent_full P k args paths full = args_full P (class_scope k) (λ x l e. absurd (cc)) args paths full
 
 pub typed_is_roomy : (P : PlainProgram) → WellTyped P → Roomy P
 typed_is_roomy P W = record {

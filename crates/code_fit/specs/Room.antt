@@ -1,7 +1,10 @@
 -- What fit code asks of a program beside that it is resolved: each body keeps to the slots and local regions of its member, names
--- regions that are fully specified and classes that are there, calls with as many arguments as are taken, and returns neither from a
+-- regions that are fully specified, by indices and classes that are there, calls with as many arguments as are taken, and returns neither from a
 -- branch nor from an atomic block; the rows of classes are members.
 use Rattle.std.specs.Prelude.{◌≡◌, ◌<◌, ℕ, ◌+◌, Bool, true, false, IsTrue, List, All, length, Some}
+use Rattle.lang_base.specs.declared.elems.Elem.{Elem}
+use Rattle.lang_base.specs.declared.elems.Elem.TheVariants.{At}
+use Rattle.lang_base.specs.declared.elems.Index.TheVariants.{Variable, Renamed, Own}
 use Rattle.lang_base.specs.declared.region.Rpl.{Rpl}
 use Rattle.lang_base.specs.Regions.{fully_specified}
 use Rattle.lang_base.specs.Types.{PlainType}
@@ -13,16 +16,29 @@ use Rattle.lang_typed.specs.Scope.{class_at, member_at, row_at, parent_of, const
 use Rattle.lang_meaning.specs.Expressions.{class_in}
 use Rattle.code_scheme.specs.Scheme.{many}
 
-abbrev pub AllFull : List Rpl → Type 0
-AllFull rpls = All (λ a. IsTrue (fully_specified a)) rpls
+-- what an element may name: a variable by one of so many slots, and an index of its own array types by one of so many
+abbrev pub IndexWithin : ℕ → ℕ → Elem → Type 0
+IndexWithin slots own (At (Variable x)) = x < slots
+IndexWithin slots own (At (Renamed x)) = ⊥
+IndexWithin slots own (At (Own d)) = d < own
+IndexWithin slots own k = Unit {0}
 
--- what is created: an object of a class that is there, by regions that are fully specified; or an array in such a region
-abbrev pub Created : PlainProgram → PlainType → Type 0
-Created P t = (k : PlainClass) × (class_at P (class_in t).0 ≡ Some k) × AllFull (class_in t).1
+-- a region is fully specified, and its indices are there
+abbrev pub IsFull : ℕ → ℕ → Rpl → Type 0
+IsFull slots own a = IsTrue (fully_specified a) × All (IndexWithin slots own) a.elems
 
-abbrev pub FullArray : PlainType → Type 0
-FullArray (ty.array t a named) = IsTrue (fully_specified a)
-FullArray t = ⊥
+-- no index name stands in region arguments
+abbrev pub AllFull : ℕ → List Rpl → Type 0
+AllFull slots rpls = All (IsFull slots 0) rpls
+
+-- what is created: an object of a class that is there, by regions that are fully specified; or an array in such a region, which
+-- may name the array's own index
+abbrev pub Created : PlainProgram → ℕ → PlainType → Type 0
+Created P n t = (k : PlainClass) × (class_at P (class_in t).0 ≡ Some k) × AllFull n (class_in t).1
+
+abbrev pub FullArray : ℕ → PlainType → Type 0
+FullArray n (ty.array t a named) = IsFull n 1 a
+FullArray n t = ⊥
 
 -- the row of a class is a member that takes so many arguments; and so is its constructor, where it has one
 pub record RowTakes (P : PlainProgram) (c r n : ℕ) : Type 0 where
@@ -45,9 +61,9 @@ abbrev mutual
   ExprWithin P n (typed at t (expr.field e c f)) = ExprWithin P n e
   ExprWithin P n (typed at t (expr.element a j)) = ExprWithin P n a × ExprWithin P n j
   ExprWithin P n (typed at t (expr.array_length a)) = ExprWithin P n a
-  ExprWithin P n (typed at t (expr.call e c r regions es)) = ExprWithin P n e × ExprsWithin P n es × AllFull regions × RowTakes P c r (many es)
-  ExprWithin P n (typed at t (expr.create es)) = ExprsWithin P n es × Created P t × Constructs P (class_in t).0 (many es)
-  ExprWithin P n (typed at t (expr.create_array e)) = ExprWithin P n e × FullArray t
+  ExprWithin P n (typed at t (expr.call e c r regions es)) = ExprWithin P n e × ExprsWithin P n es × AllFull n regions × RowTakes P c r (many es)
+  ExprWithin P n (typed at t (expr.create es)) = ExprsWithin P n es × Created P n t × Constructs P (class_in t).0 (many es)
+  ExprWithin P n (typed at t (expr.create_array e)) = ExprWithin P n e × FullArray n t
   ExprWithin P n (typed at t (expr.unary o e)) = ExprWithin P n e
   ExprWithin P n (typed at t (expr.binary o a b)) = ExprWithin P n a × ExprWithin P n b
   ExprWithin P n (typed at t (expr.both a b)) = ExprWithin P n a × ExprWithin P n b

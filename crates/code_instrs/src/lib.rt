@@ -6,7 +6,7 @@
 //!
 //! `specs/Machine.antt` says what one step of a task is, and what the solo run of a body does on a list of answers. The
 //! rules of what an unfitting value or answer counts as are those of `lang_meaning`, the same functions. `specs/Fit.antt`
-//! says when a code is fit, and `specs/Safe.antt` what that promises: a task that runs fit code never gets stuck.
+//! says when a code is fit, which that of every well-typed program is (`code_fit`).
 #![tactic(auto)]
 
 mod code;

@@ -1,3 +1,4 @@
+mod Below
 pub mod Closing
 pub mod Does
 pub mod Sim

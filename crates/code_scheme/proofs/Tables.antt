@@ -12,7 +12,7 @@ use Rattle.lang_typed.specs.Scope as program
 use Rattle.lang_meaning.specs.Values.{Region}
 use Rattle.lang_meaning.specs.Counts.{class_entered}
 use Rattle.lang_meaning.specs.Expressions.{first_of, class_fields}
-use Rattle.code_instrs.proofs.Below.{entered_has}
+use Rattle.code_scheme.proofs.Below.{entered_has}
 use Rattle.code_instrs.specs.Plain.{PlainCode, parent_of, method_at, constructor_of, fields_of, class_at}
 use Rattle.code_instrs.specs.Machine.{first_value}
 use Rattle.code_scheme.specs.Scheme.{first_constant, method_code, class_code}

@@ -2,6 +2,7 @@
 use Rattle.std.proofs.Common.{◌≡◌, ◌∙◌, ℕ, zero, suc, ◌-◌, ◌<◌, List, [], ◌∷◌, ◌++◌, drop, length, refl, sym, ap, arith, Option, Some, None, true, false, cond}
 use Rattle.lang_base.specs.declared.place.Place.{Place}
 use Rattle.lang_base.specs.declared.value.Trap.TheVariants as trap
+use Rattle.lang_base.specs.declared.outcome.Limits.{Limits}
 use Rattle.lang_typed.specs.Plain.{PlainProgram, PlainMember}
 use Rattle.lang_typed.specs.Scope.{row_at, member_at, parent_of}
 use Rattle.lang_meaning.specs.Values.{Value, Int, Boolean, Null, Object, Thing, Region}
@@ -9,7 +10,6 @@ use Rattle.lang_meaning.specs.Actions.{Look, New}
 use Rattle.lang_meaning.specs.Counts.{reference, name_made}
 use Rattle.lang_meaning.specs.Elision.{LocalRegion, in_order, Store, answer, after}
 use Rattle.lang_meaning.specs.Expressions.{entered, new_object}
-use Rattle.lang_meaning.specs.Outcomes.{Limits}
 use Rattle.lang_meaning.specs.Regions.{some_long, regions_above}
 use Rattle.exec_walker.specs.Walk.{Level, Waiting, At, for_value, for_object, falls, beginning, or_null, calls, enters, row_member, seen_at, constructs, creates, creates_with, pushed}
 use Rattle.exec_walker.specs.Halts.{IsOver}

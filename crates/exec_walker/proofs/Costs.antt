@@ -10,13 +10,14 @@ use Rattle.lang_meaning.specs.Core.{Out as out}
 use Rattle.lang_meaning.specs.Counts.{slot_value, brought}
 use Rattle.lang_meaning.specs.Elision.{LocalRegion, in_order, Store, one_step, at_end, sequential, judged}
 use Rattle.lang_meaning.specs.Expressions.{gives, none, of_expr}
-use Rattle.lang_meaning.specs.Outcomes.{Limits, Limited, Came, joined_or, first_trap, all_locals}
+use Rattle.lang_meaning.specs.Outcomes.{Limited, Came, joined_or, first_trap, all_locals}
 use Rattle.lang_meaning.specs.Statements.{joined, of_stmt, of_stmts, begun}
 use Rattle.exec_walker.specs.Agenda.{Item, evaluate, operate, carry_out, finish, counted, goes_on, test, turn, leave, deeper_at, applied, finished, parted}
 use Rattle.exec_walker.specs.Walk.{Level, Construct, Waiting, for_value, for_object, for_branch, root_work, value_of, first_or}
 use Rattle.exec_walker.proofs.Runs.{proceeds}
 use Rattle.exec_walker.proofs.Residual.{Ran, again, item_run, stacked, items_run, level_run, with_operand, rest_run, joins_run, whole}
 use Rattle.exec_walker.proofs.Loops.{Later, now, Leaves, leaves_bind, stepped, end_leaves, tested_leaves, run_leaves}
+use Rattle.lang_base.specs.declared.outcome.Limits.{Limits}
 
 or_true : (b : Bool) → (b || true) ≡ true
 or_true true = refl

@@ -5,6 +5,7 @@ use Rattle.std.proofs.lemmas.List.{map-append, length-set, length-replicate, app
 use Rattle.std.proofs.lemmas.List.Elements.{All-set, All-get_or, All-push}
 use Rattle.lang_base.specs.declared.value.Value.{Value as Constant}
 use Rattle.lang_base.specs.declared.region.Region.{Region}
+use Rattle.lang_base.specs.declared.outcome.Limits.{Limits}
 use Rattle.exec_heap.specs.declared.stop.HeapStop.{HeapStop}
 use Rattle.exec_heap.specs.declared.stop.HeapStop.TheVariants.{Full}
 use Rattle.std.proofs.lemmas.Bool.{ltb-true, ltb-false}
@@ -15,7 +16,6 @@ use Rattle.lang_meaning.specs.Actions.{Write, New, Length}
 use Rattle.lang_meaning.specs.Costs.{size, own_steps}
 use Rattle.lang_meaning.specs.Elision.{LocalRegion, held, after, one_step, written}
 use Rattle.lang_meaning.specs.Elision.{Store as Elided}
-use Rattle.lang_meaning.specs.Outcomes.{Limits}
 use Rattle.exec_frames.specs.Names.{plain_value, plain_region}
 use Rattle.exec_walker.specs.declared.store.Store.{Store}
 use Rattle.exec_walker.specs.Cells.{cell_set}

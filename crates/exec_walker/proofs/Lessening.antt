@@ -3,6 +3,7 @@ use Rattle.std.proofs.Common.{◌≡◌, ◌∙◌, ◌<◌, ◌≤◌, ◌+◌,
 use Rattle.lang_base.specs.declared.place.Place.{Place}
 use Rattle.lang_base.specs.declared.value.Trap.{Trap}
 use Rattle.lang_base.specs.declared.value.Trap.TheVariants as trap
+use Rattle.lang_base.specs.declared.outcome.Limits.{Limits}
 use Rattle.lang_typed.specs.Plain.{PlainProgram, PlainMember, of_array, of_part, TypedExpr, typed, TypedExprs, no_exprs, more_exprs, TypedStmt, statement, no_stmts, more_stmts}
 use Rattle.lang_typed.specs.Plain.{ExprForm as form}
 use Rattle.lang_typed.specs.Plain.{StmtForm as stmt}
@@ -14,7 +15,7 @@ use Rattle.lang_meaning.specs.Core.{Out as out}
 use Rattle.lang_meaning.specs.Counts.{Brought, Back, Trap_of_branch, brought, how_many, name_made, number, reference, slot_value, truth}
 use Rattle.lang_meaning.specs.Elision.{LocalRegion, in_order, Store, answer, after, one_step, sequential}
 use Rattle.lang_meaning.specs.Expressions.{none, new_object, class_in}
-use Rattle.lang_meaning.specs.Outcomes.{Limits, joined_or}
+use Rattle.lang_meaning.specs.Outcomes.{joined_or}
 use Rattle.lang_meaning.specs.Regions.{around, concrete, some_long}
 use Rattle.lang_meaning.specs.Statements.{all_copies, iterations, tasks_of}
 use Rattle.lang_meaning.specs.Values.{Value, Boolean, Object}

@@ -5,13 +5,13 @@ use Rattle.lang_typed.specs.declared.ids.LocalRegion.{LocalRegion as Declared}
 use Rattle.lang_meaning.specs.Actions.{Frame}
 use Rattle.lang_meaning.specs.Core.{Done, bind, run}
 use Rattle.lang_meaning.specs.Elision.{LocalRegion, Made, Store, one_turn, sequential}
-use Rattle.lang_meaning.specs.Outcomes.{Limits}
 use Rattle.lang_meaning.specs.Statements.{makes}
 use Rattle.exec_walker.specs.Walk.{Level, Waiting, State, lands}
 use Rattle.exec_walker.specs.Halts.{IsOver}
 use Rattle.exec_walker.specs.Stores.{with_region}
 use Rattle.exec_walker.specs.States.{IsOverAt}
 use Rattle.exec_walker.proofs.OverLimit.{over_later}
+use Rattle.lang_base.specs.declared.outcome.Limits.{Limits}
 
 module _ (g : Level) (ws : List Waiting) where
   abbrev pub makes_from : List ℕ → Frame ℕ LocalRegion → Store → State

@@ -3,6 +3,7 @@ use Rattle.std.proofs.Common.{◌≤◌, ℕ, zero, suc, List, [], ◌∷◌, ar
 use Rattle.lang_base.specs.declared.place.Place.{Place}
 use Rattle.lang_base.specs.declared.value.Trap.{Trap}
 use Rattle.lang_base.specs.declared.value.Trap.TheVariants as trap
+use Rattle.lang_base.specs.declared.outcome.Limits.{Limits}
 use Rattle.lang_typed.specs.Plain.{TypedStmt}
 use Rattle.lang_meaning.specs.Actions.{Frame, Task, Work}
 use Rattle.lang_meaning.specs.Counts.{Brought, Back, Trap_of_branch}
@@ -10,7 +11,6 @@ use Rattle.lang_meaning.specs.Elision.{LocalRegion, Store, one_step, sequential}
 use Rattle.lang_meaning.specs.Core.{Traps, run}
 use Rattle.lang_meaning.specs.Expressions.{gives, none}
 use Rattle.lang_meaning.specs.Values.{Value}
-use Rattle.lang_meaning.specs.Outcomes.{Limits}
 use Rattle.exec_walker.specs.Walk.{Construct, Level, Waiting, forks_at, parts_at, lands, for_value, for_object, for_branch, falls, fallen, earlier, rejoins, branches}
 use Rattle.exec_walker.specs.Halts.{IsOver}
 use Rattle.exec_walker.specs.States.{IsOverAt}

@@ -2,6 +2,7 @@
 use Rattle.std.proofs.Common.{◌≡◌, ◌∙◌, ℕ, ℤ, List, ap, subst, Err, Some, None}
 use Rattle.lang_base.specs.declared.place.Place.{Place}
 use Rattle.lang_base.specs.declared.value.Trap.TheVariants as trap
+use Rattle.lang_base.specs.declared.outcome.Limits.{Limits}
 use Rattle.lang_meaning.specs.Values.{Value}
 use Rattle.lang_meaning.specs.Actions.{Frame, Read, Write}
 use Rattle.lang_meaning.specs.Core.{Traps, run}
@@ -9,7 +10,6 @@ use Rattle.lang_meaning.specs.Counts.{reference, value_read, is_out}
 use Rattle.lang_meaning.specs.Elision.{LocalRegion, Store, sequential, answer, after}
 use Rattle.lang_meaning.specs.Expressions.{gives, unless_null, read_cell}
 use Rattle.lang_meaning.specs.Statements.{write_cell}
-use Rattle.lang_meaning.specs.Outcomes.{Limits}
 use Rattle.exec_walker.specs.Walk.{Level, Waiting, At, lands}
 use Rattle.exec_walker.specs.declared.halt.Halt.{Halt}
 use Rattle.exec_walker.specs.Halts.{After}

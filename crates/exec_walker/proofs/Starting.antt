@@ -23,16 +23,17 @@ use Rattle.exec_walker.specs.Halts.{IsOver, After}
 use Rattle.exec_walker.specs.Stores.{Holds, IsSmall, object_seen}
 use Rattle.exec_walker.specs.declared.walker.Over.{Over}
 use Rattle.exec_walker.specs.declared.walker.Walker.{Walker}
-use Rattle.exec_walker.specs.Outcome.{Begun, Walked, limits, nothing, outcome_of}
+use Rattle.exec_walker.specs.Outcome.{Begun, Walked, nothing}
 use Rattle.exec_walker.specs.Walks.{Walks}
 use Rattle.exec_walker.specs.States.{EndsAt, IsOverAt, StandsAt, plain_level, plain_over, plain_waiting}
+use Rattle.lang_meaning.specs.Reported.{reported}
 
 or_true : (b : Bool) → (b || true) ≡ true
 or_true true = refl
 or_true false = refl
 
 pub holds_nothing : (L : Limits) (s : CodeStore) → s.heap ≡ record { objects = []; used = 0; limit = L.cells } → s.output ≡ [] → s.trap ≡ None → s.steps ≡ 0
-    → s.regions ≡ 0 → s.limit ≡ L.steps → L.cells ≤ 16777216 → Holds (limits L) s (nothing (suc L.steps))
+    → s.regions ≡ 0 → s.limit ≡ L.steps → L.cells ≤ 16777216 → Holds L s (nothing (suc L.steps))
 holds_nothing L s heap output trap steps regions limit cells = record {
   heap = ap (λ (h : Contents). map object_seen h.objects) heap;
   small = subst (λ (h : Contents). All IsSmall h.objects) (sym heap) (All-nil IsSmall);
@@ -56,8 +57,8 @@ module _ (P : PlainProgram) where
       ap (λ y. after (New y false) (nothing n)) e ∙ ap (λ k. record (at_start P n) { cells = k }) more
 
   pub start_refused : (A : Type 0) (arg : ℤ) (L : Limits) (x : Halt) (Q : Store → Type 0) (w : Store) → w ≡ at_start P (suc L.steps)
-      → After {A = A} (limits L) (Err x) Q w → Begun P arg L (Err x)
-  start_refused A arg L halt.Limited Q w e h = subst (IsOver (limits L)) e h
+      → After {A = A} L (Err x) Q w → Begun P arg L (Err x)
+  start_refused A arg L halt.Limited Q w e h = subst (IsOver L) e h
   start_refused A arg L halt.NoMemory Q w e h = tt
 
   pub main_is : (arg : ℤ) (o : Option PlainMember) (m : PlainMember) (ss : TypedStmts) (f : Frame ℕ LocalRegion) → Some m ≡ o → ss ≡ m.body
@@ -77,9 +78,9 @@ module _ (P : PlainProgram) where
     -- the walk has come to where the walker is
     abbrev pub Reached : Walker → Type 0
     Reached k =
-        (n : ℕ) × (w : Store) × (walk P n (start P arg (suc L.steps)) ≡ At (plain_level k.level) (map plain_waiting k.waiting) w) × Holds (limits L) k.store w
+        (n : ℕ) × (w : Store) × (walk P n (start P arg (suc L.steps)) ≡ At (plain_level k.level) (map plain_waiting k.waiting) w) × Holds L k.store w
 
-    reached : (k : Walker) (n : ℕ) (s : State) → walk P n (start P arg (suc L.steps)) ≡ s → StandsAt (limits L) k s → Reached k
+    reached : (k : Walker) (n : ℕ) (s : State) → walk P n (start P arg (suc L.steps)) ≡ s → StandsAt L k s → Reached k
     reached k n (At g ws w) e x =
         (n, w, e ∙ ap (λ h. At h ws w) (sym x.0) ∙ ap (λ us. At (plain_level k.level) us w) (sym x.1), x.2)
     reached k n (Off o) e x = absurd x
@@ -92,22 +93,22 @@ module _ (P : PlainProgram) where
     next_is k x m = walk_sum x.0 m (start P arg (suc L.steps)) ∙ ap (walk P m) x.2
 
     pub reached_next : (k j : Walker) (x : Reached k) → Walks P k (Ok None) j → Reached j
-    reached_next k j x c = let there = c (limits L) x.1 x.3 in reached j (x.0 + there.0) _ (next_is k x there.0) there.1
+    reached_next k j x c = let there = c L x.1 x.3 in reached j (x.0 + there.0) _ (next_is k x there.0) there.1
 
     -- a walk that is over a limit, and one that is over
-    limited_at : TellsElision → StaysOver → (n : ℕ) (s : State) → walk P n (start P arg (suc L.steps)) ≡ s → IsOverAt (limits L) s
-        → elided P arg (limits L) ≡ Limited L.steps L.cells
-    limited_at tells stays n (At g ws w) e h = stays P arg (limits L) n g ws w e h
+    limited_at : TellsElision → StaysOver → (n : ℕ) (s : State) → walk P n (start P arg (suc L.steps)) ≡ s → IsOverAt L s
+        → elided P arg L ≡ Limited L.steps L.cells
+    limited_at tells stays n (At g ws w) e h = stays P arg L n g ws w e h
     limited_at tells stays n (Off (Done x w)) e (inl h) =
-        tells P arg (limits L) n (Done x w) e
+        tells P arg L n (Done x w) e
         ∙ ap (λ b. cond (b || nat_lt L.cells w.cells) (Limited L.steps L.cells) (Came x w.output w.steps w.cells)) (lt-ltb L.steps w.steps h)
     limited_at tells stays n (Off (Done x w)) e (inr h) =
-        tells P arg (limits L) n (Done x w) e
+        tells P arg L n (Done x w) e
         ∙ ap (λ b. cond b (Limited L.steps L.cells) (Came x w.output w.steps w.cells))
         (ap (λ b. nat_lt L.steps w.steps || b) (lt-ltb L.cells w.cells h) ∙ or_true (nat_lt L.steps w.steps))
-    limited_at tells stays n (Off (out.Trapped t p w)) e h = tells P arg (limits L) n (out.Trapped t p w) e
-    limited_at tells stays n (Off (Stopped m a)) e h = tells P arg (limits L) n (Stopped m a) e
-    limited_at tells stays n (Off (Lost w)) e h = tells P arg (limits L) n (Lost w) e
+    limited_at tells stays n (Off (out.Trapped t p w)) e h = tells P arg L n (out.Trapped t p w) e
+    limited_at tells stays n (Off (Stopped m a)) e h = tells P arg L n (Stopped m a) e
+    limited_at tells stays n (Off (Lost w)) e h = tells P arg L n (Lost w) e
 
     pub limited_first : TellsElision → StaysOver → (x : Halt) → Begun P arg L (Err x) → Walked P arg L (Err x)
     limited_first tells stays halt.Limited h = limited_at tells stays 0 (start P arg (suc L.steps)) refl h
@@ -115,26 +116,26 @@ module _ (P : PlainProgram) where
 
     pub limited_next : TellsElision → StaysOver → (x : Halt) (k j : Walker) (r : Reached k) → Walks P k (Err x) j → Walked P arg L (Err x)
     limited_next tells stays halt.Limited k j r c =
-        let there = c (limits L) r.1 r.3 in limited_at tells stays (r.0 + there.0) _ (next_is k r there.0) there.1
+        let there = c L r.1 r.3 in limited_at tells stays (r.0 + there.0) _ (next_is k r there.0) there.1
     limited_next tells stays halt.NoMemory k j r c = tt
 
-    over_at : TellsElision → (x : Over) (k : Walker) (n : ℕ) (s : State) → walk P n (start P arg (suc L.steps)) ≡ s → EndsAt (limits L) x k s → k.store.steps ≤ k.store.limit
-        → outcome_of (Came (plain_over x) k.store.output k.store.steps k.store.heap.used) ≡ outcome_of (elided P arg (limits L))
+    over_at : TellsElision → (x : Over) (k : Walker) (n : ℕ) (s : State) → walk P n (start P arg (suc L.steps)) ≡ s → EndsAt L x k s → k.store.steps ≤ k.store.limit
+        → reported (Came (plain_over x) k.store.output k.store.steps k.store.heap.used) ≡ reported (elided P arg L)
     over_at tells x k n (At g ws w) e h few = absurd h
     over_at tells x k n (Off (Done y w)) e h few =
         let holds = h.1 in
         let within : w.steps ≤ L.steps = omega (arith, few, holds.steps, holds.steps_limit) in
         let room : w.cells ≤ L.cells = omega (arith, holds.cells, holds.cells_within) in
-        ap outcome_of
+        ap reported
         (ap (λ z. Came z k.store.output k.store.steps k.store.heap.used) h.0 ∙ ap (λ bytes. Came y bytes k.store.steps k.store.heap.used) holds.output
         ∙ ap (λ m. Came y w.output m k.store.heap.used) holds.steps ∙ ap (λ m. Came y w.output w.steps m) holds.cells
         ∙ sym (ap (λ b. cond (b || nat_lt L.cells w.cells) (Limited L.steps L.cells) (Came y w.output w.steps w.cells)) (le-ltb L.steps w.steps within)
         ∙ ap (λ b. cond b (Limited L.steps L.cells) (Came y w.output w.steps w.cells)) (le-ltb L.cells w.cells room))
-        ∙ sym (tells P arg (limits L) n (Done y w) e))
+        ∙ sym (tells P arg L n (Done y w) e))
     over_at tells x k n (Off (out.Trapped t p w)) e h few = absurd h
     over_at tells x k n (Off (Stopped m a)) e h few = absurd h
     over_at tells x k n (Off (Lost w)) e h few = absurd h
 
     pub over_next : TellsElision → (x : Over) (k j : Walker) (r : Reached k) → Walks P k (Ok (Some x)) j → j.store.steps ≤ j.store.limit
-        → outcome_of (Came (plain_over x) j.store.output j.store.steps j.store.heap.used) ≡ outcome_of (elided P arg (limits L))
-    over_next tells x k j r c few = let there = c (limits L) r.1 r.3 in over_at tells x j (r.0 + there.0) _ (next_is k r there.0) there.1 few
+        → reported (Came (plain_over x) j.store.output j.store.steps j.store.heap.used) ≡ reported (elided P arg L)
+    over_next tells x k j r c few = let there = c L r.1 r.3 in over_at tells x j (r.0 + there.0) _ (next_is k r there.0) there.1 few

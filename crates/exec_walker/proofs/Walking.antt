@@ -2,13 +2,13 @@
 use Rattle.std.proofs.Common.{◌≡◌, ◌∙◌, ℕ, zero, suc, map, refl, sym, ap, subst, Option, Result}
 use Rattle.lang_typed.specs.Plain.{PlainProgram}
 use Rattle.lang_meaning.specs.Elision.{Store}
-use Rattle.lang_meaning.specs.Outcomes.{Limits}
 use Rattle.exec_walker.specs.Walk.{State, At, Off, step, walk}
 use Rattle.exec_walker.specs.declared.halt.Halt.{Halt}
 use Rattle.exec_walker.specs.Stores.{Holds}
 use Rattle.exec_walker.specs.declared.walker.Over.{Over}
 use Rattle.exec_walker.specs.declared.walker.Walker.{Walker}
 use Rattle.exec_walker.specs.States.{ComesTo, StandsAt, plain_level, plain_waiting}
+use Rattle.lang_base.specs.declared.outcome.Limits.{Limits}
 
 pub stands_is : (L : Limits) (k : Walker) (s : State) → StandsAt L k s
     → (w : Store) × (s ≡ At (plain_level k.level) (map plain_waiting k.waiting) w) × Holds L k.store w

@@ -2,10 +2,10 @@
 use Rattle.std.specs.Prelude.{◌≡◌, ◌<◌, ◌≤◌, ℕ, [], ◌∷◌, List, map, length, Option, Some, None, Result, Ok, Err}
 use Rattle.lang_base.specs.declared.place.Place.{Place}
 use Rattle.lang_base.specs.declared.value.Trap.{Trap}
+use Rattle.lang_base.specs.declared.outcome.Limits.{Limits}
 use Rattle.lang_meaning.specs.Actions.{Task}
 use Rattle.lang_meaning.specs.Elision.{LocalRegion}
 use Rattle.lang_meaning.specs.Elision.{Store as Elided}
-use Rattle.lang_meaning.specs.Outcomes.{Limits}
 use Rattle.exec_walker.specs.Walk as walk
 use Rattle.exec_walker.specs.Walk.{falls, branch_level, shortened}
 use Rattle.exec_walker.specs.declared.halt.Halt.{Halt}

@@ -3,9 +3,9 @@ use Rattle.std.specs.Prelude.{◌≡◌, ◌<◌, ◌⊎◌, Result, Ok, Err}
 use Rattle.exec_heap.specs.declared.stop.HeapStop.{HeapStop}
 use Rattle.exec_heap.specs.declared.stop.HeapStop.TheVariants.{Full, NoMemory}
 use Rattle.lang_meaning.specs.Elision.{Store}
-use Rattle.lang_meaning.specs.Outcomes.{Limits}
 use Rattle.exec_walker.specs.declared.halt.Halt.{Halt}
 use Rattle.exec_walker.specs.declared.halt.Halt.TheVariants as halt
+use Rattle.lang_base.specs.declared.outcome.Limits.{Limits}
 
 -- the heap is full, or out of memory
 abbrev pub IsOfHeap : HeapStop → Halt → Type 0

@@ -4,8 +4,9 @@ use Rattle.lang_typed.specs.Plain.{PlainProgram}
 use Rattle.lang_meaning.specs.Actions.{Ending}
 use Rattle.lang_meaning.specs.Core.{Out as out}
 use Rattle.lang_meaning.specs.Elision.{LocalRegion, Store, elided, judged}
-use Rattle.lang_meaning.specs.Outcomes.{Limits, Limited}
+use Rattle.lang_meaning.specs.Outcomes.{Limited}
 use Rattle.exec_walker.specs.Walk.{Level, Waiting, At, Off, walk, start}
+use Rattle.lang_base.specs.declared.outcome.Limits.{Limits}
 
 -- a walk that is over tells the elision
 abbrev pub TellsElision : Type 0

@@ -1,6 +1,7 @@
 -- The walker's state, as that of the walk.
 use Rattle.std.specs.Prelude.{◌≡◌, ℕ, ◌-◌, false, List, map, drop, Option, Some, None, Result, Ok, Err}
 use Rattle.lang_base.specs.declared.value.Value.{Value as Constant}
+use Rattle.lang_base.specs.declared.outcome.Limits.{Limits}
 use Rattle.lang_typed.specs.Plain.{plain_expr, plain_stmt, plain_source, stmts_of, no_stmts, TypedBranch, TypedExpr, TypedStmt, statement, branches_of}
 use Rattle.lang_typed.specs.Plain.{StmtForm as stmt}
 use Rattle.lang_typed.specs.declared.stmt.Branch.{Branch}
@@ -13,7 +14,6 @@ use Rattle.lang_meaning.specs.Core.{Out as out}
 use Rattle.lang_meaning.specs.Elision.{LocalRegion}
 use Rattle.lang_meaning.specs.Elision.{Store as Elided}
 use Rattle.lang_meaning.specs.Expressions.{none}
-use Rattle.lang_meaning.specs.Outcomes.{Limits}
 use Rattle.lang_meaning.specs.Statements.{tasks_of, all_copies, iterations}
 use Rattle.exec_frames.specs.Names.{plain_value, plain_frame}
 use Rattle.exec_walker.specs.Agenda.{Item, evaluate, operate, carry_out, finish, counted, goes_on, test, turn, leave}

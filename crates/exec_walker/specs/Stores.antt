@@ -2,12 +2,12 @@
 use Rattle.std.specs.Prelude.{◌≡◌, ◌<◌, ◌≤◌, ◌+◌, ℕ, suc, ◌-◌, All, List, map, length}
 use Rattle.lang_base.specs.declared.place.Place.{Place}
 use Rattle.lang_base.specs.declared.value.Trap.{Trap}
+use Rattle.lang_base.specs.declared.outcome.Limits.{Limits}
 use Rattle.exec_heap.specs.Heap.{Object, instance, array, values_of}
 use Rattle.lang_meaning.specs.Values.{Value}
 use Rattle.lang_meaning.specs.Actions.{Answer, Class, Length}
 use Rattle.lang_meaning.specs.Elision.{LocalRegion, Held, seen, first_of}
 use Rattle.lang_meaning.specs.Elision.{Store as Elided}
-use Rattle.lang_meaning.specs.Outcomes.{Limits}
 use Rattle.exec_frames.specs.Names.{plain_value, plain_region}
 use Rattle.exec_walker.specs.declared.store.Store.{Store}
 

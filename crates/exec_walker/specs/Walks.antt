@@ -2,13 +2,13 @@
 use Rattle.std.specs.Prelude.{◌<◌, ℕ, map, Option, Some, None, Result, Ok, Err}
 use Rattle.lang_typed.specs.Plain.{PlainProgram}
 use Rattle.lang_meaning.specs.Elision.{Store as Elided}
-use Rattle.lang_meaning.specs.Outcomes.{Limits}
 use Rattle.exec_walker.specs.Walk.{At, walk}
 use Rattle.exec_walker.specs.declared.halt.Halt.{Halt}
 use Rattle.exec_walker.specs.Stores.{Holds}
 use Rattle.exec_walker.specs.declared.walker.Over.{Over}
 use Rattle.exec_walker.specs.declared.walker.Walker.{Walker}
 use Rattle.exec_walker.specs.States.{ComesTo, plain_level, plain_waiting}
+use Rattle.lang_base.specs.declared.outcome.Limits.{Limits}
 
 -- the store is that of some walk
 abbrev pub IsHolding : Walker → Type 0

@@ -2,12 +2,13 @@ ghost use Rattle.std.specs.Prelude.{◌∷◌, map};
 ghost use Rattle.lang_meaning.specs.Counts.{brought};
 ghost use Rattle.lang_meaning.specs.Elision.{LocalRegion};
 ghost use Rattle.lang_meaning.specs.Elision.{Store as Elided};
-ghost use Rattle.lang_meaning.specs.Outcomes.{Limits, joined_or};
+ghost use Rattle.lang_meaning.specs.Outcomes.{joined_or};
 ghost use Rattle.exec_walker.specs.Walk.{At, falls, ends, branches, noted, rejoins, for_branch};
 ghost use Rattle.exec_walker.specs.Falls.{FallsOn, IsShorter, IsNoLonger};
 ghost use Rattle.exec_walker.specs.States.{Does, end_of, construct, plain_given, plain_level, plain_waiting, rest_of, work_of};
 ghost use Rattle.exec_walker.specs.Stores.{Holds};
 ghost use Rattle.lang_meaning.specs.Asking.{ended};
+ghost use Rattle.lang_base.specs.declared.outcome.Limits.{Limits};
 
 use crate::Halt;
 use crate::copies::copy_back;

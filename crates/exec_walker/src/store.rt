@@ -1,5 +1,6 @@
 ghost use Rattle.std.specs.Prelude.{◌≡◌, ◌<◌, ◌≤◌, ◌^◌, IfOk, pos, length};
 ghost use Rattle.lang_base.specs.declared.value.Value.TheVariants.{Int};
+ghost use Rattle.lang_base.specs.declared.outcome.Limits.{Limits};
 ghost use Rattle.exec_heap.specs.Heap.{object_at, values_of};
 ghost use Rattle.lang_meaning.specs.Elision.{at_index};
 ghost use Rattle.exec_walker.specs.Cells.{has_index, cell_set, length_of};
@@ -34,7 +35,6 @@ impl Store {
     ghost use Rattle.lang_meaning.specs.Counts.{value_read, is_out, length_seen, class_seen, name_made};
     ghost use Rattle.lang_meaning.specs.Elision.{answer, after, one_step, LocalRegion};
     ghost use Rattle.lang_meaning.specs.Elision.{Store as Elided};
-    ghost use Rattle.lang_meaning.specs.Outcomes.{Limits};
     ghost use Rattle.exec_frames.specs.Names.{plain_value, plain_region};
     ghost use Rattle.exec_frames.specs.Classes.{plain_seen};
     ghost use Rattle.exec_walker.specs.Stores.{fallen};

@@ -7,9 +7,9 @@ ghost use Rattle.lang_meaning.specs.Outcomes.{Came};
 ghost use Rattle.exec_frames.specs.Names.{plain_frame};
 ghost use Rattle.exec_walker.specs.Stores.{Holds};
 ghost use Rattle.exec_walker.specs.Walk.{root_level};
-ghost use Rattle.exec_walker.specs.Outcome.{IsElided, Begun, Walked, ending_of, nothing, outcome_of};
-ghost use Rattle.exec_walker.specs.Outcome.{limits as plain_limits};
+ghost use Rattle.exec_walker.specs.Outcome.{IsElided, Begun, Walked, nothing};
 ghost use Rattle.exec_walker.specs.States.{plain_level, plain_over};
+ghost use Rattle.lang_meaning.specs.Reported.{reported, reported_ending};
 
 use crate::calls::first_values;
 use crate::laws::law_walk;
@@ -125,21 +125,21 @@ fn empty_frame(alloc: Global) -> Frame
 
 /// The outcome of a walk that is over.
 fn outcome(walker: Walker, over: Over) -> Outcome
-    ensures { result ≡ outcome_of (Came (plain_over over) walker.entry.store.output walker.entry.store.steps walker.entry.store.heap.used) }
+    ensures { result ≡ reported (Came (plain_over over) walker.entry.store.output walker.entry.store.steps walker.entry.store.heap.used) }
 {
     let Walker { store, .. } = walker;
     let steps = store.steps;
     let cells = store.heap.cells();
     Outcome {
-        ending: ending_of(over),
+        ending: reported_ending(over),
         out: store.output,
         steps,
         cells,
     }
 }
 
-fn ending_of(over: Over) -> Ending
-    ensures { result ≡ ending_of (plain_over over) }
+fn reported_ending(over: Over) -> Ending
+    ensures { result ≡ reported_ending (plain_over over) }
 {
     match over {
         Over::Returned(value) => Ending::Done(number(value)),

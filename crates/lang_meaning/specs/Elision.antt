@@ -3,6 +3,7 @@ use Rattle.std.specs.Prelude.{ℕ, zero, suc, ◌+◌, ◌==◌, nat_lt, ◌||�
 use Rattle.std.specs.Prelude.{slice_get, slice_set}
 use Rattle.lang_base.specs.declared.place.Place.{Place}
 use Rattle.lang_base.specs.declared.value.Trap.{Trap}
+use Rattle.lang_base.specs.declared.outcome.Limits.{Limits}
 use Rattle.lang_typed.specs.Plain.{PlainProgram, PlainMember, no_stmts}
 use Rattle.lang_typed.specs.Scope.{member_at}
 use Rattle.lang_meaning.specs.Values.{Value, Int, Object, Thing, An_object, An_array, Naming}
@@ -14,7 +15,7 @@ use Rattle.lang_meaning.specs.Core.{Out as out}
 use Rattle.lang_meaning.specs.Costs.{size, own_steps, own_cells}
 use Rattle.lang_meaning.specs.Counts.{brought}
 use Rattle.lang_meaning.specs.Expressions.{entered, new_object}
-use Rattle.lang_meaning.specs.Outcomes.{joined, Limits, Outcome, Came, Limited}
+use Rattle.lang_meaning.specs.Outcomes.{joined, Outcome, Came, Limited}
 
 -- a local region: one that was made, counted over the whole run, or one that is declared and not made yet
 pub data LocalRegion : Type 0 where

@@ -1,13 +1,14 @@
 -- What small programs ask, and how they come out in sequence, as their texts say.
 use Rattle.std.specs.Prelude.{◌≡◌, ℕ, pos, negsuc, codes, [], ◌∷◌}
 use Rattle.lang_base.specs.declared.value.Trap.TheVariants.{Divide, Index}
+use Rattle.lang_base.specs.declared.outcome.Limits.{Limits}
 use Rattle.lang_typed.specs.Samples.{here, program_of}
 use Rattle.std.specs.Fmt.{signed_decimal}
 use Rattle.lang_meaning.specs.Values.{Int}
 use Rattle.lang_meaning.specs.Actions.{Went, Joined, Returned, Trapped, Do, Rest, Print, Begin, Join, End, Next, Over}
 use Rattle.lang_meaning.specs.Counts.{line}
 use Rattle.lang_meaning.specs.Elision.{elided}
-use Rattle.lang_meaning.specs.Outcomes.{Limits, Came, Limited}
+use Rattle.lang_meaning.specs.Outcomes.{Came, Limited}
 use Rattle.lang_meaning.specs.Samples.{asks, prints_sum, counts, one_and_two, divides, prints_from_five, fills_and_reads, traps_twice, endless}
 
 -- it prints 3 in decimal, then ends with 7, and then it is over

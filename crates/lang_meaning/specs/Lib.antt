@@ -9,6 +9,7 @@ pub mod Expressions
 pub mod Laws
 pub mod Outcomes
 pub mod Regions
+pub mod Reported
 pub mod Samples
 pub mod Statements
 pub mod Tasks

@@ -33,10 +33,6 @@ joined_or None ls = Joined ls
 abbrev pub joined : {N M : Type 0} → List (Ending N) → Answer N M
 joined xs = joined_or (first_trap xs) (all_locals xs)
 
-pub record Limits : Type 0 where
-  pub steps : ℕ
-  pub cells : ℕ
-
 -- how a run comes out: how it ended, what it printed up to the first trap, and its cost; or it was over a limit
 pub data Outcome (N : Type 0) : Type 0 where
   Came : (ending : Ending N) (output : List ℕ) (steps cells : ℕ) → Outcome N

@@ -1,7 +1,6 @@
 -- A machine on compiled code has a ready task until its run has come out, and its schedules are short.
 use Rattle.std.proofs.Common.{inl, inr, ◌⊎◌, ℤ, ◌≡◌, ◌≤◌, ◌<◌, ℕ, ◌+◌, ◌*◌, ◌^◌, List, [], ◌∷◌, length, sym, subst, Option, Some, None, arith}
 use Rattle.std.specs.FinMap.{get}
-use Rattle.lang_base.specs.declared.outcome.Limits.{Limits as DeclaredLimits}
 use Rattle.lang_base.specs.declared.outcome.Outcome.{Outcome as DeclaredOutcome}
 use Rattle.lang_typed.specs.Plain.{PlainProgram}
 use Rattle.lang_typed.specs.Resolved.{Resolved, HasMain}
@@ -11,7 +10,7 @@ use Rattle.runs_theory.specs.Objects.{Path}
 use Rattle.runs_theory.specs.Runs.{Ended, Event, Run, mine}
 use Rattle.runs_theory.specs.Schedules.{Limits, Numbered, Ran, Ready, Within, branch_is, root_is}
 use Rattle.runs_theory.proofs.Bound.{finished_bounded, ran_bounded}
-use Rattle.runs_theory.proofs.Schedules.{ran_legal}
+use Rattle.runs_theory.proofs.Schedules.{one_run, ran_legal}
 use Rattle.runs_theory.proofs.Theorems.{some_ready_event}
 use Rattle.runs_program.specs.Interfering.{lets}
 use Rattle.runs_program.specs.Laws.{EachKeeps}
@@ -27,7 +26,7 @@ use Rattle.exec_progress.specs.Progress.{CodeMakesProgress}
 use Rattle.exec_tasks.specs.declared.task.Task.{Task as Live}
 use Rattle.exec_machine.specs.Premise.{CanProgress}
 use Rattle.exec_machine.specs.Replay.{CanBeMade, IsStuck, LeadsTo, Moment, NextOf}
-use Rattle.runs_simulation.specs.Laws.{LeftOpen, Records, SchedulesAreShort, SomeTaskIsReady, StuckForFewReasons, limits}
+use Rattle.runs_simulation.specs.Laws.{LeftOpen, ReadyTasksAreReady, Records, SchedulesAreShort, SomeTaskIsReady, StuckForFewReasons}
 use Rattle.runs_simulation.proofs.Acting.{event_of}
 use Rattle.runs_simulation.proofs.Blocks.{some_there}
 use Rattle.runs_simulation.proofs.Ready.{ready_there}
@@ -47,18 +46,23 @@ root_path (root_is a b) = a
 root_path (branch_is q u G g a b c d n i) = absurd (omega (arith, i))
 
 module _ (keeps : EachKeeps) (known : NamesAreKnown) (going : CodeMakesProgress) where
-  pub some_ready : SomeTaskIsReady
-  some_ready code P L arg is resolved main few ks m leads none = (
-    r.0,
-    ready_there code P arg L (right code P L arg is resolved main few) A.tied A.blocks A.lives
-        (all_rest code L arg goes ks m leads) (λ k t e. (goes ks m leads).legs k t e) r.0 r.1 r.2,
-  )
+  pub all_ready : ReadyTasksAreReady
+  all_ready code P L arg is resolved main few ks m leads none R ran j f ready =
+      ready_there code P arg L (right code P L arg is resolved main few) A.tied A.blocks A.lives (all_rest code L arg goes ks m leads)
+      (λ k t e. (goes ks m leads).legs k t e) j f
+      (subst (λ S. Ready (stepped P arg) S j f) (one_run (stepped P arg) (keeps P arg).disciplined L ks R A.run ran A.ran) ready)
     where
       A : LedTo code P L arg is resolved main few ks m
       A = led_to code P L arg is resolved main few ks m leads none
 
       goes : CanProgress code L arg
       goes = going code P L arg is resolved main few
+
+  pub some_ready : SomeTaskIsReady
+  some_ready code P L arg is resolved main few ks m leads none = (r.0, all_ready code P L arg is resolved main few ks m leads none A.run A.ran r.0 r.1 r.2)
+    where
+      A : LedTo code P L arg is resolved main few ks m
+      A = led_to code P L arg is resolved main few ks m leads none
 
       root : (x : Live) × (get m.world.tree.tasks 0 ≡ Some x)
       root = some_there (get m.world.tree.tasks 0) (A.lives.root none)
@@ -70,23 +74,23 @@ module _ (keeps : EachKeeps) (known : NamesAreKnown) (going : CodeMakesProgress)
           A.lives.unended 0 root.0 V.path root.1 V.there z (subst (λ p. Ended A.run p z) (sym path) g)
 
       r : (k : ℕ) × (e : Event) × Ready (stepped P arg) A.run k e
-      r = some_ready_event (stepped P arg) (keeps P arg).disciplined (keeps P arg).lively (known P arg) A.run (ran_legal (stepped P arg) (limits L) ks A.run A.ran) root_unended
+      r = some_ready_event (stepped P arg) (keeps P arg).disciplined (keeps P arg).lively (known P arg) A.run (ran_legal (stepped P arg) L ks A.run A.ran) root_unended
 
   pub short : SchedulesAreShort
   short code P L arg is resolved main few ks m leads = go m.outcome (recorded code P L arg is resolved main few ks m leads)
     where
-      go : (o : Option DeclaredOutcome) → Records (stepped P arg) (limits L) ks o → length ks ≤ 2 * L.steps + 2
-      go None h = (let b = ran_bounded (stepped P arg) (keeps P arg).disciplined (keeps P arg).paced (limits L) ks h.0 h.1 in omega (arith, b))
-      go (Some o) h = finished_bounded (stepped P arg) (keeps P arg).disciplined (keeps P arg).paced (limits L) ks h.0 h.1
+      go : (o : Option DeclaredOutcome) → Records (stepped P arg) L ks o → length ks ≤ 2 * L.steps + 2
+      go None h = (let b = ran_bounded (stepped P arg) (keeps P arg).disciplined (keeps P arg).paced L ks h.0 h.1 in omega (arith, b))
+      go (Some o) h = finished_bounded (stepped P arg) (keeps P arg).disciplined (keeps P arg).paced L ks h.0 h.1
 
   -- no object has more fields or elements than are counted
-  small_values : (code : Code) (P : PlainProgram) (L : DeclaredLimits) (arg : ℤ) (is : plain_code code ≡ compiled P) (resolved : Resolved P) (main : HasMain P) (few : L.steps ≤ 20000000)
+  small_values : (code : Code) (P : PlainProgram) (L : Limits) (arg : ℤ) (is : plain_code code ≡ compiled P) (resolved : Resolved P) (main : HasMain P) (few : L.steps ≤ 20000000)
       → L.cells ≤ 16777216 → (ks : List ℕ) (m : Moment) → LeadsTo code L arg ks m → LedTo code P L arg is resolved main few ks m
       → (n : ℕ) → length (values_of (object_at m.world.heap n)) < 2 ^ 31
   small_values code P L arg is resolved main few cells ks m leads A n =
       let c = object_charged m.world.heap n (all_charged code L arg ks m leads) in
       let u = A.tied.costs.cells in
-      let w = (ran_within (stepped P arg) (limits L) ks A.run A.ran).cells in omega (arith, c, u, w, cells)
+      let w = (ran_within (stepped P arg) L ks A.run A.ran).cells in omega (arith, c, u, w, cells)
 
   pub few_reasons : StuckForFewReasons
   few_reasons code P L arg is resolved main few cells ks m leads k s =
@@ -106,7 +110,7 @@ module _ (keeps : EachKeeps) (known : NamesAreKnown) (going : CodeMakesProgress)
     pub legal : Legal (stepped P arg) (event ∷ run)
     pub what : ((event.act ≡ Do Exit) × (hold (mine run event.path) ≡ Out_of)) ⊎ ((ts : Branches) × (event.act ≡ Fork ts) × (2 ^ 32 ≤ length ts.tasks))
 
-  pub stuck_run : (code : Code) (P : PlainProgram) (L : DeclaredLimits) (arg : ℤ) → plain_code code ≡ compiled P → Resolved P → HasMain P → L.steps ≤ 20000000
+  pub stuck_run : (code : Code) (P : PlainProgram) (L : Limits) (arg : ℤ) → plain_code code ≡ compiled P → Resolved P → HasMain P → L.steps ≤ 20000000
       → L.cells ≤ 16777216 → (ks : List ℕ) (m : Moment) → LeadsTo code L arg ks m → (k : ℕ) → IsStuck (plain_code code) m k → StuckRun P arg
   stuck_run code P L arg is resolved main few cells ks m leads k s =
       subst (λ j. (x : NextOf (plain_code code) m j s.event) → LeftOpen m.world j s.event.action → StuckRun P arg) s.next.stands.number
@@ -116,7 +120,7 @@ module _ (keeps : EachKeeps) (known : NamesAreKnown) (going : CodeMakesProgress)
       A = led_to code P L arg is resolved main few ks m leads s.next.unfinished
 
       legal : Legal (stepped P arg) A.run
-      legal = ran_legal (stepped P arg) (limits L) ks A.run A.ran
+      legal = ran_legal (stepped P arg) L ks A.run A.ran
 
       by_action : (a : Action) (x : NextOf (plain_code code) m s.event.task (event_of s.event.task s.event.turns s.event.wants a)) → LeftOpen m.world s.event.task a → StuckRun P arg
       by_action action.Exit x left =

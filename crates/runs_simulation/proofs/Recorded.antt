@@ -6,7 +6,7 @@ use Rattle.std.specs.FinMap.{empty, get, get-empty}
 use Rattle.std.specs.Ordering.{nat_cmp}
 use Rattle.std.specs.Prelude.{replicate}
 use Rattle.lang_base.specs.declared.effect.Effect.{Effect as PathEffect}
-use Rattle.lang_base.specs.declared.outcome.Limits.{Limits as DeclaredLimits}
+use Rattle.lang_base.specs.declared.outcome.Limits.{Limits}
 use Rattle.lang_base.specs.declared.outcome.Outcome.{Outcome as DeclaredOutcome}
 use Rattle.lang_typed.specs.Plain.{PlainProgram}
 use Rattle.lang_typed.specs.Resolved.{Resolved, HasMain}
@@ -47,7 +47,7 @@ use Rattle.exec_world.specs.declared.event.Event.{Event as DeclaredEvent}
 use Rattle.exec_world.specs.declared.world.World.{World}
 use Rattle.exec_machine.specs.Replay.{Moment, NextOf, CanBeMade, Opens, LeadsTo, after, came_to, limited, number_given, opened, outcome_after}
 use Rattle.exec_machine.specs.Replay.{made as made_so, over as over_so, no_room as no_room_so}
-use Rattle.runs_simulation.specs.Laws.{AllRecord, MachinesRecord, Records, limits, reported, reported_ending}
+use Rattle.runs_simulation.specs.Laws.{AllRecord, MachinesRecord, Records}
 use Rattle.runs_simulation.proofs.Sights.{Sight}
 use Rattle.runs_simulation.proofs.Joins.{ForksAreJoined, forks_are_joined}
 use Rattle.runs_simulation.proofs.Ties.{Q, Tied}
@@ -79,6 +79,7 @@ use Rattle.runs_simulation.proofs.Blocks.{blocks_next, entry_allowed}
 use Rattle.runs_simulation.proofs.Inside.{BlocksTied, StandTied, stands_out}
 use Rattle.runs_simulation.proofs.Waiting.{all_noted}
 use Rattle.runs_simulation.proofs.Starting.{fields_for, first_tied, first_sight, main_size}
+use Rattle.lang_meaning.specs.Reported.{reported, reported_ending}
 
 replicated : {A : Type 0} (n : ℕ) (x : A) → length (replicate n x) ≡ n
 replicated zero x = refl
@@ -176,7 +177,7 @@ first_none n = refl
 abbrev rule : Rule
 rule = lets
 
-module _ (code : Code) (P : PlainProgram) (arg : ℤ) (L : DeclaredLimits) (right : RightFor (plain_code code) P) (fields : FieldsFor code)
+module _ (code : Code) (P : PlainProgram) (arg : ℤ) (L : Limits) (right : RightFor (plain_code code) P) (fields : FieldsFor code)
     (FJ : ForksAreJoined (plain_code code)) where
   abbrev C : PlainCode
   C = plain_code code
@@ -212,7 +213,7 @@ module _ (code : Code) (P : PlainProgram) (arg : ℤ) (L : DeclaredLimits) (righ
 
   -- the limits are those of the run
   within_next : {m n : Moment} {w v : Sight} {R : Run} {e : Event} (d : DeclaredEvent) → Tied P arg rule C L m w R → Tied P arg rule C L n v (e ∷ R) → Follows QR R e
-      → n.world ≡ world_after code m.world d → (MachineWithin code m.world d → Within QR (limits L) (e ∷ R)) × (Within QR (limits L) (e ∷ R) → MachineWithin code m.world d)
+      → n.world ≡ world_after code m.world d → (MachineWithin code m.world d → Within QR L (e ∷ R)) × (Within QR L (e ∷ R) → MachineWithin code m.world d)
   within_next {m} {n} {R = R} {e = e} d T U follows is = (
     λ h. record {
       steps = (let a = U.costs.steps in let b = costs.steps in let c = h.0 in let f = T.costs.most_steps in let g = entered in omega (arith, a, b, c, f, g));
@@ -234,7 +235,7 @@ module _ (code : Code) (P : PlainProgram) (arg : ℤ) (L : DeclaredLimits) (righ
   pub record Led (ks : List ℕ) (m : Moment) : Type 0 where
     pub run : Run
     pub sight : Sight
-    pub ran : Ran QR (limits L) ks run
+    pub ran : Ran QR L ks run
     pub tied : Tied P arg rule C L m sight run
     pub blocks : BlocksTied sight run m.world
     pub lives : LivesTied sight run m
@@ -259,7 +260,7 @@ module _ (code : Code) (P : PlainProgram) (arg : ℤ) (L : DeclaredLimits) (righ
     -- the run with one event more
     abbrev next_ran : {ks : List ℕ} {m : Moment} {k : ℕ} (leads : LeadsTo code L arg ks m) (A : Led ks m) (e : DeclaredEvent) (x : NextOf C m k e)
         (can : CanBeMade C m.world e x.stands.state) → MachineWithin code m.world e
-        → (S : Next_of A.sight A.run k (after code m e x.stands.state x.stands.made)) → Ran QR (limits L) (k ∷ ks) (S.event ∷ A.run)
+        → (S : Next_of A.sight A.run k (after code m e x.stands.state x.stands.made)) → Ran QR L (k ∷ ks) (S.event ∷ A.run)
     next_ran leads A e x can within S = (A.ran, ready_next leads A e x can S, (within_next e A.tied S.tied S.follows refl).0 within)
 
     led_next : {ks : List ℕ} {m : Moment} {k : ℕ} (leads : LeadsTo code L arg ks m) (A : Led ks m) (e : DeclaredEvent) (x : NextOf C m k e)
@@ -348,7 +349,7 @@ module _ (code : Code) (P : PlainProgram) (arg : ℤ) (L : DeclaredLimits) (righ
     at_end : {ks : List ℕ} {m : Moment} {k : ℕ} (leads : LeadsTo code L arg ks m) (A : Led ks m) (turns : ℕ) (wants : Option (List PathEffect)) (c : DeclaredEnding)
         (x : NextOf C m k (event_of k turns wants (action.End c))) (can : CanBeMade C m.world (event_of k turns wants (action.End c)) x.stands.state)
         → MachineWithin code m.world (event_of k turns wants (action.End c)) → (o : DeclaredOutcome) → k ≡ 0
-        → (after code m (event_of k turns wants (action.End c)) x.stands.state x.stands.made).outcome ≡ Some o → Records QR (limits L) (k ∷ ks) (Some o)
+        → (after code m (event_of k turns wants (action.End c)) x.stands.state x.stands.made).outcome ≡ Some o → Records QR L (k ∷ ks) (Some o)
     at_end {ks} {m} {k} leads A turns wants c x can within o is_root is = (come, ended (S.event ∷ A.run) ran comes, reported_so)
       where
         n : Moment
@@ -360,7 +361,7 @@ module _ (code : Code) (P : PlainProgram) (arg : ℤ) (L : DeclaredLimits) (righ
         S : Next_of A.sight A.run k (after code m (event_of k turns wants (action.End c)) x.stands.state x.stands.made)
         S = B.stepped
 
-        ran : Ran QR (limits L) (k ∷ ks) (S.event ∷ A.run)
+        ran : Ran QR L (k ∷ ks) (S.event ∷ A.run)
         ran = next_ran leads A (event_of k turns wants (action.End c)) x can within S
 
         path : S.event.path ≡ []
@@ -402,10 +403,10 @@ module _ (code : Code) (P : PlainProgram) (arg : ℤ) (L : DeclaredLimits) (righ
 
     root_ended : {ks : List ℕ} {m : Moment} {k : ℕ} (leads : LeadsTo code L arg ks m) (A : Led ks m) (e : DeclaredEvent) (x : NextOf C m k e)
         (can : CanBeMade C m.world e x.stands.state) → MachineWithin code m.world e → (o : DeclaredOutcome)
-        → (after code m e x.stands.state x.stands.made).outcome ≡ Some o → Records QR (limits L) (k ∷ ks) (Some o)
+        → (after code m e x.stands.state x.stands.made).outcome ≡ Some o → Records QR L (k ∷ ks) (Some o)
     root_ended {ks} {m} {k} leads A e x can within o is =
         subst (λ e. (x : NextOf C m k e) → CanBeMade C m.world e x.stands.state → MachineWithin code m.world e
-        → (after code m e x.stands.state x.stands.made).outcome ≡ Some o → Records QR (limits L) (k ∷ ks) (Some o)) (sym event_so)
+        → (after code m e x.stands.state x.stands.made).outcome ≡ Some o → Records QR L (k ∷ ks) (Some o)) (sym event_so)
         (λ x can within is. at_end leads A e.turns e.wants ends.ending x can within o (sym number ∙ ends.root) is) x can within is
       where
         ends : RootEnds e.task e.action
@@ -417,7 +418,7 @@ module _ (code : Code) (P : PlainProgram) (arg : ℤ) (L : DeclaredLimits) (righ
         event_so : e ≡ event_of k e.turns e.wants (action.End ends.ending)
         event_so = λ z. record { task = x.stands.number z; turns = e.turns; wants = e.wants; action = ends.ends z }
 
-    finished : (ks : List ℕ) (m : Moment) → LeadsTo code L arg ks m → (o : DeclaredOutcome) → m.outcome ≡ Some o → Records QR (limits L) ks (Some o)
+    finished : (ks : List ℕ) (m : Moment) → LeadsTo code L arg ks m → (o : DeclaredOutcome) → m.outcome ≡ Some o → Records QR L ks (Some o)
     finished [] m (opened room is) o some = absurd (let both : None ≡ Some o = sym (ap (λ (n : Moment). n.outcome) is) ∙ some in cc)
     finished [] m (no_room_so full is) o some = (
       Limited L.steps L.cells,
@@ -428,7 +429,7 @@ module _ (code : Code) (P : PlainProgram) (arg : ℤ) (L : DeclaredLimits) (righ
         root_ended leads (led ks before leads x.unfinished) e x can within o (sym (ap (λ (n : Moment). n.outcome) is) ∙ some)
     finished (k ∷ ks) m (before, leads, over_so e x can beyond is) o some = over_limit (led ks before leads x.unfinished)
       where
-        over_limit : Led ks before → Records QR (limits L) (k ∷ ks) (Some o)
+        over_limit : Led ks before → Records QR L (k ∷ ks) (Some o)
         over_limit A =
             let S = any_event A.tied A.short k e x can in (
               Limited L.steps L.cells,
@@ -440,12 +441,12 @@ module _ (code : Code) (P : PlainProgram) (arg : ℤ) (L : DeclaredLimits) (righ
     pub all_record : AllRecord QR code L arg
     all_record ks m leads = go m.outcome refl
       where
-        go : (o : Option DeclaredOutcome) → m.outcome ≡ o → Records QR (limits L) ks o
+        go : (o : Option DeclaredOutcome) → m.outcome ≡ o → Records QR L ks o
         go None e = (let A = led ks m leads e in (A.run, A.ran))
         go (Some o) e = finished ks m leads o e
 
 -- of compiled code
-module _ (code : Code) (P : PlainProgram) (L : DeclaredLimits) (arg : ℤ) (is : plain_code code ≡ compiled P) (resolved : Resolved P) (main : HasMain P) (few : L.steps ≤ 20000000) where
+module _ (code : Code) (P : PlainProgram) (L : Limits) (arg : ℤ) (is : plain_code code ≡ compiled P) (resolved : Resolved P) (main : HasMain P) (few : L.steps ≤ 20000000) where
   pub right : RightFor (plain_code code) P
   right = subst (λ C. RightFor C P) (sym is) (λ p b t c got h halts. legs_are_right (named_by p) P resolved b t c got h halts)
 

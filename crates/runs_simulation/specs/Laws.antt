@@ -2,7 +2,6 @@
 use Rattle.std.specs.Prelude.{ℕ, ℤ, pos, ◌≡◌, ◌≤◌, ◌+◌, ◌*◌, ◌^◌, length, List, [], Option, Some, None}
 use Rattle.lang_base.specs.declared.outcome.Ending.{Ending as Came}
 use Rattle.lang_base.specs.declared.outcome.Ending.TheVariants as came
-use Rattle.lang_base.specs.declared.outcome.Limits.{Limits as DeclaredLimits}
 use Rattle.lang_base.specs.declared.outcome.Outcome.{Outcome as DeclaredOutcome}
 use Rattle.lang_typed.specs.Plain.{PlainProgram}
 use Rattle.lang_typed.specs.Resolved.{Resolved, HasMain}
@@ -12,8 +11,8 @@ use Rattle.code_instrs.specs.declared.code.Code.{Code}
 use Rattle.code_scheme.specs.Whole.{compiled}
 use Rattle.runs_theory.specs.Actions.{Ending, Program, Returned, Assigned, Trapped}
 use Rattle.runs_theory.specs.Order.{Came as came_out, Limited, Outcome}
-use Rattle.runs_theory.specs.Runs.{Run}
-use Rattle.runs_theory.specs.Schedules.{Finished, Limits, Ran}
+use Rattle.runs_theory.specs.Runs.{Event, Run}
+use Rattle.runs_theory.specs.Schedules.{Finished, Limits, Ran, Ready}
 use Rattle.runs_program.specs.Steps.{stepped}
 use Rattle.std.specs.FinMap.{get}
 use Rattle.exec_task.specs.declared.action.Action.{Action}
@@ -22,19 +21,7 @@ use Rattle.exec_locks.specs.Locks.{HasEntry}
 use Rattle.exec_world.specs.Ready.{IsReady}
 use Rattle.exec_world.specs.declared.world.World.{World}
 use Rattle.exec_machine.specs.Replay.{IsStuck, LeadsTo, Moment}
-
-abbrev pub limits : DeclaredLimits → Limits
-limits L = record { steps = L.steps; cells = L.cells }
-
--- how a run comes out, as a machine tells it: `main` gives an int
-abbrev pub reported_ending : Ending → Came
-reported_ending (Returned v) = came.Done (number v)
-reported_ending (Assigned locals) = came.Done (pos 0)
-reported_ending (Trapped trap place) = came.Trapped trap place
-
-abbrev pub reported : Outcome → DeclaredOutcome
-reported (came_out x output steps cells) = record { ending = reported_ending x; out = output; steps = steps; cells = cells }
-reported (Limited steps cells) = record { ending = came.Limited; out = []; steps = steps; cells = cells }
+use Rattle.lang_meaning.specs.Reported.{reported}
 
 -- a schedule records a run; or it has finished, and comes out so
 abbrev pub Records : Program → Limits → List ℕ → Option DeclaredOutcome → Type 0
@@ -42,25 +29,32 @@ Records Q L ks None = (R : Run) × Ran Q L ks R
 Records Q L ks (Some o) = (q : Outcome) × Finished Q L ks q × (o ≡ reported q)
 
 -- wherever a schedule leads a machine, it records a run, with the outcome of the machine
-abbrev pub AllRecord : Program → Code → DeclaredLimits → ℤ → Type 0
-AllRecord Q code L argument = (ks : List ℕ) (m : Moment) → LeadsTo code L argument ks m → Records Q (limits L) ks m.outcome
+abbrev pub AllRecord : Program → Code → Limits → ℤ → Type 0
+AllRecord Q code L argument = (ks : List ℕ) (m : Moment) → LeadsTo code L argument ks m → Records Q L ks m.outcome
 
 -- so of code that is compiled from a resolved program with a `main`
 abbrev pub MachinesRecord : Type 0
 MachinesRecord =
-    (code : Code) (P : PlainProgram) (L : DeclaredLimits) (argument : ℤ) → plain_code code ≡ compiled P → Resolved P → HasMain P → L.steps ≤ 20000000
+    (code : Code) (P : PlainProgram) (L : Limits) (argument : ℤ) → plain_code code ≡ compiled P → Resolved P → HasMain P → L.steps ≤ 20000000
     → AllRecord (stepped P argument) code L argument
 
 -- until a run has come out some task of its machine is ready
 abbrev pub SomeTaskIsReady : Type 0
 SomeTaskIsReady =
-    (code : Code) (P : PlainProgram) (L : DeclaredLimits) (argument : ℤ) → plain_code code ≡ compiled P → Resolved P → HasMain P → L.steps ≤ 20000000
+    (code : Code) (P : PlainProgram) (L : Limits) (argument : ℤ) → plain_code code ≡ compiled P → Resolved P → HasMain P → L.steps ≤ 20000000
     → (ks : List ℕ) (m : Moment) → LeadsTo code L argument ks m → m.outcome ≡ None → (k : ℕ) × IsReady m.world k
+
+-- and each task that is ready in the run that its schedule records is ready in the machine
+abbrev pub ReadyTasksAreReady : Type 0
+ReadyTasksAreReady =
+    (code : Code) (P : PlainProgram) (L : Limits) (argument : ℤ) → plain_code code ≡ compiled P → Resolved P → HasMain P → L.steps ≤ 20000000
+    → (ks : List ℕ) (m : Moment) → LeadsTo code L argument ks m → m.outcome ≡ None → (R : Run) → Ran (stepped P argument) L ks R
+    → (k : ℕ) (e : Event) → Ready (stepped P argument) R k e → IsReady m.world k
 
 -- and a schedule has at most twice as many numbers as there are steps, and two more
 abbrev pub SchedulesAreShort : Type 0
 SchedulesAreShort =
-    (code : Code) (P : PlainProgram) (L : DeclaredLimits) (argument : ℤ) → plain_code code ≡ compiled P → Resolved P → HasMain P → L.steps ≤ 20000000
+    (code : Code) (P : PlainProgram) (L : Limits) (argument : ℤ) → plain_code code ≡ compiled P → Resolved P → HasMain P → L.steps ≤ 20000000
     → (ks : List ℕ) (m : Moment) → LeadsTo code L argument ks m → length ks ≤ 2 * L.steps + 2
 
 -- what isn't ruled out yet where a ready task's event can't be made: an exit where no entry is open, and a fork with more
@@ -73,6 +67,6 @@ LeftOpen w k a = ⊥
 -- a machine is stuck for no other reason, within the limits that a job may have
 abbrev pub StuckForFewReasons : Type 0
 StuckForFewReasons =
-    (code : Code) (P : PlainProgram) (L : DeclaredLimits) (argument : ℤ) → plain_code code ≡ compiled P → Resolved P → HasMain P → L.steps ≤ 20000000
+    (code : Code) (P : PlainProgram) (L : Limits) (argument : ℤ) → plain_code code ≡ compiled P → Resolved P → HasMain P → L.steps ≤ 20000000
     → L.cells ≤ 16777216 → (ks : List ℕ) (m : Moment) → LeadsTo code L argument ks m → (k : ℕ) (s : IsStuck (plain_code code) m k)
     → LeftOpen m.world k s.event.action

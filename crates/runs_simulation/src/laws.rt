@@ -1,6 +1,6 @@
 //! The laws of recorded runs, each the clause of a function that does nothing.
 
-ghost use Rattle.runs_simulation.specs.Laws.{MachinesRecord, SomeTaskIsReady, SchedulesAreShort, StuckForFewReasons};
+ghost use Rattle.runs_simulation.specs.Laws.{MachinesRecord, ReadyTasksAreReady, SomeTaskIsReady, SchedulesAreShort, StuckForFewReasons};
 
 use exec_progress::laws::law_code_progress;
 use runs_elision::laws::law_names;
@@ -11,10 +11,11 @@ pub fn law_simulation()
     ensures records { MachinesRecord }
 {}
 
-/// A machine on compiled code has a ready task until its run has come out, its schedules are short, and it is stuck for few
-/// reasons alone.
+/// A machine on compiled code has a ready task until its run has come out, and each that is ready in the run; its schedules are
+/// short, and it is stuck for few reasons alone.
 pub fn law_lively()
     ensures ready { SomeTaskIsReady }
+    ensures all_ready { ReadyTasksAreReady }
     ensures short { SchedulesAreShort }
     ensures stuck { StuckForFewReasons }
 {

@@ -2,7 +2,6 @@
 use Rattle.std.proofs.Common.{ℕ, ℤ, ◌≡◌, ◌≤◌, inl, inr, List, [], ◌∷◌, None, sym, ap, ◌∙◌, subst, reverse, arith}
 use Rattle.std.proofs.lemmas.Bool.{cases_lt}
 use Rattle.std.proofs.lemmas.List.{reverse-append}
-use Rattle.lang_base.specs.declared.outcome.Limits.{Limits as DeclaredLimits}
 use Rattle.lang_typed.specs.Plain.{PlainProgram}
 use Rattle.lang_typed.specs.Resolved.{Resolved, HasMain}
 use Rattle.lang_meaning.specs.Elision.{elided}
@@ -16,7 +15,7 @@ use Rattle.runs_theory.specs.Order.{Limited, Outcome}
 use Rattle.runs_theory.specs.Runs.{Event, Run}
 use Rattle.runs_theory.specs.Schedules.{Finished, Greatest, Greedy, Limits, Numbered, Ran, Ready, Within, ended, no_room, over}
 use Rattle.runs_theory.proofs.Numbers.{number_same}
-use Rattle.runs_theory.proofs.Schedules.{one_run, ran_legal}
+use Rattle.runs_theory.proofs.Schedules.{ran_legal}
 use Rattle.runs_theory.proofs.Theorems.{comes_one_way}
 use Rattle.runs_program.specs.Laws.{EachKeeps}
 use Rattle.runs_program.specs.Steps.{stepped}
@@ -24,18 +23,14 @@ use Rattle.runs_elision.specs.Laws.{ComesOutAsElided, GreedyIsElided, GreedyOver
 use Rattle.exec_world.specs.Ready.{IsGreatestReady, IsReady}
 use Rattle.exec_world.specs.declared.world.World.{World}
 use Rattle.exec_machine.specs.Keeping.{GreedilyOn, IsAfter, Played, further, here}
-use Rattle.exec_machine.specs.Premise.{CanProgress}
 use Rattle.exec_machine.specs.Replay.{LeadsTo, Moment, Moves}
 use Rattle.exec_machine.specs.Replay.{made as made_so, over as over_so}
-use Rattle.exec_progress.specs.Progress.{CodeMakesProgress}
-use Rattle.runs_simulation.specs.Laws.{MachinesRecord, Records, limits, reported}
-use Rattle.runs_simulation.proofs.Ready.{ready_there}
-use Rattle.runs_simulation.proofs.Recorded.{LedTo, led_to, right}
-use Rattle.runs_simulation.proofs.Waiting.{all_rest}
-use Rattle.runs_theorem.specs.Guarantee.{GreedyMachinesElide, outcome_of_elision}
+use Rattle.runs_simulation.specs.Laws.{MachinesRecord, ReadyTasksAreReady, Records}
+use Rattle.runs_theorem.specs.Guarantee.{GreedyMachinesElide}
 use Rattle.runs_theorem.proofs.Joined.{reported_renamed}
+use Rattle.lang_meaning.specs.Reported.{reported}
 
-unfinished_before : {code : Code} {L : DeclaredLimits} {m n : Moment} {k : ℕ} → Moves code L m k n → m.outcome ≡ None
+unfinished_before : {code : Code} {L : Limits} {m n : Moment} {k : ℕ} → Moves code L m k n → m.outcome ≡ None
 unfinished_before (made_so e x can within is) = x.unfinished
 unfinished_before (over_so e x can beyond is) = x.unfinished
 
@@ -56,76 +51,62 @@ greedy_run Q L [] (e ∷ R) h ran = absurd ran
 greedy_run Q L (k ∷ ks) [] h ran = absurd ran
 greedy_run Q L (k ∷ ks) (e ∷ R) h ran = h R e ran.0 ran.1
 
-module _ (keeps : EachKeeps) (going : CodeMakesProgress) (P : PlainProgram) (resolved : Resolved P) (main : HasMain P) where
-  module _ (code : Code) (L : DeclaredLimits) (arg : ℤ) (is : plain_code code ≡ compiled P) (few : L.steps ≤ 20000000) where
+module _ (all_ready : ReadyTasksAreReady) (P : PlainProgram) (resolved : Resolved P) (main : HasMain P) where
+  module _ (code : Code) (L : Limits) (arg : ℤ) (is : plain_code code ≡ compiled P) (few : L.steps ≤ 20000000) where
     abbrev Q : Program
     Q = stepped P arg
 
-    -- a task that is ready in the run is ready in the machine
-    ready_so : (ks : List ℕ) (m : Moment) → LeadsTo code L arg ks m → m.outcome ≡ None → (R : Run) → Ran Q (limits L) ks R
-        → (j : ℕ) (f : Event) → Ready Q R j f → IsReady m.world j
-    ready_so ks m leads none R ran j f ready =
-        ready_there code P arg L (right code P L arg is resolved main few) A.tied A.blocks A.lives (all_rest code L arg goes ks m leads)
-        (λ k t e. (goes ks m leads).legs k t e) j f
-        (subst (λ S. Ready Q S j f) (one_run Q (keeps P arg).disciplined (limits L) ks R A.run ran A.ran) ready)
-      where
-        A : LedTo code P L arg is resolved main few ks m
-        A = led_to code P L arg is resolved main few ks m leads none
-
-        goes : CanProgress code L arg
-        goes = going code P L arg is resolved main few
-
-    -- so the greatest of the machine is the greatest of the run
+    -- the greatest of the machine is the greatest of the run
     greatest_so : (ks : List ℕ) (m : Moment) (w : World) (k : ℕ) → LeadsTo code L arg ks m → m.outcome ≡ None → w ≡ m.world → IsGreatestReady w k
-        → (R : Run) (e : Event) → Ran Q (limits L) ks R → Ready Q R k e → Greatest Q R e
+        → (R : Run) (e : Event) → Ran Q L ks R → Ready Q R k e → Greatest Q R e
     greatest_so ks m w k leads none same most R e ran ready = record { none = below }
       where
         below : (f : Event) (j i : ℕ) → Allowed Q R f → Numbered R j f.path → Numbered R i e.path → j ≤ i
         below f j i allowed there own = elim (cases_lt k j) [
           | inl l ↦ absurd (let next : Ready Q R j f = record { allowed = allowed; number = there } in
-              most.greatest j l (subst (λ v. IsReady v j) (sym same) (ready_so ks m leads none R ran j f next)))
+              most.greatest j l (subst (λ v. IsReady v j) (sym same) (all_ready code P L arg is resolved main few ks m leads none R ran j f next)))
           | inr g ↦ (let n : k ≡ i = number_same ready.number own in omega (arith, g, n))
         ]
 
   -- a step more of the greatest ready task
   greedy_next : {middle p : Played} {k : ℕ} (step : IsAfter middle k p) → IsGreatestReady middle.world k → (is : plain_code middle.code ≡ compiled P)
-      (few : middle.limits.steps ≤ 20000000) → RecordsGreedy (stepped P middle.argument) (limits middle.limits) (reverse middle.schedule)
-      → RecordsGreedy (stepped P p.argument) (limits p.limits) (reverse p.schedule)
+      (few : middle.limits.steps ≤ 20000000) → RecordsGreedy (stepped P middle.argument) middle.limits (reverse middle.schedule)
+      → RecordsGreedy (stepped P p.argument) p.limits (reverse p.schedule)
   greedy_next {middle} {p} {k} step most is few before =
-      subst (λ ks. RecordsGreedy (stepped P p.argument) (limits p.limits) ks) (sym (ap reverse step.schedule ∙ reverse-append middle.schedule (k ∷ [])))
-      (subst (λ L. RecordsGreedy (stepped P p.argument) (limits L) (k ∷ reverse middle.schedule)) (sym step.limits)
-      (subst (λ a. RecordsGreedy (stepped P a) (limits middle.limits) (k ∷ reverse middle.schedule)) (sym step.argument) next))
+      subst (λ ks. RecordsGreedy (stepped P p.argument) p.limits ks) (sym (ap reverse step.schedule ∙ reverse-append middle.schedule (k ∷ [])))
+      (subst (λ L. RecordsGreedy (stepped P p.argument) L (k ∷ reverse middle.schedule)) (sym step.limits)
+      (subst (λ a. RecordsGreedy (stepped P a) middle.limits (k ∷ reverse middle.schedule)) (sym step.argument) next))
     where
-      next : RecordsGreedy (stepped P middle.argument) (limits middle.limits) (k ∷ reverse middle.schedule)
+      next : RecordsGreedy (stepped P middle.argument) middle.limits (k ∷ reverse middle.schedule)
       next R e ran ready = (
         greatest_so middle.code middle.limits middle.argument is few (reverse middle.schedule) step.replayed.moment middle.world k step.replayed.leads
             (unfinished_before step.moves) step.replayed.world most R e ran ready,
-        greedy_run (stepped P middle.argument) (limits middle.limits) (reverse middle.schedule) R before ran,
+        greedy_run (stepped P middle.argument) middle.limits (reverse middle.schedule) R before ran,
       )
 
   records_greedy : {start p : Played} → start.schedule ≡ [] → GreedilyOn start p → plain_code p.code ≡ compiled P → p.limits.steps ≤ 20000000
-      → RecordsGreedy (stepped P p.argument) (limits p.limits) (reverse p.schedule)
+      → RecordsGreedy (stepped P p.argument) p.limits (reverse p.schedule)
   records_greedy {start} empty here is few =
-      subst (λ ks. RecordsGreedy (stepped P start.argument) (limits start.limits) (reverse ks)) (sym empty) tt
+      subst (λ ks. RecordsGreedy (stepped P start.argument) start.limits (reverse ks)) (sym empty) tt
   records_greedy empty (further middle p k on most step) is few =
       let code_is : plain_code middle.code ≡ compiled P = ap plain_code (sym step.code) ∙ is in
-      let small : middle.limits.steps ≤ 20000000 = subst (λ (L : DeclaredLimits). L.steps ≤ 20000000) step.limits few in
+      let small : middle.limits.steps ≤ 20000000 = subst (λ (L : Limits). L.steps ≤ 20000000) step.limits few in
       greedy_next step most code_is small (records_greedy empty on code_is small)
 
 -- and it comes out as the elision, however its last step came
 module _ (keeps : EachKeeps) (greedy : GreedyIsElided) (beyond_too : GreedyOverIsLimited) (P : PlainProgram) (arg : ℤ) (L : Limits) where
-  limited_so : elided P arg L ≡ LimitedIn L.steps L.cells → reported (Limited L.steps L.cells) ≡ outcome_of_elision (elided P arg L)
-  limited_so e = ap outcome_of_elision (sym e)
+  limited_so : elided P arg L ≡ LimitedIn L.steps L.cells → reported (Limited L.steps L.cells) ≡ reported (elided P arg L)
+  limited_so e = ap reported (sym e)
 
   comes_out : {ks : List ℕ} {q : Outcome} → RecordsGreedy (stepped P arg) L ks → Finished (stepped P arg) L ks q
-      → reported q ≡ outcome_of_elision (elided P arg L)
+      → reported q ≡ reported (elided P arg L)
   comes_out {ks} {q} h (ended R ran comes) =
       by_run (greedy P arg L R comes.end legal (greedy_run (stepped P arg) L ks R h ran) comes.ended)
     where
       legal : Legal (stepped P arg) R
       legal = ran_legal (stepped P arg) L ks R ran
 
-      by_run : ComesOutAsElided P arg L R → reported q ≡ outcome_of_elision (elided P arg L)
+      by_run : ComesOutAsElided P arg L R → reported q ≡ reported (elided P arg L)
       by_run (in_limits o c within is) =
           ap reported (comes_one_way (stepped P arg) (keeps P arg).disciplined R q o legal comes c ∙ is.is) ∙ reported_renamed is.names (elided P arg L)
       by_run (over_limits beyond e) = absurd (beyond (ran_within (stepped P arg) L ks R ran))
@@ -133,9 +114,9 @@ module _ (keeps : EachKeeps) (greedy : GreedyIsElided) (beyond_too : GreedyOverI
       limited_so (beyond_too P arg L (e ∷ R) (ready.allowed, ran_legal (stepped P arg) L ks R ran) (h R e ran ready) beyond)
   comes_out h (no_room beyond) = limited_so (beyond_too P arg L [] tt tt beyond)
 
-pub greedy_machines_elide : MachinesRecord → EachKeeps → CodeMakesProgress → GreedyIsElided → GreedyOverIsLimited → GreedyMachinesElide
-greedy_machines_elide records keeps going greedy beyond P start p o resolved main code_is small empty on replayed came =
-    let finished = subst (λ z. Records (stepped P p.argument) (limits p.limits) (reverse p.schedule) z) (sym replayed.outcome ∙ came)
+pub greedy_machines_elide : MachinesRecord → ReadyTasksAreReady → EachKeeps → GreedyIsElided → GreedyOverIsLimited → GreedyMachinesElide
+greedy_machines_elide records all_ready keeps greedy beyond P start p o resolved main code_is small empty on replayed came =
+    let finished = subst (λ z. Records (stepped P p.argument) p.limits (reverse p.schedule) z) (sym replayed.outcome ∙ came)
     (records p.code P p.limits p.argument code_is resolved main small (reverse p.schedule) replayed.moment replayed.leads) in
-    let schedule = records_greedy keeps going P resolved main empty on code_is small in
-    finished.2 ∙ comes_out keeps greedy beyond P p.argument (limits p.limits) schedule finished.1
+    let schedule = records_greedy all_ready P resolved main empty on code_is small in
+    finished.2 ∙ comes_out keeps greedy beyond P p.argument p.limits schedule finished.1

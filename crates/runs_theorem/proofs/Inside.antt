@@ -4,13 +4,14 @@ use Rattle.lang_base.specs.declared.outcome.Ending.TheVariants as came
 use Rattle.lang_base.specs.declared.outcome.Outcome.{Outcome as Declared}
 use Rattle.lang_typed.specs.Plain.{PlainProgram}
 use Rattle.runs_theorem.specs.Laws.{RunsAreMoved, stepped_inside}
-use Rattle.runs_simulation.specs.Laws.{MachinesRecord, Records, limits, reported}
+use Rattle.runs_simulation.specs.Laws.{MachinesRecord, Records}
 use Rattle.runs_theory.specs.Order.{Comes, Outcome}
 use Rattle.runs_theory.specs.Runs.{Run}
 use Rattle.runs_theory.specs.Schedules.{Finished, Ran, ended, over, no_room}
 use Rattle.runs_theory.proofs.Schedules.{ran_legal}
 use Rattle.runs_program.specs.Steps.{stepped}
 use Rattle.runs_theorem.specs.Inside.{ElidedInside, MachinesElideInside}
+use Rattle.lang_meaning.specs.Reported.{reported}
 
 -- the outcome doesn't depend on the rule of blocks
 comes_inside : (P : PlainProgram) (argument : ℤ) (R : Run) (o : Outcome) → Comes (stepped P argument) R o → Comes (stepped_inside P argument) R o
@@ -19,16 +20,16 @@ comes_inside P argument R o c = record { end = c.end; ended = c.ended; sorted = 
 pub machines_elide_inside : MachinesRecord → RunsAreMoved → MachinesElideInside
 machines_elide_inside records runs P p o wt resolved main code_is small fits replayed came_out = go finished.0 (reverse p.schedule) refl finished.1 finished.2
   where
-    finished : Records (stepped P p.argument) (limits p.limits) (reverse p.schedule) (Some o)
-    finished = subst (λ z. Records (stepped P p.argument) (limits p.limits) (reverse p.schedule) z) (sym replayed.outcome ∙ came_out)
+    finished : Records (stepped P p.argument) p.limits (reverse p.schedule) (Some o)
+    finished = subst (λ z. Records (stepped P p.argument) p.limits (reverse p.schedule) z) (sym replayed.outcome ∙ came_out)
         (records p.code P p.limits p.argument code_is resolved main small (reverse p.schedule) replayed.moment replayed.leads)
 
-    go : (q : Outcome) (ks : List ℕ) → ks ≡ reverse p.schedule → Finished (stepped P p.argument) (limits p.limits) ks q → o ≡ reported q → (o.ending ≡ came.Limited) ⊎ ElidedInside P p o
+    go : (q : Outcome) (ks : List ℕ) → ks ≡ reverse p.schedule → Finished (stepped P p.argument) p.limits ks q → o ≡ reported q → (o.ending ≡ came.Limited) ⊎ ElidedInside P p o
     go q ks e (ended R ran c) t =
-        let m = runs P wt p.argument fits R c.end (ran_legal (stepped P p.argument) (limits p.limits) ks R ran) c.ended in
+        let m = runs P wt p.argument fits R c.end (ran_legal (stepped P p.argument) p.limits ks R ran) c.ended in
         inr (record {
           run = R;
-          ran = subst (λ z. Ran (stepped P p.argument) (limits p.limits) z R) e ran;
+          ran = subst (λ z. Ran (stepped P p.argument) p.limits z R) e ran;
           outcome = q;
           comes = c;
           is_reported = t;

@@ -10,8 +10,9 @@ use Rattle.runs_elision.specs.Renamed.{object_named, renamed, renamed_value}
 use Rattle.runs_theory.specs.Objects.{Name}
 use Rattle.runs_program.specs.Steps.{stepped}
 use Rattle.runs_theorem.specs.Laws.{SchedulesComeOutAsElided}
-use Rattle.runs_simulation.specs.Laws.{MachinesRecord, Records, limits, reported}
-use Rattle.runs_theorem.specs.Guarantee.{MachinesComeOutAsElided, outcome_of_elision}
+use Rattle.runs_simulation.specs.Laws.{MachinesRecord, Records}
+use Rattle.runs_theorem.specs.Guarantee.{MachinesComeOutAsElided}
+use Rattle.lang_meaning.specs.Reported.{reported}
 
 -- the names of objects don't show in an outcome
 number_named : (x : Option Name) → number (object_named x) ≡ number {N = Name} Null
@@ -24,7 +25,7 @@ number_renamed names (Int k) = refl
 number_renamed names (Boolean b) = refl
 number_renamed names Null = refl
 
-pub reported_renamed : (names : List Name) (o : ElidedOutcome ℕ) → reported (renamed names o) ≡ outcome_of_elision o
+pub reported_renamed : (names : List Name) (o : ElidedOutcome ℕ) → reported (renamed names o) ≡ reported o
 reported_renamed names (came_out (Returned v) output steps cells) = search (rules, number_renamed names v)
 reported_renamed names (came_out (Assigned locals) output steps cells) = refl
 reported_renamed names (came_out (Trapped trap place) output steps cells) = refl
@@ -34,7 +35,7 @@ reported_renamed names (Limited steps cells) = refl
 pub machines_come_out : MachinesRecord → SchedulesComeOutAsElided → MachinesComeOutAsElided
 machines_come_out records schedules P p o wt none resolved main code_is small fits replayed came =
     let ks = reverse p.schedule in
-    let finished = subst (λ z. Records (stepped P p.argument) (limits p.limits) ks z) (sym replayed.outcome ∙ came)
+    let finished = subst (λ z. Records (stepped P p.argument) p.limits ks z) (sym replayed.outcome ∙ came)
     (records p.code P p.limits p.argument code_is resolved main small ks replayed.moment replayed.leads) in
-    let is : IsElided P p.argument (limits p.limits) finished.0 = schedules P wt none p.argument fits (limits p.limits) ks finished.0 finished.1 in
-    finished.2 ∙ ap reported is.is ∙ reported_renamed is.names (elided P p.argument (limits p.limits))
+    let is : IsElided P p.argument p.limits finished.0 = schedules P wt none p.argument fits p.limits ks finished.0 finished.1 in
+    finished.2 ∙ ap reported is.is ∙ reported_renamed is.names (elided P p.argument p.limits)

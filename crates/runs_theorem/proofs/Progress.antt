@@ -11,7 +11,7 @@ use Rattle.runs_elision.specs.Laws.{NamesAreKnown}
 use Rattle.exec_progress.specs.Progress.{CodeMakesProgress}
 use Rattle.exec_world.specs.Ready.{NoneReady}
 use Rattle.exec_machine.specs.Keeping.{HasEnded, most_events}
-use Rattle.runs_simulation.specs.Laws.{MachinesRecord, Records, SomeTaskIsReady, limits}
+use Rattle.runs_simulation.specs.Laws.{MachinesRecord, Records, SomeTaskIsReady}
 use Rattle.runs_simulation.proofs.Lively.{stuck_run}
 use Rattle.runs_sound.proofs.Never.{exits_a_block, forks_few}
 use Rattle.runs_theorem.specs.Guarantee.{MachinesAreNotStuck, MachinesMakeProgress}
@@ -45,7 +45,7 @@ module _ (keeps : EachKeeps) (known : NamesAreKnown) (going : CodeMakesProgress)
 
           too_many : most_events ≤ length p.schedule → ⊥
           too_many many =
-              let R = subst (λ o. Records (stepped P p.argument) (limits p.limits) (reverse p.schedule) o) unfinished
+              let R = subst (λ o. Records (stepped P p.argument) p.limits (reverse p.schedule) o) unfinished
               (records p.code P p.limits p.argument is resolved main steps (reverse p.schedule) replayed.moment replayed.leads) in
-              let b = ran_bounded (stepped P p.argument) (keeps P p.argument).disciplined (keeps P p.argument).paced (limits p.limits) (reverse p.schedule) R.0 R.1 in
+              let b = ran_bounded (stepped P p.argument) (keeps P p.argument).disciplined (keeps P p.argument).paced p.limits (reverse p.schedule) R.0 R.1 in
               let n = length-reverse p.schedule in omega (arith, many, b, n, steps)

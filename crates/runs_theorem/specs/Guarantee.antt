@@ -19,21 +19,11 @@ use Rattle.exec_task.specs.Halts.{IsWidthBounded}
 use Rattle.exec_machine.specs.declared.halted.Halted.TheVariants.{Stuck}
 use Rattle.exec_machine.specs.Keeping.{Played, GreedilyOn, HaltsGreedily, HasEnded, IsReplayed}
 use Rattle.exec_machine.specs.Replay.{IsStuck, LeadsTo, Moment}
-use Rattle.runs_simulation.specs.Laws.{limits}
-
--- the outcome of an elision: `main` gives an int
-abbrev pub ending_of_elision : Ending ℕ → Came
-ending_of_elision (Returned v) = came.Done (number v)
-ending_of_elision (Assigned locals) = came.Done (pos 0)
-ending_of_elision (Trapped trap place) = came.Trapped trap place
-
-abbrev pub outcome_of_elision : ElidedOutcome ℕ → Outcome
-outcome_of_elision (came_out x output steps cells) = record { ending = ending_of_elision x; out = output; steps = steps; cells = cells }
-outcome_of_elision (Limited steps cells) = record { ending = came.Limited; out = []; steps = steps; cells = cells }
+use Rattle.lang_meaning.specs.Reported.{reported}
 
 -- the serial elision of a program on the argument of `main`, within limits
 abbrev pub elision : PlainProgram → Limits → ℤ → Outcome
-elision P L argument = outcome_of_elision (elided P argument (limits L))
+elision P L argument = reported (elided P argument L)
 
 -- a machine that has finished a run of the code of a well-typed program without nd constructs tells the outcome of its elision
 abbrev pub MachinesComeOutAsElided : Type 0

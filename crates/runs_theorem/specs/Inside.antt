@@ -12,18 +12,18 @@ use Rattle.code_scheme.specs.Whole.{compiled}
 use Rattle.exec_machine.specs.Keeping.{Played, IsReplayed}
 use Rattle.runs_reduction.specs.Laws.{IsMoved}
 use Rattle.runs_reduction.specs.Moved.{move}
-use Rattle.runs_simulation.specs.Laws.{limits, reported}
 use Rattle.runs_theory.specs.Order.{Comes, Outcome}
 use Rattle.runs_theory.specs.Runs.{Run}
 use Rattle.runs_theory.specs.Schedules.{Ran}
 use Rattle.runs_program.specs.Steps.{stepped}
+use Rattle.lang_meaning.specs.Reported.{reported}
 
 -- the run of the source that a machine's schedule records, its outcome, and the run with deterministic constructs moved: a legal run, in
 -- which blocks don't wait for each other for effects on local regions alone, with the same events of each task, the same cost and
 -- the same outcome
 pub record ElidedInside (P : PlainProgram) (p : Played) (o : Declared) : Type 0 where
   pub run : Run
-  pub ran : Ran (stepped P p.argument) (limits p.limits) (reverse p.schedule) run
+  pub ran : Ran (stepped P p.argument) p.limits (reverse p.schedule) run
   pub outcome : Outcome
   pub comes : Comes (stepped P p.argument) run outcome
   pub is_reported : o ≡ reported outcome

@@ -9,7 +9,6 @@ use Rattle.code_instrs.specs.Plain.{plain_code}
 use Rattle.code_scheme.specs.Whole.{compiled}
 use Rattle.exec_machine.specs.Keeping.{Played, IsReplayed}
 use Rattle.runs_reduction.specs.Laws.{IsGathered}
-use Rattle.runs_simulation.specs.Laws.{limits, reported}
 use Rattle.runs_theory.specs.Blocks.{Legal}
 use Rattle.runs_theory.specs.Order.{Outcome}
 use Rattle.runs_theory.specs.Runs.{Run}
@@ -17,6 +16,7 @@ use Rattle.runs_theory.specs.Schedules.{Finished, Ran}
 use Rattle.runs_sound.specs.Laws.{main_bounds}
 use Rattle.runs_sound.specs.Soundness.{IsSound}
 use Rattle.runs_program.specs.Steps.{stepped}
+use Rattle.lang_meaning.specs.Reported.{reported}
 
 -- a legal run of the source that is sound: values have their types, each action is in order and answered by what fits, and unordered events
 -- that conflict lie in atomic blocks; and with each block's events gathered at its entry it is a legal run that costs the same and
@@ -30,9 +30,9 @@ pub record IsReduced (P : PlainProgram) (wt : WellTyped P) (argument : ℤ) (R :
 -- a schedule records, this one with all its beginnings, is reduced
 pub record ComesOutReduced (P : PlainProgram) (wt : WellTyped P) (p : Played) (o : Declared) : Type 0 where
   pub outcome : Outcome
-  pub finished : Finished (stepped P p.argument) (limits p.limits) (reverse p.schedule) outcome
+  pub finished : Finished (stepped P p.argument) p.limits (reverse p.schedule) outcome
   pub is_reported : o ≡ reported outcome
-  pub runs : (ks : List ℕ) (R : Run) → Ran (stepped P p.argument) (limits p.limits) ks R → IsReduced P wt p.argument R
+  pub runs : (ks : List ℕ) (R : Run) → Ran (stepped P p.argument) p.limits ks R → IsReduced P wt p.argument R
 
 abbrev pub MachinesAreReduced : Type 0
 MachinesAreReduced =

@@ -58,8 +58,8 @@ pub fn law_elide()
     ensures { GreedyMachinesElide }
 {
     law_simulation();
+    law_lively();
     law_steps();
-    law_code_progress();
     law_greatest();
 }
 

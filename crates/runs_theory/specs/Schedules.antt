@@ -5,7 +5,7 @@ use Rattle.runs_theory.specs.Actions.{Action, Do, Fork, Begin, Join, End, Progra
 use Rattle.runs_theory.specs.Runs.{Event, Run, Upto, count, steps_of, cells_of}
 use Rattle.runs_theory.specs.Blocks.{Allowed}
 use Rattle.runs_theory.specs.Order.{Outcome, Limited, Comes}
-pub use Rattle.lang_meaning.specs.Outcomes.{Limits}
+pub use Rattle.lang_base.specs.declared.outcome.Limits.{Limits}
 
 pub record Within (P : Program) (L : Limits) (R : Run) : Type 0 where
   pub steps : steps_of R ≤ L.steps

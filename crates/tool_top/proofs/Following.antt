@@ -16,7 +16,7 @@ use Rattle.exec_run.specs.history.Replaying.{GoesWrong, after_end, not_ready, to
 use Rattle.exec_machine.specs.Keeping.{IsReplayed, Played}
 use Rattle.exec_machine.specs.Premise.{CanProgress}
 use Rattle.exec_machine.specs.Replay.{LeadsTo, Moment}
-use Rattle.runs_simulation.specs.Laws.{Records, limits, reported}
+use Rattle.runs_simulation.specs.Laws.{Records}
 use Rattle.runs_simulation.proofs.Blocks.{some_there}
 use Rattle.runs_simulation.proofs.Ready.{ready_there}
 use Rattle.runs_simulation.proofs.Recorded.{LedTo, led_to, recorded, right}
@@ -35,6 +35,7 @@ use Rattle.runs_program.specs.Steps.{stepped}
 use Rattle.exec_tasks.specs.declared.task.Task.{Task as Live}
 use Rattle.exec_world.specs.Ready.{IsReady}
 use Rattle.tool_top.proofs.Schedules.{NextRun, finished_once, next_of_finished, next_of_ran, not_finished, not_past}
+use Rattle.lang_meaning.specs.Reported.{reported}
 
 root_path : {R : List Event} {p : Path} → Numbered R 0 p → p ≡ []
 root_path (root_is a b) = a
@@ -69,17 +70,17 @@ module _ (keeps : EachKeeps) (going : CodeMakesProgress) (P : PlainProgram) (L :
   abbrev D : Disciplined Q
   D = (keeps P arg).disciplined
 
-  recorded_next : (code : Code) → plain_code code ≡ compiled P → (ks : List ℕ) (k : ℕ) (n : Moment) → LeadsTo code L arg (k ∷ ks) n → NextRun Q D (limits L) ks k
+  recorded_next : (code : Code) → plain_code code ≡ compiled P → (ks : List ℕ) (k : ℕ) (n : Moment) → LeadsTo code L arg (k ∷ ks) n → NextRun Q D L ks k
   recorded_next code is ks k n leads = go n.outcome (recorded code P L arg is resolved main few (k ∷ ks) n leads)
     where
-      go : (o : Option Outcome) → Records Q (limits L) (k ∷ ks) o → NextRun Q D (limits L) ks k
-      go None h = next_of_ran Q D (limits L) k ks h.0 h.1
-      go (Some o) h = next_of_finished Q D (limits L) k ks h.0 h.1
+      go : (o : Option Outcome) → Records Q L (k ∷ ks) o → NextRun Q D L ks k
+      go None h = next_of_ran Q D L k ks h.0 h.1
+      go (Some o) h = next_of_finished Q D L k ks h.0 h.1
 
   -- where one machine makes the next number of a schedule, another that has followed it so far hasn't come out, and that task is ready
   module _ (code other : Code) (is : plain_code code ≡ compiled P) (same : plain_code other ≡ compiled P) (ks : List ℕ) (k : ℕ) (m n : Moment)
       (leads : LeadsTo code L arg ks m) (further : LeadsTo other L arg (k ∷ ks) n) where
-    next_run : NextRun Q D (limits L) ks k
+    next_run : NextRun Q D L ks k
     next_run = recorded_next other same ks k n further
 
     pub unfinished : m.outcome ≡ None
@@ -88,8 +89,8 @@ module _ (keeps : EachKeeps) (going : CodeMakesProgress) (P : PlainProgram) (L :
         by : (o : Option Outcome) → m.outcome ≡ o → m.outcome ≡ None
         by None e = e
         by (Some o) e =
-            let h : Records Q (limits L) ks (Some o) = subst (λ x. Records Q (limits L) ks x) e (recorded code P L arg is resolved main few ks m leads) in
-            absurd (not_past Q D (limits L) ks h.0 h.1 k next_run)
+            let h : Records Q L ks (Some o) = subst (λ x. Records Q L ks x) e (recorded code P L arg is resolved main few ks m leads) in
+            absurd (not_past Q D L ks h.0 h.1 k next_run)
 
     A : LedTo code P L arg is resolved main few ks m
     A = led_to code P L arg is resolved main few ks m leads unfinished
@@ -98,21 +99,21 @@ module _ (keeps : EachKeeps) (going : CodeMakesProgress) (P : PlainProgram) (L :
     goes = going code P L arg is resolved main few
 
     ready_so : Ready Q A.run k next_run.1
-    ready_so = subst (λ R. Ready Q R k next_run.1) (one_run Q D (limits L) ks next_run.0 A.run next_run.2 A.ran) next_run.3
+    ready_so = subst (λ R. Ready Q R k next_run.1) (one_run Q D L ks next_run.0 A.run next_run.2 A.ran) next_run.3
 
     pub is_ready : IsReady m.world k
     is_ready =
         ready_there code P arg L (right code P L arg is resolved main few) A.tied A.blocks A.lives (all_rest code L arg goes ks m leads) (λ j t e. (goes ks m leads).legs j t e) k next_run.1 ready_so
 
-  finished_run : (code : Code) → plain_code code ≡ compiled P → (ks : List ℕ) (m : Moment) → LeadsTo code L arg ks m → (o : Outcome) → m.outcome ≡ Some o → Records Q (limits L) ks (Some o)
-  finished_run code is ks m leads o come = subst (λ x. Records Q (limits L) ks x) come (recorded code P L arg is resolved main few ks m leads)
+  finished_run : (code : Code) → plain_code code ≡ compiled P → (ks : List ℕ) (m : Moment) → LeadsTo code L arg ks m → (o : Outcome) → m.outcome ≡ Some o → Records Q L ks (Some o)
+  finished_run code is ks m leads o come = subst (λ x. Records Q L ks x) come (recorded code P L arg is resolved main few ks m leads)
 
   pub come_once : (code other : Code) → plain_code code ≡ compiled P → plain_code other ≡ compiled P → (ks : List ℕ) (m n : Moment) → LeadsTo code L arg ks m → LeadsTo other L arg ks n
       → (o q : Outcome) → m.outcome ≡ Some o → n.outcome ≡ Some q → o ≡ q
   come_once code other is same ks m n leads leads_so o q come came =
       let h = finished_run code is ks m leads o come in
       let g = finished_run other same ks n leads_so q came in
-      h.2 ∙ ap reported (finished_once Q D (limits L) ks ks h.0 g.0 refl h.1 g.1) ∙ sym g.2
+      h.2 ∙ ap reported (finished_once Q D L ks ks h.0 g.0 refl h.1 g.1) ∙ sym g.2
 
   module _ (code other : Code) (is : plain_code code ≡ compiled P) (same : plain_code other ≡ compiled P) (ks : List ℕ) (m n : Moment) (leads : LeadsTo code L arg ks m)
       (leads_so : LeadsTo other L arg ks n) (none : m.outcome ≡ None) (o : Outcome) (come : n.outcome ≡ Some o) where
@@ -129,7 +130,7 @@ module _ (keeps : EachKeeps) (going : CodeMakesProgress) (P : PlainProgram) (L :
         B.lives.unended 0 root.0 V.path root.1 V.there z (subst (λ p. Ended B.run p z) (sym path) g)
 
     pub not_come : ⊥
-    not_come = let h = finished_run other same ks n leads_so o come in not_finished Q D (limits L) ks B.run B.ran root_unended h.0 h.1
+    not_come = let h = finished_run other same ks n leads_so o come in not_finished Q D L ks B.run B.ran root_unended h.0 h.1
 
   -- a machine on the program's code that has made these numbers
   record Reaches (s : List ℕ) (p : Played) : Type 0 where

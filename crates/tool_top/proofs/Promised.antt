@@ -9,14 +9,12 @@ use Rattle.lang_typed.specs.Plain.{PlainProgram}
 use Rattle.lang_meaning.specs.Actions.{Ending, Returned, Assigned, Trapped}
 use Rattle.lang_meaning.specs.Elision.{elided}
 use Rattle.lang_meaning.specs.Outcomes.{Outcome as ElidedOutcome, Came as came_out, Limited}
-use Rattle.exec_walker.specs.Outcome.{ending_of, outcome_of}
-use Rattle.exec_walker.specs.Outcome.{limits as plain_limits}
 use Rattle.lang_typed.specs.WellTyped.{WellTyped}
 use Rattle.body_infer.specs.PostFixpoint.{IsInferred}
 use Rattle.body_infer.specs.Kept.{Keeping}
 use Rattle.sound_infer.specs.Laws.{InferredIsWellTyped, program_inferred}
 use Rattle.sound_text.specs.Laws.{Keeps, PassedKeeps}
-use Rattle.runs_theorem.specs.Guarantee.{GreedyMachinesElide, MachinesAreNotStuck, MachinesComeOutAsElided, MachinesMakeProgress, elision, ending_of_elision, outcome_of_elision}
+use Rattle.runs_theorem.specs.Guarantee.{GreedyMachinesElide, MachinesAreNotStuck, MachinesComeOutAsElided, MachinesMakeProgress, elision}
 use Rattle.runs_theorem.specs.Inside.{ComesOutElidedInside, MachinesElideInside}
 use Rattle.runs_theorem.specs.Reduced.{ComesOutReduced, MachinesAreReduced}
 use Rattle.exec_machine.specs.Keeping.{HaltsGreedily, HasEnded, IsStuckAt, WhyHaltedAt}
@@ -42,6 +40,7 @@ use Rattle.tool_words.specs.declared.verdict.Verdict.TheVariants.{Ran}
 use Rattle.tool_top.specs.declared.answered.Answered.{Answered}
 use Rattle.tool_top.specs.Answer.{IsAcceptedAs, IsElided, IsRan, IsRunBy, IsWithin, limits_of, only, verdict_of}
 use Rattle.tool_top.specs.Guarantee.{FollowsReduced, GoesOn, KeepsGuarantee, TellsElision, TellsReduced, elision_for}
+use Rattle.lang_meaning.specs.Reported.{reported, reported_ending}
 
 module _ (typed : PlainProgram) (keeps : Keeps typed) (L : Limits) (argument : ℤ) (few : L.steps ≤ 20000000) (fits : FitsSigned w32 argument) where
   few_steps : (p : Played) → IsRunOf typed L argument p → p.limits.steps ≤ 20000000
@@ -132,16 +131,6 @@ made_run mode.Rounds typed L argument workers r (by_rounds _ p is alone) =
 made_run (mode.Seeded seed) typed L argument workers r (by_seed _ p is alone) =
     (subst (λ q. IsRunOf typed L argument q) (sym alone.machine) is.is_run, ap (λ (q : Played). q.outcome) alone.machine ∙ alone.came)
 
--- the walker's outcome is that of the promise
-same_ending : (x : Ending ℕ) → ending_of x ≡ ending_of_elision x
-same_ending (Returned v) = refl
-same_ending (Assigned locals) = refl
-same_ending (Trapped trap place) = refl
-
-same_outcome : (o : ElidedOutcome ℕ) → outcome_of o ≡ outcome_of_elision o
-same_outcome (came_out x output steps cells) = ap (λ e. record { ending = e; out = output; steps = steps; cells = cells }) (same_ending x)
-same_outcome (Limited steps cells) = refl
-
 pub keeps_guarantee : MachinesComeOutAsElided → GreedyMachinesElide → MachinesAreReduced → MachinesElideInside → MachinesAreNotStuck → MachinesMakeProgress → PassedKeeps → InferredIsWellTyped → KeepsGuarantee
 keeps_guarantee machines greedy reduce inside never_stuck goes passed with_inferred = record { typed_well = typed_well; goes_on = goes_further; follows = follows; replay = replay; run = run; reduce = reduces; elide = elide; greedy = greedily; summaries = summaries }
   where
@@ -217,7 +206,7 @@ keeps_guarantee machines greedy reduce inside never_stuck goes passed with_infer
 
     elide : (job : Job) (text : List ℕ) (place : Place) (typed : PlainProgram) (answered : Answered) → IsWithin job → IsAcceptedAs text place typed
         → IsElided job typed answered → answered ≡ only (Ran (elision_for job typed))
-    elide job text place typed answered within accepted e = e.is ∙ ap (λ k. only (Ran k)) (e.comes ∙ same_outcome (elided typed job.arg (plain_limits (limits_of job))))
+    elide job text place typed answered within accepted e = e.is ∙ ap (λ k. only (Ran k)) e.comes
 
     greedily : (job : Job) (text : List ℕ) (place : Place) (typed : PlainProgram) (outcome : Outcome) → IsWithin job → IsAcceptedAs text place typed
         → ComesOut typed (limits_of job) job.arg (Some outcome) → outcome ≡ elision_for job typed

@@ -22,11 +22,11 @@ use Rattle.tool_words.specs.declared.job.Job.{Job}
 use Rattle.tool_words.specs.declared.verdict.Verdict.TheVariants.{Accepted, Effects, Listed, Ran, Refused}
 use Rattle.tool_top.specs.declared.answered.Answered.{Answered}
 use Rattle.tool_top.specs.Answer.{IsAcceptedAs, IsAnswer, IsAnswerOn, IsWithin, asks_run, faulty, limits_of, max_text, of_program, only, refused_at_start, to_check, to_effects, to_elide, to_list, to_run, too_long, verdict_of}
-use Rattle.exec_walker.specs.Outcome.{limits as plain_limits, outcome_of}
 use Rattle.lang_meaning.specs.Elision.{elided}
 use Rattle.tool_total.proofs.Effects.{inferred}
 use Rattle.tool_total.proofs.Runs.{run_by}
 use Rattle.tool_total.specs.Answering.{EachAnswered}
+use Rattle.lang_meaning.specs.Reported.{reported}
 
 -- a text that passes has names
 named : (text : List ℕ) (place : Place) (typed : PlainProgram) → IsPassed text place typed → (names : ProgramNames) × AreNames text names
@@ -63,8 +63,8 @@ module _ (passed : PassedKeeps) (verdict : OneVerdict) (going : CodeMakesProgres
 
     walked : job.command ≡ command.Elide → Answer
     walked is = (
-      only (Ran (outcome_of (elided typed job.arg (plain_limits (limits_of job))))),
-      to_elide is (record { outcome = outcome_of (elided typed job.arg (plain_limits (limits_of job))); comes = refl; is = refl }),
+      only (Ran (reported (elided typed job.arg (limits_of job)))),
+      to_elide is (record { outcome = reported (elided typed job.arg (limits_of job)); comes = refl; is = refl }),
     )
 
     listed : job.command ≡ command.«List» → Answer

@@ -3,9 +3,10 @@ use Rattle.std.proofs.lemmas.Int.{to_z-of_z}
 use Rattle.std.proofs.lemmas.Result.{err_from_is_err_and}
 use Rattle.lang_typed.specs.Plain.{plain_program}
 use Rattle.lang_meaning.specs.Elision.{elided}
-use Rattle.exec_walker.specs.Outcome.{Walked, limits, outcome_of}
+use Rattle.exec_walker.specs.Outcome.{Walked}
 use Rattle.exec_walker.proofs.Starting.{reached_first, reached_next, limited_first, limited_next, over_next}
 use Rattle.exec_walker.proofs.whole.walked.Goals as goal
+use Rattle.lang_meaning.specs.Reported.{reported}
 
 pub returns-in_err-walker : goal.returns-in_err-walker
 returns-in_err-walker c =
@@ -38,7 +39,7 @@ returns-in-Some c =
     c.outcome.ensures
     ∙ over_next P _ L c.law_walk.ensures.tells c.in-Some.over c.loop-walker.walker c.to_next_cost.new.self c.loop-walker.invariant
     (rw c.in-Some.is at c.in_ok-over.ensures.walks) c.to_next_cost.new.self.store.within
-    ∙ ap (λ a. outcome_of (elided P a (limits L))) same
+    ∙ ap (λ a. reported (elided P a L)) same
 
 pub loop-walker-smaller : goal.loop-walker-smaller
 loop-walker-smaller c =

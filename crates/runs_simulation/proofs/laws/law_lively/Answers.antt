@@ -1,8 +1,11 @@
-use Rattle.runs_simulation.proofs.Lively.{few_reasons, short, some_ready}
+use Rattle.runs_simulation.proofs.Lively.{all_ready, few_reasons, short, some_ready}
 use Rattle.runs_simulation.proofs.laws.law_lively.Goals as goal
 
 pub returns-clause-ready : goal.returns-clause-ready
 returns-clause-ready c = some_ready c.law_steps.ensures.keeps c.law_names.ensures.known c.law_code_progress.ensures.goes
+
+pub returns-clause-all_ready : goal.returns-clause-all_ready
+returns-clause-all_ready c = all_ready c.law_steps.ensures.keeps c.law_names.ensures.known c.law_code_progress.ensures.goes
 
 pub returns-clause-short : goal.returns-clause-short
 returns-clause-short c = short c.law_steps.ensures.keeps c.law_names.ensures.known c.law_code_progress.ensures.goes

@@ -1,10 +1,10 @@
 use Rattle.std.proofs.Common.{◌≡◌, map, length}
 use Rattle.lang_meaning.specs.Elision.{Store as Elided}
-use Rattle.lang_meaning.specs.Outcomes.{Limits}
 use Rattle.exec_walker.specs.Walk.{falls}
 use Rattle.exec_walker.specs.States.{plain_waiting}
 use Rattle.exec_walker.specs.Stores.{Holds}
 use Rattle.exec_walker.proofs.walker.Walker.fall.Given as goal
+use Rattle.lang_base.specs.declared.outcome.Limits.{Limits}
 
 abbrev pub invariant-loop-trap : goal.invariant-loop-trap
 invariant-loop-trap l =

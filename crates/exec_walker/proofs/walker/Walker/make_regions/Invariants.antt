@@ -1,11 +1,11 @@
 use Rattle.std.proofs.Common.{◌≡◌, map, drop}
 use Rattle.lang_meaning.specs.Elision.{Store as Elided}
-use Rattle.lang_meaning.specs.Outcomes.{Limits}
 use Rattle.exec_frames.specs.Names.{plain_frame}
 use Rattle.exec_walker.specs.Stores.{Holds}
 use Rattle.exec_walker.specs.States.{plain_level, plain_waiting}
 use Rattle.exec_walker.proofs.Making.{makes_from}
 use Rattle.exec_walker.proofs.walker.Walker.make_regions.Given as goal
+use Rattle.lang_base.specs.declared.outcome.Limits.{Limits}
 
 abbrev pub invariant-loop-region : goal.invariant-loop-region
 invariant-loop-region l =

@@ -1,12 +1,12 @@
 use Rattle.std.proofs.Common.{◌≡◌, ℕ, map}
 use Rattle.lang_typed.specs.Plain.{plain_program}
 use Rattle.lang_meaning.specs.Elision.{Store as Elided}
-use Rattle.lang_meaning.specs.Outcomes.{Limits}
 use Rattle.exec_walker.specs.Walk.{At, walk}
 use Rattle.exec_walker.specs.Stores.{Holds}
 use Rattle.exec_walker.specs.States.{StandsAt, plain_level, plain_waiting}
 use Rattle.exec_walker.specs.Work.{work_left}
 use Rattle.exec_walker.proofs.walker.Walker.to_next_cost.Given as goal
+use Rattle.lang_base.specs.declared.outcome.Limits.{Limits}
 
 abbrev pub invariant-loop-over : goal.invariant-loop-over
 invariant-loop-over l =
