@@ -1,3 +1,0 @@
-pub mod Constructs
-pub mod Laws
-pub mod Sample

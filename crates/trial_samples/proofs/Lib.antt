@@ -1,0 +1,9 @@
+mod Arrays
+mod Every
+mod Flow
+mod Main
+mod Objects
+mod Runs
+mod Small
+mod Typed
+mod trees

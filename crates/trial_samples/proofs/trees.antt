@@ -1,0 +1,10 @@
+pub mod Each
+pub mod CellBodies
+pub mod CellsMean
+pub mod CellBody
+pub mod OnlyCells
+pub mod Refused
+pub mod NodeBodies
+pub mod NodesMean
+pub mod OnlyNodes
+pub mod RowsMean

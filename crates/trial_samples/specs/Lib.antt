@@ -1,0 +1,4 @@
+pub mod Constructs
+pub mod Laws
+pub mod Sample
+pub mod trees

@@ -1,0 +1,4 @@
+pub mod Cells
+pub mod Nodes
+pub mod Rows
+pub mod Laws

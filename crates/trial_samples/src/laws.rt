@@ -1,0 +1,33 @@
+//! The laws of the samples, each the clause of a function that does nothing but name others.
+
+ghost use Rattle.trial_samples.specs.Constructs.{HasEvery};
+ghost use Rattle.trial_samples.specs.Laws.{SampleIsElided, SampleRuns};
+ghost use Rattle.trial_samples.specs.Sample.{sample};
+ghost use Rattle.trial_samples.specs.trees.Laws.{OtherMeans, RowsMean, SampleMeans, WrongAreRefused, WrongOthersAreRefused};
+ghost use Rattle.lang_typed.specs.WellTyped.{WellTyped};
+
+use runs_program::laws::law_steps;
+use runs_sound::laws::law_sound;
+use runs_theorem::laws::law_reduction;
+
+/// There is a program with every construct of the language that is well typed, and a whole run of it that the laws of well-typed
+/// programs speak of, with conflicts that atomic blocks order.
+pub fn law_sample()
+    ensures well_typed { WellTyped sample }
+    ensures every { HasEvery sample }
+    ensures elided { SampleIsElided }
+    ensures runs { SampleRuns }
+{
+    law_steps();
+    law_sound();
+    law_reduction();
+}
+
+/// Three small trees, which have most constructs between them, mean one program each, and no other of that form.
+pub fn law_trees()
+    ensures means { SampleMeans }
+    ensures refused { WrongAreRefused }
+    ensures others { OtherMeans }
+    ensures others_refused { WrongOthersAreRefused }
+    ensures rows { RowsMean }
+{}
