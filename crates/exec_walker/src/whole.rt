@@ -85,7 +85,7 @@ fn begun<'p>(
 fn empty_store(alloc: Global, limits: Limits) -> Store
     requires steps { limits.steps < 2 ^ 32 }
     requires cells { limits.cells ≤ 16777216 }
-    ensures { Holds (plain_limits limits) result (nothing (suc limits.steps)) }
+    ensures { Holds limits result (nothing (suc limits.steps)) }
 {
     Store {
         heap: Heap::new(alloc, limits.cells),
