@@ -8,3 +8,4 @@ pub mod NodeBodies
 pub mod NodesMean
 pub mod OnlyNodes
 pub mod RowsMean
+pub mod PathsMean

@@ -4,6 +4,7 @@ ghost use Rattle.trial_samples.specs.Constructs.{HasEvery};
 ghost use Rattle.trial_samples.specs.Laws.{SampleIsElided, SampleRuns};
 ghost use Rattle.trial_samples.specs.Sample.{sample};
 ghost use Rattle.trial_samples.specs.trees.Laws.{OtherMeans, RowsMean, SampleMeans, WrongAreRefused, WrongOthersAreRefused};
+ghost use Rattle.trial_samples.specs.trees.Paths.{PathsMean};
 ghost use Rattle.lang_typed.specs.WellTyped.{WellTyped};
 
 use runs_program::laws::law_steps;
@@ -23,11 +24,13 @@ pub fn law_sample()
     law_reduction();
 }
 
-/// Three small trees, which have most constructs between them, mean one program each, and no other of that form.
+/// Three small trees, which have most constructs between them, mean one program each, and no other of that form; and each path of a
+/// fourth, in which names hide each other, means one.
 pub fn law_trees()
     ensures means { SampleMeans }
     ensures refused { WrongAreRefused }
     ensures others { OtherMeans }
     ensures others_refused { WrongOthersAreRefused }
     ensures rows { RowsMean }
+    ensures paths { PathsMean }
 {}

@@ -1,3 +1,4 @@
+use Rattle.trial_samples.proofs.trees.PathsMean.{paths_mean}
 use Rattle.trial_samples.proofs.trees.OnlyCells.{only, refused}
 use Rattle.trial_samples.proofs.trees.OnlyNodes.{other_only, others_refused}
 use Rattle.trial_samples.proofs.trees.NodesMean.{others_means}
@@ -12,4 +13,5 @@ returns c = record {
   others = record { means = others_means; only = other_only };
   others_refused = others_refused;
   rows = rows;
+  paths = paths_mean;
 }
