@@ -24,7 +24,7 @@ machines_elide_inside records runs P p o wt resolved main code_is small fits rep
     finished = subst (λ z. Records (stepped P p.argument) p.limits (reverse p.schedule) z) (sym replayed.outcome ∙ came_out)
         (records p.code P p.limits p.argument code_is resolved main small (reverse p.schedule) replayed.moment replayed.leads)
 
-    go : (q : Outcome) (ks : List ℕ) → ks ≡ reverse p.schedule → Finished (stepped P p.argument) p.limits ks q → o ≡ reported q → (o.ending ≡ came.Limited) ⊎ ElidedInside P p o
+    go : (q : Outcome) (ks : List ℕ) → ks ≡ reverse p.schedule → Finished (stepped P p.argument) p.limits ks q → o ≡ reported q → (o.ending ≡ came.Limited) ⊎ ElidedInside P p.limits p.argument p.schedule o
     go q ks e (ended R ran c) t =
         let m = runs P wt p.argument fits R c.end (ran_legal (stepped P p.argument) p.limits ks R ran) c.ended in
         inr (record {

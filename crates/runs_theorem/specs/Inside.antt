@@ -1,7 +1,8 @@
 -- What a machine's run of a well-typed program is inside nd constructs: the deterministic constructs in them can stand in sequence.
-use Rattle.std.specs.Prelude.{◌≡◌, ◌≤◌, ◌⊎◌, FitsSigned, Some, reverse}
+use Rattle.std.specs.Prelude.{ℕ, ℤ, ◌≡◌, ◌≤◌, ◌⊎◌, FitsSigned, List, Some, reverse}
 use Rattle.std.specs.Int.{w32}
 use Rattle.lang_base.specs.declared.outcome.Ending.TheVariants as came
+use Rattle.lang_base.specs.declared.outcome.Limits.{Limits}
 use Rattle.lang_base.specs.declared.outcome.Outcome.{Outcome as Declared}
 use Rattle.lang_typed.specs.Plain.{PlainProgram}
 use Rattle.lang_typed.specs.Resolved.{Resolved, HasMain}
@@ -18,23 +19,23 @@ use Rattle.runs_theory.specs.Schedules.{Ran}
 use Rattle.runs_program.specs.Steps.{stepped}
 use Rattle.lang_meaning.specs.Reported.{reported}
 
--- the run of the source that a machine's schedule records, its outcome, and the run with deterministic constructs moved: a legal run, in
+-- the run of the source that a schedule records, its outcome, and the run with deterministic constructs moved: a legal run, in
 -- which blocks don't wait for each other for effects on local regions alone, with the same events of each task, the same cost and
 -- the same outcome
-pub record ElidedInside (P : PlainProgram) (p : Played) (o : Declared) : Type 0 where
+pub record ElidedInside (P : PlainProgram) (L : Limits) (argument : ℤ) (schedule : List ℕ) (o : Declared) : Type 0 where
   pub run : Run
-  pub ran : Ran (stepped P p.argument) p.limits (reverse p.schedule) run
+  pub ran : Ran (stepped P argument) L (reverse schedule) run
   pub outcome : Outcome
-  pub comes : Comes (stepped P p.argument) run outcome
+  pub comes : Comes (stepped P argument) run outcome
   pub is_reported : o ≡ reported outcome
-  pub moved : IsMoved (stepped_inside P p.argument) run
-  pub comes_moved : Comes (stepped_inside P p.argument) (move run) outcome
+  pub moved : IsMoved (stepped_inside P argument) run
+  pub comes_moved : Comes (stepped_inside P argument) (move run) outcome
 
 -- there is such a run, unless a limit was met
-abbrev pub ComesOutElidedInside : PlainProgram → Played → Declared → Type 0
-ComesOutElidedInside P p o = (o.ending ≡ came.Limited) ⊎ ElidedInside P p o
+abbrev pub ComesOutElidedInside : PlainProgram → Limits → ℤ → List ℕ → Declared → Type 0
+ComesOutElidedInside P L argument schedule o = (o.ending ≡ came.Limited) ⊎ ElidedInside P L argument schedule o
 
 abbrev pub MachinesElideInside : Type 0
 MachinesElideInside =
     (P : PlainProgram) (p : Played) (o : Declared) → WellTyped P → Resolved P → HasMain P → plain_code p.code ≡ compiled P → p.limits.steps ≤ 20000000
-    → FitsSigned w32 p.argument → IsReplayed p → p.outcome ≡ Some o → ComesOutElidedInside P p o
+    → FitsSigned w32 p.argument → IsReplayed p → p.outcome ≡ Some o → ComesOutElidedInside P p.limits p.argument p.schedule o

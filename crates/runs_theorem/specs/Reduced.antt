@@ -1,6 +1,7 @@
 -- What a machine's run of a well-typed program is by the source, nd constructs or not.
 use Rattle.std.specs.Prelude.{ℕ, ℤ, ◌≡◌, ◌≤◌, FitsSigned, List, Some, reverse}
 use Rattle.std.specs.Int.{w32}
+use Rattle.lang_base.specs.declared.outcome.Limits.{Limits}
 use Rattle.lang_base.specs.declared.outcome.Outcome.{Outcome as Declared}
 use Rattle.lang_typed.specs.Plain.{PlainProgram}
 use Rattle.lang_typed.specs.Resolved.{Resolved, HasMain}
@@ -26,15 +27,15 @@ pub record IsReduced (P : PlainProgram) (wt : WellTyped P) (argument : ℤ) (R :
   pub sound : IsSound P (stepped P argument) (main_bounds P wt) R
   pub gathered : IsGathered (stepped P argument) R
 
--- the schedule of a machine that tells this outcome has finished as a run of the source with the same outcome; and each run that
--- a schedule records, this one with all its beginnings, is reduced
-pub record ComesOutReduced (P : PlainProgram) (wt : WellTyped P) (p : Played) (o : Declared) : Type 0 where
+-- on the argument and within the limits a schedule has finished as a run of the source with this outcome; and each run that a
+-- schedule records, this one with all its beginnings, is reduced
+pub record ComesOutReduced (P : PlainProgram) (wt : WellTyped P) (L : Limits) (argument : ℤ) (schedule : List ℕ) (o : Declared) : Type 0 where
   pub outcome : Outcome
-  pub finished : Finished (stepped P p.argument) p.limits (reverse p.schedule) outcome
+  pub finished : Finished (stepped P argument) L (reverse schedule) outcome
   pub is_reported : o ≡ reported outcome
-  pub runs : (ks : List ℕ) (R : Run) → Ran (stepped P p.argument) p.limits ks R → IsReduced P wt p.argument R
+  pub runs : (ks : List ℕ) (R : Run) → Ran (stepped P argument) L ks R → IsReduced P wt argument R
 
 abbrev pub MachinesAreReduced : Type 0
 MachinesAreReduced =
     (P : PlainProgram) (wt : WellTyped P) (p : Played) (o : Declared) → Resolved P → HasMain P → plain_code p.code ≡ compiled P → p.limits.steps ≤ 20000000
-    → FitsSigned w32 p.argument → IsReplayed p → p.outcome ≡ Some o → ComesOutReduced P wt p o
+    → FitsSigned w32 p.argument → IsReplayed p → p.outcome ≡ Some o → ComesOutReduced P wt p.limits p.argument p.schedule o

@@ -1,7 +1,7 @@
 -- What an end told at first and what it tells now, in the course of reading or writing all.
 use Rattle.std.proofs.Common.{◌≡◌, ℕ, ◌+◌, ◌-◌, ◌<◌, ◌≤◌, List, [], ◌++◌, length, take, drop, Option, Some, None, IfSome, sym, ap, ◌∙◌, subst, arith, append_assoc, append-nil, length-append}
 use Rattle.std.proofs.Math.Seq.{take-add, take-length}
-use Rattle.std.proofs.lemmas.List.{drop-drop, length-drop, length-take, take_at, take-append-drop, take-append-le}
+use Rattle.std.proofs.lemmas.List.{drop-drop, length-drop, length-take, take-append-drop, take-append-le}
 use Rattle.std.specs.Prelude.{Bool, true, false, if◌then◌else◌}
 use Rattle.tool_io.specs.Ends.{Fills}
 
@@ -52,16 +52,16 @@ used_up (Some room) now next done used full same =
     let none = subst (λ (reported : Option ℕ). IfSome reported (λ room. room ≡ 0)) used.1 full in
     same ∙ used.1 ∙ ap Some none
 
-pub Took-more : (first now next : Option (List ℕ)) (all more before after : List ℕ) (count : ℕ) → Took first all now
-    → IfSome now (λ left. Fills left before after count) → IfSome now (λ left. next ≡ Some (drop count left))
+pub Took-more : (first now next : Option (List ℕ)) (all more after : List ℕ) (count : ℕ) → Took first all now
+    → IfSome now (λ left. Fills left after count) → IfSome now (λ left. next ≡ Some (drop count left))
     → more ≡ all ++ take count after → Took first more next
-Took-more None now next all more before after count took filled taken e = tt
-Took-more (Some bytes) now next all more before after count took filled taken e =
+Took-more None now next all more after count took filled taken e = tt
+Took-more (Some bytes) now next all more after count took filled taken e =
     let left = drop (length all) bytes in
-    let fills = subst (λ (reported : Option (List ℕ)). IfSome reported (λ l. Fills l before after count)) took.2 filled in
+    let fills = subst (λ (reported : Option (List ℕ)). IfSome reported (λ l. Fills l after count)) took.2 filled in
     let drops = subst (λ (reported : Option (List ℕ)). IfSome reported (λ l. next ≡ Some (drop count l))) took.2 taken in
     let long : length (take count left) ≡ count = omega (arith, length-take count left, fills.within) in
-    let piece : take count after ≡ take count left = ap (take count) fills.front ∙ take_at (take count left) (drop count before) count long in
+    let piece : take count after ≡ take count left = fills.front in
     let whole : more ≡ take (length all) bytes ++ take count left = e ∙ (λ i. took.1 i ++ piece i) in
     let size : length more ≡ length all + count = ap length e ∙ length-append all (take count after) ∙ ap (λ n. length all + n) (ap length piece ∙ long) in (
       omega (arith, size, took.0, fills.within, length-drop (length all) bytes),
@@ -70,18 +70,13 @@ Took-more (Some bytes) now next all more before after count took filled taken e 
     )
 
 -- a source that gives nothing has given all
-pub Took-all : (first now next : Option (List ℕ)) (all before after : List ℕ) (count : ℕ) → count ≡ 0 → Took first all now
-    → IfSome now (λ left. Fills left before after count) → IfSome now (λ left. next ≡ Some (drop count left))
-    → IfSome first (λ bytes. (all ≡ bytes) × (next ≡ Some []))
-Took-all None now next all before after count zero took filled taken = tt
-Took-all (Some bytes) now next all before after count zero took filled taken =
-    let left = drop (length all) bytes in
-    let fills = subst (λ (reported : Option (List ℕ)). IfSome reported (λ l. Fills l before after count)) took.2 filled in
-    let drops = subst (λ (reported : Option (List ℕ)). IfSome reported (λ l. next ≡ Some (drop count l))) took.2 taken in
-    let none : left ≡ [] = fills.end zero in (
-      took.1 ∙ (sym (append-nil (take (length all) bytes)) ∙ (ap (λ l. take (length all) bytes ++ l) (sym none) ∙ take-append-drop (length all) bytes)),
-      drops ∙ ap Some (ap (λ n. drop n left) zero ∙ none),
-    )
+pub Took-all : (first now : Option (List ℕ)) (all after : List ℕ) (count : ℕ) → count ≡ 0 → Took first all now
+    → IfSome now (λ left. Fills left after count) → IfSome first (λ bytes. all ≡ bytes)
+Took-all None now all after count zero took filled = tt
+Took-all (Some bytes) now all after count zero took filled =
+    let fills = subst (λ (reported : Option (List ℕ)). IfSome reported (λ l. Fills l after count)) took.2 filled in
+    let none : drop (length all) bytes ≡ [] = fills.end zero in
+    took.1 ∙ (sym (append-nil (take (length all) bytes)) ∙ (ap (λ l. take (length all) bytes ++ l) (sym none) ∙ take-append-drop (length all) bytes))
 
 -- `extend_from_slice(&buf[..count])` that succeeded
 pub extended : (ok : Bool) (more all rest buf : List ℕ) (count : ℕ) → more ≡ (if ok then (all ++ take count (buf ++ rest)) else all)

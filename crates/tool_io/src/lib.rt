@@ -2,7 +2,8 @@
 //!
 //! `Source` gives bytes and `Sink` takes them. Each tells, for contracts alone, what it knows of itself:
 //! what a source has left, what a sink holds and how much room it has, and a count of faults that never
-//! falls. An end outside of memory tells its count and nothing else.
+//! falls. An end over the standard library tells what its reader or writer tells: a slice what is left, a
+//! `Vec` what it holds, the standard streams nothing.
 //!
 //! What it promises: a call fails only where the count of faults rose in it, or where the counter stands
 //! at its last value. `read_all` gives exactly the bytes that were left, or says why it doesn't.

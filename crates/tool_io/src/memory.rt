@@ -55,7 +55,8 @@ impl Source for MemSource {
         requires { 0 < length buf.old }
         ensures fails { IsErr result ↔ FailsNext self.old.plan }
         ensures gives { IfOk result (λ n. n ≡ given_next (length buf.old) self.old) }
-        ensures filled { IfOk result (λ n. Fills self.old.left buf.old buf.new n) }
+        ensures filled { IfOk result (λ n. Fills self.old.left buf.new n) }
+        ensures behind { IfOk result (λ n. buf.new ≡ take n self.old.left ++ drop n buf.old) }
         ensures ok { IfOk result (λ n. self.new ≡ after_gift n self.old) }
         ensures err { OnErr result (self.new ≡ after_fault self.old) }
         ensures untouched { OnErr result (buf.new ≡ buf.old) }

@@ -44,7 +44,8 @@ impl Source for PlainSource {
         ensures never_fails { IsOk result }
         ensures count { ⟦<PlainSource as Source>⟧.faults self.new ≡ 0 }
         ensures gives { IfOk result (λ n. n ≡ min (length buf.old) (length self.old)) }
-        ensures filled { IfOk result (λ n. Fills self.old buf.old buf.new n) }
+        ensures filled { IfOk result (λ n. Fills self.old buf.new n) }
+        ensures behind { IfOk result (λ n. buf.new ≡ take n self.old ++ drop n buf.old) }
         ensures taken { IfOk result (λ n. self.new ≡ drop n self.old) }
     {
         let count = buf.len().min(self.bytes.len() - self.at);

@@ -1,12 +1,12 @@
-ghost use Rattle.std.specs.Prelude.{◌≡◌, ◌<◌, ◌≤◌, None, Ok, length, IfOk, OnOk, OnErr};
+ghost use Rattle.std.specs.Prelude.{◌≡◌, ◌<◌, ◌≤◌, None, Some, length, drop, IfOk, IfSome, OnOk, OnErr};
 ghost use Rattle.std.specs.Io.KnownBytes.{ReadConsumes, WriteAppends};
-ghost use Rattle.tool_io.specs.Ends.{Rose, next_count};
+ghost use Rattle.tool_io.specs.Ends.{Fills, next_count};
 
 use crate::traits::{Failed, Sink, Source};
 use std::io::{Read, Write};
 use std::marker::Model;
 
-/// Any reader, with a count of its errors. It tells nothing of what is left.
+/// Any reader, with a count of its errors. It tells what its reader tells of what is left.
 #[derive(Debug, Drop)]
 pub struct StdSource<R> {
     reader: R,
@@ -32,7 +32,7 @@ impl<R: Read> StdSource<R> {
 }
 
 impl<R: Read> Source for StdSource<R> {
-    ghost left = { λ _. None };
+    ghost left = { λ s. R.remaining s.inner };
 
     ghost faults = { λ s. s.faults };
 
@@ -40,6 +40,8 @@ impl<R: Read> Source for StdSource<R> {
         requires { 0 < length buf.old }
         ensures bound { IfOk result (λ n. n ≤ length buf.old) }
         ensures reads { ReadConsumes (R.remaining self.old.inner) (R.remaining self.new.inner) result buf.new }
+        ensures filled { IfOk result (λ n. IfSome (R.remaining self.old.inner) (λ bytes. Fills bytes buf.new n)) }
+        ensures taken { IfOk result (λ n. IfSome (R.remaining self.old.inner) (λ bytes. R.remaining self.new.inner ≡ Some (drop n bytes))) }
         ensures ok { OnOk result (self.new.faults ≡ self.old.faults) }
         ensures err { OnErr result (self.new.faults ≡ next_count self.old.faults) }
         ensures never_falls { self.old.faults ≤ self.new.faults }
@@ -54,8 +56,8 @@ impl<R: Read> Source for StdSource<R> {
     }
 }
 
-/// Any writer, with a count of its errors. A write that takes nothing is one too. It tells neither what it
-/// holds nor its room.
+/// Any writer, with a count of its errors. A write that takes nothing is one too. It tells what its writer
+/// tells of what it holds, and not its room.
 #[derive(Debug, Drop)]
 pub struct StdSink<W> {
     writer: W,
@@ -81,7 +83,7 @@ impl<W: Write> StdSink<W> {
 }
 
 impl<W: Write> Sink for StdSink<W> {
-    ghost held = { λ _. None };
+    ghost held = { λ s. W.contents s.inner };
 
     ghost room = { λ _. None };
 

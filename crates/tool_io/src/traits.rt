@@ -24,11 +24,11 @@ pub trait Source {
         ensures never_falls { faults self.old ≤ faults self.new }
 
         // Where it says what is left: what came, and what is left then.
-        ensures filled { IfOk result (λ n. IfSome (left self.old) (λ bytes. Fills bytes buf.old buf.new n)) }
+        ensures filled { IfOk result (λ n. IfSome (left self.old) (λ bytes. Fills bytes buf.new n)) }
         ensures taken { IfOk result (λ n. IfSome (left self.old) (λ bytes. left self.new ≡ Some (drop n bytes))) }
 
         ensures failed { OnErr result (Rose (faults self.old) (faults self.new)) }
-        ensures kept { OnErr result (left self.new ≡ left self.old) };
+        ensures kept { OnErr result (IfSome (left self.old) (λ bytes. left self.new ≡ Some bytes)) };
 }
 
 /// Where bytes go.
@@ -50,7 +50,7 @@ pub trait Sink {
 
         // Where it says what it holds.
         ensures appended { IfOk result (λ n. IfSome (held self.old) (λ old. held self.new ≡ Some (old ++ take n bytes.now))) }
-        ensures kept { OnErr result (held self.new ≡ held self.old) }
+        ensures kept { OnErr result (IfSome (held self.old) (λ old. held self.new ≡ Some old)) }
 
         ensures failed { OnErr result (Rose (faults self.old) (faults self.new)) }
 
