@@ -11,6 +11,8 @@ use Rattle.runs_theory.specs.Standing.{Inside, Outside, Standing, Valid, above, 
 use Rattle.runs_reduction.specs.Gathered.{Anchor, AtEntries, EntryOf, Together, block_of, block_spot, entry, gather, itself}
 use Rattle.runs_reduction.specs.Guarded.{ConflictsGuarded}
 use Rattle.runs_reduction.specs.Insertion.{All_of, Earlier, put_after}
+use Rattle.runs_reduction.specs.Guarded.{ConflictsGuarded}
+use Rattle.runs_reduction.specs.Insertion.{All_of, Earlier, put_after}
 use Rattle.runs_theory.proofs.Upto.{upto_trans, upto_length, upto_tail, upto_split, upto_none, Which, which, same_one, before, after}
 use Rattle.runs_theory.proofs.Mine.{mine_same, mine_at, mine_upto, Found, found, earlier_of, same_of, number_of}
 use Rattle.runs_theory.proofs.Places.{snoc}

@@ -11,6 +11,7 @@ use Rattle.runs_theory.specs.Runs.{Begun, Event, Faithful, Follows, Right, Run, 
 use Rattle.runs_theory.specs.Runs.{written}
 use Rattle.runs_theory.specs.Standing.{Admitted, CanEnter, Outside, Valid, above, joined_by, standing}
 use Rattle.runs_reduction.specs.Insertion.{Spot, near, put_after, rearranged}
+use Rattle.runs_reduction.specs.Insertion.{Spot, near, put_after, rearranged}
 use Rattle.runs_theory.proofs.Upto.{upto_tail}
 use Rattle.runs_theory.proofs.Mine.{path_cases, mine_same, mine_other}
 use Rattle.runs_theory.proofs.Faithful.{begun_upto, same_task}

@@ -10,6 +10,7 @@ use Rattle.runs_theory.specs.Runs.{Event, Faithful, Follows, Run, Upto, answers,
 use Rattle.runs_theory.specs.Standing.{first_of}
 use Rattle.runs_reduction.specs.Insertion.{All_of, Branch_of, Earlier, Spot}
 use Rattle.runs_reduction.specs.Moved.{AfterForks, DetFork, InBranch, InConstruct, below, construct_spot, inner, is_det, its_begin, kind_after, spot_of}
+use Rattle.runs_reduction.specs.Insertion.{All_of, Branch_of, Earlier, Spot}
 use Rattle.runs_reduction.specs.Insertion.{Earlier}
 use Rattle.runs_theory.proofs.Upto.{upto_trans, upto_length, upto_tail, Which, which, same_one, before, after}
 use Rattle.runs_theory.proofs.Mine.{path_cases, mine_at, mine_upto, Found, found, earlier_of, same_of, number_of, numbered}

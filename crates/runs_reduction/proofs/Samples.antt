@@ -3,6 +3,7 @@ use Rattle.std.proofs.Common.{◌≡◌, ◌≢◌, ℕ, pos, Bool, true, false,
 use Rattle.std.proofs.Common.{refl, sym, ap, ◌∙◌, subst, arith, Option, Some, None, slice_get}
 use Rattle.lang_base.specs.declared.effect.Access.TheVariants as access
 use Rattle.runs_theory.specs.Actions.{Answer, Assigned, Branches, Deterministic, Do, Enter, Exit, Got, Length, Look, New, Nondeterministic, Out, Program, Read}
+use Rattle.lang_base.specs.declared.effect.Access.TheVariants as access
 use Rattle.runs_theory.specs.Actions.{Rest, Returned, Rule, Went, Write}
 use Rattle.runs_theory.specs.Blocks.{Legal, leaving_locals, without_locals}
 use Rattle.runs_theory.specs.Meaning.{Disciplined, Known}
@@ -16,6 +17,9 @@ use Rattle.runs_reduction.specs.Insertion.{All_of, Branch_of, rearranged}
 use Rattle.runs_reduction.specs.Laws.{Weaker}
 use Rattle.runs_reduction.specs.Moved.{inner, move}
 use Rattle.runs_reduction.specs.Samples.{BothApply, GatheringNeedsGuarded, GatheringNeedsKnown, MovingNeedsWeaker, SomeConflict}
+use Rattle.runs_reduction.specs.Guarded.{ConflictsGuarded, LevelsGuarded}
+use Rattle.runs_reduction.specs.Insertion.{All_of, Branch_of, rearranged}
+use Rattle.runs_reduction.specs.Guarded.{ConflictsGuarded, LevelsGuarded}
 use Rattle.runs_theory.proofs.Written.{legal_from, valid_from}
 use Rattle.runs_theory.proofs.Scripts.{main, int, Item, does, forks, Body, task, scripted, script_disciplined}
 use Rattle.runs_theory.proofs.Play.{run_of, play, played, has_ended_with}

@@ -12,6 +12,7 @@ use Rattle.runs_reduction.specs.Gathered.{gather}
 use Rattle.runs_reduction.specs.Guarded.{LevelsGuarded}
 use Rattle.runs_reduction.specs.Laws.{Gathering, IsMoved, Moving, MovingBy, MovingEnded, MovingInside, Rearranges, StillOpen}
 use Rattle.runs_reduction.specs.Moved.{move}
+use Rattle.runs_reduction.specs.Guarded.{LevelsGuarded}
 use Rattle.runs_theory.proofs.Written.{legal_faithful, valid_from, legal_from}
 use Rattle.runs_theory.proofs.Standing.{Stands, stands}
 use Rattle.runs_theory.proofs.Carry.{begun_in, ended_in}
