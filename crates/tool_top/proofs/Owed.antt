@@ -1,5 +1,6 @@
 -- What a call that tells of a verdict owes to a program, over plain variables.
-use Rattle.std.proofs.Common.{◌≡◌, ◌∙◌, ℕ, true, false, List, [], Option, Some, MatchOption, IfSome, inl, inr, refl, sym, ap, subst, arith}
+use Rattle.std.proofs.Common.{◌≡◌, ◌∙◌, ℕ, true, false, List, [], Option, Some, MatchOption, inl, inr, refl, sym, ap, subst, arith}
+use Rattle.lang_base.specs.declared.place.Place.{Place}
 use Rattle.exec_run.specs.declared.history.record.Record.{Record}
 use Rattle.lang_typed.specs.Plain.{PlainProgram}
 use Rattle.body_infer.specs.Kept.{program_kept}
@@ -17,22 +18,19 @@ use Rattle.tool_words.specs.declared.verdict.Status.TheVariants as ended
 use Rattle.tool_words.specs.declared.verdict.Verdict.{Verdict}
 use Rattle.tool_words.specs.declared.verdict.Verdict.TheVariants.{Ran, Effects, Usage}
 use Rattle.tool_top.specs.declared.answered.Answered.{Answered}
-use Rattle.tool_top.specs.Answer.{IsAnswer, IsAnswerOn, IsElided, IsRan, IsWithin, TellsEffects, asks_run, faulty, of_program, only, verdict_by, verdict_of, to_check, to_effects, to_elide, to_list, to_run, too_long}
-use Rattle.tool_top.specs.Call.{Answers, AnswersBy, Appends, IsAnswered, Tells, TellsOfVerdict, text_for}
-use Rattle.tool_top.specs.Guarantee.{AsksElision, GivesJob, IsReported, KeepsGuarantee, ReportsElision, ReportsReduced, ReportsSummaries, elision_for}
+use Rattle.tool_top.specs.Answer.{IsAnswer, IsAnswerOn, IsAcceptedAs, IsElided, IsRan, IsWithin, TellsEffects, asks_run, faulty, of_program, only, verdict_by, verdict_of, to_check, to_effects, to_elide, to_list, to_run, too_long}
+use Rattle.tool_top.specs.Call.{Answers, AnswersBy, AnswersSome, Appends, IsAnswered, Tells, TellsOfVerdict}
+use Rattle.tool_top.specs.Guarantee.{AsksElision, IsReported, KeepsGuarantee, MustReport, ReportsElision, ReportsReduced, ReportsSummaries, elision_for}
 use Rattle.tool_top.proofs.Ranges.{words_within}
 
 -- a status that tells of a verdict isn't out of memory
 pub tells-no-want : (status : Status) → TellsOfVerdict status → status ≡ ended.NoMemory → ⊥
 tells-no-want status known e = subst TellsOfVerdict e known
 
--- the answer to a job and a text that are there
-pub given_answer : (words : List (List ℕ)) (held : Option (List ℕ)) (asked : Job) (text : List ℕ) (answered : Answered) → job words ≡ Some asked → text_for asked held ≡ Some text →
-    IsAnswered words held answered → Answers asked text answered
-given_answer words held asked text answered e f is =
-    let some : IfSome (text_for asked held) (λ t. Answers asked t answered) =
-    subst (λ o. MatchOption o (answered ≡ only Usage) (λ j. IfSome (text_for j held) (λ t. Answers j t answered))) e is in
-    subst (λ o. IfSome o (λ t. Answers asked t answered)) f some
+-- the answer to the job that the words give
+pub given_answer : (words : List (List ℕ)) (read left : Option (List ℕ)) (asked : Job) (answered : Answered) → job words ≡ Some asked → IsAnswered words read left answered
+    → AnswersSome asked read left answered
+given_answer words read left asked answered e is = subst (λ o. MatchOption o (answered ≡ only Usage) (λ j. AnswersSome j read left answered)) e is
 
 -- where a run or an elision is asked, it is that to a program
 asked_of_program : (c : Command) (asked : Job) (text : List ℕ) (answered : Answered) → (c ≡ command.Replay → ⊥) → AnswersBy c asked text answered → IsAnswer asked text answered
@@ -50,92 +48,111 @@ true_false : true ≡ false → ⊥
 true_false e = cc
 
 -- the answer to a job that is given on an accepted text is that to its program
-module _ (keeps : KeepsGuarantee) (verdict : OneVerdict) (one : OnePassing) (words : List (List ℕ)) (held before after : Option (List ℕ)) (status : Status) (recorded : Option Record)
-    (tells : Tells words held before after status recorded) (asked : Job) (text : List ℕ) (typed : PlainProgram) (gives : GivesJob words held asked text typed) where
+module _ (keeps : KeepsGuarantee) (verdict : OneVerdict) (one : OnePassing) (words : List (List ℕ)) (read left before after : Option (List ℕ)) (status : Status) (recorded : Option Record)
+    (tells : Tells words read left before after status recorded) (asked : Job) (said : job words ≡ Some asked) where
   within : IsWithin asked
-  within = words_within words asked gives.said
+  within = words_within words asked said
+
+  some : AnswersSome asked read left tells.answered
+  some = given_answer words read left asked tells.answered said tells.is_answered
+
+  abbrev text : List ℕ
+  text = some.text
 
   verdict_reported : (known : Verdict) → tells.answered.verdict ≡ known → IsReported known before after status
   verdict_reported known is = (tells.status_reported ∙ ap status_of is, subst (λ v. Appends before after (report_of v)) is tells.report_reported)
 
-  on_program : (asked.command ≡ command.Replay → ⊥) → IsAnswerOn asked text typed tells.answered
-  on_program never = by (asked_of_program asked.command asked text tells.answered never (given_answer words held asked text tells.answered gives.said gives.given tells.is_answered)) refl
-    where
-      by : {answered : Answered} → IsAnswer asked text answered → answered ≡ tells.answered → IsAnswerOn asked text typed tells.answered
-      by (too_long h) same = let short = gives.accepted.0 in absurd (omega (arith, h, short))
-      by (faulty refusal short fault) same = absurd (verdict.not_both text gives.place typed refusal gives.accepted.1 fault)
-      by (of_program other typed_so answered accepted on) same =
-          subst (λ a. IsAnswerOn asked text typed a) same (subst (λ t. IsAnswerOn asked text t answered) (one text other gives.place typed_so typed accepted.1 gives.accepted.1) on)
+  module _ (place : Place) (typed : PlainProgram) (accepted : IsAcceptedAs text place typed) where
+    on_program : (asked.command ≡ command.Replay → ⊥) → IsAnswerOn asked text typed tells.answered
+    on_program never = by (asked_of_program asked.command asked text tells.answered never some.answers) refl
+      where
+        by : {answered : Answered} → IsAnswer asked text answered → answered ≡ tells.answered → IsAnswerOn asked text typed tells.answered
+        by (too_long h) same = let short = accepted.0 in absurd (omega (arith, h, short))
+        by (faulty refusal short fault) same = absurd (verdict.not_both text place typed refusal accepted.1 fault)
+        by (of_program other typed_so answered passed on) same =
+            subst (λ a. IsAnswerOn asked text typed a) same (subst (λ t. IsAnswerOn asked text t answered) (one text other place typed_so typed passed.1 accepted.1) on)
 
-  ran_so : asks_run asked.command ≡ true → IsRan asked text typed tells.answered
-  ran_so run = by (on_program (λ e. true_false (sym run ∙ ap asks_run e)))
-    where
-      other : (c : Command) → asked.command ≡ c → asks_run c ≡ false → ⊥
-      other c e none = true_false (sym run ∙ ap asks_run e ∙ none)
+    ran_so : asks_run asked.command ≡ true → IsRan asked text typed tells.answered
+    ran_so run = by (on_program (λ e. true_false (sym run ∙ ap asks_run e)))
+      where
+        other : (c : Command) → asked.command ≡ c → asks_run c ≡ false → ⊥
+        other c e none = true_false (sym run ∙ ap asks_run e ∙ none)
 
-      by : IsAnswerOn asked text typed tells.answered → IsRan asked text typed tells.answered
-      by (to_run c is) = is
-      by (to_check c is) = absurd (other command.Check c refl)
-      by (to_elide c is) = absurd (other command.Elide c refl)
-      by (to_list c is) = absurd (other command.«List» c refl)
-      by (to_effects c is) = absurd (other command.Effects c refl)
+        by : IsAnswerOn asked text typed tells.answered → IsRan asked text typed tells.answered
+        by (to_run c is) = is
+        by (to_check c is) = absurd (other command.Check c refl)
+        by (to_elide c is) = absurd (other command.Elide c refl)
+        by (to_list c is) = absurd (other command.«List» c refl)
+        by (to_effects c is) = absurd (other command.Effects c refl)
 
-  elided_so : asked.command ≡ command.Elide → IsElided asked typed tells.answered
-  elided_so elide = by (on_program (λ e. absurd (cc (sym elide ∙ e))))
-    where
-      by : IsAnswerOn asked text typed tells.answered → IsElided asked typed tells.answered
-      by (to_elide c is) = is
-      by (to_run c is) = absurd (true_false (sym c ∙ ap asks_run elide))
-      by (to_check c is) = absurd (cc (sym elide ∙ c))
-      by (to_list c is) = absurd (cc (sym elide ∙ c))
-      by (to_effects c is) = absurd (cc (sym elide ∙ c))
+    elided_so : asked.command ≡ command.Elide → IsElided asked typed tells.answered
+    elided_so elide = by (on_program (λ e. absurd (cc (sym elide ∙ e))))
+      where
+        by : IsAnswerOn asked text typed tells.answered → IsElided asked typed tells.answered
+        by (to_elide c is) = is
+        by (to_run c is) = absurd (true_false (sym c ∙ ap asks_run elide))
+        by (to_check c is) = absurd (cc (sym elide ∙ c))
+        by (to_list c is) = absurd (cc (sym elide ∙ c))
+        by (to_effects c is) = absurd (cc (sym elide ∙ c))
 
-  reported_elided : (c : Command) → c ≡ command.Elide → verdict_by c asked text [] 0 (elision_for asked typed) ≡ Ran (elision_for asked typed)
-  reported_elided c e = ap (λ d. verdict_by d asked text [] 0 (elision_for asked typed)) e
+    reported_elided : (c : Command) → c ≡ command.Elide → verdict_by c asked text [] 0 (elision_for asked typed) ≡ Ran (elision_for asked typed)
+    reported_elided c e = ap (λ d. verdict_by d asked text [] 0 (elision_for asked typed)) e
 
-  pub owed_elision : AsksElision asked typed → ReportsElision asked text typed before after status
-  owed_elision (inl run) =
-      let known = keeps.run asked text gives.place typed tells.answered within gives.accepted run.1 (ran_so run.0) in
-      record { schedule = known.schedule; rounds = known.rounds; reported = verdict_reported (verdict_of asked text known.schedule known.rounds (elision_for asked typed)) known.is }
-  owed_elision (inr elide) =
-      let known = keeps.elide asked text gives.place typed tells.answered within gives.accepted (elided_so elide) in
-      record {
-        schedule = [];
-        rounds = 0;
-        reported = verdict_reported (verdict_of asked text [] 0 (elision_for asked typed)) (ap (λ (a : Answered). a.verdict) known ∙ sym (reported_elided asked.command elide));
-      }
+    owed_elision : AsksElision asked typed → ReportsElision asked text typed before after status
+    owed_elision (inl run) =
+        let known = keeps.run asked text place typed tells.answered within accepted run.1 (ran_so run.0) in
+        record { schedule = known.schedule; rounds = known.rounds; reported = verdict_reported (verdict_of asked text known.schedule known.rounds (elision_for asked typed)) known.is }
+    owed_elision (inr elide) =
+        let known = keeps.elide asked text place typed tells.answered within accepted (elided_so elide) in
+        record {
+          schedule = [];
+          rounds = 0;
+          reported = verdict_reported (verdict_of asked text [] 0 (elision_for asked typed)) (ap (λ (a : Answered). a.verdict) known ∙ sym (reported_elided asked.command elide));
+        }
 
-  pub owed_reduction : asks_run asked.command ≡ true → ReportsReduced asked text typed before after status recorded
-  owed_reduction run =
-      let known = keeps.reduce asked text gives.place typed tells.answered within gives.accepted (ran_so run) in
-      record {
-        well_typed = known.well_typed;
-        made = known.made;
-        is = tells.run_recorded ∙ ap (λ (a : Answered). a.recorded) known.is;
-        reported = verdict_reported (verdict_of asked text known.made.record.machine.schedule known.made.record.rounds known.made.outcome) (ap (λ (a : Answered). a.verdict) known.is);
-        reduced = known.reduced;
-        inside = known.inside;
-      }
+    owed_reduction : asks_run asked.command ≡ true → ReportsReduced asked text typed before after status recorded
+    owed_reduction run =
+        let known = keeps.reduce asked text place typed tells.answered within accepted (ran_so run) in
+        record {
+          well_typed = known.well_typed;
+          made = known.made;
+          is = tells.run_recorded ∙ ap (λ (a : Answered). a.recorded) known.is;
+          reported = verdict_reported (verdict_of asked text known.made.record.machine.schedule known.made.record.rounds known.made.outcome) (ap (λ (a : Answered). a.verdict) known.is);
+          reduced = known.reduced;
+          inside = known.inside;
+        }
 
-  told_so : asked.command ≡ command.Effects → TellsEffects text typed tells.answered
-  told_so effects = by (on_program (λ e. absurd (cc (sym effects ∙ e))))
-    where
-      by : IsAnswerOn asked text typed tells.answered → TellsEffects text typed tells.answered
-      by (to_effects c is) = is
-      by (to_run c is) = absurd (true_false (sym c ∙ ap asks_run effects))
-      by (to_check c is) = absurd (cc (sym effects ∙ c))
-      by (to_elide c is) = absurd (cc (sym effects ∙ c))
-      by (to_list c is) = absurd (cc (sym effects ∙ c))
+    told_so : asked.command ≡ command.Effects → TellsEffects text typed tells.answered
+    told_so effects = by (on_program (λ e. absurd (cc (sym effects ∙ e))))
+      where
+        by : IsAnswerOn asked text typed tells.answered → TellsEffects text typed tells.answered
+        by (to_effects c is) = is
+        by (to_run c is) = absurd (true_false (sym c ∙ ap asks_run effects))
+        by (to_check c is) = absurd (cc (sym effects ∙ c))
+        by (to_elide c is) = absurd (cc (sym effects ∙ c))
+        by (to_list c is) = absurd (cc (sym effects ∙ c))
 
-  pub owed_summaries : asked.command ≡ command.Effects → ReportsSummaries text typed before after status
-  owed_summaries effects =
-      let told = told_so effects in
-      record {
-        names = told.names;
-        are_names = told.are_names;
-        kept = told.kept;
-        inferred = told.inferred;
-        well_typed = keeps.summaries text gives.place typed told.kept gives.accepted told.inferred;
-        reported = verdict_reported (Effects (lines_of (program_inferred told.kept typed) told.names))
-            (ap (λ (a : Answered). a.verdict) told.tells ∙ ap Effects (sym (same_lines told.kept typed told.names)));
-      }
+    owed_summaries : asked.command ≡ command.Effects → ReportsSummaries text typed before after status
+    owed_summaries effects =
+        let told = told_so effects in
+        record {
+          names = told.names;
+          are_names = told.are_names;
+          kept = told.kept;
+          inferred = told.inferred;
+          well_typed = keeps.summaries text place typed told.kept accepted told.inferred;
+          reported = verdict_reported (Effects (lines_of (program_inferred told.kept typed) told.names))
+              (ap (λ (a : Answered). a.verdict) told.tells ∙ ap Effects (sym (same_lines told.kept typed told.names)));
+        }
+
+pub owed : KeepsGuarantee → OneVerdict → OnePassing → (words : List (List ℕ)) (read left before after : Option (List ℕ)) (status : Status) (recorded : Option Record)
+    → Tells words read left before after status recorded → MustReport words read left before after status recorded
+owed keeps verdict one words read left before after status recorded tells asked said =
+    let there = some keeps verdict one words read left before after status recorded tells asked said in
+    record {
+      text = there.text;
+      is_text = there.is_text;
+      elided = owed_elision keeps verdict one words read left before after status recorded tells asked said;
+      reduced = owed_reduction keeps verdict one words read left before after status recorded tells asked said;
+      summaries = owed_summaries keeps verdict one words read left before after status recorded tells asked said;
+    }

@@ -62,13 +62,17 @@ module _ (typed : PlainProgram) (keeps : Keeps typed) (L : Limits) (argument : �
   reported_greedy greedy p o e come =
       greedy typed e.start p o keeps.resolved keeps.has_main e.is_run.is_code (few_steps p e.is_run) e.nothing e.steps e.is_run.replayed come ∙ same_elision p e.is_run
 
-  pub reduced_so : MachinesAreReduced → (p : Played) (o : Outcome) → IsRunOf typed L argument p → p.outcome ≡ Some o → ComesOutReduced typed keeps.well_typed p o
+  pub reduced_so : MachinesAreReduced → (p : Played) (o : Outcome) → IsRunOf typed L argument p → p.outcome ≡ Some o → ComesOutReduced typed keeps.well_typed L argument p.schedule o
   reduced_so machines p o is come =
-      machines typed keeps.well_typed p o keeps.resolved keeps.has_main is.is_code (few_steps p is) (fits_there p is) is.replayed come
+      subst (λ k. ComesOutReduced typed keeps.well_typed k argument p.schedule o) is.limits
+      (subst (λ a. ComesOutReduced typed keeps.well_typed p.limits a p.schedule o) is.is_argument
+      (machines typed keeps.well_typed p o keeps.resolved keeps.has_main is.is_code (few_steps p is) (fits_there p is) is.replayed come))
 
-  pub inside_so : MachinesElideInside → (p : Played) (o : Outcome) → IsRunOf typed L argument p → p.outcome ≡ Some o → ComesOutElidedInside typed p o
+  pub inside_so : MachinesElideInside → (p : Played) (o : Outcome) → IsRunOf typed L argument p → p.outcome ≡ Some o → ComesOutElidedInside typed L argument p.schedule o
   inside_so machines p o is come =
-      machines typed p o keeps.well_typed keeps.resolved keeps.has_main is.is_code (few_steps p is) (fits_there p is) is.replayed come
+      subst (λ k. ComesOutElidedInside typed k argument p.schedule o) is.limits
+      (subst (λ a. ComesOutElidedInside typed p.limits a p.schedule o) is.is_argument
+      (machines typed p o keeps.well_typed keeps.resolved keeps.has_main is.is_code (few_steps p is) (fits_there p is) is.replayed come))
 
   -- and none can't go on
   module _ (never_stuck : MachinesAreNotStuck) (machines : MachinesMakeProgress) (cells : L.cells ≤ 16777216) where
@@ -174,8 +178,10 @@ keeps_guarantee machines greedy reduce inside never_stuck goes passed with_infer
         record {
           well_typed = keeps.well_typed;
           by_schedule = same;
-          reduced = reduced_so typed keeps limits argument allowed.steps_most fits reduce made.record.machine made.outcome is.is_run is.came;
-          inside = inside_so typed keeps limits argument allowed.steps_most fits inside made.record.machine made.outcome is.is_run is.came;
+          reduced = subst (λ ks. ComesOutReduced typed keeps.well_typed limits argument ks made.outcome) same
+              (reduced_so typed keeps limits argument allowed.steps_most fits reduce made.record.machine made.outcome is.is_run is.came);
+          inside = subst (λ ks. ComesOutElidedInside typed limits argument ks made.outcome) same
+              (inside_so typed keeps limits argument allowed.steps_most fits inside made.record.machine made.outcome is.is_run is.came);
           elided = λ none. reported_elision typed keeps limits argument allowed.steps_most fits machines none made.record.machine made.outcome is.is_run is.came;
         }
 

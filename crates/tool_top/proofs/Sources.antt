@@ -1,5 +1,6 @@
 -- Answers on what a source holds, over plain variables.
-use Rattle.std.proofs.Common.{◌≡◌, ◌≢◌, ◌∙◌, ◌<◌, ◌≤◌, ℕ, Bool, true, false, List, [], length, Option, Some, None, IfSome, IfOk, IfErr, OnOk, Result, Ok, Err, MatchOption, cond, refl, sym, ap, subst}
+use Rattle.std.proofs.Common.{◌≡◌, ◌≢◌, ◌∙◌, ◌<◌, ◌≤◌, ℕ, suc, true, false, List, [], length, Option, Some, None, IfSome, IfOk, IfErr, OnOk, Result, Ok, Err, MatchOption, cond, option_map, refl, sym, ap, subst, arith}
+use Rattle.std.specs.Vec.{vec_items}
 use Rattle.std.proofs.lemmas.Bool.{false≢true}
 use Rattle.lang_base.specs.declared.refusal.Kind.TheVariants.{TooLong}
 use Rattle.tool_words.specs.declared.command.Command.{Command}
@@ -7,13 +8,15 @@ use Rattle.tool_words.specs.declared.command.Command.TheVariants as command
 use Rattle.tool_words.specs.declared.job.Job.{Job}
 use Rattle.tool_words.specs.declared.verdict.Status.TheVariants as ended
 use Rattle.tool_words.specs.declared.verdict.Verdict.TheVariants.{Usage}
+use Rattle.tool_words.specs.Demo.{demo_text}
 use Rattle.tool_words.specs.Jobs.{job}
 use Rattle.tool_words.specs.Reports.{status_of}
 use Rattle.tool_top.specs.declared.answered.Answered.{Answered}
+use Rattle.tool_top.specs.declared.call.Reply.{Reply}
 use Rattle.tool_top.specs.declared.call.Unread.{Unread}
 use Rattle.tool_top.specs.declared.call.Unread.TheVariants.{ReadFault}
 use Rattle.tool_top.specs.Answer.{IsAnswer, too_long, only, refused_at_start, most_bytes}
-use Rattle.tool_top.specs.Call.{Answers, AnswersBy, IsAnswered, ReadToEnd, asks_text, makes_text, text_for}
+use Rattle.tool_top.specs.Call.{Answers, AnswersBy, AnswersSome, IsAnswered, IsTold, ReadToEnd, asks_text, makes_text, text_for, told_by}
 use Rattle.tool_top.specs.Replaying.{too_long as trace_too_long}
 use Rattle.tool_top.proofs.Traces.{replay-no-usage}
 use Rattle.tool_top.proofs.Verdicts.{answer-no-usage}
@@ -49,10 +52,55 @@ by-too-long command.Trace asked bytes answered is long = long-answer asked bytes
 by-too-long command.Effects asked bytes answered is long = long-answer asked bytes answered is long
 by-too-long command.Cost asked bytes answered is long = long-answer asked bytes answered is long
 
-pub source-too-long : (asked : Job) (text : Option (List ℕ)) (most : ℕ) (answered : Answered) → most ≡ most_bytes asked.command → answered ≡ only (refused_at_start TooLong)
-    → IfSome text (λ bytes. most < length bytes) → IfSome text (λ bytes. Answers asked bytes answered)
-source-too-long asked None most answered same is long = tt
-source-too-long asked (Some bytes) most answered same is long = by-too-long asked.command asked bytes answered is (subst (λ n. n < length bytes) same long)
+-- a job that makes no text is on the one that is told
+told_unmade : (asked : Job) (told : Option (List ℕ)) (text : List ℕ) → makes_text asked.command ≡ false → IsTold told text → IsTold (text_for asked told) text
+told_unmade asked told text unmade is = subst (λ made. IsTold (cond made (Some (demo_text asked.n)) told) text) (sym unmade) is
+
+long_text : (asked : Job) (left : Option (List ℕ)) (text : List ℕ) (answered : Answered) → makes_text asked.command ≡ false → answered ≡ only (refused_at_start TooLong)
+    → IsTold left text → most_bytes asked.command < length text → AnswersSome asked None left answered
+long_text asked left text answered unmade is told long = record {
+  text = text;
+  is_text = record { is_told = told_unmade asked left text unmade told; is_long = λ _ _. long };
+  answers = by-too-long asked.command asked text answered is long;
+}
+
+-- a source that tells nothing held some text that is too long
+source_too_long : (asked : Job) (left : Option (List ℕ)) (answered : Answered) → makes_text asked.command ≡ false → answered ≡ only (refused_at_start TooLong)
+    → IfSome left (λ bytes. most_bytes asked.command < length bytes) → AnswersSome asked None left answered
+source_too_long asked None answered unmade is long =
+    let text = replicate (suc (most_bytes asked.command)) 0 in
+    long_text asked None text answered unmade is tt (omega (arith, length-replicate (suc (most_bytes asked.command)) 0))
+source_too_long asked (Some bytes) answered unmade is long = long_text asked (Some bytes) bytes answered unmade is refl long
+
+pub source-too-long : (asked : Job) (read left : Option (List ℕ)) (most : ℕ) (answered reported : Answered) → makes_text asked.command ≡ false → read ≡ None → reported ≡ answered
+    → most ≡ most_bytes asked.command → answered ≡ only (refused_at_start TooLong) → IfSome left (λ bytes. most < length bytes) → AnswersSome asked read left reported
+source-too-long asked read left most answered reported unmade unread same limit is long =
+    subst (λ r. AnswersSome asked r left reported) (sym unread)
+    (source_too_long asked left reported unmade (same ∙ is) (subst (λ n. IfSome left (λ bytes. n < length bytes)) limit long))
+
+some_read : {text : List ℕ} {P : Type 0} → Some text ≡ None → P
+some_read e = absurd (cc e)
+
+-- the answer to the text that was read
+pub source-read : (asked : Job) (left : Option (List ℕ)) (text : List ℕ) (answered : Answered) → makes_text asked.command ≡ false → Answers asked text answered → AnswersSome asked (Some text) left answered
+source-read asked left text answered unmade is = record {
+  text = text;
+  is_text = record { is_told = told_unmade asked (Some text) text unmade refl; is_long = λ _ e. some_read e };
+  answers = is;
+}
+
+-- a demo is on the text that it makes
+pub demo-read : (asked : Job) (read left : Option (List ℕ)) (answered : Answered) → asked.command ≡ command.Demo → IsAnswer asked (demo_text asked.n) answered → AnswersSome asked read left answered
+demo-read asked read left answered demo is =
+    let made : makes_text asked.command ≡ true = ap makes_text demo in
+    record {
+      text = demo_text asked.n;
+      is_text = record {
+        is_told = subst (λ b. IsTold (cond b (Some (demo_text asked.n)) (told_by read left)) (demo_text asked.n)) (sym made) refl;
+        is_long = λ unmade _. absurd (false≢true (sym unmade ∙ made));
+      };
+      answers = subst (λ c. AnswersBy c asked (demo_text asked.n) answered) (sym demo) is;
+    }
 
 -- any command but a demo is on the text of the source
 pub not-made : (c : Command) → c ≢ command.Demo → makes_text c ≡ false
@@ -78,31 +126,24 @@ made-no-replay command.Effects made = λ e. cc
 made-no-replay command.Cost made = λ e. cc
 
 module _ (words : List (List ℕ)) (given : Job) (is_job : Some given ≡ job words) (read : makes_text given.command ≡ false) where
-  of-text : (left : Option (List ℕ)) (answered : Answered) (made : Bool) (demo : Option (List ℕ)) → made ≡ false → IfSome left (λ text. Answers given text answered)
-      → IfSome (cond made demo left) (λ text. Answers given text answered)
-  of-text left answered true demo e is = absurd (false≢true (sym e))
-  of-text left answered false demo e is = is
+  pub answered-so : (read left : Option (List ℕ)) (answered : Answered) → AnswersSome given read left answered → IsAnswered words read left answered
+  answered-so read left answered is = subst (λ j. MatchOption j (answered ≡ only Usage) (λ asked. AnswersSome asked read left answered)) is_job is
 
-  answered-so : (left : Option (List ℕ)) (answered : Answered) → IfSome left (λ text. Answers given text answered) → IsAnswered words left answered
-  answered-so left answered is =
-      subst (λ j. MatchOption j (answered ≡ only Usage) (λ asked. IfSome (text_for asked left) (λ text. Answers asked text answered))) is_job
-      (of-text left answered (makes_text given.command) _ read is)
-
-  pub on-source : (left : Option (List ℕ)) (result : Result Answered Unread) → IfOk result (λ answered. IfSome left (λ text. Answers given text answered))
-      → IfOk result (IsAnswered words left)
-  on-source left (Ok answered) is = answered-so left answered is
+  pub on-source : (left : Option (List ℕ)) (result : Result Reply Unread) → IfOk result (λ reply. AnswersSome given (option_map vec_items reply.read) left reply.answered)
+      → IfOk result (λ reply. IsAnswered words (option_map vec_items reply.read) left reply.answered)
+  on-source left (Ok reply) is = answered-so (option_map vec_items reply.read) left reply.answered is
   on-source left (Err unread) is = tt
 
-  pub no-usage-so : (result : Result Answered Unread) → IfOk result (λ answered. status_of answered.verdict ≢ ended.Usage)
-      → IfOk result (λ answered. status_of answered.verdict ≡ ended.Usage → job words ≡ None)
-  no-usage-so (Ok answered) none = λ e. absurd (none e)
+  pub no-usage-so : (result : Result Reply Unread) → IfOk result (λ reply. status_of reply.answered.verdict ≢ ended.Usage)
+      → IfOk result (λ reply. status_of reply.answered.verdict ≡ ended.Usage → job words ≡ None)
+  no-usage-so (Ok reply) none = λ e. absurd (none e)
   no-usage-so (Err unread) none = tt
 
   asked-true : asks_text (job words) ≡ true
   asked-true = subst (λ j. asks_text j ≡ true) is_job (ap (λ b. cond b false true) read)
 
-  pub asked-so : (result : Result Answered Unread) → IfErr result (λ unread. unread ≡ ReadFault → asks_text (job words) ≡ true)
-  asked-so (Ok answered) = tt
+  pub asked-so : (result : Result Reply Unread) → IfErr result (λ unread. unread ≡ ReadFault → asks_text (job words) ≡ true)
+  asked-so (Ok reply) = tt
   asked-so (Err unread) = λ e. asked-true
 
   pub never-untouched : {T : Type 0} → asks_text (job words) ≡ false → T
@@ -111,8 +152,8 @@ module _ (words : List (List ℕ)) (given : Job) (is_job : Some given ≡ job wo
   end-so : (before after : Option (List ℕ)) → IfSome before (λ text. length text ≤ most_bytes given.command → after ≡ Some []) → ReadToEnd (job words) before after
   end-so before after is = subst (λ j. ReadToEnd j before after) is_job is
 
-  pub read-to-end-so : (result : Result Answered Unread) (before after : Option (List ℕ))
+  pub read-to-end-so : (result : Result Reply Unread) (before after : Option (List ℕ))
       → OnOk result (IfSome before (λ text. length text ≤ most_bytes given.command → after ≡ Some []))
       → OnOk result (asks_text (job words) ≡ true → ReadToEnd (job words) before after)
-  read-to-end-so (Ok answered) before after is = λ e. end-so before after is
+  read-to-end-so (Ok reply) before after is = λ e. end-so before after is
   read-to-end-so (Err unread) before after is = tt

@@ -30,10 +30,30 @@ AnswersBy _ job text answered = IsAnswer job text answered
 abbrev pub Answers : Job → List ℕ → Answered → Type 0
 Answers job text answered = AnswersBy job.command job text answered
 
--- The answer to words, and to the text that the source held where it tells it: usage where they give no job,
--- and else the answer to the job.
-abbrev pub IsAnswered : List (List ℕ) → Option (List ℕ) → Answered → Type 0
-IsAnswered words text answered = MatchOption (job words) (answered ≡ only Usage) (λ job. IfSome (text_for job text) (λ text. Answers job text answered))
+-- what was read to its end, and where nothing was, what the source tells
+abbrev pub told_by : Option (List ℕ) → Option (List ℕ) → Option (List ℕ)
+told_by (Some read) left = Some read
+told_by None left = left
+
+-- the text is the one that was told, where one was
+abbrev pub IsTold : Option (List ℕ) → List ℕ → Type 0
+IsTold told text = IfSome told (λ one. text ≡ one)
+
+-- the text that a job is on: the one that it makes, or that was read to its end, or that the source tells; and one that wasn't
+-- read to its end is too long for the job
+pub record IsTextOf (job : Job) (read left : Option (List ℕ)) (text : List ℕ) : Type 0 where
+  pub is_told : IsTold (text_for job (told_by read left)) text
+  pub is_long : makes_text job.command ≡ false → read ≡ None → most_bytes job.command < length text
+
+-- there is a text that the job is on, and this is the answer to the job on it
+pub record AnswersSome (job : Job) (read left : Option (List ℕ)) (answered : Answered) : Type 0 where
+  pub text : List ℕ
+  pub is_text : IsTextOf job read left text
+  pub answers : Answers job text answered
+
+-- The answer to words, and to what was read or is told by the source: usage where they give no job, and else the answer to the job.
+abbrev pub IsAnswered : List (List ℕ) → Option (List ℕ) → Option (List ℕ) → Answered → Type 0
+IsAnswered words read left answered = MatchOption (job words) (answered ≡ only Usage) (λ job. AnswersSome job read left answered)
 
 -- the words give a job on a text that the source holds
 abbrev pub asks_text : Option Job → Bool
@@ -57,18 +77,18 @@ AppendsPart before after bytes =
     IfSome before (λ held. (count : ℕ) × (count ≤ length bytes) × (after ≡ Some (held ++ take count bytes)))
 
 -- the status, the whole report and the record are those of the answer to the words and the text
-pub record Tells (words : List (List ℕ)) (text before after : Option (List ℕ)) (status : Status) (recorded : Option Record) : Type 0 where
+pub record Tells (words : List (List ℕ)) (read left before after : Option (List ℕ)) (status : Status) (recorded : Option Record) : Type 0 where
   pub answered : Answered
-  pub is_answered : IsAnswered words text answered
+  pub is_answered : IsAnswered words read left answered
   pub status_reported : status ≡ status_of answered.verdict
   pub report_reported : Appends before after (report_of answered.verdict)
   pub run_recorded : recorded ≡ answered.recorded
 
 -- a first part was written of the report of the answer to the words and the text, and where the sink tells its
 -- room, the whole report was too long for it
-pub record BreaksOff (words : List (List ℕ)) (text before after : Option (List ℕ)) (room : Option ℕ) (recorded : Option Record) : Type 0 where
+pub record BreaksOff (words : List (List ℕ)) (read left before after : Option (List ℕ)) (room : Option ℕ) (recorded : Option Record) : Type 0 where
   pub answered : Answered
-  pub is_answered : IsAnswered words text answered
+  pub is_answered : IsAnswered words read left answered
   pub part_reported : AppendsPart before after (report_of answered.verdict)
   pub no_room : IfSome room (λ room. room < length (report_of answered.verdict))
   pub run_recorded : recorded ≡ answered.recorded

@@ -32,7 +32,7 @@ use Rattle.tool_words.specs.declared.verdict.Verdict.{Verdict}
 use Rattle.tool_words.specs.declared.verdict.Verdict.TheVariants.{Ran, Effects}
 use Rattle.tool_top.specs.declared.answered.Answered.{Answered}
 use Rattle.tool_top.specs.Answer.{IsAcceptedAs, IsElided, IsRan, IsRunBy, IsWithin, asks_run, limits_of, only, verdict_of}
-use Rattle.tool_top.specs.Call.{Appends, text_for}
+use Rattle.tool_top.specs.Call.{Appends, IsTextOf}
 use Rattle.tool_top.specs.Replaying.{program_of}
 
 -- the serial elision of a program on the argument of a job, within the job's limits
@@ -45,21 +45,22 @@ pub record TellsElision (job : Job) (text : List ℕ) (typed : PlainProgram) (an
   pub rounds : ℕ
   pub is : answered.verdict ≡ verdict_of job text schedule rounds (elision_for job typed)
 
--- the recorded run is one of the source, in which values have their types and tasks keep to their effects, whose unordered events that conflict lie in atomic blocks; gathered by blocks it
--- comes out as the verdict says, and so it does with its deterministic constructs in sequence, where it isn't over a limit
+-- On the job's argument and within its limits the schedule that is recorded leads to a run of the source, in which values have their types and tasks
+-- keep to their effects, whose unordered events that conflict lie in atomic blocks; gathered by blocks it comes out as the verdict says, and so it
+-- does with its deterministic constructs in sequence, where it isn't over a limit
 pub record TellsReduced (job : Job) (text : List ℕ) (typed : PlainProgram) (answered : Answered) : Type 0 where
   pub well_typed : WellTyped typed
   pub made : Recorded
   pub is : answered ≡ record { verdict = verdict_of job text made.record.machine.schedule made.record.rounds made.outcome; recorded = Some made.record }
-  pub reduced : ComesOutReduced typed well_typed made.record.machine made.outcome
-  pub inside : ComesOutElidedInside typed made.record.machine made.outcome
+  pub reduced : ComesOutReduced typed well_typed (limits_of job) job.arg made.record.machine.schedule made.outcome
+  pub inside : ComesOutElidedInside typed (limits_of job) job.arg made.record.machine.schedule made.outcome
 
 -- a run that has followed a schedule is reduced, inside nd constructs too, and without them it comes out as the elision
 pub record FollowsReduced (typed : PlainProgram) (limits : Limits) (argument : ℤ) (schedule : List ℕ) (made : Recorded) : Type 0 where
   pub well_typed : WellTyped typed
   pub by_schedule : made.record.machine.schedule ≡ schedule
-  pub reduced : ComesOutReduced typed well_typed made.record.machine made.outcome
-  pub inside : ComesOutElidedInside typed made.record.machine made.outcome
+  pub reduced : ComesOutReduced typed well_typed limits argument schedule made.outcome
+  pub inside : ComesOutElidedInside typed limits argument schedule made.outcome
   pub elided : typed.uses_nd ≡ false → made.outcome ≡ elision typed limits argument
 
 -- a run in the job's mode comes out, and so does the run in which the greatest ready task always goes on
@@ -98,36 +99,18 @@ pub record ReportsElision (job : Job) (text : List ℕ) (typed : PlainProgram) (
   pub rounds : ℕ
   pub reported : IsReported (verdict_of job text schedule rounds (elision_for job typed)) before after status
 
--- a run is recorded that is reduced, and what is reported is how it came out
+-- a run is recorded whose schedule leads on the job's argument and within its limits to one that is reduced, and what is reported is how this came out
 pub record ReportsReduced (job : Job) (text : List ℕ) (typed : PlainProgram) (before after : Option (List ℕ)) (status : Status) (recorded : Option Record) : Type 0 where
   pub well_typed : WellTyped typed
   pub made : Recorded
   pub is : recorded ≡ Some made.record
   pub reported : IsReported (verdict_of job text made.record.machine.schedule made.record.rounds made.outcome) before after status
-  pub reduced : ComesOutReduced typed well_typed made.record.machine made.outcome
-  pub inside : ComesOutElidedInside typed made.record.machine made.outcome
+  pub reduced : ComesOutReduced typed well_typed (limits_of job) job.arg made.record.machine.schedule made.outcome
+  pub inside : ComesOutElidedInside typed (limits_of job) job.arg made.record.machine.schedule made.outcome
 
 -- a run, or an elision, is asked of a program without nd constructs
 abbrev pub AsksElision : Job → PlainProgram → Type 0
 AsksElision job typed = ((asks_run job.command ≡ true) × (typed.uses_nd ≡ false)) ⊎ (job.command ≡ command.Elide)
-
--- words that give a job on an accepted text
-pub record GivesJob (words : List (List ℕ)) (held : Option (List ℕ)) (job : Job) (text : List ℕ) (typed : PlainProgram) : Type 0 where
-  pub said : job_of words ≡ Some job
-  pub given : text_for job held ≡ Some text
-  pub place : Place
-  pub accepted : IsAcceptedAs text place typed
-
--- What a call that tells of a verdict owes to each program: words that ask for a run of it are answered by the report of its
--- serial elision, whatever the workers and their order, where it has no nd construct
-abbrev pub MustElide : List (List ℕ) → Option (List ℕ) → Option (List ℕ) → Option (List ℕ) → Status → Type 0
-MustElide words held before after status =
-    (job : Job) (text : List ℕ) (typed : PlainProgram) → GivesJob words held job text typed → AsksElision job typed → ReportsElision job text typed before after status
-
--- and of every program by the report of the run that is recorded, which is reduced
-abbrev pub MustReduce : List (List ℕ) → Option (List ℕ) → Option (List ℕ) → Option (List ℕ) → Status → Option Record → Type 0
-MustReduce words held before after status recorded =
-    (job : Job) (text : List ℕ) (typed : PlainProgram) → GivesJob words held job text typed → asks_run job.command ≡ true → ReportsReduced job text typed before after status recorded
 
 -- the lines are reported of the inferred summaries, with which the program is well typed
 pub record ReportsSummaries (text : List ℕ) (typed : PlainProgram) (before after : Option (List ℕ)) (status : Status) : Type 0 where
@@ -138,20 +121,25 @@ pub record ReportsSummaries (text : List ℕ) (typed : PlainProgram) (before aft
   pub well_typed : WellTyped (program_inferred kept typed)
   pub reported : IsReported (Effects (lines_of (program_inferred kept typed) names)) before after status
 
--- and where its effects are asked, by summaries that may stand in place of the written ones
-abbrev pub MustSummarise : List (List ℕ) → Option (List ℕ) → Option (List ℕ) → Option (List ℕ) → Status → Type 0
-MustSummarise words held before after status =
-    (job : Job) (text : List ℕ) (typed : PlainProgram) → GivesJob words held job text typed → job.command ≡ command.Effects → ReportsSummaries text typed before after status
+-- What a call that tells of a verdict owes to each program as which a text is accepted: there is a text that the job is on, and a run of its program
+-- is reported by the program's serial elision, whatever the workers and their order, where it has no nd construct; with them or without, by
+-- the run that is recorded, which is reduced; and its effects by summaries that may stand in place of the written ones
+pub record ReportsProgram (job : Job) (read left before after : Option (List ℕ)) (status : Status) (recorded : Option Record) : Type 0 where
+  pub text : List ℕ
+  pub is_text : IsTextOf job read left text
+  pub elided : (place : Place) (typed : PlainProgram) → IsAcceptedAs text place typed → AsksElision job typed → ReportsElision job text typed before after status
+  pub reduced : (place : Place) (typed : PlainProgram) → IsAcceptedAs text place typed → asks_run job.command ≡ true → ReportsReduced job text typed before after status recorded
+  pub summaries : (place : Place) (typed : PlainProgram) → IsAcceptedAs text place typed → job.command ≡ command.Effects → ReportsSummaries text typed before after status
 
--- words that ask for a replay of these bytes
-pub record GivesReplay (words : List (List ℕ)) (held : Option (List ℕ)) (bytes : List ℕ) : Type 0 where
-  pub job : Job
-  pub said : job_of words ≡ Some job
-  pub replays : job.command ≡ command.Replay
-  pub given : held ≡ Some bytes
+-- so to words that give a job
+abbrev pub MustReport : List (List ℕ) → Option (List ℕ) → Option (List ℕ) → Option (List ℕ) → Option (List ℕ) → Status → Option Record → Type 0
+MustReport words read left before after status recorded = (job : Job) → job_of words ≡ Some job → ReportsProgram job read left before after status recorded
 
--- the bytes are a trace of an accepted program, what is recorded is the run that its schedule leads to, this is reduced, and it is what is reported
-pub record ReportsReplay (bytes : List ℕ) (before after : Option (List ℕ)) (status : Status) (recorded : Record) : Type 0 where
+-- there are bytes that the job is on, which are a trace of an accepted program, what is recorded is the run that its schedule leads to, this is reduced,
+-- and it is what is reported
+pub record ReportsReplay (job : Job) (read left before after : Option (List ℕ)) (status : Status) (recorded : Record) : Type 0 where
+  pub bytes : List ℕ
+  pub is_text : IsTextOf job read left bytes
   pub trace : Trace
   pub is_trace : IsTrace bytes trace
   pub place : Place
@@ -162,7 +150,7 @@ pub record ReportsReplay (bytes : List ℕ) (before after : Option (List ℕ)) (
   pub reported : IsReported (Ran made.outcome) before after status
   pub follows : FollowsReduced typed trace.limits trace.arg trace.schedule made
 
--- and to a replay of which a run is recorded
-abbrev pub MustReplay : List (List ℕ) → Option (List ℕ) → Option (List ℕ) → Option (List ℕ) → Status → Option Record → Type 0
-MustReplay words held before after status recorded =
-    (bytes : List ℕ) (r : Record) → GivesReplay words held bytes → recorded ≡ Some r → ReportsReplay bytes before after status r
+-- so to words that ask for a replay of which a run is recorded
+abbrev pub MustReplay : List (List ℕ) → Option (List ℕ) → Option (List ℕ) → Option (List ℕ) → Option (List ℕ) → Status → Option Record → Type 0
+MustReplay words read left before after status recorded =
+    (job : Job) (made : Record) → job_of words ≡ Some job → job.command ≡ command.Replay → recorded ≡ Some made → ReportsReplay job read left before after status made

@@ -1,12 +1,13 @@
-ghost use Rattle.std.specs.Prelude.{◌≡◌, ◌≢◌, ◌<◌, ◌≤◌, [], Some, None, false, true, map, length, IfOk, IfErr, IfSome, IsSome, OnOk};
+ghost use Rattle.std.specs.Prelude.{◌≡◌, ◌≢◌, ◌<◌, ◌≤◌, [], Some, None, false, true, map, length, option_map, IfOk, IfErr, IfSome, OnOk};
 ghost use Rattle.std.specs.String.{string_bytes};
+ghost use Rattle.std.specs.Vec.{vec_items};
 ghost use Rattle.tool_io.specs.Ends.{Rose};
 ghost use Rattle.tool_words.specs.Demo.{demo_text};
 ghost use Rattle.tool_words.specs.Jobs.{job, IsInRange};
 ghost use Rattle.tool_words.specs.Reports.{report_of, status_of};
 ghost use Rattle.tool_top.specs.Answer.{IsAnswer, most_bytes, only};
-ghost use Rattle.tool_top.specs.Guarantee.{MustElide, MustReduce, MustReplay, MustSummarise};
-ghost use Rattle.tool_top.specs.Call.{Answers, IsAnswered, TellsOfVerdict, Tells, BreaksOff, ReadToEnd, Appends, AppendsPart, asks_text, makes_text};
+ghost use Rattle.tool_top.specs.Guarantee.{MustReport, MustReplay};
+ghost use Rattle.tool_top.specs.Call.{Answers, AnswersSome, IsAnswered, IsTold, TellsOfVerdict, Tells, BreaksOff, ReadToEnd, Appends, AppendsPart, asks_text, makes_text};
 
 use crate::answered::Answered;
 use crate::answers::{MAX_TEXT, answer};
@@ -22,11 +23,25 @@ use std::thread::Threads;
 use tool_io::{ReadEnd, Sink, Source, WriteFault, read_all, write_all};
 use tool_words::{Command, Job, Status, Usage, Verdict, demo_source, read_words, report, status};
 
-/// How a call of the tool ended, and the record of the run that it made.
+/// How a call of the tool ended, the record of the run that it made, and the text that it read to its end.
 #[derive(Drop)]
 pub struct Ended {
     pub status: Status,
     pub recorded: Option<Record>,
+    pub read: Option<Vec<u8>>,
+}
+
+impl Ended {
+    /// A call that ended without an answer.
+    fn without(status: Status) -> Ended
+        ensures { result ≡ record { status = status; recorded = None; read = None } }
+    {
+        Ended {
+            status,
+            recorded: None,
+            read: None,
+        }
+    }
 }
 
 /// Carries out the job that the words give, on the text that the source holds, and writes one report after
@@ -43,29 +58,28 @@ pub fn dpj<R: Threads + Wait + Sync, S: Source, K: Sink, G: Gate + Sync>(
     sink: &mut K,
     gate: &G,
 ) -> Ended
-    // The answer to the words and the text is reported by its status and its whole report, and its record is kept.
+    // There is a text that the words are on: what was read to its end, else what the source tells, else one that is too long. The answer to it
+    // is reported by its status and its whole report, and its record is kept.
     ensures answered { TellsOfVerdict result.status
-        → Tells (map string_bytes words.now) (S.left source.old) (K.held sink.old) (K.held sink.new) result.status result.recorded }
+        → Tells (map string_bytes words.now) (option_map vec_items result.read) (S.left source.old) (K.held sink.old) (K.held sink.new) result.status result.recorded }
     ensures usage { result.status ≡ Status.Usage → job (map string_bytes words.now) ≡ None }
-    // The promise: a run of an accepted program without nd constructs is reported by its serial elision, whatever the workers did.
+    // The promise: a run of an accepted program without nd constructs is reported by its serial elision, whatever the workers did. With nd
+    // constructs or without, the recorded run is one of the source that can be gathered, and whose deterministic constructs can be put in
+    // sequence; and it is what is reported. And what `effects` reports may stand in place of the written summaries: with it the program is
+    // well typed.
     ensures promised { TellsOfVerdict result.status
-        → MustElide (map string_bytes words.now) (S.left source.old) (K.held sink.old) (K.held sink.new) result.status }
-    // With nd constructs or without, the recorded run is one of the source that can be gathered, and whose deterministic constructs can be
-    // put in sequence; and it is what is reported.
-    ensures reduced { TellsOfVerdict result.status
-        → MustReduce (map string_bytes words.now) (S.left source.old) (K.held sink.old) (K.held sink.new) result.status result.recorded }
+        → MustReport (map string_bytes words.now) (option_map vec_items result.read) (S.left source.old) (K.held sink.old) (K.held sink.new) result.status result.recorded }
     // So is a run that a replay has made, which is reported by its outcome: without nd constructs that is the elision.
     ensures replayed { TellsOfVerdict result.status
-        → MustReplay (map string_bytes words.now) (S.left source.old) (K.held sink.old) (K.held sink.new) result.status result.recorded }
-    // And what `effects` reports may stand in place of the written summaries: with it the program is well typed.
-    ensures summaries { TellsOfVerdict result.status
-        → MustSummarise (map string_bytes words.now) (S.left source.old) (K.held sink.old) (K.held sink.new) result.status }
+        → MustReplay (map string_bytes words.now) (option_map vec_items result.read) (S.left source.old) (K.held sink.old) (K.held sink.new) result.status result.recorded }
+    // What was read is what the source held, where it tells it.
+    ensures told { IfSome result.read (λ text. IsTold (S.left source.old) (vec_items text)) }
 
     // Every other status has its cause, and being out of memory alone needs none.
     ensures read_fault { result.status ≡ Status.ReadFault → Rose (S.faults source.old) (S.faults source.new) }
     ensures write_fault { result.status ≡ Status.WriteFault → Rose (K.faults sink.old) (K.faults sink.new) }
     ensures broken_off { result.status ≡ Status.WriteFault
-        → BreaksOff (map string_bytes words.now) (S.left source.old) (K.held sink.old) (K.held sink.new) (K.room sink.old) result.recorded }
+        → BreaksOff (map string_bytes words.now) (option_map vec_items result.read) (S.left source.old) (K.held sink.old) (K.held sink.new) (K.room sink.old) result.recorded }
     ensures unread { result.status ≡ Status.ReadFault → asks_text (job (map string_bytes words.now)) ≡ true × (sink.new ≡ sink.old) }
     ensures unwritten { result.status ≡ Status.NoMemory → sink.new ≡ sink.old }
     ensures unrecorded { result.status ≡ Status.ReadFault → result.recorded ≡ None }
@@ -81,15 +95,28 @@ pub fn dpj<R: Threads + Wait + Sync, S: Source, K: Sink, G: Gate + Sync>(
     promise();
     law_one_passing();
     match answer_to(rt, alloc, words, source, gate) {
-        Ok(answered) => tell(alloc, answered, sink),
-        Err(Unread::ReadFault) => Ended {
-            status: Status::ReadFault,
-            recorded: None,
-        },
-        Err(Unread::NoMemory) => Ended {
-            status: Status::NoMemory,
-            recorded: None,
-        },
+        Ok(reply) => tell(alloc, reply, sink),
+        Err(Unread::ReadFault) => Ended::without(Status::ReadFault),
+        Err(Unread::NoMemory) => Ended::without(Status::NoMemory),
+    }
+}
+
+/// An answer, and the text that was read to its end for it.
+#[derive(Drop)]
+struct Reply {
+    answered: Answered,
+    read: Option<Vec<u8>>,
+}
+
+impl Reply {
+    /// An answer for which no text was read to its end.
+    fn unread(answered: Answered) -> Reply
+        ensures { result ≡ record { answered = answered; read = None } }
+    {
+        Reply {
+            answered,
+            read: None,
+        }
     }
 }
 
@@ -118,9 +145,10 @@ fn answer_to<R: Threads + Wait + Sync, S: Source, G: Gate + Sync>(
     words: &[String],
     source: &mut S,
     gate: &G,
-) -> Result<Answered, Unread>
-    ensures ok { IfOk result (IsAnswered (map string_bytes words.now) (S.left source.old)) }
-    ensures usage { IfOk result (λ answered. status_of answered.verdict ≡ Status.Usage → job (map string_bytes words.now) ≡ None) }
+) -> Result<Reply, Unread>
+    ensures ok { IfOk result (λ reply. IsAnswered (map string_bytes words.now) (option_map vec_items reply.read) (S.left source.old) reply.answered) }
+    ensures told { IfOk result (λ reply. IfSome reply.read (λ text. IsTold (S.left source.old) (vec_items text))) }
+    ensures usage { IfOk result (λ reply. status_of reply.answered.verdict ≡ Status.Usage → job (map string_bytes words.now) ≡ None) }
     ensures asked { IfErr result (λ unread. unread ≡ Unread.ReadFault → asks_text (job (map string_bytes words.now)) ≡ true) }
     ensures read_fault { IfErr result (λ unread. unread ≡ Unread.ReadFault → Rose (S.faults source.old) (S.faults source.new)) }
     ensures untouched { asks_text (job (map string_bytes words.now)) ≡ false → source.new ≡ source.old }
@@ -129,10 +157,10 @@ fn answer_to<R: Threads + Wait + Sync, S: Source, G: Gate + Sync>(
     ensures count { S.faults source.old ≤ S.faults source.new }
 {
     let Ok(job) = read_words(words) else {
-        return Ok(Answered::only(Verdict::Usage));
+        return Ok(Reply::unread(Answered::only(Verdict::Usage)));
     };
     match job.command {
-        Command::Demo => Ok(demonstrate(rt, alloc, &job, gate)?),
+        Command::Demo => Ok(Reply::unread(demonstrate(rt, alloc, &job, gate)?)),
         _ => answer_source(rt, alloc, &job, source, gate),
     }
 }
@@ -177,18 +205,25 @@ fn answer_source<R: Threads + Wait + Sync, S: Source, G: Gate + Sync>(
     job: &Job,
     source: &mut S,
     gate: &G,
-) -> Result<Answered, Unread>
+) -> Result<Reply, Unread>
     requires in_range { IsInRange job.now }
     requires read { makes_text job.now.command ≡ false }
-    ensures ok { IfOk result (λ answered. IfSome (S.left source.old) (λ text. Answers job.now text answered)) }
-    ensures no_usage { IfOk result (λ answered. status_of answered.verdict ≢ Status.Usage) }
+    ensures ok { IfOk result (λ reply. AnswersSome job.now (option_map vec_items reply.read) (S.left source.old) reply.answered) }
+    ensures told { IfOk result (λ reply. IfSome reply.read (λ text. IsTold (S.left source.old) (vec_items text))) }
+    ensures no_usage { IfOk result (λ reply. status_of reply.answered.verdict ≢ Status.Usage) }
     ensures read_fault { IfErr result (λ unread. unread ≡ Unread.ReadFault → Rose (S.faults source.old) (S.faults source.new)) }
     ensures read_to_end { OnOk result (IfSome (S.left source.old) (λ text. length text ≤ most_bytes job.now.command → S.left source.new ≡ Some [])) }
     ensures count { S.faults source.old ≤ S.faults source.new }
 {
     match read_all(alloc, source, most_bytes(job.command)) {
-        Ok(text) => Ok(answer_text(rt, alloc, job, text.as_slice(), gate)?),
-        Err(ReadEnd::TooLong) => Ok(Answered::refused_at(Kind::TooLong, 1)),
+        Ok(text) => {
+            let answered = answer_text(rt, alloc, job, text.as_slice(), gate)?;
+            Ok(Reply {
+                answered,
+                read: Some(text),
+            })
+        }
+        Err(ReadEnd::TooLong) => Ok(Reply::unread(Answered::refused_at(Kind::TooLong, 1))),
         Err(ReadEnd::ReadFault) => Err(Unread::ReadFault),
         Err(ReadEnd::NoMemory) => Err(Unread::NoMemory),
     }
@@ -205,28 +240,30 @@ fn most_bytes(command: Command) -> usize
 }
 
 /// Writes the report of an answer, once it is whole.
-fn tell<K: Sink>(alloc: Global, answered: Answered, sink: &mut K) -> Ended
+fn tell<K: Sink>(alloc: Global, reply: Reply, sink: &mut K) -> Ended
     ensures whole { TellsOfVerdict result.status
-        → (result.status ≡ status_of answered.verdict) × Appends (K.held sink.old) (K.held sink.new) (report_of answered.verdict) }
-    ensures part { result.status ≡ Status.WriteFault → AppendsPart (K.held sink.old) (K.held sink.new) (report_of answered.verdict) }
-    ensures no_room { result.status ≡ Status.WriteFault → IfSome (K.room sink.old) (λ room. room < length (report_of answered.verdict)) }
+        → (result.status ≡ status_of reply.answered.verdict) × Appends (K.held sink.old) (K.held sink.new) (report_of reply.answered.verdict) }
+    ensures part { result.status ≡ Status.WriteFault → AppendsPart (K.held sink.old) (K.held sink.new) (report_of reply.answered.verdict) }
+    ensures no_room { result.status ≡ Status.WriteFault → IfSome (K.room sink.old) (λ room. room < length (report_of reply.answered.verdict)) }
     ensures write_fault { result.status ≡ Status.WriteFault → Rose (K.faults sink.old) (K.faults sink.new) }
     ensures unwritten { result.status ≡ Status.NoMemory → sink.new ≡ sink.old }
-    ensures kept { result.status ≢ Status.NoMemory → result.recorded ≡ answered.recorded }
-    ensures forgotten { result.status ≡ Status.NoMemory → result.recorded ≡ None }
+    ensures kept { result.status ≢ Status.NoMemory → (result.recorded ≡ reply.answered.recorded) × (result.read ≡ reply.read) }
+    ensures forgotten { result.status ≡ Status.NoMemory → (result.recorded ≡ None) × (result.read ≡ None) }
     ensures not_read { result.status ≢ Status.ReadFault }
     ensures count { K.faults sink.old ≤ K.faults sink.new }
 {
+    let Reply { answered, read } = reply;
     let Answered { verdict, recorded } = answered;
     let Ok(report) = report(alloc, &verdict) else {
-        return Ended {
-            status: Status::NoMemory,
-            recorded: None,
-        };
+        return Ended::without(Status::NoMemory);
     };
     let status = match write_all(sink, report.as_slice()) {
         Ok(()) => status(&verdict),
         Err(WriteFault) => Status::WriteFault,
     };
-    Ended { status, recorded }
+    Ended {
+        status,
+        recorded,
+        read,
+    }
 }

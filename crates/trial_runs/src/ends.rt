@@ -3,7 +3,7 @@ use lang_base::NoMemory;
 use std::alloc::Global;
 use std::sync::Wait;
 use std::thread::Threads;
-use tool_io::{MemSink, MemSource};
+use tool_io::{MemSink, MemSource, StdSink, StdSource};
 use tool_top::{Ended, dpj};
 
 /// How many bytes a source gives at a call, and a sink takes.
@@ -33,6 +33,37 @@ pub fn answered<R: Threads + Wait + Sync>(
     let status = status_of(dpj(rt, alloc, words.as_slice(), &mut source, &mut sink, &NoGate));
     let held = str::from_utf8(sink.held())?;
     Ok(format!(in alloc; "status {status}, {held:?}")?)
+}
+
+/// The number of the status of a call over the ends that the program has, here over a slice and a `Vec`; what this holds then, and how many bytes
+/// were read to their end.
+pub fn streamed<R: Threads + Wait + Sync>(
+    rt: &R,
+    alloc: Global,
+    words: &str,
+    text: &str,
+) -> Result<String, anyhow::Error> {
+    let words = split(alloc, words)?;
+    let mut written = Vec::new(alloc);
+    let ended = dpj(
+        rt,
+        alloc,
+        words.as_slice(),
+        &mut StdSource::new(text.as_bytes()),
+        &mut StdSink::new(&mut written),
+        &NoGate,
+    );
+    let read = read_by(&ended);
+    let status = status_of(ended);
+    let held = str::from_utf8(written.as_slice())?;
+    Ok(format!(in alloc; "status {status}, {held:?}, {read} bytes were read")?)
+}
+
+fn read_by(ended: &Ended) -> usize {
+    match &ended.read {
+        Some(text) => text.len(),
+        None => 0,
+    }
 }
 
 /// The number of its status alone. The record goes.

@@ -3,7 +3,7 @@
 //! A program of two branches that print is run three times, and the records of the runs are reported: by two workers that a gate lets pass by
 //! turns, by one worker, and in rounds. That it is the workers who make the events, and neither their caller nor one worker after the other,
 //! shows in these alone. Then come calls over ends in memory: of each the words, which call of the source and which of the sink fails, the
-//! status, and what the sink holds then.
+//! status, and what the sink holds then; and calls over the ends that `main` of the tool has, of a slice and a `Vec`.
 #![tactic(auto)]
 
 mod by_turns;
@@ -11,7 +11,7 @@ mod ends;
 mod reported;
 
 use crate::by_turns::ByTurns;
-use crate::ends::{Ends, answered};
+use crate::ends::{Ends, answered, streamed};
 use crate::reported::recorded;
 use exec_run::workers::NoGate;
 use std::alloc::Global;
@@ -29,7 +29,12 @@ fn main(rt: HostRuntime) -> Result<(), anyhow::Error> {
     println!(rt; "one worker: {alone}")?;
     let together = recorded(&rt, rt.alloc(), "run mode=rounds", &NoGate)?;
     println!(rt; "rounds: {together}")?;
-    tell_over_ends(&rt, rt.alloc())
+    tell_over_ends(&rt, rt.alloc())?;
+    for text in [FIRST, REFUSED] {
+        let reported = streamed(&rt, rt.alloc(), "run", text)?;
+        println!(rt; "run over a slice and a Vec: {reported}")?;
+    }
+    Ok(())
 }
 
 fn tell_by_turns<R: Threads + Wait + Sync + Print>(
