@@ -17,7 +17,7 @@ use Rattle.tool_words.specs.declared.job.Job.{Job}
 use Rattle.tool_words.specs.declared.verdict.Verdict.TheVariants.{Effects, Listed, Refused}
 use Rattle.tool_top.specs.declared.answered.Answered.{Answered}
 use Rattle.tool_top.specs.Answer.{IsAcceptedAs, IsAnswer, IsAnswerOn, IsListing, IsRan, IsWithin, OneAnswer, asks_run, faulty, limits_of, of_program, only, verdict_of, to_check, to_effects, to_elide, to_list, to_run, too_long, TellsEffects}
-use Rattle.tool_top.specs.Guarantee.{KeepsGuarantee}
+use Rattle.tool_top.specs.Keeps.{KeepsGuarantee}
 use Rattle.tool_top.proofs.Promised.{made_run}
 
 some_same : {A : Type 0} {x y : A} → Some x ≡ Some y → x ≡ y

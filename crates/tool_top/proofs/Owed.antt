@@ -1,13 +1,15 @@
--- What a call that tells of a verdict owes to a program, over plain variables.
+-- What a call that tells of a program owes to it, over plain variables.
 use Rattle.std.proofs.Common.{◌≡◌, ◌∙◌, ℕ, true, false, List, [], Option, Some, MatchOption, inl, inr, refl, sym, ap, subst, arith}
 use Rattle.lang_base.specs.declared.place.Place.{Place}
 use Rattle.exec_run.specs.declared.history.record.Record.{Record}
 use Rattle.lang_typed.specs.Plain.{PlainProgram}
+use Rattle.syntax_tree.specs.declared.class.Program.{Program}
+use Rattle.syntax_means.specs.Accepts.{Accepts}
+use Rattle.syntax_means.specs.Declares.{names_in}
 use Rattle.body_infer.specs.Kept.{program_kept}
 use Rattle.body_infer.specs.Lines.{lines_of}
 use Rattle.sound_infer.specs.Laws.{program_inferred}
 use Rattle.sound_infer.proofs.Lines.{same_lines}
-use Rattle.sound_text.specs.Laws.{OneVerdict, OnePassing}
 use Rattle.tool_words.specs.Jobs.{job}
 use Rattle.tool_words.specs.Reports.{report_of, status_of}
 use Rattle.tool_words.specs.declared.command.Command.{Command}
@@ -20,7 +22,8 @@ use Rattle.tool_words.specs.declared.verdict.Verdict.TheVariants.{Ran, Effects, 
 use Rattle.tool_top.specs.declared.answered.Answered.{Answered}
 use Rattle.tool_top.specs.Answer.{IsAnswer, IsAnswerOn, IsAcceptedAs, IsElided, IsRan, IsWithin, TellsEffects, asks_run, faulty, of_program, only, verdict_by, verdict_of, to_check, to_effects, to_elide, to_list, to_run, too_long}
 use Rattle.tool_top.specs.Call.{Answers, AnswersBy, AnswersSome, Appends, IsAnswered, Tells, TellsOfVerdict}
-use Rattle.tool_top.specs.Guarantee.{AsksElision, IsReported, KeepsGuarantee, MustReport, ReportsElision, ReportsReduced, ReportsSummaries, elision_for}
+use Rattle.tool_top.specs.Guarantee.{AsksElision, IsReported, MustReport, ReportsElision, ReportsProgram, ReportsRun, ReportsSummaries, TellsOfProgram, elision_for}
+use Rattle.tool_top.specs.Keeps.{KeepsGuarantee}
 use Rattle.tool_top.proofs.Ranges.{words_within}
 
 -- a status that tells of a verdict isn't out of memory
@@ -47,9 +50,9 @@ asked_of_program command.Cost asked text answered never a = a
 true_false : true ≡ false → ⊥
 true_false e = cc
 
--- the answer to a job that is given on an accepted text is that to its program
-module _ (keeps : KeepsGuarantee) (verdict : OneVerdict) (one : OnePassing) (words : List (List ℕ)) (read left before after : Option (List ℕ)) (status : Status) (recorded : Option Record)
-    (tells : Tells words read left before after status recorded) (asked : Job) (said : job words ≡ Some asked) where
+module _ (keeps : KeepsGuarantee) (words : List (List ℕ)) (read left before after : Option (List ℕ)) (status : Status) (recorded : Option Record)
+    (tells : Tells words read left before after status recorded) (of_program_so : TellsOfProgram status) (asked : Job) (said : job words ≡ Some asked)
+    (never : asked.command ≡ command.Replay → ⊥) where
   within : IsWithin asked
   within = words_within words asked said
 
@@ -62,18 +65,13 @@ module _ (keeps : KeepsGuarantee) (verdict : OneVerdict) (one : OnePassing) (wor
   verdict_reported : (known : Verdict) → tells.answered.verdict ≡ known → IsReported known before after status
   verdict_reported known is = (tells.status_reported ∙ ap status_of is, subst (λ v. Appends before after (report_of v)) is tells.report_reported)
 
-  module _ (place : Place) (typed : PlainProgram) (accepted : IsAcceptedAs text place typed) where
-    on_program : (asked.command ≡ command.Replay → ⊥) → IsAnswerOn asked text typed tells.answered
-    on_program never = by (asked_of_program asked.command asked text tells.answered never some.answers) refl
-      where
-        by : {answered : Answered} → IsAnswer asked text answered → answered ≡ tells.answered → IsAnswerOn asked text typed tells.answered
-        by (too_long h) same = let short = accepted.0 in absurd (omega (arith, h, short))
-        by (faulty refusal short fault) same = absurd (verdict.not_both text place typed refusal accepted.1 fault)
-        by (of_program other typed_so answered passed on) same =
-            subst (λ a. IsAnswerOn asked text typed a) same (subst (λ t. IsAnswerOn asked text t answered) (one text other place typed_so typed passed.1 accepted.1) on)
+  -- the answer on the program as which the text is accepted
+  module _ (place : Place) (typed : PlainProgram) (accepted : IsAcceptedAs text place typed) (on : IsAnswerOn asked text typed tells.answered) where
+    meant : (tree : Program) × Accepts text tree typed
+    meant = keeps.means text place typed accepted
 
     ran_so : asks_run asked.command ≡ true → IsRan asked text typed tells.answered
-    ran_so run = by (on_program (λ e. true_false (sym run ∙ ap asks_run e)))
+    ran_so run = by on
       where
         other : (c : Command) → asked.command ≡ c → asks_run c ≡ false → ⊥
         other c e none = true_false (sym run ∙ ap asks_run e ∙ none)
@@ -86,7 +84,7 @@ module _ (keeps : KeepsGuarantee) (verdict : OneVerdict) (one : OnePassing) (wor
         by (to_effects c is) = absurd (other command.Effects c refl)
 
     elided_so : asked.command ≡ command.Elide → IsElided asked typed tells.answered
-    elided_so elide = by (on_program (λ e. absurd (cc (sym elide ∙ e))))
+    elided_so elide = by on
       where
         by : IsAnswerOn asked text typed tells.answered → IsElided asked typed tells.answered
         by (to_elide c is) = is
@@ -110,20 +108,19 @@ module _ (keeps : KeepsGuarantee) (verdict : OneVerdict) (one : OnePassing) (wor
           reported = verdict_reported (verdict_of asked text [] 0 (elision_for asked typed)) (ap (λ (a : Answered). a.verdict) known ∙ sym (reported_elided asked.command elide));
         }
 
-    owed_reduction : asks_run asked.command ≡ true → ReportsReduced asked text typed before after status recorded
-    owed_reduction run =
-        let known = keeps.reduce asked text place typed tells.answered within accepted (ran_so run) in
+    owed_run : asks_run asked.command ≡ true → ReportsRun asked text typed meant.1.well_typed before after status recorded
+    owed_run run =
+        let known = keeps.reduce asked text place typed tells.answered within accepted (ran_so run) meant.1.well_typed in
         record {
-          well_typed = known.well_typed;
-          made = known.made;
+          made = known.made.record;
           is = tells.run_recorded ∙ ap (λ (a : Answered). a.recorded) known.is;
+          outcome = known.made.outcome;
+          comes = known.comes;
           reported = verdict_reported (verdict_of asked text known.made.record.machine.schedule known.made.record.rounds known.made.outcome) (ap (λ (a : Answered). a.verdict) known.is);
-          reduced = known.reduced;
-          inside = known.inside;
         }
 
     told_so : asked.command ≡ command.Effects → TellsEffects text typed tells.answered
-    told_so effects = by (on_program (λ e. absurd (cc (sym effects ∙ e))))
+    told_so effects = by on
       where
         by : IsAnswerOn asked text typed tells.answered → TellsEffects text typed tells.answered
         by (to_effects c is) = is
@@ -132,27 +129,55 @@ module _ (keeps : KeepsGuarantee) (verdict : OneVerdict) (one : OnePassing) (wor
         by (to_elide c is) = absurd (cc (sym effects ∙ c))
         by (to_list c is) = absurd (cc (sym effects ∙ c))
 
-    owed_summaries : asked.command ≡ command.Effects → ReportsSummaries text typed before after status
+    owed_summaries : asked.command ≡ command.Effects → ReportsSummaries meant.0 typed before after status
     owed_summaries effects =
         let told = told_so effects in
+        let named : told.names ≡ names_in meant.0 = keeps.names text told.names meant.0 accepted.0 told.are_names meant.1.has_tree in
         record {
-          names = told.names;
-          are_names = told.are_names;
           kept = told.kept;
           inferred = told.inferred;
           well_typed = keeps.summaries text place typed told.kept accepted told.inferred;
-          reported = verdict_reported (Effects (lines_of (program_inferred told.kept typed) told.names))
-              (ap (λ (a : Answered). a.verdict) told.tells ∙ ap Effects (sym (same_lines told.kept typed told.names)));
+          reported = subst (λ n. IsReported (Effects (lines_of (program_inferred told.kept typed) n)) before after status) named
+              (verdict_reported (Effects (lines_of (program_inferred told.kept typed) told.names))
+              (ap (λ (a : Answered). a.verdict) told.tells ∙ ap Effects (sym (same_lines told.kept typed told.names))));
         }
 
-pub owed : KeepsGuarantee → OneVerdict → OnePassing → (words : List (List ℕ)) (read left before after : Option (List ℕ)) (status : Status) (recorded : Option Record)
-    → Tells words read left before after status recorded → MustReport words read left before after status recorded
-owed keeps verdict one words read left before after status recorded tells asked said =
-    let there = some keeps verdict one words read left before after status recorded tells asked said in
-    record {
-      text = there.text;
-      is_text = there.is_text;
-      elided = owed_elision keeps verdict one words read left before after status recorded tells asked said;
-      reduced = owed_reduction keeps verdict one words read left before after status recorded tells asked said;
-      summaries = owed_summaries keeps verdict one words read left before after status recorded tells asked said;
+    owed_program : ReportsProgram asked read left before after status recorded
+    owed_program = record {
+      text = text;
+      is_text = some.is_text;
+      tree = meant.0;
+      typed = typed;
+      accepts = meant.1;
+      elided = owed_elision;
+      run = owed_run;
+      summaries = owed_summaries;
     }
+
+  -- it is no refusal, since its status tells of a program
+  not_refused : (answered : Answered) → answered ≡ tells.answered → status_of answered.verdict ≡ ended.Refused → ⊥
+  not_refused answered same refused = subst TellsOfProgram (tells.status_reported ∙ ap (λ (a : Answered). status_of a.verdict) (sym same) ∙ refused) of_program_so
+
+  by_answer : {answered : Answered} → IsAnswer asked text answered → answered ≡ tells.answered → ReportsProgram asked read left before after status recorded
+  by_answer (too_long h) same = absurd (not_refused _ same refl)
+  by_answer (faulty refusal short fault) same = absurd (not_refused _ same refl)
+  by_answer (of_program place typed answered accepted on) same = owed_program place typed accepted (subst (λ a. IsAnswerOn asked text typed a) same on)
+
+  owed_so : ReportsProgram asked read left before after status recorded
+  owed_so = by_answer (asked_of_program asked.command asked text tells.answered never some.answers) refl
+
+pub owed : KeepsGuarantee → (words : List (List ℕ)) (read left before after : Option (List ℕ)) (status : Status) (recorded : Option Record)
+    → Tells words read left before after status recorded → TellsOfProgram status → MustReport words read left before after status recorded
+owed keeps words read left before after status recorded tells of_program_so asked said never =
+    owed_so keeps words read left before after status recorded tells of_program_so asked said never
+
+-- a status that tells of a program tells of a verdict
+pub program_tells : (status : Status) → TellsOfProgram status → TellsOfVerdict status
+program_tells ended.Done h = tt
+program_tells ended.Trapped h = tt
+program_tells ended.Limited h = tt
+program_tells ended.Usage h = absurd h
+program_tells ended.Refused h = absurd h
+program_tells ended.ReadFault h = absurd h
+program_tells ended.WriteFault h = absurd h
+program_tells ended.NoMemory h = absurd h

@@ -39,7 +39,9 @@ use Rattle.tool_words.specs.declared.job.Job.{Job}
 use Rattle.tool_words.specs.declared.verdict.Verdict.TheVariants.{Ran}
 use Rattle.tool_top.specs.declared.answered.Answered.{Answered}
 use Rattle.tool_top.specs.Answer.{IsAcceptedAs, IsElided, IsRan, IsRunBy, IsWithin, limits_of, only, verdict_of}
-use Rattle.tool_top.specs.Guarantee.{FollowsReduced, GoesOn, KeepsGuarantee, TellsElision, TellsReduced, elision_for}
+use Rattle.sound_means.specs.Laws.{NamesMean, PassedMeans}
+use Rattle.tool_top.specs.Guarantee.{ComesOutBy, elision_for}
+use Rattle.tool_top.specs.Keeps.{FollowsReduced, GoesOn, KeepsGuarantee, TellsElision, TellsReduced}
 use Rattle.lang_meaning.specs.Reported.{reported, reported_ending}
 
 module _ (typed : PlainProgram) (keeps : Keeps typed) (L : Limits) (argument : ℤ) (few : L.steps ≤ 20000000) (fits : FitsSigned w32 argument) where
@@ -135,8 +137,9 @@ made_run mode.Rounds typed L argument workers r (by_rounds _ p is alone) =
 made_run (mode.Seeded seed) typed L argument workers r (by_seed _ p is alone) =
     (subst (λ q. IsRunOf typed L argument q) (sym alone.machine) is.is_run, ap (λ (q : Played). q.outcome) alone.machine ∙ alone.came)
 
-pub keeps_guarantee : MachinesComeOutAsElided → GreedyMachinesElide → MachinesAreReduced → MachinesElideInside → MachinesAreNotStuck → MachinesMakeProgress → PassedKeeps → InferredIsWellTyped → KeepsGuarantee
-keeps_guarantee machines greedy reduce inside never_stuck goes passed with_inferred = record { typed_well = typed_well; goes_on = goes_further; follows = follows; replay = replay; run = run; reduce = reduces; elide = elide; greedy = greedily; summaries = summaries }
+pub keeps_guarantee : MachinesComeOutAsElided → GreedyMachinesElide → MachinesAreReduced → MachinesElideInside → MachinesAreNotStuck → MachinesMakeProgress → PassedKeeps → InferredIsWellTyped → PassedMeans → NamesMean
+    → KeepsGuarantee
+keeps_guarantee machines greedy reduce inside never_stuck goes passed with_inferred means naming = record { means = λ text place typed accepted. means text place typed accepted.0 accepted.1; names = naming; typed_well = typed_well; goes_on = goes_further; follows = follows; replay = replay; run = run; reduce = reduces; elide = elide; greedy = greedily; summaries = summaries }
   where
     kept : (text : List ℕ) (place : Place) (typed : PlainProgram) → IsAcceptedAs text place typed → Keeps typed
     kept text place typed accepted = passed text place typed accepted.0 accepted.1
@@ -172,16 +175,16 @@ keeps_guarantee machines greedy reduce inside never_stuck goes passed with_infer
         follows_on typed (kept text place typed accepted) limits argument allowed.steps_most fits never_stuck goes allowed.cells_most schedule
 
     replay : (text : List ℕ) (place : Place) (typed : PlainProgram) (limits : Limits) (argument : ℤ) (schedule : List ℕ) (made : Recorded) → IsAcceptedAs text place typed → AreLimits limits
-        → FitsSigned w32 argument → IsFollowed typed limits argument schedule (replayed.Ran made) → FollowsReduced typed limits argument schedule made
-    replay text place typed limits argument schedule made accepted allowed fits (IsFollowed.ran _ is same) =
-        let keeps = kept text place typed accepted in
+        → FitsSigned w32 argument → IsFollowed typed limits argument schedule (replayed.Ran made) → (well_typed : WellTyped typed) → FollowsReduced typed well_typed limits argument schedule made
+    replay text place typed limits argument schedule made accepted allowed fits (IsFollowed.ran _ is same) well_typed =
+        let keeps = record (kept text place typed accepted) { well_typed = well_typed } in
         record {
-          well_typed = keeps.well_typed;
           by_schedule = same;
-          reduced = subst (λ ks. ComesOutReduced typed keeps.well_typed limits argument ks made.outcome) same
-              (reduced_so typed keeps limits argument allowed.steps_most fits reduce made.record.machine made.outcome is.is_run is.came);
-          inside = subst (λ ks. ComesOutElidedInside typed limits argument ks made.outcome) same
-              (inside_so typed keeps limits argument allowed.steps_most fits inside made.record.machine made.outcome is.is_run is.came);
+          comes = subst (λ ks. ComesOutBy typed well_typed limits argument ks made.outcome) same
+              (record {
+                reduced = reduced_so typed keeps limits argument allowed.steps_most fits reduce made.record.machine made.outcome is.is_run is.came;
+                inside = inside_so typed keeps limits argument allowed.steps_most fits inside made.record.machine made.outcome is.is_run is.came;
+              });
           elided = λ none. reported_elision typed keeps limits argument allowed.steps_most fits machines none made.record.machine made.outcome is.is_run is.came;
         }
 
@@ -198,16 +201,18 @@ keeps_guarantee machines greedy reduce inside never_stuck goes passed with_infer
         }
 
     reduces : (job : Job) (text : List ℕ) (place : Place) (typed : PlainProgram) (answered : Answered) → IsWithin job → IsAcceptedAs text place typed
-        → IsRan job text typed answered → TellsReduced job text typed answered
-    reduces job text place typed answered within accepted ran =
+        → IsRan job text typed answered → (well_typed : WellTyped typed) → TellsReduced job text typed well_typed answered
+    reduces job text place typed answered within accepted ran well_typed =
+        let keeps = record (kept text place typed accepted) { well_typed = well_typed } in
         let r = ran.made in
         let m = made job typed r ran.run in
         record {
-          well_typed = (kept text place typed accepted).well_typed;
           made = r;
           is = ran.is;
-          reduced = reduced_so typed (kept text place typed accepted) (limits_of job) job.arg within.0.steps_most within.1 reduce r.record.machine r.outcome m.0 m.1;
-          inside = inside_so typed (kept text place typed accepted) (limits_of job) job.arg within.0.steps_most within.1 inside r.record.machine r.outcome m.0 m.1;
+          comes = record {
+            reduced = reduced_so typed keeps (limits_of job) job.arg within.0.steps_most within.1 reduce r.record.machine r.outcome m.0 m.1;
+            inside = inside_so typed keeps (limits_of job) job.arg within.0.steps_most within.1 inside r.record.machine r.outcome m.0 m.1;
+          };
         }
 
     elide : (job : Job) (text : List ℕ) (place : Place) (typed : PlainProgram) (answered : Answered) → IsWithin job → IsAcceptedAs text place typed

@@ -13,7 +13,8 @@ use Rattle.tool_words.specs.declared.verdict.Verdict.TheVariants.{Ran}
 use Rattle.tool_top.specs.declared.answered.Answered.{Answered}
 use Rattle.tool_top.specs.Answer.{only}
 use Rattle.tool_top.specs.Call.{AnswersBy, AnswersSome, Appends, Tells}
-use Rattle.tool_top.specs.Guarantee.{IsReported, KeepsGuarantee, ReportsReplay}
+use Rattle.tool_top.specs.Guarantee.{IsReported, ReportsReplay}
+use Rattle.tool_top.specs.Keeps.{KeepsGuarantee}
 use Rattle.tool_top.specs.Replaying.{IsAnswerOnTrace, IsReplayed, faulty, followed, long_program, no_trace, of_trace, program_of, ran, too_long, unfit}
 use Rattle.tool_top.proofs.Owed.{given_answer}
 
@@ -48,19 +49,24 @@ module _ (keeps : KeepsGuarantee) (words : List (List ℕ)) (read left before af
   on_trace trace is (long_program long same) = absurd (no_record _ same)
   on_trace trace is (faulty refusal short fault same) = absurd (no_record _ same)
   on_trace trace is (followed place typed accepted (unfit at f same)) = absurd (no_record _ same)
-  on_trace trace is (followed place typed accepted (ran made f same)) = record {
-    bytes = bytes;
-    is_text = there.is_text;
-    trace = trace;
-    is_trace = is;
-    place = place;
-    typed = typed;
-    accepted = accepted;
-    made = made;
-    is = some_same (sym is_some ∙ ap (λ (a : Answered). a.recorded) same);
-    reported = reported_so (Ran made.outcome) (ap (λ (a : Answered). a.verdict) same);
-    follows = keeps.replay (program_of bytes trace) place typed trace.limits trace.arg trace.schedule made accepted is.limits is.arg f;
-  }
+  on_trace trace is (followed place typed accepted (ran made f same)) =
+      let meant = keeps.means (program_of bytes trace) place typed accepted in
+      let known = keeps.replay (program_of bytes trace) place typed trace.limits trace.arg trace.schedule made accepted is.limits is.arg f meant.1.well_typed in
+      let same_record : r ≡ made.record = some_same (sym is_some ∙ ap (λ (a : Answered). a.recorded) same) in
+      record {
+        bytes = bytes;
+        is_text = there.is_text;
+        trace = trace;
+        is_trace = is;
+        tree = meant.0;
+        typed = typed;
+        accepts = meant.1;
+        by_schedule = ap (λ (z : Record). z.machine.schedule) same_record ∙ known.by_schedule;
+        outcome = made.outcome;
+        comes = known.comes;
+        elided = known.elided;
+        reported = reported_so (Ran made.outcome) (ap (λ (a : Answered). a.verdict) same);
+      }
 
   by_answer : IsReplayed bytes tells.answered → ReportsReplay job read left before after status r
   by_answer (too_long long same) = absurd (no_record _ same)

@@ -2,3 +2,4 @@ pub mod Answer
 pub mod Call
 pub mod Replaying
 pub mod Guarantee
+pub mod Keeps

@@ -6,7 +6,7 @@ ghost use Rattle.tool_words.specs.Demo.{demo_text};
 ghost use Rattle.tool_words.specs.Jobs.{job, IsInRange};
 ghost use Rattle.tool_words.specs.Reports.{report_of, status_of};
 ghost use Rattle.tool_top.specs.Answer.{IsAnswer, most_bytes, only};
-ghost use Rattle.tool_top.specs.Guarantee.{MustReport, MustReplay};
+ghost use Rattle.tool_top.specs.Guarantee.{MustReport, MustReplay, TellsOfProgram};
 ghost use Rattle.tool_top.specs.Call.{Answers, AnswersSome, IsAnswered, IsTold, TellsOfVerdict, Tells, BreaksOff, ReadToEnd, Appends, AppendsPart, asks_text, makes_text};
 
 use crate::answered::Answered;
@@ -16,7 +16,6 @@ use crate::replays::{MAX_TRACE, replayed};
 use exec_run::history::Record;
 use exec_run::workers::Gate;
 use lang_base::{Kind, NoMemory};
-use sound_text::laws::law_one_passing;
 use std::alloc::Global;
 use std::sync::Wait;
 use std::thread::Threads;
@@ -63,14 +62,14 @@ pub fn dpj<R: Threads + Wait + Sync, S: Source, K: Sink, G: Gate + Sync>(
     ensures answered { TellsOfVerdict result.status
         → Tells (map string_bytes words.now) (option_map vec_items result.read) (S.left source.old) (K.held sink.old) (K.held sink.new) result.status result.recorded }
     ensures usage { result.status ≡ Status.Usage → job (map string_bytes words.now) ≡ None }
-    // The promise: a run of an accepted program without nd constructs is reported by its serial elision, whatever the workers did. With nd
-    // constructs or without, the recorded run is one of the source that can be gathered, and whose deterministic constructs can be put in
-    // sequence; and it is what is reported. And what `effects` reports may stand in place of the written summaries: with it the program is
-    // well typed.
-    ensures promised { TellsOfVerdict result.status
+    // The promise: what is told of a program is told of one that the text means, and that is well typed. Without nd constructs a run of it is
+    // reported by its serial elision, whatever the workers did; with them or without, the recorded run is one of the source that can be
+    // gathered, whose deterministic constructs can be put in sequence, and it is what is reported; and what `effects` reports may stand in
+    // place of the written summaries.
+    ensures promised { TellsOfProgram result.status
         → MustReport (map string_bytes words.now) (option_map vec_items result.read) (S.left source.old) (K.held sink.old) (K.held sink.new) result.status result.recorded }
     // So is a run that a replay has made, which is reported by its outcome: without nd constructs that is the elision.
-    ensures replayed { TellsOfVerdict result.status
+    ensures replayed { TellsOfProgram result.status
         → MustReplay (map string_bytes words.now) (option_map vec_items result.read) (S.left source.old) (K.held sink.old) (K.held sink.new) result.status result.recorded }
     // What was read is what the source held, where it tells it.
     ensures told { IfSome result.read (λ text. IsTold (S.left source.old) (vec_items text)) }
@@ -93,7 +92,6 @@ pub fn dpj<R: Threads + Wait + Sync, S: Source, K: Sink, G: Gate + Sync>(
     ensures sink_count { K.faults sink.old ≤ K.faults sink.new }
 {
     promise();
-    law_one_passing();
     match answer_to(rt, alloc, words, source, gate) {
         Ok(reply) => tell(alloc, reply, sink),
         Err(Unread::ReadFault) => Ended::without(Status::ReadFault),

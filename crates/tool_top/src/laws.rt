@@ -1,6 +1,6 @@
 //! What the definitions of the answer say of themselves, and what they come to.
 ghost use Rattle.tool_top.specs.Answer.{OneAnswer};
-ghost use Rattle.tool_top.specs.Guarantee.{KeepsGuarantee};
+ghost use Rattle.tool_top.specs.Keeps.{KeepsGuarantee};
 ghost use Rattle.tool_top.specs.Replaying.{OneReplay};
 
 use body_infer::laws::law_one_inferred;
@@ -8,6 +8,7 @@ use exec_progress::laws::law_code_progress;
 use runs_program::laws::law_steps;
 use runs_theorem::laws::{law_elide, law_guarantee, law_inside, law_progress, law_reduced};
 use sound_infer::laws::law_inferred;
+use sound_means::laws::law_means;
 use sound_text::laws::{law_one_passing, law_passed};
 use tool_trace::law_readings;
 
@@ -26,7 +27,7 @@ pub fn one_answer()
     law_readings();
 }
 
-/// The promise of the language. What is accepted is well typed, and its runs come out. A run of an accepted program without nd constructs is answered by the
+/// The promise of the language. What is accepted is what the text means, and well typed, and its runs come out. A run of an accepted program without nd constructs is answered by the
 /// outcome of its serial elision, whatever schedule it made; of every accepted program a run is one of the source, whose
 /// unordered events that conflict lie in atomic blocks, gathered by blocks it comes out the same, and so it does with its deterministic
 /// constructs in sequence; so is a run that a replay has made; and an elision is answered by the outcome of the elision, as which the run
@@ -41,4 +42,5 @@ pub fn promise()
     law_progress();
     law_passed();
     law_inferred();
+    law_means();
 }

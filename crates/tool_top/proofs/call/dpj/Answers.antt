@@ -2,7 +2,7 @@ use Rattle.std.proofs.Common.{Global, map, option_map, subst, sym}
 use Rattle.std.specs.String.{string_bytes}
 use Rattle.std.specs.Vec.{vec_items}
 use Rattle.tool_top.specs.Call.{IsAnswered}
-use Rattle.tool_top.proofs.Owed.{owed, tells-no-want}
+use Rattle.tool_top.proofs.Owed.{owed, program_tells, tells-no-want}
 use Rattle.tool_top.proofs.Replayed.{owed_replay}
 use Rattle.tool_top.proofs.call.dpj.Goals as goal
 
@@ -20,11 +20,12 @@ returns-in-Ok-clause-answered g c reported =
 
 pub returns-in-Ok-clause-promised : goal.returns-in-Ok-clause-promised
 returns-in-Ok-clause-promised g c reported =
-    owed c.promise.ensures c.law_one_passing.ensures.verdict c.law_one_passing.ensures.one (map (string_bytes {Z = Global}) c.args.words.now)
+    owed c.promise.ensures (map (string_bytes {Z = Global}) c.args.words.now)
     (option_map vec_items c.tell.result.read) (g.S.Source.left c.args.source.now) (g.K.Sink.held c.args.sink.now) (g.K.Sink.held c.tell.new.sink) c.tell.result.status
-    c.tell.result.recorded (returns-in-Ok-clause-answered g c reported)
+    c.tell.result.recorded (returns-in-Ok-clause-answered g c (program_tells c.tell.result.status reported)) reported
 
 pub returns-in-Ok-clause-replayed : goal.returns-in-Ok-clause-replayed
 returns-in-Ok-clause-replayed g c reported =
     owed_replay c.promise.ensures (map (string_bytes {Z = Global}) c.args.words.now) (option_map vec_items c.tell.result.read) (g.S.Source.left c.args.source.now)
-    (g.K.Sink.held c.args.sink.now) (g.K.Sink.held c.tell.new.sink) c.tell.result.status c.tell.result.recorded (returns-in-Ok-clause-answered g c reported)
+    (g.K.Sink.held c.args.sink.now) (g.K.Sink.held c.tell.new.sink) c.tell.result.status c.tell.result.recorded
+    (returns-in-Ok-clause-answered g c (program_tells c.tell.result.status reported))
