@@ -1,4 +1,11 @@
 pub mod Around
 pub mod Finding
 pub mod Written
+mod Bodies
+mod Classes
+mod Members
 mod Methods
+mod Rows
+mod Scopes
+mod Signatures
+mod Whole
