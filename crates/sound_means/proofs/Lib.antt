@@ -1,3 +1,4 @@
 pub mod Around
 pub mod Finding
 pub mod Written
+mod Methods
