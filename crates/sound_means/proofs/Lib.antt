@@ -1,1 +1,7 @@
+pub mod Around
+pub mod Finding
+pub mod Written
 mod Bodies
+mod Expressions
+mod Knows
+mod Statements
