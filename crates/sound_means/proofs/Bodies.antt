@@ -1,5 +1,5 @@
 -- The body of each member of an accepted program is what its text means.
-use Rattle.std.proofs.Common.{◌≡◌, ℕ, List, map, slice_get, Some}
+use Rattle.std.proofs.Common.{◌≡◌, ◌≤◌, ℕ, List, map, length, slice_get, Some}
 use Rattle.syntax_tree.specs.declared.class.Class.{Class}
 use Rattle.syntax_tree.specs.declared.class.Program.{Program}
 use Rattle.syntax_tree.specs.Plain.{plain_stmt, plain_stmts}
@@ -14,7 +14,7 @@ use Rattle.sound_bodies.specs.Seen.{Tells}
 use Rattle.sound_bodies.specs.Whole.{made_of, never_forks}
 use Rattle.sound_bodies.proofs.Membership.{IsMember}
 
-pub body_meant : (program : Program) (table : Table) (bodies : List PlainBody) → IsWritten program → (accepted : IsAccepted program table bodies) → Tells (made_of program table bodies) table (never_forks table) →
+pub body_meant : (program : Program) (table : Table) (bodies : List PlainBody) → length program.names ≤ 4294967295 → IsWritten program → (accepted : IsAccepted program table bodies) → Tells (made_of program table bodies) table (never_forks table) →
     (n : ℕ) (m : PlainMember) (class : PlainClass) (k : IsMember program table accepted.checked.start n m class) (text : Class) → slice_get program.classes k.number ≡ Some text →
     AllMean (in_method program (made_of program table bodies) text (record { class = k.number; method = k.method })) (plain_stmts (map plain_stmt k.method.body)) m.body
-body_meant program table bodies written accepted tells n m class k text there = ?
+body_meant program table bodies named written accepted tells n m class k text there = ?
