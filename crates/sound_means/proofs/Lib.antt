@@ -2,6 +2,5 @@ pub mod Around
 pub mod Finding
 pub mod Written
 mod Bodies
-mod Expressions
 mod Knows
-mod Statements
+mod Methods
