@@ -3,6 +3,7 @@ pub mod Finding
 pub mod Written
 mod Bodies
 mod Classes
+mod Knows
 mod Members
 mod Methods
 mod Rows
