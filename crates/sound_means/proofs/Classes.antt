@@ -1,5 +1,5 @@
 -- Each class of an accepted program is what its text means.
-use Rattle.std.proofs.Common.{◌≡◌, ◌∙◌, ◌⊎◌, ℕ, suc, zero, ◌+◌, ◌<◌, ◌≤◌, ◌==◌, Bool, true, false, List, [], ◌∷◌, ◌++◌, map, length, flat_map, filter_map, inl, inr, Option, None, Some, option_map, option_and_then, refl, sym, ap, subst, arith}
+use Rattle.std.proofs.Common.{◌≡◌, ◌∙◌, ℕ, suc, zero, ◌+◌, ◌==◌, true, List, [], ◌∷◌, ◌++◌, map, length, flat_map, filter_map, inl, inr, Option, None, Some, option_map, option_and_then, refl, sym, ap, subst, arith}
 use Rattle.std.proofs.lemmas.Bool.{eqb-true}
 use Rattle.std.proofs.lemmas.List.{append-nil, length-map, map-append}
 use Rattle.std.proofs.lemmas.Option.{none-some, slice_get_within}
@@ -10,7 +10,6 @@ use Rattle.lang_base.specs.declared.effect.Constraint.{Constraint}
 use Rattle.lang_base.specs.declared.refusal.Kind.TheVariants as kind
 use Rattle.lang_base.specs.declared.region.Rpl.{Rpl}
 use Rattle.lang_base.specs.declared.ty.Super.{Super}
-use Rattle.lang_base.specs.declared.ty.Ty.{Ty}
 use Rattle.lang_base.specs.Types.{plain_type}
 use Rattle.lang_base.specs.Types.{PlainType as ty}
 use Rattle.syntax_tree.specs.declared.class.Class.{Class}
@@ -21,7 +20,7 @@ use Rattle.syntax_tree.specs.declared.region.ParamTree.{ParamTree}
 use Rattle.syntax_tree.specs.Nd.{program_uses_nd}
 use Rattle.syntax_means.specs.Declares.{ClassNamed}
 use Rattle.syntax_means.specs.Declares.{inherited_fields as inherited_many}
-use Rattle.syntax_means.specs.Means.{ClassMeans, ConstructorMeans, ConstraintMeans, FieldMeans, ParentMeans, RowMeans, atomic_params, in_class}
+use Rattle.syntax_means.specs.Means.{ClassMeans, ConstructorMeans, ConstraintMeans, ParentMeans, RowMeans, in_class}
 use Rattle.syntax_means.specs.Means.ParentMeans.{no_parent, a_parent}
 use Rattle.syntax_means.specs.Paths.{ArgsMean}
 use Rattle.decl_headers.specs.declared.faults.Faults.{Faults}
@@ -29,7 +28,7 @@ use Rattle.decl_headers.specs.declared.faults.Order.TheVariants as order
 use Rattle.decl_headers.specs.declared.header.Headers.{Headers}
 use Rattle.decl_headers.specs.declared.header.ParamRow.{ParamRow}
 use Rattle.decl_headers.specs.Faults.{none_by}
-use Rattle.decl_headers.specs.First.{class_named, first_faults, parents_in}
+use Rattle.decl_headers.specs.First.{class_named, first_faults}
 use Rattle.decl_headers.specs.Gathered.{param_row, headers_in}
 use Rattle.decl_headers.specs.Headers.{parent_of, parents_of}
 use Rattle.decl_headers.specs.Numbers.{as_number}
@@ -37,24 +36,23 @@ use Rattle.decl_headers.specs.Passes.{fault_if, named_parent, second_classes, un
 use Rattle.decl_headers.specs.Rounds.{entry_of}
 use Rattle.decl_headers.proofs.Gathered.{parents_gathered}
 use Rattle.decl_resolve.specs.Args.{args_faults, is_unfit}
-use Rattle.decl_resolve.specs.Classes.{params_in, constraints_in}
+use Rattle.decl_resolve.specs.Classes.{params_in}
 use Rattle.decl_resolve.specs.Index.{no_index}
 use Rattle.decl_resolve.specs.Reading.{arg_faults, arg_need, args_read, path_meant}
 use Rattle.decl_resolve.specs.Scopes.{PlainScope}
 use Rattle.decl_table.specs.declared.rows.MethodRow.{MethodRow}
 use Rattle.decl_table.specs.declared.table.Table.{Table}
-use Rattle.decl_table.specs.Inherited.{field_with, fields_in, members_in}
+use Rattle.decl_table.specs.Inherited.{field_with, fields_in}
 use Rattle.decl_table.specs.Places.{by_place, is_super_of, super_place}
 use Rattle.decl_table.specs.Plain.{PlainField, PlainSuper, plain_super}
-use Rattle.decl_table.specs.Table.{headers_of, all_given, supers_of, constructor_of, parent_args_of, parent_type_of, class_paths}
+use Rattle.decl_table.specs.Table.{headers_of, supers_of, constructor_of, parent_args_of, parent_type_of, class_paths}
 use Rattle.decl_classes.specs.Around.{class_scope}
 use Rattle.decl_classes.specs.Build.{IsReadOf, text_faults}
-use Rattle.decl_classes.specs.Rows.{all_constraint_faults, all_constraints, class_faults, fields_from, fields_meant, first_slot, member_faults, signature_faults, super_faults, supers_meant}
-use Rattle.decl_classes.specs.Signatures.{constraints_meant, constraints_faults, parent_args, parent_arg_faults, parent_faults, parent_meant, fit_faults}
+use Rattle.decl_classes.specs.Rows.{all_constraint_faults, class_faults, fields_from, fields_meant, first_slot, member_faults, super_faults}
+use Rattle.decl_classes.specs.Signatures.{constraints_meant, constraints_faults, parent_args, parent_arg_faults, parent_faults, fit_faults}
 use Rattle.decl_laws.proofs.Facts.{parent_is}
 use Rattle.lang_typed.specs.Plain.{PlainProgram, PlainClass, PlainParent}
 use Rattle.lang_typed.specs.Scope.{class_at}
-use Rattle.lang_typed.specs.Scope.{parent_of as parent_in}
 use Rattle.body_assembly.specs.Assembled.{PlainBody, class_of, field_of, parent_at}
 use Rattle.syntax_laws.specs.Written.{IsWritten}
 use Rattle.sound_lemmas.specs.Accepted.{IsAccepted}
@@ -72,7 +70,7 @@ use Rattle.sound_bodies.proofs.Slots.{own_fields as fields_own}
 use Rattle.sound_means.proofs.Around.{KnowsPaths}
 use Rattle.sound_means.proofs.Finding.{constructor_found, headers_tell, no_constructor, parent_found}
 use Rattle.sound_means.proofs.Rows.{row_means}
-use Rattle.sound_means.proofs.Scopes.{Signed, signed_known}
+use Rattle.sound_means.proofs.Scopes.{rows_atomic, Signed, signed_known}
 use Rattle.sound_means.proofs.Signatures.{ShortFields, constraints_mean, fields_mean}
 use Rattle.sound_means.proofs.Written.{args_here}
 
@@ -104,10 +102,6 @@ none_extends named class free none = by class.parent free none
         let some = fault_none (is_none (named parent.name.name)) kind.Unknown parent.name.place free in
         let nothing : is_none (named parent.name.name) ≡ true = ap is_none none in
         cc (some, nothing)
-
-rows_atomic : (params : List ParamTree) → map (λ (param : ParamRow). param.atomic) (map param_row params) ≡ map (λ (param : ParamTree). param.atomic) params
-rows_atomic [] = refl
-rows_atomic (param ∷ params) = ap (λ z. param.atomic ∷ z) (rows_atomic params)
 
 module _ (program : Program) (table : Table) (bodies : List PlainBody) (written : IsWritten program) (accepted : IsAccepted program table bodies)
   where

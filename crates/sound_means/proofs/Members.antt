@@ -1,10 +1,9 @@
 -- Each method and constructor of an accepted program is what its text means.
-use Rattle.std.proofs.Common.{◌≡◌, ◌∙◌, ℕ, zero, suc, ◌+◌, ◌≤◌, List, [], ◌∷◌, ◌++◌, All, map, length, get_or, flat_map, sum_by, Some, refl, sym, ap, subst, arith}
+use Rattle.std.proofs.Common.{◌≡◌, ◌∙◌, ℕ, suc, ◌+◌, ◌≤◌, List, [], ◌∷◌, ◌++◌, All, map, length, get_or, flat_map, sum_by, Some, refl, sym, ap, subst, arith}
 use Rattle.std.proofs.lemmas.List.{length-append, length-map}
-use Rattle.std.proofs.lemmas.Option.{none-some, slice_get-get_or, slice_get_within}
+use Rattle.std.proofs.lemmas.Option.{slice_get-get_or, slice_get_within}
 use Rattle.std.specs.List.{AllZip}
 use Rattle.std.specs.Prelude.{slice_get}
-use Rattle.lang_base.specs.Types.{PlainType, plain_type}
 use Rattle.syntax_tree.specs.declared.class.Class.{Class}
 use Rattle.syntax_tree.specs.declared.class.Formal.{Formal}
 use Rattle.syntax_tree.specs.declared.class.Member.{Member}
@@ -28,14 +27,14 @@ use Rattle.decl_headers.specs.Gathered.{param_row}
 use Rattle.decl_resolve.specs.Classes.{params_in}
 use Rattle.decl_resolve.specs.Scopes.{PlainScope}
 use Rattle.decl_table.specs.declared.table.Table.{Table}
-use Rattle.decl_table.specs.Plain.{PlainMethod, plain_method}
+use Rattle.decl_table.specs.Plain.{PlainMethod}
 use Rattle.decl_table.specs.Table.{headers_of}
 use Rattle.decl_classes.specs.Around.{class_scope}
-use Rattle.decl_classes.specs.Rows.{method_given, method_scope, said_faults, said_scope}
+use Rattle.decl_classes.specs.Rows.{method_scope, said_faults, said_scope}
 use Rattle.decl_classes.specs.Signatures.{constraints_faults, formal_faults, result_faults, summary_faults}
 use Rattle.decl_reach.specs.Bodies.{class_marks, own_marks}
 use Rattle.lang_typed.specs.Plain.{PlainProgram, PlainClass, PlainMember}
-use Rattle.lang_typed.specs.Scope.{class_at, member_at}
+use Rattle.lang_typed.specs.Scope.{member_at}
 use Rattle.body_assembly.specs.Assembled.{PlainBody, class_of, member_of}
 use Rattle.syntax_laws.specs.Written.{IsWritten}
 use Rattle.sound_lemmas.specs.Accepted.{IsAccepted}
@@ -54,8 +53,8 @@ use Rattle.sound_bodies.proofs.Membership.{IsMember, member_of_text}
 use Rattle.sound_means.proofs.Around.{KnowsPaths}
 use Rattle.sound_means.proofs.Bodies.{body_meant}
 use Rattle.sound_means.proofs.Finding.{headers_tell}
-use Rattle.sound_means.proofs.Methods.{Stands, stands_in}
-use Rattle.sound_means.proofs.Scopes.{Signed, signed_known, with_formals_known}
+use Rattle.sound_means.proofs.Methods.{stands_in}
+use Rattle.sound_means.proofs.Scopes.{rows_atomic, Signed, signed_known, with_formals_known}
 use Rattle.sound_means.proofs.Signatures.{constraints_mean, formals_mean, result_means, summary_means}
 
 -- where a method stands among members, and among classes
@@ -103,11 +102,6 @@ placed_among method n class classes at count (in_later {k = k} {classes = more} 
       there = got_later mine (methods_from (suc at) more) (length mine + w.place) w.place (record { class = class; method = method }) refl
           (subst (λ j. slice_get (methods_from j more) w.place ≡ Some (record { class = class; method = method })) next w.there);
     }
-
--- whether region parameters are atomic, in the text and in rows
-rows_atomic : (params : List ParamTree) → map (λ (param : ParamRow). param.atomic) (map param_row params) ≡ map (λ (param : ParamTree). param.atomic) params
-rows_atomic [] = refl
-rows_atomic (param ∷ params) = ap (λ z. param.atomic ∷ z) (rows_atomic params)
 
 short_formals : (formals : List Formal) → sum_by (λ (formal : Formal). suc (type_size formal.ty)) formals ≤ 4294967295 → All (λ (formal : Formal). Short formal.ty) formals
 short_formals formals small = λ i d l.

@@ -1,19 +1,17 @@
 -- The methods and constructors of a text by their numbers, and the rows that a class table has for them.
-use Rattle.std.proofs.Common.{◌≡◌, ◌∙◌, ◌⊎◌, ℕ, zero, suc, ◌+◌, ◌<◌, ◌≤◌, ◌==◌, ◌||◌, not, Bool, true, false, cond, List, [], ◌∷◌, ◌++◌, length, flat_map, map, inl, inr, Option, None, Some, refl, sym, ap, subst, arith}
+use Rattle.std.proofs.Common.{◌≡◌, ◌∙◌, ◌⊎◌, ℕ, zero, suc, ◌+◌, ◌<◌, ◌==◌, Bool, true, false, cond, List, [], ◌∷◌, ◌++◌, length, flat_map, map, inl, inr, Some, refl, sym, ap, subst, arith}
 use Rattle.std.proofs.lemmas.Bool.{eq-eqb}
 use Rattle.std.proofs.lemmas.List.{length-map}
 use Rattle.std.proofs.lemmas.List.FromFn.{get_or-range_with_len, length-range_with_len}
 use Rattle.std.proofs.lemmas.Option.{slice_get_within, slice_get-get_or}
-use Rattle.std.specs.List.{list_any, range_with_len}
+use Rattle.std.specs.List.{range_with_len}
 use Rattle.std.specs.Option.{option_map_or}
 use Rattle.std.specs.Prelude.{slice_get}
 use Rattle.lang_base.specs.declared.effect.Constraint.{Constraint}
 use Rattle.lang_base.specs.declared.refusal.Kind.TheVariants as kind
-use Rattle.lang_base.specs.declared.refusal.Refusal.{Refusal}
 use Rattle.syntax_tree.specs.declared.class.Class.{Class}
 use Rattle.syntax_tree.specs.declared.class.Member.{Member}
 use Rattle.syntax_tree.specs.declared.class.Member.TheVariants as member
-use Rattle.syntax_tree.specs.declared.class.Method.{Method}
 use Rattle.syntax_tree.specs.declared.class.Program.{Program}
 use Rattle.syntax_means.specs.Declares.{OwnMethod, member_methods, methods_from, all_methods}
 use Rattle.decl_headers.specs.declared.faults.Order.TheVariants as order
@@ -22,8 +20,7 @@ use Rattle.decl_headers.specs.Faults.{none_by}
 use Rattle.decl_headers.specs.First.{parents_in}
 use Rattle.decl_headers.specs.Numbers.{as_number}
 use Rattle.decl_headers.specs.Passes.{fault_if, is_constructor_result}
-use Rattle.decl_headers.specs.Second.{method_in, method_names, constructor_names, own_methods, own_params, own_regions, own_fields, names_in, superclasses, is_known, second_of, second_faults, wrong_at, wrong_in_class, wrong_in_method}
-use Rattle.decl_resolve.specs.Scopes.{PlainScope}
+use Rattle.decl_headers.specs.Second.{method_in, method_names, own_methods, own_params, own_regions, own_fields, names_in, superclasses, is_known, second_of, second_faults, wrong_at, wrong_in_class}
 use Rattle.decl_table.specs.declared.rows.MethodRow.{MethodRow}
 use Rattle.decl_table.specs.declared.table.Table.{Table}
 use Rattle.decl_table.specs.Plain.{PlainMethod, plain_method}
@@ -34,7 +31,7 @@ use Rattle.decl_classes.specs.Rows.{methods_from as rows_from}
 use Rattle.decl_laws.specs.Rows.{HasRows}
 use Rattle.decl_laws.proofs.Facts.{got_either}
 use Rattle.sound_lemmas.proofs.Free.{append_none, fault_none, none_reported, or_false}
-use Rattle.sound_lemmas.proofs.Lists.{some_same, map_there, got_mapped, there}
+use Rattle.sound_lemmas.proofs.Lists.{some_same, got_mapped, there}
 use Rattle.sound_decls.proofs.Text.{flat_free}
 
 -- the rows of methods and constructors, where so many stand before them in the text

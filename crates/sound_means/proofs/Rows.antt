@@ -9,13 +9,12 @@ use Rattle.std.specs.Prelude.{slice_get, unwrap_or}
 use Rattle.syntax_tree.specs.declared.class.MethodResult.{MethodResult}
 use Rattle.syntax_tree.specs.declared.class.MethodResult.TheVariants as outcome
 use Rattle.syntax_tree.specs.declared.class.Program.{Program}
-use Rattle.syntax_tree.specs.Nd.{program_uses_nd}
 use Rattle.syntax_means.specs.Declares.{OwnMethod, DeclaresMethod, MeansIn, method_name}
 use Rattle.syntax_means.specs.Declares.MeansIn.{its_own, inherited}
 use Rattle.syntax_means.specs.Means.{RowMeans}
 use Rattle.decl_headers.specs.Headers.{chain, nearest, parent_of, parents_of, class_count}
 use Rattle.decl_headers.specs.Passes.{is_constructor_result}
-use Rattle.decl_headers.specs.Rounds.{entry_of, up}
+use Rattle.decl_headers.specs.Rounds.{up}
 use Rattle.decl_headers.proofs.Cycles.{up-then}
 use Rattle.decl_headers.proofs.Inheriting.{made_step}
 use Rattle.decl_headers.proofs.Walks.{top_none}
@@ -23,23 +22,23 @@ use Rattle.decl_table.specs.declared.rows.MethodRow.{MethodRow}
 use Rattle.decl_table.specs.declared.table.Table.{Table}
 use Rattle.decl_table.specs.Inherited.{declared_methods, with_member, members_after, members_in}
 use Rattle.decl_table.specs.Overridden.{method_named}
-use Rattle.decl_table.specs.Places.{entry_at, last_from, by_id, is_method_of, method_number}
+use Rattle.decl_table.specs.Places.{entry_at, last_from, by_id, is_method_of}
 use Rattle.decl_table.specs.Plain.{PlainMethod}
 use Rattle.decl_table.specs.Table.{headers_of, methods_of, own_method, overridden_by, row_of, parent_args_of}
-use Rattle.decl_laws.specs.Rows.{RowIs, as_overridden, as_next, is_own, HasRows}
+use Rattle.decl_laws.specs.Rows.{RowIs, as_overridden, as_next, HasRows}
 use Rattle.decl_laws.specs.Rows.{inherited as inherited_rows}
 use Rattle.decl_laws.proofs.Facts.{Facts, facts_of, parent_is, IsMethod, own_is, named_is, over_is}
 use Rattle.decl_laws.proofs.Given.{rows_given}
 use Rattle.decl_laws.proofs.Numbers.{one_row, owner_of}
 use Rattle.decl_laws.proofs.Stand.{all_stand, rows_kept}
 use Rattle.lang_typed.specs.Plain.{PlainProgram, PlainClass, PlainParent}
-use Rattle.lang_typed.specs.Scope.{row_at, class_at}
-use Rattle.body_assembly.specs.Assembled.{PlainBody, class_of, parent_at}
+use Rattle.lang_typed.specs.Scope.{row_at}
+use Rattle.body_assembly.specs.Assembled.{PlainBody, parent_at}
 use Rattle.sound_lemmas.specs.Accepted.{IsAccepted}
 use Rattle.sound_lemmas.proofs.Free.{and_split}
 use Rattle.sound_lemmas.proofs.Lists.{some_same, map_there}
 use Rattle.sound_decls.proofs.Above.{P, parent_there, upper_there, class_there}
-use Rattle.sound_means.proofs.Methods.{Row, row_own, own_row, one_name}
+use Rattle.sound_means.proofs.Methods.{row_own, own_row, one_name}
 
 -- what a list has after a change
 set_from : (xs : List ℕ) (at value r m : ℕ) → slice_get (slice_set xs at value) r ≡ Some m → (slice_get xs r ≡ Some m) ⊎ ((r ≡ at) × (m ≡ value))

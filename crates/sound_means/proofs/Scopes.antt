@@ -1,13 +1,12 @@
 -- What is known around the signatures of a class, and around those of a method: the region parameters of the class, and after
 -- them those of the method.
-use Rattle.std.proofs.Common.{◌≡◌, ◌∙◌, ◌⊎◌, ℕ, zero, suc, ◌+◌, ◌<◌, ◌≤◌, ◌==◌, Bool, true, false, cond, fold, List, [], ◌∷◌, ◌++◌, map, length, inl, inr, Option, None, Some, option_map, option_and_then, refl, sym, ap, subst, arith}
+use Rattle.std.proofs.Common.{◌≡◌, ◌∙◌, ◌⊎◌, ℕ, zero, suc, ◌+◌, ◌≤◌, ◌==◌, Bool, true, false, cond, fold, List, [], ◌∷◌, ◌++◌, map, length, inl, inr, Option, None, Some, option_map, option_and_then, refl, sym, ap, subst, arith}
 use Rattle.std.proofs.lemmas.Bool.{eqb-true, eq-eqb, false≢true}
 use Rattle.std.proofs.lemmas.List.{append-nil, append_assoc, length-map}
 use Rattle.std.proofs.lemmas.Option.{none-some, slice_get-map, slice_get_within}
 use Rattle.std.specs.Option.{option_map_or}
 use Rattle.std.specs.Prelude.{slice_get}
 use Rattle.syntax_tree.specs.declared.class.Formal.{Formal}
-use Rattle.syntax_tree.specs.declared.class.Program.{Program}
 use Rattle.syntax_tree.specs.declared.region.ParamTree.{ParamTree}
 use Rattle.syntax_means.specs.Bodies.{with_local}
 use Rattle.syntax_means.specs.Means.{with_formals}
@@ -85,6 +84,11 @@ no_name at found (other ∷ names) name e = by (other == name) refl (no_name (su
 names_folded : (params : List ParamTree) (names : Names Bool) → names_in (fold (λ names param. with_name names param.name param.atomic) names params) ≡ names_in names ++ map (λ (param : ParamTree). param.name) params
 names_folded [] names = sym (append-nil (names_in names))
 names_folded (param ∷ params) names = names_folded params (with_name names param.name param.atomic) ∙ append_assoc (names_in names) (param.name ∷ []) (map (λ (param : ParamTree). param.name) params)
+
+-- whether region parameters are atomic, in the text and in rows
+pub rows_atomic : (params : List ParamTree) → map (λ (param : ParamRow). param.atomic) (map param_row params) ≡ map (λ (param : ParamTree). param.atomic) params
+rows_atomic [] = refl
+rows_atomic (param ∷ params) = ap (λ z. param.atomic ∷ z) (rows_atomic params)
 
 abbrev names_of : List ParamTree → List ℕ
 names_of params = map (λ param. param.name) params

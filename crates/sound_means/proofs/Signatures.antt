@@ -1,15 +1,13 @@
 -- What the parts of a signature say without faults is what their trees mean.
-use Rattle.std.proofs.Common.{◌≡◌, ◌∙◌, ◌⊎◌, ◌↔◌, ℕ, zero, suc, ◌+◌, ◌≤◌, false, List, [], ◌∷◌, ◌++◌, All, map, length, flat_map, filter_map, Contains, inl, inr, ⊎_elim, Option, None, Some, option_map, option_and_then, refl, sym, ap, subst, arith}
+use Rattle.std.proofs.Common.{◌≡◌, ◌∙◌, ◌⊎◌, ℕ, suc, ◌+◌, false, List, [], ◌∷◌, ◌++◌, All, map, flat_map, Contains, ⊎_elim, Option, None, Some, option_map, option_and_then, refl, sym, ap, subst}
 use Rattle.std.proofs.lemmas.List.Elements.{All-head, All-tail, Contains-append_cases, Contains-append_left, Contains-append_right}
 use Rattle.std.specs.List.{AllZip, cons_option}
 use Rattle.std.specs.Prelude.{slice_get, unwrap_or}
 use Rattle.lang_base.specs.declared.effect.Access.{Access}
 use Rattle.lang_base.specs.declared.effect.Access.TheVariants.{Read, Write}
-use Rattle.lang_base.specs.declared.effect.Constraint.{Constraint}
 use Rattle.lang_base.specs.declared.effect.Effect.{Effect}
-use Rattle.lang_base.specs.declared.region.Rpl.{Rpl}
 use Rattle.lang_base.specs.Effects.{gathered}
-use Rattle.lang_base.specs.Types.{PlainType, void}
+use Rattle.lang_base.specs.Types.{void}
 use Rattle.syntax_tree.specs.declared.class.Field.{Field}
 use Rattle.syntax_tree.specs.declared.class.Formal.{Formal}
 use Rattle.syntax_tree.specs.declared.class.Item.{Item}
@@ -19,7 +17,6 @@ use Rattle.syntax_tree.specs.declared.class.MethodResult.{MethodResult}
 use Rattle.syntax_tree.specs.declared.class.MethodResult.TheVariants as outcome
 use Rattle.syntax_tree.specs.declared.class.SummaryTree.{SummaryTree}
 use Rattle.syntax_tree.specs.declared.region.ConstrTree.{ConstrTree}
-use Rattle.syntax_tree.specs.declared.region.RplTree.{RplTree}
 use Rattle.syntax_tree.specs.declared.region.TypeTree.{TypeTree}
 use Rattle.syntax_means.specs.Declares.{member_fields}
 use Rattle.syntax_means.specs.Means.{ConstraintMeans, FieldMeans, ItemMeans, ResultMeans, SummaryMeans}
@@ -30,9 +27,8 @@ use Rattle.decl_headers.specs.Numbers.{as_number}
 use Rattle.decl_resolve.specs.Index.{no_index}
 use Rattle.decl_resolve.specs.Scopes.{PlainScope}
 use Rattle.decl_resolve.specs.Written.{type_faults}
-use Rattle.decl_table.specs.Plain.{PlainField}
 use Rattle.decl_classes.specs.Rows.{field_row, field_faults, fields_from, member_faults, method_faults}
-use Rattle.decl_classes.specs.Signatures.{rpl_meant, rpl_faults, constraint_meant, constraint_faults, constraints_meant, constraints_faults, known_type, known_type_faults, region_of_field, field_region_faults, formal_types, formal_faults, result_type, result_faults, effect_meant, effects_meant, item_faults, summary_meant, summary_faults}
+use Rattle.decl_classes.specs.Signatures.{rpl_meant, rpl_faults, constraint_meant, constraint_faults, constraints_meant, constraints_faults, known_type, known_type_faults, field_region_faults, formal_types, formal_faults, result_type, result_faults, effect_meant, effects_meant, item_faults, summary_meant, summary_faults}
 use Rattle.lang_typed.specs.Statements.{SameEffects}
 use Rattle.body_assembly.specs.Assembled.{field_of}
 use Rattle.sound_lemmas.proofs.Free.{append_none, joined_free}

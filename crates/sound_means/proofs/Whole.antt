@@ -1,5 +1,5 @@
 -- The typed program of an accepted one is what its text means.
-use Rattle.std.proofs.Common.{◌≡◌, ◌∙◌, ℕ, zero, suc, ◌+◌, ◌<◌, ◌≤◌, ◌==◌, ◌&&◌, ◌||◌, not, Bool, true, false, cond, is_none, List, [], ◌∷◌, ◌++◌, map, length, flat_map, Option, None, Some, option_map, option_and_then, refl, sym, ap, subst, arith}
+use Rattle.std.proofs.Common.{◌≡◌, ◌∙◌, ℕ, suc, ◌+◌, ◌≤◌, ◌==◌, ◌&&◌, ◌||◌, not, Bool, true, false, cond, is_none, List, [], ◌∷◌, ◌++◌, map, length, flat_map, Option, None, Some, option_map, option_and_then, refl, sym, ap, subst, arith}
 use Rattle.std.proofs.lemmas.List.{length-map, map-append}
 use Rattle.std.proofs.lemmas.List.FromFn.{length-range_with_len}
 use Rattle.std.proofs.lemmas.Option.{get_or_from_slice_get}
@@ -25,9 +25,9 @@ use Rattle.decl_headers.specs.declared.header.Headers.{Headers}
 use Rattle.decl_headers.specs.declared.header.RegionRow.{RegionRow}
 use Rattle.decl_headers.specs.Faults.{none_by}
 use Rattle.decl_headers.specs.First.{parents_in}
-use Rattle.decl_headers.specs.Gathered.{object_fields, name_number}
+use Rattle.decl_headers.specs.Gathered.{object_fields}
 use Rattle.decl_headers.specs.Gathered.{all_regions as rows_from, member_regions as member_rows}
-use Rattle.decl_headers.specs.Headers.{class_of, header_of, main_of, class_count, regions_of}
+use Rattle.decl_headers.specs.Headers.{class_of, header_of, main_of, class_count}
 use Rattle.decl_headers.specs.Numbers.{as_number}
 use Rattle.decl_headers.specs.Passes.{fault, fault_if}
 use Rattle.decl_headers.proofs.Gathered.{length_rows}
