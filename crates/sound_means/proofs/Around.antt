@@ -1,6 +1,6 @@
 -- What is known around a place, as far as written paths and types ask: what the headers say is what the tree declares, and
 -- the names in scope for the checker stand around the place.
-use Rattle.std.proofs.Common.{◌≡◌, ℕ, List, map, slice_get, Option, Some, None}
+use Rattle.std.proofs.Common.{◌≡◌, ℕ, map, slice_get, Some, None}
 use Rattle.syntax_tree.specs.declared.class.Program.{Program}
 use Rattle.decl_headers.specs.declared.header.Headers.{Headers}
 use Rattle.decl_headers.specs.Headers.{class_of, region_of}

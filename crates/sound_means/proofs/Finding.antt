@@ -1,5 +1,5 @@
 -- What the class table of an accepted program finds by a name is what the tree declares by it.
-use Rattle.std.proofs.Common.{◌≡◌, ◌∙◌, ◌⊎◌, ℕ, zero, suc, ◌+◌, ◌<◌, ◌≤◌, ◌==◌, ◌&&◌, not, Bool, true, false, cond, List, [], ◌∷◌, ◌++◌, map, length, flat_map, codes, inl, inr, Option, Some, None, option_map, option_and_then, refl, sym, ap, subst, arith}
+use Rattle.std.proofs.Common.{◌≡◌, ◌∙◌, ◌⊎◌, ℕ, zero, suc, ◌+◌, ◌<◌, ◌≤◌, ◌==◌, ◌&&◌, not, Bool, true, false, cond, List, [], ◌∷◌, ◌++◌, map, length, flat_map, inl, inr, Option, Some, None, option_map, option_and_then, refl, sym, ap, subst, arith}
 use Rattle.std.proofs.lemmas.Bool.{and_parts, eqb-true, eq-eqb}
 use Rattle.std.proofs.lemmas.List.{length-append, length-map, map-append}
 use Rattle.std.proofs.lemmas.List.Sums.{sum_by-cons}
@@ -9,7 +9,6 @@ use Rattle.std.specs.List.{filter, position_from, sum_by}
 use Rattle.std.specs.Option.{option_map_or}
 use Rattle.std.specs.Prelude.{slice_get}
 use Rattle.std.specs.Str.{bytes_eq}
-use Rattle.lang_base.specs.declared.effect.Constraint.{Constraint}
 use Rattle.syntax_tree.specs.declared.class.Class.{Class}
 use Rattle.syntax_tree.specs.declared.class.Field.{Field}
 use Rattle.syntax_tree.specs.declared.class.Member.{Member}
@@ -20,38 +19,37 @@ use Rattle.syntax_tree.specs.declared.class.MethodResult.TheVariants as outcome
 use Rattle.syntax_tree.specs.declared.class.Parent.{Parent}
 use Rattle.syntax_tree.specs.declared.class.Program.{Program}
 use Rattle.syntax_tree.specs.declared.region.Named.{Named}
-use Rattle.syntax_tree.specs.Size.{member_size, class_size, params_size, parent_size}
+use Rattle.syntax_tree.specs.Size.{member_size, class_size}
 use Rattle.decl_headers.specs.declared.header.Header.{Header}
 use Rattle.decl_headers.specs.declared.header.Headers.{Headers}
 use Rattle.decl_headers.specs.declared.header.ParamRow.{ParamRow}
 use Rattle.decl_headers.specs.declared.header.RegionRow.{RegionRow}
 use Rattle.decl_headers.specs.First.{class_named, parents_in}
-use Rattle.decl_headers.specs.Gathered.{name_number, object_fields, header_row, headers_in, region_rows}
+use Rattle.decl_headers.specs.Gathered.{name_number, object_fields, header_row, region_rows}
 use Rattle.decl_headers.specs.Gathered as rows
-use Rattle.decl_headers.specs.Headers.{chain, nearest, upwards, class_of, class_count, header_of, parent_of, own_region, region_of}
+use Rattle.decl_headers.specs.Headers.{chain, nearest, upwards, class_of, class_count, header_of, parent_of, own_region}
 use Rattle.decl_headers.specs.Numbers.{as_number, last_place}
 use Rattle.decl_headers.specs.Passes.{first_named, named_parent, is_constructor_result}
-use Rattle.decl_headers.specs.Rounds.{entry_of}
 use Rattle.decl_headers.proofs.Gathered.{length_rows}
 use Rattle.decl_resolve.specs.Classes.{params_in}
 use Rattle.decl_resolve.specs.Scopes.{PlainScope}
 use Rattle.decl_table.specs.declared.rows.FieldRow.{FieldRow}
 use Rattle.decl_table.specs.declared.rows.MethodRow.{MethodRow}
 use Rattle.decl_table.specs.declared.table.Table.{Table}
-use Rattle.decl_table.specs.Places.{last_from, by_place, by_id, is_field_of, is_method_of, is_constructor_of, method_number, constructor_number}
-use Rattle.decl_table.specs.Plain.{PlainField, PlainMethod, plain_field, plain_method}
+use Rattle.decl_table.specs.Places.{last_from, by_place, by_id, is_field_of, is_method_of, is_constructor_of, constructor_number}
+use Rattle.decl_table.specs.Plain.{PlainField, PlainMethod, plain_field}
 use Rattle.decl_table.specs.Inherited.{field_with, fields_in}
 use Rattle.decl_table.specs.Table.{headers_of, fields_of, own_field, field_of, methods_of, numbered, own_method, method_of, constructor_of, parent_args_of}
 use Rattle.decl_classes.specs.Around.{class_scope}
-use Rattle.decl_classes.specs.Rows.{fields_from, fields_meant, first_slot, method_row}
-use Rattle.decl_laws.proofs.Facts.{Facts, IsMethod, facts_of, nearest_in, own_is}
+use Rattle.decl_classes.specs.Rows.{fields_from, fields_meant, first_slot}
+use Rattle.decl_laws.proofs.Facts.{Facts, facts_of, nearest_in, own_is}
 use Rattle.body_assembly.specs.Assembled.{PlainBody}
 use Rattle.body_assembly.specs.Assembled.{class_of as typed_class, field_of as typed_field}
 use Rattle.lang_typed.specs.Plain.{PlainProgram, PlainClass, PlainParent}
 use Rattle.lang_typed.specs.Scope.{class_at}
 use Rattle.lang_typed.specs.Scope.{parent_of as parent_in}
 use Rattle.syntax_laws.specs.Written.{IsWritten}
-use Rattle.syntax_means.specs.Declares.{OwnRegion, OwnMethod, member_regions, member_fields, own_fields, regions_from, all_regions, all_methods, spelled, method_name, ClassNamed, DeclaresRegion, IsMethodOf, DeclaresField, DeclaresMethod, DeclaresConstructor, inherited_fields, MeansIn}
+use Rattle.syntax_means.specs.Declares.{OwnRegion, OwnMethod, member_regions, member_fields, regions_from, all_regions, all_methods, spelled, method_name, ClassNamed, DeclaresRegion, IsMethodOf, DeclaresField, DeclaresMethod, DeclaresConstructor, inherited_fields, MeansIn}
 use Rattle.sound_lemmas.specs.Accepted.{IsAccepted}
 use Rattle.sound_lemmas.proofs.Lists.{some_same, and_then_there, map_there, got_mapped, there}
 use Rattle.sound_decls.proofs.Above.{upper_there}
@@ -60,7 +58,7 @@ use Rattle.sound_decls.proofs.Text.{class_header}
 use Rattle.sound_bodies.specs.Whole.{made_of}
 use Rattle.sound_bodies.proofs.Lineage.{class_there, parent_there, parent_is}
 use Rattle.sound_bodies.proofs.Sizes.{first_is, slots_few}
-use Rattle.sound_bodies.proofs.Slots.{Stands, meant_small, stands_in}
+use Rattle.sound_bodies.proofs.Slots.{meant_small, stands_in}
 use Rattle.sound_bodies.proofs.Slots.{own_fields as fields_of_class}
 use Rattle.sound_means.proofs.Around.{HeadersTell}
 use Rattle.sound_means.proofs.Methods.{Row, own_row, row_own}
@@ -193,7 +191,7 @@ all_rows at (class ∷ classes) few =
     ∙ sym (map-append row_of (flat_map (member_regions at) class.members) (regions_from (suc at) classes))
 
 member_few : (c : ℕ) (m : Member) → length (member_regions c m) ≤ member_size m
-member_few c (member.Regions is_atomic names) = let l = length-map names (λ (named : Named). record { class = c; name = named.name; is_atomic = is_atomic }) in omega (arith, l)
+member_few c (member.Regions is_atomic names) = let l = length-map {B = OwnRegion} names (λ (named : Named). record { class = c; name = named.name; is_atomic = is_atomic }) in omega (arith, l)
 member_few c (member.Field field) = omega arith
 member_few c (member.Method method) = omega arith
 
@@ -317,8 +315,7 @@ module _ (program : Program) (table : Table) (bodies : List PlainBody) (written 
         let many = as_many in
         let few = classes_few in
         let number : as_number at ≡ at = omega (arith, l, few) in
-        let h = header_there at w.0 w.1 in
-        (
+        let h = header_there at w.0 w.1 in (
           typed_class table at,
           class_there program table bodies accepted at (omega (arith, l, many)),
           ap (λ k. option_map_or (λ (header : Header). map (λ (param : ParamRow). param.atomic) header.params) (header_of (headers_of table) k) []) number
@@ -349,8 +346,7 @@ module _ (program : Program) (table : Table) (bodies : List PlainBody) (written 
               let same : w.0 ≡ n = omega (arith, number, l, most, small) in
               let test = and_parts (w.1.owner == c) (w.1.name == name) w.3 in
               let owner : o.0.class ≡ c = ap (λ (r : RegionRow). r.owner) o.2 ∙ eqb-true w.1.owner c test.0 in
-              let called : o.0.name ≡ name = ap (λ (r : RegionRow). r.name) o.2 ∙ eqb-true w.1.name name test.1 in
-              (
+              let called : o.0.name ≡ name = ap (λ (r : RegionRow). r.name) o.2 ∙ eqb-true w.1.name name test.1 in (
                 o.0.is_atomic,
                 subst (λ k. slice_get (all_regions program) k ≡ Some (record { class = c; name = name; is_atomic = o.0.is_atomic })) same
                     (o.1 ∙ ap (λ k. Some (record { class = k; name = o.0.name; is_atomic = o.0.is_atomic })) owner
@@ -397,22 +393,19 @@ module _ (program : Program) (table : Table) (bodies : List PlainBody) (written 
     pub inherited_count : (c : ℕ) → inherited_fields P c ≡ first_slot (headers_of table) c
     inherited_count c = by (parent_in P c) refl ∙ sym (first_is program table accepted.rows written.small c)
       where
-        abbrev with_args : List PlainField → List PlainField
-        with_args = map (field_with (parent_args_of table c))
-
         none : (o : Option ℕ) → parent_of (headers_of table) c ≡ o → parent_in P c ≡ None → o ≡ None
         none None up at_p = refl
         none (Some above) up at_p = let has = parent_there program table bodies accepted c above up in cc
 
         by : (o : Option PlainParent) → parent_in P c ≡ o → option_map_or (λ (p : PlainParent). option_map_or (λ (k : PlainClass). length k.fields) (class_at P p.class) 0) o 0
-            ≡ length (option_map_or with_args (option_map (fields_in table) (parent_of (headers_of table) c)) [])
-        by None at_p = sym (ap (λ o. length (option_map_or with_args (option_map (fields_in table) o) [])) (none (parent_of (headers_of table) c) refl at_p))
+            ≡ length (option_map_or (map (field_with (parent_args_of table c))) (option_map (fields_in table) (parent_of (headers_of table) c)) [])
+        by None at_p = sym (ap (λ o. length (option_map_or (map (field_with (parent_args_of table c))) (option_map (fields_in table) o) [])) (none (parent_of (headers_of table) c) refl at_p))
         by (Some p) at_p =
             let up = (parent_is program table bodies accepted c p at_p).1 in
             let l = upper_there program table bodies accepted c p.class up in
             ap (λ o. option_map_or (λ (k : PlainClass). length k.fields) o 0) (class_there program table bodies accepted p.class l)
             ∙ length-map (fields_in table p.class) typed_field ∙ sym (length-map (fields_in table p.class) (field_with (parent_args_of table c)))
-            ∙ sym (ap (λ o. length (option_map_or with_args (option_map (fields_in table) o) [])) up)
+            ∙ sym (ap (λ o. length (option_map_or (map (field_with (parent_args_of table c))) (option_map (fields_in table) o) [])) up)
 
     abbrev meant : List PlainField
     meant = fields_meant (headers_of table) table.given 0 program.classes
@@ -446,8 +439,7 @@ module _ (program : Program) (table : Table) (bodies : List PlainBody) (written 
             let room = slots_few program table accepted.rows written.small (0 + w.place) in
             let own = ap length (fields_of_class (headers_of table) table.given 0 program.classes w.place w.class w.is (omega (arith, few))) in
             let slot = row_slot (class_scope (headers_of table) table.given (0 + w.place)) (first_slot (headers_of table) (0 + w.place)) w.class.members w.index (plain_field one) w.there (omega (arith, room, own)) in
-            let zero_plus : 0 + w.place ≡ c = omega (arith, class_is) in
-            (
+            let zero_plus : 0 + w.place ≡ c = omega (arith, class_is) in (
               w.class,
               f.0,
               w.index,
@@ -493,8 +485,7 @@ module _ (program : Program) (table : Table) (bodies : List PlainBody) (written 
     method_declared name n c is =
         let m = own_is table facts c name n is in
         let w = row_own program table accepted.rows n m.row m.there in
-        let test = and_parts (not m.row.is_constructor) (m.row.owner == c) m.own in
-        (
+        let test = and_parts (not m.row.is_constructor) (m.row.owner == c) m.own in (
           w.0.method,
           own_there n c w.0 w.1.own_there (row_owner n w.0 m.row w.1 ∙ eqb-true m.row.owner c test.1),
           λ made. plain m.row.is_constructor (row_result n w.0 m.row w.1 ∙ ap is_constructor_result made) test.0,

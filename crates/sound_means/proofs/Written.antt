@@ -37,7 +37,7 @@ use Rattle.decl_resolve.specs.Paths.{region_meant}
 use Rattle.decl_resolve.specs.Reading.{index_meant, elem_meant, begun, head_meant, longer, goes_on, path_meant, path_faults, args_read}
 use Rattle.decl_resolve.specs.Scoped.{value_in}
 use Rattle.decl_resolve.specs.Scopes.{PlainScope, param_meant}
-use Rattle.decl_resolve.specs.Written.{base_read, base_type, at_suffix, suffix_meant, paths_from, is_indexed, arrays_from, type_read, judged_type, type_index, type_meant}
+use Rattle.decl_resolve.specs.Written.{base_read, base_type, at_suffix, suffix_meant, paths_from, is_indexed, arrays_from, type_read, judged_type, type_meant}
 use Rattle.decl_classes.specs.Signatures.{field_region_faults, region_of_field}
 use Rattle.body_exprs.specs.declared.env.Env.{Env}
 use Rattle.body_exprs.specs.Arrays.{made_names, front_of, around_own, path_reported, own_path, type_reported, array_reported, array_with, created_array, own_place, full_path}
