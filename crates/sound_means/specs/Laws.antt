@@ -14,10 +14,11 @@ use Rattle.sound_bodies.specs.Whole.{made_of}
 use Rattle.sound_lemmas.specs.Accepted.{IsAccepted}
 use Rattle.tool_front.specs.Front.{AreNames, IsPassed}
 
--- the typed program that is made of an accepted one is what its tree means
+-- the typed program that is made of an accepted one, of no more names than numbers, is what its tree means
 abbrev pub AcceptedMeans : Type 0
 AcceptedMeans =
-    (program : Program) (table : Table) (bodies : List PlainBody) → IsWritten program → IsAccepted program table bodies → Means program (made_of program table bodies)
+    (program : Program) (table : Table) (bodies : List PlainBody) → length program.names ≤ 4294967295 → IsWritten program → IsAccepted program table bodies →
+    Means program (made_of program table bodies)
 
 -- a text that passes has a tree, which means its typed program, and this is well typed
 abbrev pub PassedMeans : Type 0
