@@ -1,4 +1,6 @@
-pub mod Around
-pub mod Finding
-pub mod Written
+mod Around
+mod Finding
 mod Methods
+mod Names
+mod Texts
+mod Written
