@@ -13,7 +13,6 @@ use Rattle.syntax_tree.specs.declared.class.Class.{Class}
 use Rattle.syntax_tree.specs.declared.class.Field.{Field}
 use Rattle.syntax_tree.specs.declared.class.Member.{Member}
 use Rattle.syntax_tree.specs.declared.class.Member.TheVariants as member
-use Rattle.syntax_tree.specs.declared.class.Method.{Method}
 use Rattle.syntax_tree.specs.declared.class.MethodResult.{MethodResult}
 use Rattle.syntax_tree.specs.declared.class.MethodResult.TheVariants as outcome
 use Rattle.syntax_tree.specs.declared.class.Parent.{Parent}
@@ -160,7 +159,7 @@ nearest_means headers P f D m n found none parent (suc steps) class e =
 
 -- region names
 
-abbrev row_of : OwnRegion → RegionRow
+abbrev pub row_of : OwnRegion → RegionRow
 row_of own = record { owner = own.class; name = own.name; is_atomic = own.is_atomic }
 
 named_rows : (c : ℕ) (is_atomic : Bool) (names : List Named) →
@@ -280,16 +279,16 @@ module _ (program : Program) (table : Table) (bodies : List PlainBody) (written 
     classes_few : length program.classes < 4294967295
     classes_few = accepted.rows.counted.0
 
-    as_many : class_count (headers_of table) ≡ length program.classes
+    pub as_many : class_count (headers_of table) ≡ length program.classes
     as_many =
         ap (λ (h : Headers). length h.rows) accepted.rows.is_table.headers
         ∙ length_rows (parents_in program.classes) (object_fields program.classes (parents_in program.classes)) 0 program.classes
 
-    abbrev header_at : ℕ → Class → Header
+    abbrev pub header_at : ℕ → Class → Header
     header_at = header_row (parents_in program.classes) (object_fields program.classes (parents_in program.classes))
 
     -- the header of a class
-    header_there : (c : ℕ) (class : Class) → slice_get program.classes c ≡ Some class → header_of (headers_of table) c ≡ Some (header_at (0 + c) class)
+    pub header_there : (c : ℕ) (class : Class) → slice_get program.classes c ≡ Some class → header_of (headers_of table) c ≡ Some (header_at (0 + c) class)
     header_there c class is =
         ap (λ (h : Headers). header_of h c) accepted.rows.is_table.headers
         ∙ class_header (parents_in program.classes) (object_fields program.classes (parents_in program.classes)) 0 program.classes c class is
@@ -327,7 +326,7 @@ module _ (program : Program) (table : Table) (bodies : List PlainBody) (written 
     up_there c above is = (parent_args_of table c, parent_there program table bodies accepted c above is)
 
     -- the rows of region names are those that the text declares
-    region_list : (headers_of table).regions ≡ map row_of (all_regions program)
+    pub region_list : (headers_of table).regions ≡ map row_of (all_regions program)
     region_list = let few = classes_few in ap (λ (h : Headers). h.regions) accepted.rows.is_table.headers ∙ all_rows 0 program.classes (omega (arith, few))
 
     abbrev is_region : ℕ → ℕ → RegionRow → Bool

@@ -1,14 +1,16 @@
-pub mod Around
-pub mod Finding
-pub mod Written
+mod Around
 mod Bodies
 mod Classes
 mod Expressions
+mod Finding
 mod Knows
 mod Members
 mod Methods
+mod Names
 mod Rows
 mod Scopes
 mod Signatures
 mod Statements
+mod Texts
 mod Whole
+mod Written

@@ -1,8 +1,25 @@
-//! Laws of what is accepted, each the clause of a function that does nothing.
+//! Laws of what is accepted, each the clause of a function that does nothing but name others.
 
-ghost use Rattle.sound_means.specs.Laws.{AcceptedMeans};
+ghost use Rattle.sound_means.specs.Laws.{AcceptedMeans, NamesMean, PassedMeans};
+
+use sound_bodies::laws::law_well_typed;
+use sound_lemmas::laws::law_has_rows;
+use syntax_laws::laws::law_written;
+use syntax_tokens::one_cutting;
 
 /// The typed program of an accepted program is what its tree means.
 pub fn law_accepted_means()
     ensures means { AcceptedMeans }
 {}
+
+/// A text that passes has a tree, which means its typed program, and this is well typed; and its names are those of the tree.
+pub fn law_means()
+    ensures means { PassedMeans }
+    ensures names { NamesMean }
+{
+    law_accepted_means();
+    law_well_typed();
+    law_written();
+    law_has_rows();
+    one_cutting();
+}
