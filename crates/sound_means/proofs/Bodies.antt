@@ -26,7 +26,6 @@ use Rattle.syntax_tree.specs.Targets.{HasTargets, AllHaveTargets}
 use Rattle.syntax_laws.specs.Written.{IsWritten}
 use Rattle.lang_typed.specs.Plain.{PlainProgram, PlainClass, PlainMember, TypedStmt}
 use Rattle.syntax_means.specs.Bodies.{AllMean, IsLength}
-use Rattle.syntax_means.specs.Declares.{spelled}
 use Rattle.syntax_means.specs.Means.{in_class, in_method}
 use Rattle.syntax_means.specs.Means.{param_names as names_written}
 use Rattle.syntax_means.specs.Paths.{Around}
