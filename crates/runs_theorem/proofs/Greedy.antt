@@ -11,6 +11,7 @@ use Rattle.code_instrs.specs.declared.code.Code.{Code}
 use Rattle.code_scheme.specs.Whole.{compiled}
 use Rattle.runs_theory.specs.Actions.{Program}
 use Rattle.runs_theory.specs.Blocks.{Allowed, Legal}
+use Rattle.runs_theory.specs.Objects.{Name}
 use Rattle.runs_theory.specs.Order.{Limited, Outcome}
 use Rattle.runs_theory.specs.Runs.{Event, Run}
 use Rattle.runs_theory.specs.Schedules.{Finished, Greatest, Greedy, Limits, Numbered, Ran, Ready, Within, ended, no_room, over}
@@ -95,7 +96,7 @@ module _ (all_ready : ReadyTasksAreReady) (P : PlainProgram) (resolved : Resolve
 
 -- and it comes out as the elision, however its last step came
 module _ (keeps : EachKeeps) (greedy : GreedyIsElided) (beyond_too : GreedyOverIsLimited) (P : PlainProgram) (arg : ℤ) (L : Limits) where
-  limited_so : elided P arg L ≡ LimitedIn L.steps L.cells → reported (Limited L.steps L.cells) ≡ reported (elided P arg L)
+  limited_so : elided P arg L ≡ LimitedIn L.steps L.cells → reported {N = Name} (Limited L.steps L.cells) ≡ reported (elided P arg L)
   limited_so e = ap reported (sym e)
 
   comes_out : {ks : List ℕ} {q : Outcome} → RecordsGreedy (stepped P arg) L ks → Finished (stepped P arg) L ks q
