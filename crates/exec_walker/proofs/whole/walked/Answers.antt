@@ -19,7 +19,7 @@ pub loop-walker-init : goal.loop-walker-init
 loop-walker-init c = reached_first (plain_program c.args.program.now) _ c.args.limits c.in_ok-walker.walker c.in_ok-walker.ensures
 
 pub to_next_cost-requires : goal.to_next_cost-requires
-to_next_cost-requires c = (limits c.args.limits, c.loop-walker.invariant.1, c.loop-walker.invariant.3)
+to_next_cost-requires c = (c.args.limits, c.loop-walker.invariant.1, c.loop-walker.invariant.3)
 
 pub returns-in_err-over : goal.returns-in_err-over
 returns-in_err-over c =
