@@ -16,12 +16,14 @@ use Rattle.exec_run.specs.history.Replaying.{GoesWrong, after_end, not_ready, to
 use Rattle.exec_machine.specs.Keeping.{IsReplayed, Played}
 use Rattle.exec_machine.specs.Premise.{CanProgress}
 use Rattle.exec_machine.specs.Replay.{LeadsTo, Moment}
-use Rattle.runs_simulation.specs.Laws.{Records}
+use Rattle.runs_simulation.specs.Laws.{ReadyTasksAreReady, Records}
 use Rattle.runs_simulation.proofs.Blocks.{some_there}
 use Rattle.runs_simulation.proofs.Ready.{ready_there}
 use Rattle.runs_simulation.proofs.Recorded.{LedTo, led_to, recorded, right}
 use Rattle.runs_simulation.proofs.Waiting.{all_rest}
 use Rattle.exec_run.specs.Replays.{HasFollowed}
+use Rattle.tool_top.specs.Refusing.{CannotGoOn, finished}
+use Rattle.tool_top.specs.Refusing.{not_ready as refused, too_early as ends_early}
 use Rattle.exec_run.specs.Run.{IsRecordOf}
 use Rattle.exec_run.specs.declared.recorded.Recorded.{Recorded}
 use Rattle.runs_theory.specs.Actions.{Ending, Program}
@@ -32,7 +34,6 @@ use Rattle.runs_theory.specs.Schedules.{Numbered, Ready, branch_is, root_is}
 use Rattle.runs_theory.proofs.Schedules.{one_run}
 use Rattle.runs_program.specs.Laws.{EachKeeps}
 use Rattle.runs_program.specs.Steps.{stepped}
-use Rattle.exec_tasks.specs.declared.task.Task.{Task as Live}
 use Rattle.exec_world.specs.Ready.{IsReady}
 use Rattle.tool_top.proofs.Schedules.{NextRun, finished_once, next_of_finished, next_of_ran, not_finished, not_past}
 use Rattle.lang_meaning.specs.Reported.{reported}
@@ -115,19 +116,24 @@ module _ (keeps : EachKeeps) (going : CodeMakesProgress) (P : PlainProgram) (L :
       let g = finished_run other same ks n leads_so q came in
       h.2 ∙ ap reported (finished_once Q D L ks ks h.0 g.0 refl h.1 g.1) ∙ sym g.2
 
+  -- where a machine hasn't come out the root of its run goes on
+  root_goes_on : (code : Code) (is : plain_code code ≡ compiled P) (ks : List ℕ) (m : Moment) (leads : LeadsTo code L arg ks m) (none : m.outcome ≡ None)
+      → (z : Ending) → Ended (led_to code P L arg is resolved main few ks m leads none).run [] z → ⊥
+  root_goes_on code is ks m leads none z g =
+      let B = led_to code P L arg is resolved main few ks m leads none in
+      let root = some_there (get m.world.tree.tasks 0) (B.lives.root none) in
+      let V = B.tied.live 0 root.0 root.1 in
+      let path : V.path ≡ [] = root_path (B.tied.numbers.numbered 0 V.path V.there) in
+      B.lives.unended 0 root.0 V.path root.1 V.there z (subst (λ p. Ended B.run p z) (sym path) g)
+
   module _ (code other : Code) (is : plain_code code ≡ compiled P) (same : plain_code other ≡ compiled P) (ks : List ℕ) (m n : Moment) (leads : LeadsTo code L arg ks m)
       (leads_so : LeadsTo other L arg ks n) (none : m.outcome ≡ None) (o : Outcome) (come : n.outcome ≡ Some o) where
     B : LedTo code P L arg is resolved main few ks m
     B = led_to code P L arg is resolved main few ks m leads none
 
-    root : (x : Live) × (get m.world.tree.tasks 0 ≡ Some x)
-    root = some_there (get m.world.tree.tasks 0) (B.lives.root none)
-
     root_unended : (z : Ending) → Ended B.run [] z → ⊥
-    root_unended z g =
-        let V = B.tied.live 0 root.0 root.1 in
-        let path : V.path ≡ [] = root_path (B.tied.numbers.numbered 0 V.path V.there) in
-        B.lives.unended 0 root.0 V.path root.1 V.there z (subst (λ p. Ended B.run p z) (sym path) g)
+    unfolding B
+    root_unended = root_goes_on code is ks m leads none
 
     pub not_come : ⊥
     not_come = let h = finished_run other same ks n leads_so o come in not_finished Q D L ks B.run B.ran root_unended h.0 h.1
@@ -215,3 +221,35 @@ module _ (keeps : EachKeeps) (going : CodeMakesProgress) (P : PlainProgram) (L :
       let a = by_record s r is same in
       let b = by_record s q so alike in
       come_once a.code b.code a.is_code b.is_code (reverse s) a.moment b.moment a.leads b.leads r.outcome q.outcome (sym a.outcome ∙ is.came) (sym b.outcome ∙ so.came)
+
+  -- where one goes wrong, the run of the source can't go on
+  module _ (all_ready : ReadyTasksAreReady) (s : List ℕ) (at : ℕ) (p : Played) (f : HasFollowed P L arg s at p) where
+    so_far : Reaches (take at s) p
+    so_far = by_schedule s at p f
+
+    come_before : (k : ℕ) → slice_get s at ≡ Some k → (o : Outcome) → so_far.moment.outcome ≡ Some o → CannotGoOn Q L s at
+    come_before k next o come =
+        let h = finished_run so_far.code so_far.is_code (reverse (take at s)) so_far.moment so_far.leads o come in finished k h.0 next h.1
+
+    ran_so : so_far.moment.outcome ≡ None → LedTo so_far.code P L arg so_far.is_code resolved main few (reverse (take at s)) so_far.moment
+    ran_so none = led_to so_far.code P L arg so_far.is_code resolved main few (reverse (take at s)) so_far.moment so_far.leads none
+
+    pub cannot_go_on : GoesWrong s at p → CannotGoOn Q L s at
+    unfolding ran_so
+    cannot_go_on (after_end k next some) = by so_far.moment.outcome refl
+      where
+        by : (o : Option Outcome) → so_far.moment.outcome ≡ o → CannotGoOn Q L s at
+        by (Some o) e = come_before k next o e
+        by None e = absurd (false≢true (subst IsSome (so_far.outcome ∙ e) some))
+    cannot_go_on (not_ready k next unready) = by so_far.moment.outcome refl
+      where
+        by : (o : Option Outcome) → so_far.moment.outcome ≡ o → CannotGoOn Q L s at
+        by (Some o) e = come_before k next o e
+        by None e =
+            let A = ran_so e in
+            refused k A.run next A.ran (λ x ready. unready (subst (λ w. IsReady w k) (sym so_far.world)
+            (all_ready so_far.code P L arg so_far.is_code resolved main few (reverse (take at s)) so_far.moment so_far.leads e A.run A.ran k x ready)))
+    cannot_go_on (too_early all none) =
+        let e = sym so_far.outcome ∙ none in
+        let A = ran_so e in
+        ends_early A.run all A.ran (root_goes_on so_far.code so_far.is_code (reverse (take at s)) so_far.moment so_far.leads e)

@@ -3,3 +3,4 @@ pub mod Call
 pub mod Replaying
 pub mod Guarantee
 pub mod Keeps
+pub mod Refusing

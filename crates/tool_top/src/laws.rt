@@ -1,11 +1,13 @@
 //! What the definitions of the answer say of themselves, and what they come to.
 ghost use Rattle.tool_top.specs.Answer.{OneAnswer};
 ghost use Rattle.tool_top.specs.Keeps.{KeepsGuarantee};
+ghost use Rattle.tool_top.specs.Refusing.{RefusalsAreRight};
 ghost use Rattle.tool_top.specs.Replaying.{OneReplay};
 
 use body_infer::laws::law_one_inferred;
 use exec_progress::laws::law_code_progress;
 use runs_program::laws::law_steps;
+use runs_simulation::laws::law_lively;
 use runs_theorem::laws::{law_elide, law_guarantee, law_inside, law_progress, law_reduced};
 use sound_infer::laws::law_inferred;
 use sound_means::laws::law_means;
@@ -43,4 +45,15 @@ pub fn promise()
     law_passed();
     law_inferred();
     law_means();
+}
+
+/// The refusal `schedule` of a replay is at the first number by which the run of the source can't go on: its task isn't ready in the run that
+/// the numbers before it record, or that has finished, or the number is missing.
+pub fn law_refused_schedules()
+    ensures right { RefusalsAreRight }
+{
+    law_passed();
+    law_lively();
+    law_code_progress();
+    law_steps();
 }
