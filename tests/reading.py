@@ -14,12 +14,14 @@ import collections
 import functools
 import pathlib
 import re
+import signal
 import sys
 
 TOP = pathlib.Path(__file__).resolve().parent.parent
 CALL = TOP / "crates/tool_top/src/call.rt"
 DOCUMENTS = ["README.md", "docs/PROOFS.md", "docs/THEOREM.md", "docs/DECISIONS.md"]
 CRATES = (TOP / "crates.txt").read_text()
+ORDER = [line.partition(":")[0] for line in CRATES.split("\n") if ":" in line and line[0] != "#"]
 PROMISE = ["promised", "replayed"]
 MEND = "run tests/reading.py --write"
 
@@ -31,8 +33,13 @@ CONSTRUCTS = re.compile(r"\s+([^\s:({,=]+(?:, [^\s:({,=]+)*) : ")
 MARKED = re.compile(r"<!-- reading: ([\w-]+) -->(.*?)<!-- end -->", re.S)
 
 
-def file_of(crate, parts):
-    return TOP.joinpath("crates", crate, "specs", *parts[:-1], f"{parts[-1]}.antt")
+def file_of(crate, name):
+    return TOP / f"crates/{crate}/specs/{name.replace('.', '/')}.antt"
+
+
+@functools.lru_cache(None)
+def is_module(crate, name):
+    return crate in ORDER and file_of(crate, name).is_file()
 
 
 def first_sentence(comment):
@@ -52,6 +59,7 @@ class Piece:
             found = DEFINES.match(line) or CONSTRUCTS.match(line)
             yield from found[1].split(", ") if found else ()
 
+    @functools.cached_property
     def reached(self):
         return self.module.imports.named("\n".join(self.lines), self.module.pieces.get)
 
@@ -62,9 +70,8 @@ class TypeOfCode(collections.namedtuple("TypeOfCode", "crate file name")):
     def count(self):
         source = TOP / "crates" / self.crate / "src" / f"{self.file}.rt"
         declared = rf"^(?:pub(?:\(\w+\))? )?(?:struct|enum) {self.name}\b(?:[^\n]*[;}}]$|.*?^\}})"
-        found = re.search(declared, source.read_text(), re.S | re.M)
-        if not found:
-            sys.exit(f"tests/reading.py: {source.relative_to(TOP)}: no type {self.name}, which definitions name")
+        missing = f"tests/reading.py: {source.relative_to(TOP)}: no type {self.name}, which definitions name"
+        found = re.search(declared, source.read_text(), re.S | re.M) or sys.exit(missing)
         return sum(1 for line in found[0].split("\n") if line.strip() and not line.strip().startswith("//"))
 
 
@@ -76,8 +83,8 @@ class Imports:
         for found in filter(None, map(USE.match, lines)):
             crate, path, names, alias = found.groups()
             pairs, parts = [name.split(" as ") for name in re.split(r", *", names or alias or "") if name], path.split(".")
-            size = next((size for size in range(len(parts), 0, -1) if file_of(crate, parts[:size]).is_file()), 0)
-            if parts[0] == "declared" and (TOP / "crates" / crate).is_dir():
+            size = next((size for size in range(len(parts), 0, -1) if is_module(crate, ".".join(parts[:size]))), 0)
+            if parts[0] == "declared" and crate in ORDER:
                 at = next(at for at, part in enumerate(parts) if part[0].isupper())
                 self.single.update({pair[-1]: TypeOfCode(crate, "/".join(parts[1:at]), parts[at]) for pair in pairs})
             elif size:
@@ -110,7 +117,7 @@ class Module:
 
     def __init__(self, crate, name):
         self.crate, self.path, pieces = crate, name.replace(".", "/"), []
-        self.text = file_of(crate, name.split(".")).read_text()
+        self.text = file_of(crate, name).read_text()
         self.imports = Imports(self.text.split("\n"))
         for line in self.text.split("\n"):
             if not line.strip() or line.strip().startswith("--") or re.match(r"\s*(pub )?(use|mod) ", line):
@@ -131,9 +138,7 @@ module_of = functools.lru_cache(None)(Module)
 def clauses():
     """What each clause of `dpj` reaches."""
     text = CALL.read_text()
-    found = re.search(r"^pub fn dpj\b.*?^\{", text, re.S | re.M)
-    if not found:
-        sys.exit(f"tests/reading.py: {CALL.relative_to(TOP)}: no function dpj")
+    found = re.search(r"^pub fn dpj\b.*?^\{", text, re.S | re.M) or sys.exit(f"tests/reading.py: {CALL.relative_to(TOP)}: no function dpj")
     imports, parts = Imports(text.split("\n")), re.split(r"^ *ensures (\w+) ", re.sub(r"//.*", "", found[0]), flags=re.M)
     return {name: closure(imports.named(says)) for name, says in zip(parts[1::2], parts[2::2])}
 
@@ -144,24 +149,14 @@ def closure(start):
         one = todo.pop()
         if one not in seen:
             seen.add(one)
-            todo.extend(one.reached() if isinstance(one, Piece) else ())
+            todo.extend(one.reached if isinstance(one, Piece) else ())
     return seen
 
 
-def in_order(modules):
-    """Modules crate by crate as in crates.txt, and in a crate each after those that it imports."""
-    crates, order = [line.split(":")[0] for line in CRATES.split("\n")], {}
-
-    def visit(module):
-        if module not in order:
-            for crate, name in sorted(module.imports.modules):
-                if crate == module.crate:
-                    visit(module_of(crate, name))
-            order[module] = len(order)
-
-    for module in sorted(modules, key=lambda module: module.path):
-        visit(module)
-    return sorted(modules, key=lambda module: (crates.index(module.crate), order[module]))
+@functools.lru_cache(None)
+def depth(module):
+    """How many modules of its crate stand below a module, one on the other."""
+    return max((1 + depth(module_of(*one)) for one in module.imports.modules if one[0] == module.crate), default=0)
 
 
 class List:
@@ -172,7 +167,8 @@ class List:
         counted = collections.Counter()
         for piece in reached - set(types):
             counted[piece.module] += len(piece.lines)
-        self.modules, self.lines = [(module, counted[module]) for module in in_order(counted)], sum(counted.values())
+        in_order = sorted(counted, key=lambda module: (ORDER.index(module.crate), depth(module), module.path))
+        self.modules, self.lines = [(module, counted[module]) for module in in_order], sum(counted.values())
         self.sums = f"{self.lines} lines of {len(counted)} modules, and {len(types)} types of the code in {sum(map(TypeOfCode.count, types))} lines"
 
     def show(self, title):
@@ -245,4 +241,5 @@ def main(words):
 
 
 if __name__ == "__main__":
+    signal.signal(signal.SIGPIPE, signal.SIG_DFL)
     sys.exit(main(sys.argv[1:]))
