@@ -1,7 +1,8 @@
 -- Answers on what a source holds, over plain variables.
-use Rattle.std.proofs.Common.{◌≡◌, ◌≢◌, ◌∙◌, ◌<◌, ◌≤◌, ℕ, suc, true, false, List, [], length, Option, Some, None, IfSome, IfOk, IfErr, OnOk, Result, Ok, Err, MatchOption, cond, option_map, refl, sym, ap, subst, arith}
+use Rattle.std.proofs.Common.{◌≡◌, ◌≢◌, ◌∙◌, ◌<◌, ◌≤◌, ℕ, suc, true, false, List, [], length, Option, Some, None, IfSome, IfOk, IfErr, OnOk, Result, Ok, Err, MatchOption, cond, option_map, replicate, refl, sym, ap, subst, arith}
 use Rattle.std.specs.Vec.{vec_items}
 use Rattle.std.proofs.lemmas.Bool.{false≢true}
+use Rattle.std.proofs.lemmas.List.{length-replicate}
 use Rattle.lang_base.specs.declared.refusal.Kind.TheVariants.{TooLong}
 use Rattle.tool_words.specs.declared.command.Command.{Command}
 use Rattle.tool_words.specs.declared.command.Command.TheVariants as command
