@@ -12,5 +12,6 @@ mod Scopes
 mod Signatures
 mod Statements
 mod Texts
+mod Unambiguous
 mod Whole
 mod Written

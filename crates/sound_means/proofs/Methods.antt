@@ -219,7 +219,7 @@ apart_in at (class ∷ classes) free i j a b e d owner same =
     by (inr h) (inl k) more = absurd (differ j h.0 b a k h.2 (sym owner))
     by (inr h) (inr k) more = let one = more h.0 k.0 h.2 k.2 in omega (arith, one, h.1, k.1)
 
-range_there : (n i : ℕ) → i < n → slice_get (range_with_len 0 n) i ≡ Some i
+pub range_there : (n i : ℕ) → i < n → slice_get (range_with_len 0 n) i ≡ Some i
 range_there n i l =
     let long : i < length (range_with_len 0 n) = subst (λ k. i < k) (sym (length-range_with_len 0 n)) l in
     let plain : 0 + i ≡ i = omega arith in

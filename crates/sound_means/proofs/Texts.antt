@@ -1,4 +1,4 @@
--- A text that passes has the tree of its program, which means its typed program and has its names.
+-- A text that passes has the tree of its program, which means its typed program, declares no name twice and has its names.
 use Rattle.std.proofs.Common.{◌≡◌, ◌∙◌, ℕ, suc, ◌+◌, ◌<◌, ◌≤◌, Bool, true, false, cond, List, [], ◌∷◌, ◌++◌, length, Ok, refl, sym, ap, subst, arith}
 use Rattle.std.proofs.lemmas.List.{length-append}
 use Rattle.std.specs.List.{list_any}
@@ -34,6 +34,7 @@ use Rattle.sound_lemmas.specs.Accepted.{IsAccepted, SmallHasRows}
 use Rattle.sound_bodies.specs.Laws.{AcceptedIsWellTyped}
 use Rattle.sound_means.specs.Laws.{AcceptedMeans, PassedMeans, NamesMean}
 use Rattle.sound_means.proofs.Names.{names_alike}
+use Rattle.sound_means.proofs.Unambiguous.{unambiguous}
 
 has_tree : (text : List ℕ) (tokens : List Token) (end : Place) (program : Program) → Cuts text tokens end → IsProgram text tokens program → HasTree text program
 has_tree text tokens end program cut d = record { tokens = tokens; end = end; cut = cut; list = d.list; names = d.names; said = d.said; derived = d.derived }
@@ -90,6 +91,7 @@ passed_means means well_typed written has_rows text place typed short passed =
         means = subst (Means program) (sym accepted.typed_so)
             (means program accepted.table accepted.bodies (few_names text passed.tokens passed.end program short passed.cut derived) as_texts is);
         well_typed = subst WellTyped (sym accepted.typed_so) (well_typed program accepted.table accepted.bodies as_texts is);
+        unambiguous = unambiguous program accepted.table is.rows typed;
       },
     )
 

@@ -20,7 +20,7 @@ AcceptedMeans =
     (program : Program) (table : Table) (bodies : List PlainBody) → length program.names ≤ 4294967295 → IsWritten program → IsAccepted program table bodies →
     Means program (made_of program table bodies)
 
--- a text that passes has a tree, which means its typed program, and this is well typed
+-- a text that passes has a tree, in which no name is declared twice and which means its typed program, and this is well typed
 abbrev pub PassedMeans : Type 0
 PassedMeans = (text : List ℕ) (place : Place) (typed : PlainProgram) → length text ≤ 1048576 → IsPassed text place typed → (tree : Program) × Accepts text tree typed
 

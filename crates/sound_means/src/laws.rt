@@ -12,7 +12,8 @@ pub fn law_accepted_means()
     ensures means { AcceptedMeans }
 {}
 
-/// A text that passes has a tree, which means its typed program, and this is well typed; and its names are those of the tree.
+/// A text that passes has a tree, in which no name is declared twice and which means its typed program, and this is well typed; and its names are those
+/// of the tree.
 pub fn law_means()
     ensures means { PassedMeans }
     ensures names { NamesMean }

@@ -10,6 +10,7 @@ use Rattle.syntax_parse.specs.Classes.{DerivesProgram}
 use Rattle.lang_typed.specs.Plain.{PlainProgram}
 use Rattle.lang_typed.specs.WellTyped.{WellTyped}
 use Rattle.syntax_means.specs.Means.{Means}
+use Rattle.syntax_means.specs.Unambiguous.{IsUnambiguous}
 
 -- the text is cut into tokens, the terminals that they say derive the tree, and it has the distinct names among them
 pub record HasTree (text : List ℕ) (tree : Program) : Type 0 where
@@ -21,8 +22,9 @@ pub record HasTree (text : List ℕ) (tree : Program) : Type 0 where
   pub said : MeanAll tree.names text tokens list
   pub derived : DerivesProgram list tree.classes
 
--- the text has a tree, this is what it means, and it keeps the rules of the language
+-- the text has a tree, in which no name is declared twice, this is what it means, and it keeps the rules of the language
 pub record Accepts (text : List ℕ) (tree : Program) (P : PlainProgram) : Type 0 where
   pub has_tree : HasTree text tree
   pub means : Means tree P
   pub well_typed : WellTyped P
+  pub unambiguous : IsUnambiguous tree P

@@ -2,8 +2,9 @@
 //!
 //! `specs/Means` relates the tree of a text to the typed programs that it means, one rule a construct: no order of
 //! checks, no refusal, no subtyping and no effect of a body. What the judgement of typed programs fixes, as types and
-//! what a branch copies back, isn't said again. `specs/Accepts` puts both together: a text is accepted as a well-typed
-//! program that its tree means.
+//! what a branch copies back, isn't said again. `specs/Unambiguous` says that no name is declared twice where it is seen.
+//! `specs/Accepts` puts these together: a text is accepted as a well-typed program that its tree means, where each name
+//! of the tree has one thing.
 //!
 //! `specs/Declares` has what a name means in a class, `specs/Paths` region paths and types, and `specs/Bodies`
 //! expressions and statements.
