@@ -3,6 +3,7 @@ use Rattle.std.proofs.Common.{◌≡◌, ◌≢◌, ◌∙◌, ◌<◌, ◌≤�
 use Rattle.std.specs.Vec.{vec_items}
 use Rattle.std.proofs.lemmas.Bool.{false≢true}
 use Rattle.std.proofs.lemmas.List.{length-replicate}
+use Rattle.lang_base.specs.declared.memory.NoMemory.{NoMemory}
 use Rattle.lang_base.specs.declared.refusal.Kind.TheVariants.{TooLong}
 use Rattle.tool_words.specs.declared.command.Command.{Command}
 use Rattle.tool_words.specs.declared.command.Command.TheVariants as command
@@ -16,7 +17,7 @@ use Rattle.tool_top.specs.declared.answered.Answered.{Answered}
 use Rattle.tool_top.specs.declared.call.Reply.{Reply}
 use Rattle.tool_top.specs.declared.call.Unread.{Unread}
 use Rattle.tool_top.specs.declared.call.Unread.TheVariants.{ReadFault}
-use Rattle.tool_top.specs.Answer.{IsAnswer, too_long, only, refused_at_start, most_bytes}
+use Rattle.tool_top.specs.Answer.{IsAnswer, too_long, only, refused_at_start, most_bytes, asks_run}
 use Rattle.tool_top.specs.Call.{Answers, AnswersBy, AnswersSome, IsAnswered, IsTold, ReadToEnd, asks_text, makes_text, text_for, told_by}
 use Rattle.tool_top.specs.Replaying.{too_long as trace_too_long}
 use Rattle.tool_top.proofs.Traces.{replay-no-usage}
@@ -121,16 +122,33 @@ not-made command.Replay demo = refl
 not-made command.Effects demo = refl
 not-made command.Cost demo = refl
 
-pub made-no-replay : (c : Command) → makes_text c ≡ true → c ≢ command.Replay
-made-no-replay command.Replay made = absurd (false≢true made)
-made-no-replay command.Demo made = λ e. cc
-made-no-replay command.Check made = λ e. cc
-made-no-replay command.Run made = λ e. cc
-made-no-replay command.Elide made = λ e. cc
-made-no-replay command.«List» made = λ e. cc
-made-no-replay command.Trace made = λ e. cc
-made-no-replay command.Effects made = λ e. cc
-made-no-replay command.Cost made = λ e. cc
+-- and a demo alone makes one, and asks for a run of it
+pub made-runs : (c : Command) → makes_text c ≡ true → asks_run c ≡ true
+made-runs command.Demo made = refl
+made-runs command.Check made = absurd (false≢true made)
+made-runs command.Run made = absurd (false≢true made)
+made-runs command.Elide made = absurd (false≢true made)
+made-runs command.«List» made = absurd (false≢true made)
+made-runs command.Trace made = absurd (false≢true made)
+made-runs command.Replay made = absurd (false≢true made)
+made-runs command.Effects made = absurd (false≢true made)
+made-runs command.Cost made = absurd (false≢true made)
+
+-- the answer by a program is the answer to any job but a replay
+by-program : (c : Command) (asked : Job) (text : List ℕ) (answered : Answered) → c ≢ command.Replay → IsAnswer asked text answered → AnswersBy c asked text answered
+by-program command.Replay asked text answered other is = absurd (other refl)
+by-program command.Check asked text answered other is = is
+by-program command.Run asked text answered other is = is
+by-program command.Elide asked text answered other is = is
+by-program command.«List» asked text answered other is = is
+by-program command.Demo asked text answered other is = is
+by-program command.Trace asked text answered other is = is
+by-program command.Effects asked text answered other is = is
+by-program command.Cost asked text answered other is = is
+
+pub answers-by-program : (asked : Job) (text : List ℕ) (result : Result Answered NoMemory) → asked.command ≢ command.Replay → IfOk result (IsAnswer asked text) → IfOk result (Answers asked text)
+answers-by-program asked text (Ok answered) other is = by-program asked.command asked text answered other is
+answers-by-program asked text (Err none) other is = tt
 
 module _ (words : List (List ℕ)) (given : Job) (is_job : Some given ≡ job words) (read : makes_text given.command ≡ false) where
   pub answered-so : (read left : Option (List ℕ)) (answered : Answered) → AnswersSome given read left answered → IsAnswered words read left answered

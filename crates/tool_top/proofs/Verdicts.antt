@@ -1,6 +1,7 @@
 -- Answers, over plain variables.
-use Rattle.std.proofs.Common.{◌≡◌, ◌≢◌, map, ◌∙◌, ◌≤◌, ◌⊎◌, ℕ, ℤ, true, List, length, Option, Some, IfOk, Result, Ok, Err, refl, sym, ap, subst, inl, inr}
+use Rattle.std.proofs.Common.{◌≡◌, ◌≢◌, map, ◌∙◌, ◌≤◌, ◌⊎◌, ℕ, ℤ, true, false, List, length, Option, Some, IfOk, Result, Ok, Err, refl, sym, ap, subst, inl, inr}
 use Rattle.std.specs.List.{All}
+use Rattle.std.proofs.lemmas.Bool.{false≢true}
 use Rattle.lang_base.specs.declared.memory.NoMemory.{NoMemory}
 use Rattle.lang_base.specs.declared.outcome.Limits.{Limits}
 use Rattle.lang_base.specs.declared.outcome.Outcome.{Outcome}
@@ -76,7 +77,7 @@ answer-no-usage job text _ (faulty refusal short fault) e = cc
 answer-no-usage job text _ (of_program place typed answered accepted is) e = program-no-usage job text typed answered is e
 
 -- what is asked of an accepted program is carried out
-pub run-answer : (asked : Job) (text : List ℕ) (typed : PlainProgram) (result : Result Answered NoMemory) → asks_run asked.command ≡ true
+run-answer : (asked : Job) (text : List ℕ) (typed : PlainProgram) (result : Result Answered NoMemory) → asks_run asked.command ≡ true
     → IfOk result (IsRan asked text typed) → IfOk result (IsAnswerOn asked text typed)
 run-answer asked text typed (Ok answered) is run = to_run is run
 run-answer asked text typed (Err none) is run = tt
@@ -96,18 +97,17 @@ pub effects-answer : (asked : Job) (text : List ℕ) (typed : PlainProgram) (res
 effects-answer asked text typed (Ok answered) is tells = to_effects is tells
 effects-answer asked text typed (Err none) is tells = tt
 
--- any other command than these that is no replay is to check
-pub is-check : (c : Command) → c ≢ command.Run → c ≢ command.Demo → c ≢ command.Trace → c ≢ command.Cost → c ≢ command.Elide → c ≢ command.«List» → c ≢ command.Effects → c ≢ command.Replay
-    → c ≡ command.Check
-is-check command.Check run demo trace cost elide list effects replay = refl
-is-check command.Run run demo trace cost elide list effects replay = absurd (run refl)
-is-check command.Demo run demo trace cost elide list effects replay = absurd (demo refl)
-is-check command.Trace run demo trace cost elide list effects replay = absurd (trace refl)
-is-check command.Elide run demo trace cost elide list effects replay = absurd (elide refl)
-is-check command.«List» run demo trace cost elide list effects replay = absurd (list refl)
-is-check command.Effects run demo trace cost elide list effects replay = absurd (effects refl)
-is-check command.Cost run demo trace cost elide list effects replay = absurd (cost refl)
-is-check command.Replay run demo trace cost elide list effects replay = absurd (replay refl)
+-- any other command than these that asks for no run and is no replay is to check
+pub is-check : (c : Command) → asks_run c ≡ false → c ≢ command.Elide → c ≢ command.«List» → c ≢ command.Effects → c ≢ command.Replay → c ≡ command.Check
+is-check command.Check unrun elide list effects replay = refl
+is-check command.Run unrun elide list effects replay = absurd (false≢true (sym unrun))
+is-check command.Demo unrun elide list effects replay = absurd (false≢true (sym unrun))
+is-check command.Trace unrun elide list effects replay = absurd (false≢true (sym unrun))
+is-check command.Cost unrun elide list effects replay = absurd (false≢true (sym unrun))
+is-check command.Elide unrun elide list effects replay = absurd (elide refl)
+is-check command.«List» unrun elide list effects replay = absurd (list refl)
+is-check command.Effects unrun elide list effects replay = absurd (effects refl)
+is-check command.Replay unrun elide list effects replay = absurd (replay refl)
 
 -- the answer on an accepted program is an answer
 pub program-answer : (asked : Job) (text : List ℕ) (place : Place) (typed : PlainProgram) (result : Result Answered NoMemory) → IsAcceptedAs text place typed
@@ -115,12 +115,29 @@ pub program-answer : (asked : Job) (text : List ℕ) (place : Place) (typed : Pl
 program-answer asked text place typed (Ok answered) accepted is = of_program place typed answered accepted is
 program-answer asked text place typed (Err none) accepted is = tt
 
+-- so is the run of an accepted program
+pub ran-answer : (asked : Job) (text : List ℕ) (place : Place) (typed : PlainProgram) (result : Result Answered NoMemory) → IsAcceptedAs text place typed → asks_run asked.command ≡ true
+    → IfOk result (IsRan asked text typed) → IfOk result (IsAnswer asked text)
+ran-answer asked text place typed result accepted asks run = program-answer asked text place typed result accepted (run-answer asked text typed result asks run)
+
 -- which commands ask for a run
-pub asks : (c : Command) → (c ≡ command.Run) ⊎ (c ≡ command.Demo) ⊎ (c ≡ command.Trace) ⊎ (c ≡ command.Cost) → asks_run c ≡ true
-asks c (inl run) = ap asks_run run
-asks c (inr (inl demo)) = ap asks_run demo
+pub asks : (c : Command) → (c ≡ command.Demo) ⊎ (c ≡ command.Run) ⊎ (c ≡ command.Trace) ⊎ (c ≡ command.Cost) → asks_run c ≡ true
+asks c (inl demo) = ap asks_run demo
+asks c (inr (inl run)) = ap asks_run run
 asks c (inr (inr (inl trace))) = ap asks_run trace
 asks c (inr (inr (inr cost))) = ap asks_run cost
+
+-- and that no other does
+pub asks-none : (c : Command) → c ≢ command.Demo → c ≢ command.Run → c ≢ command.Trace → c ≢ command.Cost → asks_run c ≡ false
+asks-none command.Check demo run trace cost = refl
+asks-none command.Run demo run trace cost = absurd (run refl)
+asks-none command.Demo demo run trace cost = absurd (demo refl)
+asks-none command.Trace demo run trace cost = absurd (trace refl)
+asks-none command.Cost demo run trace cost = absurd (cost refl)
+asks-none command.Elide demo run trace cost = refl
+asks-none command.«List» demo run trace cost = refl
+asks-none command.Effects demo run trace cost = refl
+asks-none command.Replay demo run trace cost = refl
 
 -- so is the first fault of a text
 pub faulty-answer : (asked : Job) (text : List ℕ) (found reported : Refusal) (answered : Answered) → found ≡ reported → answered ≡ only (Refused reported) → length text ≤ max_text

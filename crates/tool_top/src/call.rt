@@ -10,7 +10,7 @@ ghost use Rattle.tool_top.specs.Guarantee.{MustReport, MustReplay, TellsOfProgra
 ghost use Rattle.tool_top.specs.Call.{Answers, AnswersSome, IsAnswered, IsTold, TellsOfVerdict, Tells, BreaksOff, ReadToEnd, Appends, AppendsPart, asks_text, makes_text};
 
 use crate::answered::Answered;
-use crate::answers::{MAX_TEXT, answer};
+use crate::answers::{MAX_TEXT, answer_by_run, answer_without_run};
 use crate::laws::promise;
 use crate::replays::{MAX_TRACE, replayed};
 use exec_run::history::Record;
@@ -175,10 +175,10 @@ fn demonstrate<R: Threads + Wait + Sync, G: Gate + Sync>(
     ensures { IfOk result (IsAnswer job.now (demo_text job.now.n)) }
 {
     let text = demo_source(alloc, job.n)?;
-    answer(rt, alloc, job, text.as_slice(), gate)
+    answer_by_run(rt, alloc, job, text.as_slice(), gate)
 }
 
-/// The answer to a job on a text that isn't too long for it.
+/// The answer to a job on a text that isn't too long for it. Threads are handed on for a run alone.
 fn answer_text<R: Threads + Wait + Sync, G: Gate + Sync>(
     rt: &R,
     alloc: Global,
@@ -192,7 +192,10 @@ fn answer_text<R: Threads + Wait + Sync, G: Gate + Sync>(
 {
     match job.command {
         Command::Replay => replayed(alloc, text),
-        _ => answer(rt, alloc, job, text, gate),
+        Command::Demo | Command::Run | Command::Trace | Command::Cost => {
+            answer_by_run(rt, alloc, job, text, gate)
+        }
+        _ => answer_without_run(alloc, job, text),
     }
 }
 

@@ -1,12 +1,12 @@
 ghost use Rattle.std.specs.Int.{w32};
-ghost use Rattle.std.specs.Prelude.{◌≡◌, ◌≢◌, FitsSigned, IfOk};
+ghost use Rattle.std.specs.Prelude.{◌≡◌, ◌≢◌, false, FitsSigned, IfOk};
 ghost use Rattle.tool_front.specs.Front.{AreNames};
 ghost use Rattle.tool_front.specs.Judging.{names_of_passed, typed_of};
 ghost use Rattle.lang_typed.specs.Plain.{plain_program};
 ghost use Rattle.lang_typed.specs.Resolved.{Resolved, HasMain};
 ghost use Rattle.tool_words.specs.Jobs.{IsInRange};
 ghost use Rattle.tool_words.specs.declared.command.Command.TheVariants.{Replay};
-ghost use Rattle.tool_top.specs.Answer.{IsAcceptedAs, IsAnswer, IsElided, IsListing, IsRan, IsRunBy, TellsEffects, limits_of, verdict_of};
+ghost use Rattle.tool_top.specs.Answer.{IsAcceptedAs, IsAnswer, IsElided, IsListing, IsRan, IsRunBy, TellsEffects, asks_run, limits_of, verdict_of};
 
 use crate::answered::{Answered, limits};
 use crate::figures::figures;
@@ -28,25 +28,21 @@ use tool_front::Passed;
 use tool_trace::trace_text;
 use tool_words::{Command, Job, Mode, Verdict};
 
-/// The answer to a job on the accepted program of a text.
-pub fn carry_out<R: Threads + Wait + Sync, G: Gate + Sync>(
-    rt: &R,
+/// The answer to a job that asks for no run, on the accepted program of a text.
+pub fn carry_out(
     alloc: Global,
     job: &Job,
     text: &[u8],
     passed: Passed,
-    gate: &G,
 ) -> Result<Answered, NoMemory>
     requires in_range { IsInRange job.now }
     requires accepted { IsAcceptedAs text.now passed.place (typed_of passed) }
     requires named { AreNames text.now (names_of_passed passed) }
+    requires no_run { asks_run job.now.command ≡ false }
     requires no_replay { job.now.command ≢ Replay }
     ensures { IfOk result (IsAnswer job.now text.now) }
 {
     match job.command {
-        Command::Run | Command::Demo | Command::Trace | Command::Cost => {
-            ran(rt, alloc, job, text, passed, gate)
-        }
         Command::Elide => elided(alloc, job, passed),
         Command::List => listed(alloc, text, passed),
         Command::Effects => inferred(alloc, text, passed),
@@ -55,7 +51,7 @@ pub fn carry_out<R: Threads + Wait + Sync, G: Gate + Sync>(
 }
 
 /// The run of an accepted program, with its record.
-fn ran<R: Threads + Wait + Sync, G: Gate + Sync>(
+pub fn ran<R: Threads + Wait + Sync, G: Gate + Sync>(
     rt: &R,
     alloc: Global,
     job: &Job,

@@ -16,6 +16,6 @@ mod laws;
 mod replays;
 
 pub use answered::Answered;
-pub use answers::{MAX_TEXT, answer};
+pub use answers::{MAX_TEXT, answer_by_run, answer_without_run};
 pub use call::{Ended, dpj};
 pub use laws::{one_answer, promise};
