@@ -1,12 +1,11 @@
 -- What a call that tells of a program owes to it, over plain variables.
-use Rattle.std.proofs.Common.{◌≡◌, ◌∙◌, ℕ, true, false, List, [], Option, Some, MatchOption, inl, inr, refl, sym, ap, subst, arith}
+use Rattle.std.proofs.Common.{◌≡◌, ◌∙◌, ℕ, true, false, List, [], Option, Some, MatchOption, inl, inr, refl, sym, ap, subst}
 use Rattle.lang_base.specs.declared.place.Place.{Place}
 use Rattle.exec_run.specs.declared.history.record.Record.{Record}
 use Rattle.lang_typed.specs.Plain.{PlainProgram}
 use Rattle.syntax_tree.specs.declared.class.Program.{Program}
 use Rattle.syntax_means.specs.Accepts.{Accepts}
 use Rattle.syntax_means.specs.Declares.{names_in}
-use Rattle.body_infer.specs.Kept.{program_kept}
 use Rattle.body_infer.specs.Lines.{lines_of}
 use Rattle.sound_infer.specs.Laws.{program_inferred}
 use Rattle.sound_infer.proofs.Lines.{same_lines}
@@ -21,7 +20,7 @@ use Rattle.tool_words.specs.declared.verdict.Verdict.{Verdict}
 use Rattle.tool_words.specs.declared.verdict.Verdict.TheVariants.{Ran, Effects, Usage}
 use Rattle.tool_top.specs.declared.answered.Answered.{Answered}
 use Rattle.tool_top.specs.Answer.{IsAnswer, IsAnswerOn, IsAcceptedAs, IsElided, IsRan, IsWithin, TellsEffects, asks_run, faulty, of_program, only, verdict_by, verdict_of, to_check, to_effects, to_elide, to_list, to_run, too_long}
-use Rattle.tool_top.specs.Call.{Answers, AnswersBy, AnswersSome, Appends, IsAnswered, Tells, TellsOfVerdict}
+use Rattle.tool_top.specs.Call.{AnswersBy, AnswersSome, Appends, IsAnswered, Tells, TellsOfVerdict}
 use Rattle.tool_top.specs.Guarantee.{AsksElision, IsReported, MustReport, ReportsElision, ReportsProgram, ReportsRun, ReportsSummaries, TellsOfProgram, elision_for}
 use Rattle.tool_top.specs.Keeps.{KeepsGuarantee}
 use Rattle.tool_top.proofs.Ranges.{words_within}

@@ -6,9 +6,6 @@ use Rattle.lang_base.specs.declared.outcome.Outcome.{Outcome}
 use Rattle.lang_base.specs.declared.place.Place.{Place}
 use Rattle.exec_machine.specs.Keeping.{Played}
 use Rattle.lang_typed.specs.Plain.{PlainProgram}
-use Rattle.lang_meaning.specs.Actions.{Ending, Returned, Assigned, Trapped}
-use Rattle.lang_meaning.specs.Elision.{elided}
-use Rattle.lang_meaning.specs.Outcomes.{Outcome as ElidedOutcome, Came as came_out, Limited}
 use Rattle.lang_typed.specs.WellTyped.{WellTyped}
 use Rattle.body_infer.specs.PostFixpoint.{IsInferred}
 use Rattle.body_infer.specs.Kept.{Keeping}
@@ -42,7 +39,6 @@ use Rattle.tool_top.specs.Answer.{IsAcceptedAs, IsElided, IsRan, IsRunBy, IsWith
 use Rattle.sound_means.specs.Laws.{NamesMean, PassedMeans}
 use Rattle.tool_top.specs.Guarantee.{ComesOutBy, elision_for}
 use Rattle.tool_top.specs.Keeps.{FollowsReduced, GoesOn, KeepsGuarantee, TellsElision, TellsReduced}
-use Rattle.lang_meaning.specs.Reported.{reported, reported_ending}
 
 module _ (typed : PlainProgram) (keeps : Keeps typed) (L : Limits) (argument : ℤ) (few : L.steps ≤ 20000000) (fits : FitsSigned w32 argument) where
   few_steps : (p : Played) → IsRunOf typed L argument p → p.limits.steps ≤ 20000000

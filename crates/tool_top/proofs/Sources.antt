@@ -69,8 +69,9 @@ long_text asked left text answered unmade is told long = record {
 source_too_long : (asked : Job) (left : Option (List ℕ)) (answered : Answered) → makes_text asked.command ≡ false → answered ≡ only (refused_at_start TooLong)
     → IfSome left (λ bytes. most_bytes asked.command < length bytes) → AnswersSome asked None left answered
 source_too_long asked None answered unmade is long =
-    let text = replicate (suc (most_bytes asked.command)) 0 in
-    long_text asked None text answered unmade is tt (omega (arith, length-replicate (suc (most_bytes asked.command)) 0))
+    let text : List ℕ = replicate (suc (most_bytes asked.command)) 0 in
+    let many = length-replicate {A = ℕ} (suc (most_bytes asked.command)) 0 in
+    long_text asked None text answered unmade is tt (omega (arith, many))
 source_too_long asked (Some bytes) answered unmade is long = long_text asked (Some bytes) bytes answered unmade is refl long
 
 pub source-too-long : (asked : Job) (read left : Option (List ℕ)) (most : ℕ) (answered reported : Answered) → makes_text asked.command ≡ false → read ≡ None → reported ≡ answered
@@ -91,7 +92,7 @@ source-read asked left text answered unmade is = record {
 }
 
 -- a demo is on the text that it makes
-pub demo-read : (asked : Job) (read left : Option (List ℕ)) (answered : Answered) → asked.command ≡ command.Demo → IsAnswer asked (demo_text asked.n) answered → AnswersSome asked read left answered
+demo-read : (asked : Job) (read left : Option (List ℕ)) (answered : Answered) → asked.command ≡ command.Demo → IsAnswer asked (demo_text asked.n) answered → AnswersSome asked read left answered
 demo-read asked read left answered demo is =
     let made : makes_text asked.command ≡ true = ap makes_text demo in
     record {
@@ -102,6 +103,11 @@ demo-read asked read left answered demo is =
       };
       answers = subst (λ c. AnswersBy c asked (demo_text asked.n) answered) (sym demo) is;
     }
+
+pub demo-answered : (words : List (List ℕ)) (given : Job) → Some given ≡ job words → (left : Option (List ℕ)) (answered : Answered) → given.command ≡ command.Demo →
+    IsAnswer given (demo_text given.n) answered → IsAnswered words None left answered
+demo-answered words given is_job left answered demo is =
+    subst (λ j. MatchOption j (answered ≡ only Usage) (λ asked. AnswersSome asked None left answered)) is_job (demo-read given None left answered demo is)
 
 -- any command but a demo is on the text of the source
 pub not-made : (c : Command) → c ≢ command.Demo → makes_text c ≡ false
