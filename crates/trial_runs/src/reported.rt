@@ -27,7 +27,8 @@ pub fn recorded<R: Threads + Wait + Sync, G: Gate + Sync>(
 }
 
 fn reported(alloc: Global, ended: Ended) -> Result<String, anyhow::Error> {
-    match ended.recorded {
+    let Ended { recorded, .. } = ended;
+    match recorded {
         Some(record) => reported_by(alloc, record),
         None => Ok(String::from_str(alloc, "no run")?),
     }
