@@ -9,3 +9,4 @@ pub mod NodesMean
 pub mod OnlyNodes
 pub mod RowsMean
 pub mod PathsMean
+pub mod DetailsMean

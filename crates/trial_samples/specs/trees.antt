@@ -3,3 +3,4 @@ pub mod Nodes
 pub mod Rows
 pub mod Laws
 pub mod Paths
+pub mod Details

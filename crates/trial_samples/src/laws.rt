@@ -3,6 +3,7 @@
 ghost use Rattle.trial_samples.specs.Constructs.{HasEvery};
 ghost use Rattle.trial_samples.specs.Laws.{SampleIsElided, SampleRuns};
 ghost use Rattle.trial_samples.specs.Sample.{sample};
+ghost use Rattle.trial_samples.specs.trees.Details.{DetailsMean};
 ghost use Rattle.trial_samples.specs.trees.Laws.{OtherMeans, RowsMean, SampleMeans, WrongAreRefused, WrongOthersAreRefused};
 ghost use Rattle.trial_samples.specs.trees.Paths.{PathsMean};
 ghost use Rattle.lang_typed.specs.WellTyped.{WellTyped};
@@ -24,8 +25,8 @@ pub fn law_sample()
     law_reduction();
 }
 
-/// Three small trees, which have most constructs between them, mean one program each, and no other of that form; and each path of a
-/// fourth, in which names hide each other, means one.
+/// Three small trees, which have most constructs between them, mean one program each, and no other of that form; each path of a
+/// fourth, in which names hide each other, means one; and so do `final`, constraints and a call of an inherited method.
 pub fn law_trees()
     ensures means { SampleMeans }
     ensures refused { WrongAreRefused }
@@ -33,4 +34,5 @@ pub fn law_trees()
     ensures others_refused { WrongOthersAreRefused }
     ensures rows { RowsMean }
     ensures paths { PathsMean }
+    ensures details { DetailsMean }
 {}

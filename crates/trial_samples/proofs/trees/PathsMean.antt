@@ -1,5 +1,5 @@
 -- What names mean that hide each other.
-use Rattle.std.proofs.Common.{◌≡◌, ◌⊎◌, inl, inr, ◌∙◌, ℕ, ℤ, pos, zero, suc, Bool, false, List, [], ◌∷◌, Option, Some, None, refl, sym, subst, ap, arith, slice_get}
+use Rattle.std.proofs.Common.{◌≡◌, ◌⊎◌, inl, inr, ◌∙◌, ℕ, pos, false, List, [], ◌∷◌, Option, Some, refl, sym, subst, ap, arith, slice_get}
 use Rattle.std.specs.List.{AllZip}
 use Rattle.lang_base.specs.declared.elems.Elem.{Elem}
 use Rattle.lang_base.specs.declared.elems.Elem.TheVariants.{Name, At, Any, Star, Local}
@@ -11,12 +11,11 @@ use Rattle.syntax_tree.specs.declared.region.ElemTree.TheVariants as elem
 use Rattle.syntax_tree.specs.declared.region.Named.{Named}
 use Rattle.syntax_tree.specs.declared.region.RplHead.{RplHead}
 use Rattle.syntax_tree.specs.declared.region.RplHead.TheVariants as head
-use Rattle.syntax_tree.specs.declared.region.RplTree.{RplTree}
 use Rattle.lang_base.specs.declared.region.Head.TheVariants.{Param}
 use Rattle.syntax_means.specs.Declares.{ClassNamed, DeclaresRegion, MeansIn, all_regions, its_own, inherited}
 use Rattle.syntax_means.specs.Paths.{ElemMeans, HeadMeans, PathMeans, RegionMeans, root_path}
-use Rattle.trial_samples.specs.trees.Cells.{here, name_at, region_at, path, below_param}
-use Rattle.trial_samples.specs.trees.Paths.{tree, program, around, region_of, at_root, below_root, inside_j, MeansAlone, PathsMean}
+use Rattle.trial_samples.specs.trees.Cells.{here, name_at, region_at, below_param}
+use Rattle.trial_samples.specs.trees.Paths.{tree, program, around, region_of, below_root, inside_j, PathsMean}
 use Rattle.trial_samples.proofs.trees.Each.{some_is, nothing_there, each_of}
 
 -- the regions by their classes and names

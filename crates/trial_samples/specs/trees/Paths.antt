@@ -8,7 +8,6 @@ use Rattle.lang_base.specs.declared.elems.Elem.TheVariants.{Name, At, Any, Star,
 use Rattle.lang_base.specs.declared.elems.Index.TheVariants.{Literal, Variable, Own}
 use Rattle.lang_base.specs.declared.region.Head.TheVariants.{Root}
 use Rattle.lang_base.specs.declared.region.Rpl.{Rpl}
-use Rattle.syntax_tree.specs.declared.class.Class.{Class}
 use Rattle.syntax_tree.specs.declared.class.Member.TheVariants as member
 use Rattle.syntax_tree.specs.declared.class.Program.{Program}
 use Rattle.syntax_tree.specs.declared.region.ElemTree.{ElemTree}

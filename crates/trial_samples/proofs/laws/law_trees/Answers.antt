@@ -1,3 +1,4 @@
+use Rattle.trial_samples.proofs.trees.DetailsMean.{details_mean}
 use Rattle.trial_samples.proofs.trees.PathsMean.{paths_mean}
 use Rattle.trial_samples.proofs.trees.OnlyCells.{only, refused}
 use Rattle.trial_samples.proofs.trees.OnlyNodes.{other_only, others_refused}
@@ -14,4 +15,5 @@ returns c = record {
   others_refused = others_refused;
   rows = rows;
   paths = paths_mean;
+  details = details_mean;
 }
