@@ -184,7 +184,7 @@ from_body q c u h =
     let call = call_is refl refl refl refl refl (refl, refl, (λ s. refl)) a.0 in
     let w = past_while a.1 in
     let parts = parts_are (past_parts (past_cobegin (past_foreach (past_choice w.1)))) in
-    same_made q.constructor (Some 0) q.row 0 q.regions (in_region 2 ∷ []) q.part 5 q.slot 1 q.subtracted 9 q.uses_nd true c call.0 call.1 parts.0 (loop_is refl refl refl w.0) parts.1 u
+    same_made q.constructor (Some 0) q.row other_right.row q.regions (in_region 2 ∷ []) q.part 5 q.slot 1 q.subtracted 9 q.uses_nd true c call.0 call.1 parts.0 (loop_is refl refl refl w.0) parts.1 u
 
 pub other_only : (q : OtherPicks) → Means tree (other_program q) → q ≡ other_right
 other_only q m = from_body q (constructor_is q.constructor (m.classes 0 node_tree (node_made q) refl refl).constructor) (m.uses_nd ∙ sym uses_nd) (body_of q m)
