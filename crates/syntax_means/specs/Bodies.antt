@@ -1,6 +1,6 @@
--- What expressions and statements mean: one rule a construct. Which slot a local has, what type an expression that makes nothing has,
--- what a branch copies back and by which effects an atomic block is entered is left to the judgement of typed programs.
-use Rattle.std.specs.Prelude.{◌≡◌, ◌≢◌, ℕ, ℤ, ◌+◌, Bool, cond, List, [], ◌∷◌, length, AllPairs, codes, is_some, Option, Some}
+-- What expressions and statements mean: one rule a construct. What type an expression that makes nothing has, what a branch copies
+-- back and by which effects an atomic block is entered is left to the judgement of typed programs.
+use Rattle.std.specs.Prelude.{◌≡◌, ℕ, ℤ, ◌+◌, Bool, cond, List, [], ◌∷◌, length, codes, is_some, Option, Some}
 use Rattle.lang_base.specs.declared.effect.Effect.{Effect}
 use Rattle.lang_base.specs.declared.op.BinaryOp.{BinaryOp}
 use Rattle.lang_base.specs.declared.op.LogicOp.TheVariants.{And, Or}
@@ -93,10 +93,6 @@ pub data SourceMeans (A : Around) : PlainExpr → Source → Type 0 where
   an_array : {e : PlainExpr} {a : TypedExpr} → ExprMeans A e a → SourceMeans A e (of_array a)
   a_part : {place : Place} {v k : ℕ} → beside A.locals v ≡ Some k → SourceMeans A (expression place (tree.local v)) (of_part k)
 
--- each local region has a number of its own
-abbrev pub AreNumbered : List Named → List ℕ → Type 0
-AreNumbered names rs = (length rs ≡ length names) × AllPairs (λ r q. r ≢ q) rs
-
 mutual
   pub data StmtMeans : Around → PlainStmt → TypedStmt → Type 0 where
     a_block : {A : Around} {at : Place} {ds : PlainStmts} {ss : TypedStmts} → AllMean A ds ss → StmtMeans A (statement at (tree.block ds)) (made.statement at (made.block ss))
@@ -152,7 +148,7 @@ mutual
         TypeMeans A kind t → ExprMeans A e v → AllMean (with_local name x A) ds ss →
         AllMean A (tree.more_stmts (statement at (tree.declare is_final kind name e)) ds) (made.more_stmts (made.statement at (made.declare x t is_final v)) ss)
     new_regions : {A : Around} {at : Place} {names : List Named} {rs : List ℕ} {ds : PlainStmts} {ss : TypedStmts} →
-        AreNumbered names rs → AllMean (with_regions names rs A) ds ss →
+        length rs ≡ length names → AllMean (with_regions names rs A) ds ss →
         AllMean A (tree.more_stmts (statement at (tree.local_regions names)) ds) (made.more_stmts (made.statement at (made.local_regions rs)) ss)
 
   pub data BranchesMean : Around → PlainStmts → TypedBranches → Type 0 where

@@ -1,6 +1,7 @@
 -- What a tree means as a typed program: its classes with what they declare, and the bodies of its methods and constructors.
-use Rattle.std.specs.Prelude.{◌≡◌, ℕ, suc, Bool, false, List, [], ◌∷◌, ◌++◌, map, length, codes, Option, Some, None, slice_get}
-use Rattle.std.specs.List.{AllZip}
+use Rattle.std.specs.Prelude.{◌≡◌, ℕ, suc, ◌==◌, Bool, false, cond, List, [], ◌∷◌, ◌++◌, map, length, codes, Option, Some, None, slice_get, slice_set}
+use Rattle.std.specs.List.{AllZip, position_from}
+use Rattle.std.specs.Option.{option_map_or}
 use Rattle.lang_base.specs.declared.effect.Access.{Access}
 use Rattle.lang_base.specs.declared.effect.Access.TheVariants.{Read, Write}
 use Rattle.lang_base.specs.declared.effect.Constraint.{Constraint}
@@ -12,6 +13,7 @@ use Rattle.syntax_tree.specs.declared.class.Class.{Class}
 use Rattle.syntax_tree.specs.declared.class.Field.{Field}
 use Rattle.syntax_tree.specs.declared.class.Formal.{Formal}
 use Rattle.syntax_tree.specs.declared.class.Item.{Item}
+use Rattle.syntax_tree.specs.declared.class.Method.{Method}
 use Rattle.syntax_tree.specs.declared.class.MethodResult.{MethodResult}
 use Rattle.syntax_tree.specs.declared.class.MethodResult.TheVariants as outcome
 use Rattle.syntax_tree.specs.declared.class.Parent.{Parent}
@@ -23,11 +25,12 @@ use Rattle.syntax_tree.specs.declared.region.TypeTree.{TypeTree}
 use Rattle.syntax_tree.specs.Nd.{program_uses_nd}
 use Rattle.syntax_tree.specs.Plain.{plain_stmt, plain_stmts}
 use Rattle.lang_typed.specs.Plain.{PlainProgram, PlainClass, PlainField, PlainMember, PlainParent}
-use Rattle.lang_typed.specs.Scope.{class_at, member_at, row_at}
+use Rattle.lang_typed.specs.Scope.{class_at, member_at}
 use Rattle.lang_typed.specs.Statements.{SameEffects}
-use Rattle.syntax_means.specs.Declares.{ClassNamed, DeclaresConstructor, DeclaresMethod, MeansIn, OwnMethod, all_methods, all_regions, inherited_fields, method_name, own_fields, spelled}
+use Rattle.syntax_means.specs.Declares.{ClassNamed, DeclaresConstructor, OwnMethod, all_methods, all_regions, inherited_fields, method_name, own_fields, spelled}
 use Rattle.syntax_means.specs.Paths.{Around, NamesClass, PathMeans, PathOrRoot, TypeMeans}
 use Rattle.syntax_means.specs.Bodies.{AllMean, with_local}
+use Rattle.syntax_means.specs.Numbered.{Counts, given_in_all, own_regions, own_slots}
 
 abbrev pub param_names : Params → List ℕ
 param_names params = map (λ param. param.name) params.list
@@ -81,11 +84,28 @@ abbrev pub ConstructorMeans : Program → ℕ → Option ℕ → Type 0
 ConstructorMeans tree c None = (n : ℕ) → DeclaresConstructor tree c n → ⊥
 ConstructorMeans tree c (Some n) = DeclaresConstructor tree c n
 
--- in a row of a class stands what a name means there, and in a row of its superclass it is the same name
-pub record RowMeans (tree : Program) (P : PlainProgram) (c : ℕ) (parent : Option PlainParent) (r n : ℕ) : Type 0 where
-  pub name : ℕ
-  pub is : MeansIn P (DeclaresMethod tree name) c n
-  pub same : (p : PlainParent) (m : ℕ) → parent ≡ Some p → row_at P p.class r ≡ Some m → method_name tree m ≡ Some name
+-- the row in which a method of this name stands
+abbrev pub row_named : Program → ℕ → List ℕ → Option ℕ
+row_named tree name rows = position_from (λ n. option_map_or (λ m. m == name) (method_name tree n) false) 0 rows
+
+-- a method has the row of the one that has its name, else a new one; a constructor has none
+abbrev pub in_row : ℕ → Option ℕ → List ℕ → List ℕ
+in_row n None rows = rows ++ n ∷ []
+in_row n (Some r) rows = slice_set rows r n
+
+abbrev pub with_method : Program → ℕ → Method → MethodResult → List ℕ → List ℕ
+with_method tree n method outcome.Constructor rows = rows
+with_method tree n method outcome.Void rows = in_row n (row_named tree method.name rows) rows
+with_method tree n method (outcome.Value kind) rows = in_row n (row_named tree method.name rows) rows
+
+-- the rows of a class, after these of its superclass: with the methods that it declares, of all from a number on
+abbrev pub with_methods : Program → ℕ → ℕ → List OwnMethod → List ℕ → List ℕ
+with_methods tree c n [] rows = rows
+with_methods tree c n (own ∷ more) rows =
+    with_methods tree c (suc n) more (cond (own.class == c) (with_method tree n own.method own.method.result rows) rows)
+
+abbrev pub rows_above : PlainProgram → Option PlainParent → List ℕ
+rows_above P parent = option_map_or (λ p. option_map_or (λ k. k.rows) (class_at P p.class) []) parent []
 
 -- a class: its own fields come after those of its superclass
 pub record ClassMeans (tree : Program) (P : PlainProgram) (c : ℕ) (class : Class) (k : PlainClass) : Type 0 where
@@ -97,7 +117,7 @@ pub record ClassMeans (tree : Program) (P : PlainProgram) (c : ℕ) (class : Cla
   pub fields : k.fields ≡ above ++ own
   pub inherited : length above ≡ inherited_fields P c
   pub declared : AllZip (FieldMeans (in_class tree P c class)) (own_fields class) own
-  pub rows : (r n : ℕ) → slice_get k.rows r ≡ Some n → RowMeans tree P c k.parent r n
+  pub rows : k.rows ≡ with_methods tree c 0 (all_methods tree) (rows_above P k.parent)
   pub constructor : ConstructorMeans tree c k.constructor
 
 -- a method or a constructor
@@ -111,6 +131,9 @@ pub record MemberMeans (tree : Program) (P : PlainProgram) (own : OwnMethod) (m 
   pub result : ResultMeans (in_method tree P class own) own.method.result m.result
   pub summary : SummaryMeans (in_method tree P class own) own.method.summary m.summary
   pub body : AllMean (in_method tree P class own) (plain_stmts (map plain_stmt own.method.body)) m.body
+  -- locals have the slots after those of `this` and the formals, and both are numbered in the order of the text
+  pub slots : Counts (suc (length m.formals)) m.slots (given_in_all own_slots m.body)
+  pub regions : Counts 0 m.local_regions (given_in_all own_regions m.body)
 
 -- the typed program is what the tree says: classes, members and region names stand in the order of the text
 pub record Means (tree : Program) (P : PlainProgram) : Type 0 where

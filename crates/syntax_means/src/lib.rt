@@ -9,3 +9,5 @@
 //! `specs/Declares` has what a name means in a class, `specs/Paths` region paths and types, and `specs/Bodies`
 //! expressions and statements.
 #![tactic(auto)]
+
+pub mod laws;
