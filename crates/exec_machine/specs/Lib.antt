@@ -4,3 +4,4 @@ pub mod Replay
 pub mod Premise
 pub mod Away
 pub mod Keeping
+pub mod Events
