@@ -18,10 +18,10 @@ use Rattle.runs_theory.specs.Objects.{Name, Path}
 use Rattle.runs_theory.specs.Order.{InOrder, printed_by, trap_in}
 use Rattle.runs_theory.specs.Runs.{Begun, Ended, Event, Run, Upto, answers, branch, count, later, mine, now, trap_of}
 use Rattle.runs_theory.specs.Schedules.{Greedy}
-use Rattle.runs_theory.proofs.Faithful.{begun_upto, ended_upto}
-use Rattle.runs_theory.proofs.Mine.{mine_same, mine_other}
-use Rattle.runs_theory.proofs.Upto.{upto_trans}
-use Rattle.runs_theory.proofs.Written.{legal_faithful}
+use Rattle.runs_theory.proofs.runs.Faithful.{begun_upto, ended_upto}
+use Rattle.runs_theory.proofs.events.Mine.{mine_same, mine_other}
+use Rattle.runs_theory.proofs.events.Upto.{upto_trans}
+use Rattle.runs_theory.proofs.runs.Written.{legal_faithful}
 use Rattle.runs_program.specs.Steps.{named_by, stepped}
 use Rattle.runs_elision.proofs.Worlds.{Names, Later, later_none, later_then, TaskLike, task_later, TasksLike, no_tasks, more_tasks}
 use Rattle.runs_elision.proofs.Worlds.{EndingLike, trapped_like, ending_later, EndingsLike, no_endings}
@@ -30,7 +30,7 @@ use Rattle.runs_elision.proofs.Counts.{ended_alike}
 use Rattle.runs_elision.proofs.Memory.{Holds}
 use Rattle.runs_elision.proofs.Doing.{structure_step}
 use Rattle.lang_meaning.proofs.Turns.{most_pos, bind_done}
-use Rattle.runs_theory.proofs.Working.{Working, greatest_now, not_begun, goes_up, goes_into, in_order_after}
+use Rattle.runs_theory.proofs.order.Working.{Working, greatest_now, not_begun, goes_up, goes_into, in_order_after}
 use Rattle.runs_elision.proofs.Simulation.{ReportedOf, ResultOf, ResultIn, OutOf, OutIn, reported_on, Ghost, D}
 use Rattle.runs_elision.proofs.Simulation.{Ready, RanOut, After, Post, Sim, allowed_next, resid_next}
 

@@ -30,8 +30,8 @@ use Rattle.lang_meaning.specs.Counts.{assigned, copied, text_of, brought}
 use Rattle.lang_meaning.specs.Elision.{LocalRegion as Counted}
 use Rattle.lang_meaning.specs.Regions.{Around, head_region, concrete, part_of, is_long, some_long, handed_up, regions_above, most_parts}
 use Rattle.runs_theory.specs.Objects.{Name, LocalRegion, same_name}
-use Rattle.runs_theory.proofs.Cells.{same_name_eq}
-use Rattle.runs_theory.proofs.Mine.{test_same}
+use Rattle.runs_theory.proofs.events.Cells.{same_name_eq}
+use Rattle.runs_theory.proofs.events.Mine.{test_same}
 use Rattle.runs_elision.proofs.Worlds.{Names, Distinct, ValueLike, int_like, boolean_like, null_like, object_like, ValuesLike, no_values, more_values, LocalsLike}
 use Rattle.runs_elision.proofs.Worlds.{no_locals, more_locals, RegionsLike, no_regions, AnswerLike, went_like, got_like, out_like, class_like, length_like}
 use Rattle.runs_elision.proofs.Worlds.{named_like}

@@ -14,7 +14,7 @@ use Rattle.runs_theory.specs.Objects.{Cell, Name, Path, size, slot_of}
 use Rattle.runs_theory.specs.Order.{printed, printed_by, trap_in, trapped}
 use Rattle.runs_theory.specs.Runs.{Event, Run, answered_by, event_cells, event_steps, last_written}
 use Rattle.runs_theory.specs.Runs.{read_at, reply, seen, thing_of, wrote_at, written_by}
-use Rattle.runs_theory.proofs.Cost.{total_step}
+use Rattle.runs_theory.proofs.events.Cost.{total_step}
 use Rattle.runs_elision.proofs.Worlds.{Names, Distinct, Later, later_none}
 use Rattle.runs_elision.proofs.Worlds.{OwnLike, rest_like, read_like, write_like, look_like}
 use Rattle.runs_elision.proofs.Worlds.{new_like, print_like, enter_like, exit_like, AnswerLike, went_like, named_like}

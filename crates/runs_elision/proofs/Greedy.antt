@@ -9,13 +9,13 @@ use Rattle.runs_theory.specs.Meaning.{Disciplined}
 use Rattle.runs_theory.specs.Order.{InOrder}
 use Rattle.runs_theory.specs.Runs.{Ended, Event, Run, Upto, entry_step, event_cells, event_steps, later, mine, now, total}
 use Rattle.runs_theory.specs.Schedules.{Greedy, Limits, Numbered, Within}
-use Rattle.runs_theory.proofs.Cost.{total_step}
-use Rattle.runs_theory.proofs.Mine.{mine_upto}
-use Rattle.runs_theory.proofs.Numbers.{number_of_begun, number_one}
-use Rattle.runs_theory.proofs.Schedules.{same_step}
+use Rattle.runs_theory.proofs.events.Cost.{total_step}
+use Rattle.runs_theory.proofs.events.Mine.{mine_upto}
+use Rattle.runs_theory.proofs.events.Numbers.{number_of_begun, number_one}
+use Rattle.runs_theory.proofs.runs.Schedules.{same_step}
 use Rattle.runs_theory.proofs.Theorems.{nothing_after}
-use Rattle.runs_theory.proofs.Upto.{upto_all, upto_length}
-use Rattle.runs_theory.proofs.Written.{legal_faithful}
+use Rattle.runs_theory.proofs.events.Upto.{upto_all, upto_length}
+use Rattle.runs_theory.proofs.runs.Written.{legal_faithful}
 use Rattle.runs_program.specs.Steps.{stepped}
 use Rattle.runs_elision.specs.Laws.{ComesOutAsElided, GreedyIsElided, GreedyOverIsLimited, in_limits, over_limits}
 use Rattle.runs_elision.proofs.Simulation.{D}

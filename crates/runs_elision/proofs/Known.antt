@@ -11,11 +11,11 @@ use Rattle.runs_theory.specs.Objects.{Cell, Name, Path, Thing, Value, Null, firs
 use Rattle.runs_theory.specs.Runs.{Begun, Event, Faithful, Follows, Joins, Right, Run, Upto, answered_by, answers, at_start, branch, count, later, made, made_by}
 use Rattle.runs_theory.specs.Runs.{mine, now}
 use Rattle.runs_theory.specs.Runs.{read_at, reply, root, seen, thing_of, things, value_in, wrote_at}
-use Rattle.runs_theory.proofs.Cells.{LastWrite, last_write, none, some}
-use Rattle.runs_theory.proofs.Mine.{found, mine_same}
-use Rattle.runs_theory.proofs.Things.{thing_later}
-use Rattle.runs_theory.proofs.Upto.{upto_none, upto_split}
-use Rattle.runs_theory.proofs.Written.{legal_faithful}
+use Rattle.runs_theory.proofs.events.Cells.{LastWrite, last_write, none, some}
+use Rattle.runs_theory.proofs.events.Mine.{found, mine_same}
+use Rattle.runs_theory.proofs.events.Things.{thing_later}
+use Rattle.runs_theory.proofs.events.Upto.{upto_none, upto_split}
+use Rattle.runs_theory.proofs.runs.Written.{legal_faithful}
 use Rattle.runs_program.specs.Steps.{first_name, stepped}
 use Rattle.runs_elision.proofs.Worlds.{Names, Distinct, Later, later_none, later_then, ValueLike, value_later, null_like, ValuesLike, no_values, more_values}
 use Rattle.runs_elision.proofs.Worlds.{locals_later}

@@ -12,8 +12,8 @@ use Rattle.runs_theory.specs.Objects.{Cell, Name, Thing, Value, first_value, or_
 use Rattle.runs_theory.specs.Order.{printed, printed_by, trapped}
 use Rattle.runs_theory.specs.Runs.{Event, Run, cells_of, event_steps, first_some, last_written, later, made_by, now}
 use Rattle.runs_theory.specs.Runs.{read_at, seen, thing_of, total, unless_out, value_in, wrote_at, written_by}
-use Rattle.runs_theory.proofs.Cells.{last_step}
-use Rattle.runs_theory.proofs.Things.{thing_later}
+use Rattle.runs_theory.proofs.events.Cells.{last_step}
+use Rattle.runs_theory.proofs.events.Things.{thing_later}
 use Rattle.runs_elision.proofs.Worlds.{Names, Distinct, Later, still_there, value_later, ValuesLike, no_values, more_values}
 use Rattle.runs_elision.proofs.Worlds.{thing_later as thing_like_later, ThingLike, an_object_like, an_array_like}
 use Rattle.runs_elision.proofs.Worlds.{AnswerLike, went_like, got_like, out_like, class_like, length_like}

@@ -11,7 +11,7 @@ use Rattle.runs_theory.specs.Actions.{Program}
 use Rattle.runs_theory.specs.Objects.{An_array, An_object, Cell, Name, Path, Thing, Value, first_value, Null, or_else, size, slot_of}
 use Rattle.runs_theory.specs.Runs.{Event, Run, at_start, made, made_by, mine}
 use Rattle.runs_theory.specs.Runs.{thing_of, things, written_by}
-use Rattle.runs_theory.proofs.Mine.{mine_same}
+use Rattle.runs_theory.proofs.events.Mine.{mine_same}
 use Rattle.runs_elision.proofs.Worlds.{Names, Distinct, Later, ValuesLike, no_values, more_values}
 use Rattle.runs_elision.proofs.Worlds.{thing_later as thing_like_later, ThingLike, an_object_like, an_array_like}
 use Rattle.runs_elision.proofs.Counts.{MaybeLike, none_like, some_like}

@@ -17,7 +17,7 @@ use Rattle.runs_theory.specs.Actions.{Branches, Fork, Join, Program, Task, Trapp
 use Rattle.runs_theory.specs.Objects.{LocalRegion, Name, Path}
 use Rattle.runs_theory.specs.Order.{printed_by}
 use Rattle.runs_theory.specs.Runs.{Ended, Event, Joins, count, joined, now}
-use Rattle.runs_theory.proofs.Mine.{mine_same}
+use Rattle.runs_theory.proofs.events.Mine.{mine_same}
 use Rattle.runs_program.specs.Steps.{named_by, stepped}
 use Rattle.runs_elision.proofs.Worlds.{Names, Distinct, Later, later_none, later_then, TasksLike}
 use Rattle.runs_elision.proofs.Worlds.{BroughtLike}

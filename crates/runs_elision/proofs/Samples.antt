@@ -19,12 +19,12 @@ use Rattle.runs_theory.specs.Order.{Comes, Outcome}
 use Rattle.runs_theory.specs.Runs.{Begun, Ended, Event, Faithful, Follows, Run, Upto, answers, branch, cells_of, last_written, mine, root, steps_of, things, total}
 use Rattle.runs_theory.specs.Schedules.{Limits, Within, ended}
 use Rattle.runs_theory.specs.Standing.{above, first_of}
-use Rattle.runs_theory.proofs.Faithful.{follows_at}
-use Rattle.runs_theory.proofs.Play.{has_ended_with, play, played, run_of}
-use Rattle.runs_theory.proofs.Schedules.{recorded}
+use Rattle.runs_theory.proofs.runs.Faithful.{follows_at}
+use Rattle.runs_theory.proofs.samples.Play.{has_ended_with, play, played, run_of}
+use Rattle.runs_theory.proofs.runs.Schedules.{recorded}
 use Rattle.runs_theory.proofs.Theorems.{each_comes_out}
-use Rattle.runs_theory.proofs.Upto.{upto_none, upto_split, upto_tail, upto_trans}
-use Rattle.runs_theory.proofs.Written.{legal_faithful, legal_from}
+use Rattle.runs_theory.proofs.events.Upto.{upto_none, upto_split, upto_tail, upto_trans}
+use Rattle.runs_theory.proofs.runs.Written.{legal_faithful, legal_from}
 use Rattle.runs_program.specs.Samples.{races}
 use Rattle.runs_program.specs.Steps.{named_by, stepped}
 use Rattle.runs_elision.specs.Laws.{ComesOutAsElided, in_limits, over_limits}

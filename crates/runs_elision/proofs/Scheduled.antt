@@ -6,8 +6,8 @@ use Rattle.runs_theory.specs.Blocks.{Legal}
 use Rattle.runs_theory.specs.Order.{Outcome}
 use Rattle.runs_theory.specs.Runs.{Event, Run}
 use Rattle.runs_theory.specs.Schedules.{Finished, Limits, Within, ended, no_room, over}
-use Rattle.runs_theory.proofs.Numbers.{number_of_begun}
-use Rattle.runs_theory.proofs.Schedules.{recorded}
+use Rattle.runs_theory.proofs.events.Numbers.{number_of_begun}
+use Rattle.runs_theory.proofs.runs.Schedules.{recorded}
 use Rattle.runs_program.specs.Steps.{stepped}
 use Rattle.runs_elision.specs.Laws.{ComesOutAsElided, ElisionIsScheduled, IsElided, in_limits, over_limits}
 use Rattle.runs_elision.proofs.Theorems.{elision_is_legal, limited, within_cases}

@@ -21,17 +21,17 @@ use Rattle.runs_theory.specs.Objects.{LocalRegion, Name, Path}
 use Rattle.runs_theory.specs.Order.{InOrder, printed_by}
 use Rattle.runs_theory.specs.Runs.{Begun, Event, Right, Run, Upto, answers, later, mine, now}
 use Rattle.runs_theory.specs.Schedules.{Greedy}
-use Rattle.runs_theory.proofs.Faithful.{begun_upto}
-use Rattle.runs_theory.proofs.Mine.{mine_same, mine_other}
-use Rattle.runs_theory.proofs.Upto.{upto_trans}
-use Rattle.runs_theory.proofs.Written.{allowed_from, legal_faithful}
+use Rattle.runs_theory.proofs.runs.Faithful.{begun_upto}
+use Rattle.runs_theory.proofs.events.Mine.{mine_same, mine_other}
+use Rattle.runs_theory.proofs.events.Upto.{upto_trans}
+use Rattle.runs_theory.proofs.runs.Written.{allowed_from, legal_faithful}
 use Rattle.runs_program.specs.Steps.{named_by, stepped}
 use Rattle.runs_elision.proofs.Worlds.{Names, Distinct, Later, later_none, later_then}
 use Rattle.runs_elision.proofs.Worlds.{OwnLike, own_later, AnswerLike}
 use Rattle.runs_elision.proofs.Memory.{Holds}
 use Rattle.runs_elision.proofs.Doing.{own_step, structure_step, turn_step}
 use Rattle.lang_meaning.proofs.Turns.{most_pos, turned_if}
-use Rattle.runs_theory.proofs.Working.{Working, greatest_now, may, stays, in_order_after}
+use Rattle.runs_theory.proofs.order.Working.{Working, greatest_now, may, stays, in_order_after}
 
 abbrev pub ReportedOf : Type 0
 ReportedOf = Reported Name LocalRegion

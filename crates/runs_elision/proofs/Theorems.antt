@@ -21,11 +21,11 @@ use Rattle.runs_theory.specs.Objects.{Name, Value, first_value, or_else, size, s
 use Rattle.runs_theory.specs.Order.{Comes, InOrder, Outcome, ending_of, printed, trapped}
 use Rattle.runs_theory.specs.Runs.{Ended, Run, cells_of, entry_step, event_cells, event_steps, mine, now, root, steps_of}
 use Rattle.runs_theory.specs.Schedules.{Finished, Greedy, Limits, Ran, Within, ended, no_room, over}
-use Rattle.runs_theory.proofs.Cells.{last_nil}
-use Rattle.runs_theory.proofs.Cost.{total_nil}
-use Rattle.runs_theory.proofs.Finishing.{none_over}
-use Rattle.runs_theory.proofs.Mine.{mine_nil, mine_same}
-use Rattle.runs_theory.proofs.Schedules.{ran_legal}
+use Rattle.runs_theory.proofs.events.Cells.{last_nil}
+use Rattle.runs_theory.proofs.events.Cost.{total_nil}
+use Rattle.runs_theory.proofs.runs.Finishing.{none_over}
+use Rattle.runs_theory.proofs.events.Mine.{mine_nil, mine_same}
+use Rattle.runs_theory.proofs.runs.Schedules.{ran_legal}
 use Rattle.runs_theory.proofs.Theorems.{each_comes_out, same_outcome}
 use Rattle.runs_program.specs.Steps.{first_name, named_by, stepped}
 use Rattle.runs_elision.specs.Laws.{ComesOutAsElided, ElisionIsLegal, IsElided, NoneCostsMoreThanElision, RunsAreElided, SchedulesAreElided, in_limits}
@@ -41,7 +41,7 @@ use Rattle.runs_elision.proofs.Fuel.{Same, same_through}
 use Rattle.runs_elision.proofs.Simulation.{D}
 use Rattle.runs_elision.proofs.Branches.{One, PostOne, fallen, one_branch}
 use Rattle.runs_elision.proofs.Programs.{prog_sim}
-use Rattle.runs_theory.proofs.Working.{starts}
+use Rattle.runs_theory.proofs.order.Working.{starts}
 
 -- values under their names
 value_renamed : {ns : Names} {v : ValueOver ℕ} {u : Value} → ValueLike ns v u → u ≡ renamed_value ns v

@@ -10,9 +10,9 @@ use Rattle.runs_theory.specs.Actions.{Program, Went, Write}
 use Rattle.runs_theory.specs.Objects.{Cell, Name, Path, Thing, Value, first_value, is_cell, is_slot, or_else, size, slot_of}
 use Rattle.runs_theory.specs.Runs.{Event, Run, first_some, last_written, later, now}
 use Rattle.runs_theory.specs.Runs.{thing_of, unless_out, wrote_at}
-use Rattle.runs_theory.proofs.Cells.{last_step, same_name_eq, slot_is}
-use Rattle.runs_theory.proofs.Mine.{test_same}
-use Rattle.runs_theory.proofs.Things.{thing_later}
+use Rattle.runs_theory.proofs.events.Cells.{last_step, same_name_eq, slot_is}
+use Rattle.runs_theory.proofs.events.Mine.{test_same}
+use Rattle.runs_theory.proofs.events.Things.{thing_later}
 use Rattle.runs_elision.proofs.Worlds.{Names, Distinct, ValueLike}
 use Rattle.runs_elision.proofs.Counts.{MaybeLike, none_like, some_like}
 use Rattle.runs_elision.proofs.Memory.{ValueIn, Stands, cell_value, last_quiet, cell_same, still_none}

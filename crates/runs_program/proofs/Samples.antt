@@ -13,9 +13,9 @@ use Rattle.runs_theory.specs.Order.{Outcome}
 use Rattle.runs_theory.specs.Runs.{Ended, Run, cells_of, last_written, mine, steps_of, things, total}
 use Rattle.runs_theory.specs.Schedules.{Limits, Within, ended}
 use Rattle.runs_theory.specs.Standing.{above, first_of}
-use Rattle.runs_theory.proofs.Play.{run_of, play, played, has_ended_with}
-use Rattle.runs_theory.proofs.Written.{legal_from}
-use Rattle.runs_theory.proofs.Schedules.{recorded}
+use Rattle.runs_theory.proofs.samples.Play.{run_of, play, played, has_ended_with}
+use Rattle.runs_theory.proofs.runs.Written.{legal_from}
+use Rattle.runs_theory.proofs.runs.Schedules.{recorded}
 use Rattle.runs_theory.proofs.Theorems.{each_comes_out}
 use Rattle.runs_program.specs.Samples.{DividesRuns, FillsRun, SchedulesNeedFree, races}
 use Rattle.runs_program.specs.Steps.{stepped}

@@ -1,21 +1,5 @@
-pub mod Under
-pub mod Insertion
-pub mod Overlap
-pub mod Block
-pub mod Gather
-pub mod Spots
-pub mod Branch
-pub mod Move
-pub mod Shifts
-pub mod AfterForks
-pub mod AtEntries
-pub mod Rules
-pub mod Left
-pub mod Loose
-pub mod Ended
+pub mod shifts
+pub mod gathered
+pub mod moved
 pub mod Theorems
-pub mod Tests
-pub mod Samples
-mod Waiting
-pub mod OneGathered
-pub mod OneMoved
+pub mod samples

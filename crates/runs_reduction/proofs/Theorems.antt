@@ -13,19 +13,19 @@ use Rattle.runs_reduction.specs.Guarded.{LevelsGuarded}
 use Rattle.runs_reduction.specs.Laws.{Gathering, IsMoved, Moving, MovingBy, MovingEnded, MovingInside, Rearranges, StillOpen}
 use Rattle.runs_reduction.specs.Moved.{move}
 use Rattle.runs_reduction.specs.Guarded.{LevelsGuarded}
-use Rattle.runs_theory.proofs.Written.{legal_faithful, valid_from, legal_from}
-use Rattle.runs_theory.proofs.Standing.{Stands, stands}
-use Rattle.runs_theory.proofs.Carry.{begun_in, ended_in}
-use Rattle.runs_theory.proofs.Mine.{path_cases, mine_same, mine_other}
+use Rattle.runs_theory.proofs.runs.Written.{legal_faithful, valid_from, legal_from}
+use Rattle.runs_theory.proofs.runs.Standing.{Stands, stands}
+use Rattle.runs_theory.proofs.events.Carry.{begun_in, ended_in}
+use Rattle.runs_theory.proofs.events.Mine.{path_cases, mine_same, mine_other}
 use Rattle.runs_theory.proofs.Theorems.{same_total}
-use Rattle.runs_reduction.proofs.Insertion.{Rebuilt, grown_back}
-use Rattle.runs_reduction.proofs.Gather.{gathered}
-use Rattle.runs_reduction.proofs.AtEntries.{at_entries, together}
-use Rattle.runs_reduction.proofs.Move.{moved}
-use Rattle.runs_reduction.proofs.AfterForks.{after_forks}
-use Rattle.runs_reduction.proofs.Rules.{valid_rule, disciplined_rule}
-use Rattle.runs_reduction.proofs.Loose.{loosely}
-use Rattle.runs_reduction.proofs.Ended.{by_weaker}
+use Rattle.runs_reduction.proofs.shifts.Insertion.{Rebuilt, grown_back}
+use Rattle.runs_reduction.proofs.gathered.Gather.{gathered}
+use Rattle.runs_reduction.proofs.gathered.AtEntries.{at_entries, together}
+use Rattle.runs_reduction.proofs.moved.Move.{moved}
+use Rattle.runs_reduction.proofs.moved.AfterForks.{after_forks}
+use Rattle.runs_reduction.proofs.shifts.Rules.{valid_rule, disciplined_rule}
+use Rattle.runs_reduction.proofs.moved.Loose.{loosely}
+use Rattle.runs_reduction.proofs.moved.Ended.{by_weaker}
 
 same_ended : {R G : Run} → ((p : Path) → mine G p ≡ mine R p) → (p : Path) (x : Ending) → Ended R p x → Ended G p x
 same_ended {R} {G} m p x h = ended_in (subst (λ es. Upto (mine R p) es) (sym (m p)) now) h

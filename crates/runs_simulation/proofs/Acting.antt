@@ -16,8 +16,8 @@ use Rattle.exec_progress.proofs.Legs.{TellsCounts, front_counts}
 use Rattle.runs_theory.specs.Actions.{Task, Own, Answer, Action, Do, Next, Rule}
 use Rattle.runs_theory.specs.Objects.{Path, Name, LocalRegion}
 use Rattle.runs_theory.specs.Runs.{Event, Follows, Run, answers, later, mine, now}
-use Rattle.runs_theory.proofs.Faithful.{begun_upto}
-use Rattle.runs_theory.proofs.Mine.{mine_same}
+use Rattle.runs_theory.proofs.runs.Faithful.{begun_upto}
+use Rattle.runs_theory.proofs.events.Mine.{mine_same}
 use Rattle.runs_program.specs.Steps.{named_by}
 use Rattle.exec_task.specs.Names.{names_of}
 use Rattle.exec_task.specs.Tasks.{Says, plain_answer}

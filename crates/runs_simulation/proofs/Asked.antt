@@ -16,8 +16,8 @@ use Rattle.runs_theory.specs.Actions.{Task, Branches, Ending, Own, Answer, Actio
 use Rattle.runs_theory.specs.Meaning.{Disciplined}
 use Rattle.runs_theory.specs.Objects.{Path, Name, LocalRegion}
 use Rattle.runs_theory.specs.Runs.{Begun, Faithful, Follows, Run, answers, mine}
-use Rattle.runs_theory.proofs.Faithful.{agree_self, same_task, begun_upto, follows_at, next_same}
-use Rattle.runs_theory.proofs.Upto.{upto_tail}
+use Rattle.runs_theory.proofs.runs.Faithful.{agree_self, same_task, begun_upto, follows_at, next_same}
+use Rattle.runs_theory.proofs.events.Upto.{upto_tail}
 use Rattle.runs_program.specs.Steps.{named_by}
 use Rattle.exec_task.specs.Halts.{Tells}
 use Rattle.exec_task.specs.Names.{names_of}

@@ -16,10 +16,10 @@ use Rattle.runs_theory.specs.Actions.{Begin, Task, Went, Next, Rule}
 use Rattle.runs_theory.specs.Objects.{Path, Name, LocalRegion}
 use Rattle.runs_theory.specs.Runs.{Event, Follows, Run, answers, branch, count, event_steps, later, mine, now}
 use Rattle.runs_theory.specs.Schedules.{Numbered, branch_is}
-use Rattle.runs_theory.proofs.Cost.{total_step}
-use Rattle.runs_theory.proofs.Mine.{mine_other, mine_same}
-use Rattle.runs_theory.proofs.Numbers.{begins_step}
-use Rattle.runs_theory.proofs.Working.{not_begun}
+use Rattle.runs_theory.proofs.events.Cost.{total_step}
+use Rattle.runs_theory.proofs.events.Mine.{mine_other, mine_same}
+use Rattle.runs_theory.proofs.events.Numbers.{begins_step}
+use Rattle.runs_theory.proofs.order.Working.{not_begun}
 use Rattle.exec_task.specs.Branches.{starts_at}
 use Rattle.exec_task.specs.Halts.{stands}
 use Rattle.exec_task.specs.Names.{names_of}

@@ -21,13 +21,13 @@ use Rattle.runs_theory.specs.Objects.{Effect, LocalRegion, Name, Path}
 use Rattle.runs_theory.specs.Runs.{Begun, Ended, Event, Faithful, Run, Upto, answers, count, event_steps, later, mine, now, total}
 use Rattle.runs_theory.specs.Schedules.{Numbered, begins, branch_is, one_begin, root_is}
 use Rattle.runs_theory.specs.Standing.{CanEnter, Inside, Outside, above, standing}
-use Rattle.runs_theory.proofs.Cost.{total_step}
-use Rattle.runs_theory.proofs.Faithful.{agree_self, begun_upto, ended_upto, follows_at, none_after_end, same_task}
-use Rattle.runs_theory.proofs.Mine.{Found, found as found_mine, mine_at, mine_other, mine_same, mine_step, path_cases}
-use Rattle.runs_theory.proofs.Standing.{Opener as RunOpener, above_same, opener_of}
-use Rattle.runs_theory.proofs.Working.{not_begun}
-use Rattle.runs_theory.proofs.Numbers.{begins_step, number_one, number_of_begun, number_same}
-use Rattle.runs_theory.proofs.Upto.{upto_length, upto_none, upto_same, upto_tail}
+use Rattle.runs_theory.proofs.events.Cost.{total_step}
+use Rattle.runs_theory.proofs.runs.Faithful.{agree_self, begun_upto, ended_upto, follows_at, none_after_end, same_task}
+use Rattle.runs_theory.proofs.events.Mine.{Found, found as found_mine, mine_at, mine_other, mine_same, mine_step, path_cases}
+use Rattle.runs_theory.proofs.runs.Standing.{Opener as RunOpener, above_same, opener_of}
+use Rattle.runs_theory.proofs.order.Working.{not_begun}
+use Rattle.runs_theory.proofs.events.Numbers.{begins_step, number_one, number_of_begun, number_same}
+use Rattle.runs_theory.proofs.events.Upto.{upto_length, upto_none, upto_same, upto_tail}
 use Rattle.runs_program.specs.Interfering as run
 use Rattle.exec_task.specs.Names.{plain_effect}
 use Rattle.exec_task.specs.Halts.{Tells}

@@ -19,8 +19,8 @@ use Rattle.code_scheme.specs.Compiled.{SameAct, SameReply}
 use Rattle.runs_theory.specs.Actions.{Action, Do, Rest, End, Ending, Went, Next, Reply, Rule}
 use Rattle.runs_theory.specs.Objects.{Path}
 use Rattle.runs_theory.specs.Runs.{Event, Follows, Run, Upto, answers, count, event_steps, later, mine, now}
-use Rattle.runs_theory.proofs.Cost.{total_step}
-use Rattle.runs_theory.proofs.Mine.{mine_other, mine_same}
+use Rattle.runs_theory.proofs.events.Cost.{total_step}
+use Rattle.runs_theory.proofs.events.Mine.{mine_other, mine_same}
 use Rattle.exec_task.specs.Halts.{Tells, stands}
 use Rattle.exec_task.specs.Names.{names_of}
 use Rattle.exec_task.specs.Tasks.{plain_ending, plain_slot}

@@ -15,7 +15,7 @@ use Rattle.code_scheme.specs.Compiled.{AllCompiled, SameAct}
 use Rattle.runs_theory.specs.Actions.{Branches, Do, Rest, Fork, Went, Next, Rule}
 use Rattle.runs_theory.specs.Objects.{Name, LocalRegion}
 use Rattle.runs_theory.specs.Runs.{Event, Follows, Run, answers, mine, now}
-use Rattle.runs_theory.proofs.Mine.{mine_same}
+use Rattle.runs_theory.proofs.events.Mine.{mine_same}
 use Rattle.exec_task.specs.Branches.{starts_at}
 use Rattle.exec_task.specs.Halts.{Tells, stands}
 use Rattle.exec_task.specs.Names.{names_of}

@@ -16,8 +16,8 @@ use Rattle.runs_theory.specs.Actions.{Own, Answer, Do, Program, cells, steps}
 use Rattle.runs_theory.specs.Order.{printed_by, trap_in}
 use Rattle.runs_theory.specs.Objects.{Cell, Path, Name, Thing, An_object, An_array}
 use Rattle.runs_theory.specs.Runs.{Event, Run, reply, seen, thing_of, made, made_by, written_by, mine, things, at_start, now, later, answered_by}
-use Rattle.runs_theory.proofs.Mine.{mine_same}
-use Rattle.runs_theory.proofs.Things.{thing_later, same_some}
+use Rattle.runs_theory.proofs.events.Mine.{mine_same}
+use Rattle.runs_theory.proofs.events.Things.{thing_later, same_some}
 use Rattle.exec_heap.specs.Heap.{Object, instance, array, values_of, with_values, object_at, no_object, Contents}
 use Rattle.exec_heap.specs.Heap.{written as contents_written}
 use Rattle.exec_frames.specs.Names.{plain_value}

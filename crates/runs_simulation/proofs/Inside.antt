@@ -15,11 +15,11 @@ use Rattle.runs_theory.specs.Blocks.{Hold, In_block, Out_of, hold, hold_after, o
 use Rattle.runs_theory.specs.Objects.{Effect, LocalRegion, Part, Path}
 use Rattle.runs_theory.specs.Runs.{Ended, Event, Faithful, Run, Upto, count, event_steps, mine, total}
 use Rattle.runs_theory.specs.Standing.{Inside, Outside, Standing, above, first_of, joined_by, standing}
-use Rattle.runs_theory.proofs.Faithful.{begin_after}
-use Rattle.runs_theory.proofs.Mine.{found, mine_at}
-use Rattle.runs_theory.proofs.Numbers.{begins_step, number_one}
-use Rattle.runs_theory.proofs.Standing.{above_step, first_is, hold_since}
-use Rattle.runs_theory.proofs.Upto.{upto_length, upto_tail}
+use Rattle.runs_theory.proofs.runs.Faithful.{begin_after}
+use Rattle.runs_theory.proofs.events.Mine.{found, mine_at}
+use Rattle.runs_theory.proofs.events.Numbers.{begins_step, number_one}
+use Rattle.runs_theory.proofs.runs.Standing.{above_step, first_is, hold_since}
+use Rattle.runs_theory.proofs.events.Upto.{upto_length, upto_tail}
 use Rattle.exec_locks.specs.Locks.{HasEntry, Standings, deepened, entered, entered_from, exited, exited_from, is_inner, next, opener_of, shallower}
 use Rattle.exec_locks.specs.declared.standing.Standing.{Standing as Lock}
 use Rattle.exec_locks.specs.declared.standing.Standing.TheVariants.{Adopted, Opener}

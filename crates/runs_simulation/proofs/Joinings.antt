@@ -46,7 +46,7 @@ use Rattle.runs_simulation.proofs.Joins.{ForksAreJoined}
 use Rattle.runs_simulation.proofs.Forking.{Kept, step_keeps}
 use Rattle.runs_simulation.proofs.Wrapping.{first_numbers, next_numbers}
 use Rattle.runs_theory.specs.Order.{printed, trapped}
-use Rattle.runs_theory.proofs.Mine.{mine_same}
+use Rattle.runs_theory.proofs.events.Mine.{mine_same}
 use Rattle.code_instrs.specs.Machine.{State, Off, Waits, step}
 use Rattle.lang_meaning.specs.Actions as meaning
 use Rattle.lang_meaning.specs.Actions.{Fell}

@@ -9,8 +9,8 @@ use Rattle.runs_theory.specs.Blocks.{Legal, Out_of, hold}
 use Rattle.runs_theory.specs.Objects.{Path}
 use Rattle.runs_theory.specs.Runs.{Ended, Event, Run, mine}
 use Rattle.runs_theory.specs.Schedules.{Limits, Numbered, Ran, Ready, Within, branch_is, root_is}
-use Rattle.runs_theory.proofs.Bound.{finished_bounded, ran_bounded}
-use Rattle.runs_theory.proofs.Schedules.{one_run, ran_legal}
+use Rattle.runs_theory.proofs.runs.Bound.{finished_bounded, ran_bounded}
+use Rattle.runs_theory.proofs.runs.Schedules.{one_run, ran_legal}
 use Rattle.runs_theory.proofs.Theorems.{some_ready_event}
 use Rattle.runs_program.specs.Interfering.{lets}
 use Rattle.runs_program.specs.Laws.{EachKeeps}

@@ -14,10 +14,10 @@ use Rattle.runs_theory.specs.Blocks.{In_block, Out_of}
 use Rattle.runs_theory.specs.Objects.{Path}
 use Rattle.runs_theory.specs.Runs.{mine, now, Ended, Event, Run, Upto}
 use Rattle.runs_theory.specs.Schedules.{Numbered}
-use Rattle.runs_theory.proofs.Faithful.{begun_upto, follows_at}
-use Rattle.runs_theory.proofs.Mine.{found, mine_other, mine_same}
-use Rattle.runs_theory.proofs.Numbers.{number_of_begun, number_same}
-use Rattle.runs_theory.proofs.Upto.{upto_split, upto_tail}
+use Rattle.runs_theory.proofs.runs.Faithful.{begun_upto, follows_at}
+use Rattle.runs_theory.proofs.events.Mine.{found, mine_other, mine_same}
+use Rattle.runs_theory.proofs.events.Numbers.{number_of_begun, number_same}
+use Rattle.runs_theory.proofs.events.Upto.{upto_split, upto_tail}
 use Rattle.exec_task.specs.declared.action.Action.{Action as DeclaredAction}
 use Rattle.exec_task.specs.declared.action.Action.TheVariants as action
 use Rattle.exec_tasks.specs.Scope.{no_branch_yet, with_branch}

@@ -13,7 +13,7 @@ use Rattle.lang_meaning.specs.Actions.{Effect as EffectOver}
 use Rattle.lang_meaning.specs.Values.{Region as RegionOver, Part as PartOver}
 use Rattle.runs_theory.specs.Objects.{Path, Part, Region, LocalRegion, same_path}
 use Rattle.runs_theory.specs.Objects.{Effect as RunEffect}
-use Rattle.runs_theory.proofs.Mine.{test_same, test_other}
+use Rattle.runs_theory.proofs.events.Mine.{test_same, test_other}
 use Rattle.runs_program.specs.Interfering as run
 use Rattle.exec_locks.specs.Locks as locks
 use Rattle.exec_machine.specs.Wants.{noted, noted_part}

@@ -10,8 +10,8 @@ use Rattle.runs_theory.specs.Actions.{Begin, End, Ending}
 use Rattle.runs_theory.specs.Objects.{Path}
 use Rattle.runs_theory.specs.Order.{printed, printed_by, trap_in, trapped}
 use Rattle.runs_theory.specs.Runs.{Event, Run, Upto, later, mine, now}
-use Rattle.runs_theory.proofs.Mine.{mine_other, mine_same, mine_upto}
-use Rattle.runs_theory.proofs.Upto.{upto_trans}
+use Rattle.runs_theory.proofs.events.Mine.{mine_other, mine_same, mine_upto}
+use Rattle.runs_theory.proofs.events.Upto.{upto_trans}
 use Rattle.exec_tasks.specs.Join.{or_else, joined_out, unless_trapped}
 use Rattle.exec_tasks.specs.Join.{first_trap as first_of}
 use Rattle.exec_tasks.specs.Scope.{Branches as Scope, put_end}

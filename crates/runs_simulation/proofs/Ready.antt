@@ -17,12 +17,12 @@ use Rattle.runs_theory.specs.Objects.{Effect, Path}
 use Rattle.runs_theory.specs.Runs.{Begun, Ended, Event, Faithful, Follows, Run, answers, count, later, mine, now}
 use Rattle.runs_theory.specs.Schedules.{Ready}
 use Rattle.runs_theory.specs.Standing.{CanEnter, Outside, standing}
-use Rattle.runs_theory.proofs.Faithful.{JoinAt, agree_self, branch_ended, none_after_end, same_task}
-use Rattle.runs_theory.proofs.Mine.{mine_at}
-use Rattle.runs_theory.proofs.Numbers.{number_one, number_same}
-use Rattle.runs_theory.proofs.Standing.{opener_stands, stands_outside}
-use Rattle.runs_theory.proofs.Upto.{upto_length}
-use Rattle.runs_theory.proofs.Written.{admitted_from}
+use Rattle.runs_theory.proofs.runs.Faithful.{JoinAt, agree_self, branch_ended, none_after_end, same_task}
+use Rattle.runs_theory.proofs.events.Mine.{mine_at}
+use Rattle.runs_theory.proofs.events.Numbers.{number_one, number_same}
+use Rattle.runs_theory.proofs.runs.Standing.{opener_stands, stands_outside}
+use Rattle.runs_theory.proofs.events.Upto.{upto_length}
+use Rattle.runs_theory.proofs.runs.Written.{admitted_from}
 use Rattle.runs_program.specs.Interfering as run
 use Rattle.exec_locks.specs.Locks as locks
 use Rattle.exec_locks.specs.declared.standing.Standing.{Standing as Lock}

@@ -20,11 +20,11 @@ use Rattle.runs_theory.specs.Objects.{Path, size}
 use Rattle.runs_theory.specs.Order.{Comes, Limited, Outcome, ending_of, printed, trapped}
 use Rattle.runs_theory.specs.Runs.{Event, Follows, Run, cells_of, entry_step, event_cells, event_steps, mine, now, steps_of}
 use Rattle.runs_theory.specs.Schedules.{Numbered, Ran, Ready, Within, branch_is, ended, no_room, over, root_is}
-use Rattle.runs_theory.proofs.Cost.{total_nil}
+use Rattle.runs_theory.proofs.events.Cost.{total_nil}
 use Rattle.runs_theory.specs.Standing.{Outside, above, first_of, joined_by}
-use Rattle.runs_theory.proofs.Mine.{mine_nil}
-use Rattle.runs_theory.proofs.Standing.{above_nil, above_step}
-use Rattle.runs_theory.proofs.Written.{allowed_from}
+use Rattle.runs_theory.proofs.events.Mine.{mine_nil}
+use Rattle.runs_theory.proofs.runs.Standing.{above_nil, above_step}
+use Rattle.runs_theory.proofs.runs.Written.{allowed_from}
 use Rattle.runs_program.specs.Interfering.{lets}
 use Rattle.runs_program.specs.Steps.{named_by, stepped}
 use Rattle.exec_heap.specs.Heap.{instance, object_at, values_of, with_object}
@@ -35,7 +35,7 @@ use Rattle.exec_task.specs.declared.action.Ending.{Ending as DeclaredEnding}
 use Rattle.exec_tasks.proofs.Numbers.{get_beside, get_inserted}
 use Rattle.exec_tasks.specs.Scope.{Branches as Scope}
 use Rattle.exec_tasks.specs.declared.task.State.TheVariants.{Running as Runs, Forked}
-use Rattle.runs_theory.proofs.Upto.{upto_none}
+use Rattle.runs_theory.proofs.events.Upto.{upto_none}
 use Rattle.runs_simulation.proofs.Lives.{LivesTied, NoForkLast, lives_next}
 use Rattle.std.specs.Prelude.{is_some}
 use Rattle.exec_tasks.specs.Tree.{fresh, only_root, out_of, task_at}

@@ -4,8 +4,8 @@ use Rattle.runs_theory.specs.Actions.{Begin, End, Ending}
 use Rattle.runs_theory.specs.Objects.{Path}
 use Rattle.runs_theory.specs.Order.{InOrder, Lex, level_with, lower, position, shorter, way}
 use Rattle.runs_theory.specs.Runs.{Event, Run, Upto, count, later, mine, now}
-use Rattle.runs_theory.proofs.Mine.{mine_nil, mine_other, mine_same, mine_upto, path_cases}
-use Rattle.runs_theory.proofs.Upto.{upto_none, upto_split, upto_trans}
+use Rattle.runs_theory.proofs.events.Mine.{mine_nil, mine_other, mine_same, mine_upto, path_cases}
+use Rattle.runs_theory.proofs.events.Upto.{upto_none, upto_split, upto_trans}
 
 pub data Seg (R : Run) : Path → Run → Run → Type 0 where
   seg_none : {p : Path} → Seg R p [] []

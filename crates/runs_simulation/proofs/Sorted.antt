@@ -8,11 +8,11 @@ use Rattle.runs_theory.specs.Meaning.{Disciplined}
 use Rattle.runs_theory.specs.Objects.{Path}
 use Rattle.runs_theory.specs.Order.{printed, printed_by, trap_in, trapped}
 use Rattle.runs_theory.specs.Runs.{Begun, Event, Faithful, Run, Upto, branch, count, mine, now, root}
-use Rattle.runs_theory.proofs.Between.{stands_in}
-use Rattle.runs_theory.proofs.Carry.{begun_at}
-use Rattle.runs_theory.proofs.Mine.{found, mine_at, mine_nil, mine_other, mine_same}
-use Rattle.runs_theory.proofs.Numbers.{same_begin}
-use Rattle.runs_theory.proofs.Upto.{upto_length, upto_next, upto_none, upto_same, upto_split}
+use Rattle.runs_theory.proofs.order.Between.{stands_in}
+use Rattle.runs_theory.proofs.events.Carry.{begun_at}
+use Rattle.runs_theory.proofs.events.Mine.{found, mine_at, mine_nil, mine_other, mine_same}
+use Rattle.runs_theory.proofs.events.Numbers.{same_begin}
+use Rattle.runs_theory.proofs.events.Upto.{upto_length, upto_next, upto_none, upto_same, upto_split}
 use Rattle.runs_simulation.proofs.Segments.{Seg, seg_none, seg_own, seg_begin, seg_below, seg_mine, mine_on, mine_none, tails_same, longer, only_begun}
 
 pair_is : (u : ℕ × ℕ) (n b : ℕ) → u.0 ≡ n → u.1 ≡ b → u ≡ (n, b)

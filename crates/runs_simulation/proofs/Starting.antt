@@ -32,9 +32,9 @@ use Rattle.runs_simulation.proofs.Segments.{Seg, seg_none}
 use Rattle.runs_simulation.proofs.Sorted.{printed_nil, trapped_nil}
 use Rattle.runs_theory.specs.Runs.{answers, event_cells, event_steps, root, thing_of, things}
 use Rattle.runs_theory.specs.Schedules.{Numbered, root_is}
-use Rattle.runs_theory.proofs.Cost.{total_nil}
-use Rattle.runs_theory.proofs.Mine.{mine_nil}
-use Rattle.runs_theory.proofs.Numbers.{begins_nil}
+use Rattle.runs_theory.proofs.events.Cost.{total_nil}
+use Rattle.runs_theory.proofs.events.Mine.{mine_nil}
+use Rattle.runs_theory.proofs.events.Numbers.{begins_nil}
 use Rattle.runs_program.specs.Steps.{first_name, named_by, stepped}
 use Rattle.exec_heap.specs.Heap.{instance, with_object}
 use Rattle.exec_heap.specs.Heap.{Object as HeapObject}

@@ -12,8 +12,8 @@ use Rattle.runs_theory.specs.Blocks.{with_rule}
 use Rattle.runs_theory.specs.Objects.{Path, Name, LocalRegion}
 use Rattle.runs_theory.specs.Runs.{Begun, Ended, Event, Run, Upto, answers, cells_of, count, entry_step, event_steps, Faithful, later, mine, now, total}
 use Rattle.runs_theory.specs.Schedules.{Numbered, begins}
-use Rattle.runs_theory.proofs.Faithful.{begun_upto, ended_upto}
-use Rattle.runs_theory.proofs.Mine.{mine_other}
+use Rattle.runs_theory.proofs.runs.Faithful.{begun_upto, ended_upto}
+use Rattle.runs_theory.proofs.events.Mine.{mine_other}
 use Rattle.runs_program.specs.Steps.{stepped}
 use Rattle.exec_task.specs.Branches.{starts_at}
 use Rattle.exec_task.specs.Tasks.{plain_slot}

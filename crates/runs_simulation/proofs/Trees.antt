@@ -11,10 +11,10 @@ use Rattle.runs_theory.specs.Actions.{Program, Rule}
 use Rattle.runs_theory.specs.Objects.{Path}
 use Rattle.runs_theory.specs.Runs.{Begun, Event, Follows, Run, Upto, branch, entry_step, event_cells, event_steps, later, mine, root}
 use Rattle.runs_theory.specs.Schedules.{Numbered, branch_is, one_begin, root_is}
-use Rattle.runs_theory.proofs.Cost.{total_step}
-use Rattle.runs_theory.proofs.Mine.{mine_other, mine_same, path_cases}
-use Rattle.runs_theory.proofs.Numbers.{begins_step, number_same}
-use Rattle.runs_theory.proofs.Upto.{upto_none}
+use Rattle.runs_theory.proofs.events.Cost.{total_step}
+use Rattle.runs_theory.proofs.events.Mine.{mine_other, mine_same, path_cases}
+use Rattle.runs_theory.proofs.events.Numbers.{begins_step, number_same}
+use Rattle.runs_theory.proofs.events.Upto.{upto_none}
 use Rattle.exec_tasks.specs.Tree.{Tasks, changed, changed_to}
 use Rattle.exec_tasks.specs.declared.task.Origin.{Origin}
 use Rattle.exec_tasks.specs.declared.task.Task.{Task as Live}

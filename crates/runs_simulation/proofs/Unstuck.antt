@@ -21,11 +21,11 @@ use Rattle.runs_theory.specs.Meaning.{InTurn, Lively}
 use Rattle.runs_theory.specs.Objects.{Effect, LocalRegion, Name}
 use Rattle.runs_theory.specs.Runs.{Event, Right, Run, Upto, answers, count, event_steps, mine, now, total}
 use Rattle.runs_theory.specs.Schedules.{begins, one_begin}
-use Rattle.runs_theory.proofs.Cost.{total_step}
-use Rattle.runs_theory.proofs.Faithful.{begin_after}
-use Rattle.runs_theory.proofs.ForkSince.{ForkSince, fork_since}
-use Rattle.runs_theory.proofs.Mine.{Found, found}
-use Rattle.runs_theory.proofs.Numbers.{begins_nil, begins_step}
+use Rattle.runs_theory.proofs.events.Cost.{total_step}
+use Rattle.runs_theory.proofs.runs.Faithful.{begin_after}
+use Rattle.runs_theory.proofs.runs.ForkSince.{ForkSince, fork_since}
+use Rattle.runs_theory.proofs.events.Mine.{Found, found}
+use Rattle.runs_theory.proofs.events.Numbers.{begins_nil, begins_step}
 use Rattle.lang_base.specs.declared.value.Value.{Value as Constant}
 use Rattle.lang_typed.specs.declared.stmt.Forking.{Forking}
 use Rattle.exec_frames.specs.Names.{plain_value}

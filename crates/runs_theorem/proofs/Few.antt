@@ -13,7 +13,7 @@ use Rattle.code_scheme.specs.Stands.{StmtAt, StmtsAt, BranchesAt}
 use Rattle.code_scheme.specs.Whole.{compiled}
 use Rattle.code_scheme.proofs.Whole.{laid_out}
 use Rattle.exec_task.specs.Halts.{IsWidthBounded}
-use Rattle.runs_sound.proofs.Small.{FewIn, FewInAll, FewInBranches, HasFew, many_branches}
+use Rattle.runs_sound.proofs.numbers.Small.{FewIn, FewInAll, FewInBranches, HasFew, many_branches}
 
 -- each fork of the code has few bodies
 abbrev SitesFew : PlainCode → Type 0

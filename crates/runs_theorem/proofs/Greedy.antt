@@ -15,8 +15,8 @@ use Rattle.runs_theory.specs.Objects.{Name}
 use Rattle.runs_theory.specs.Order.{Limited, Outcome}
 use Rattle.runs_theory.specs.Runs.{Event, Run}
 use Rattle.runs_theory.specs.Schedules.{Finished, Greatest, Greedy, Limits, Numbered, Ran, Ready, Within, ended, no_room, over}
-use Rattle.runs_theory.proofs.Numbers.{number_same}
-use Rattle.runs_theory.proofs.Schedules.{ran_legal}
+use Rattle.runs_theory.proofs.events.Numbers.{number_same}
+use Rattle.runs_theory.proofs.runs.Schedules.{ran_legal}
 use Rattle.runs_theory.proofs.Theorems.{comes_one_way}
 use Rattle.runs_program.specs.Laws.{EachKeeps}
 use Rattle.runs_program.specs.Steps.{stepped}

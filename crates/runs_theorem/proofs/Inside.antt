@@ -8,7 +8,7 @@ use Rattle.runs_simulation.specs.Laws.{MachinesRecord, Records}
 use Rattle.runs_theory.specs.Order.{Comes, Outcome}
 use Rattle.runs_theory.specs.Runs.{Run}
 use Rattle.runs_theory.specs.Schedules.{Finished, Ran, ended, over, no_room}
-use Rattle.runs_theory.proofs.Schedules.{ran_legal}
+use Rattle.runs_theory.proofs.runs.Schedules.{ran_legal}
 use Rattle.runs_program.specs.Steps.{stepped}
 use Rattle.runs_theorem.specs.Inside.{ElidedInside, MachinesElideInside}
 use Rattle.lang_meaning.specs.Reported.{reported}

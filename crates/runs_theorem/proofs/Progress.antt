@@ -4,7 +4,7 @@ use Rattle.std.proofs.Common.{◌≡◌, ◌≤◌, ⊎_elim, length, reverse, s
 use Rattle.std.specs.Prelude.{IsSome}
 use Rattle.std.proofs.lemmas.Bool.{false≢true}
 use Rattle.std.proofs.lemmas.List.{length-reverse}
-use Rattle.runs_theory.proofs.Bound.{ran_bounded}
+use Rattle.runs_theory.proofs.runs.Bound.{ran_bounded}
 use Rattle.runs_program.specs.Laws.{EachKeeps}
 use Rattle.runs_program.specs.Steps.{stepped}
 use Rattle.runs_elision.specs.Laws.{NamesAreKnown}
@@ -13,7 +13,7 @@ use Rattle.exec_world.specs.Ready.{NoneReady}
 use Rattle.exec_machine.specs.Keeping.{HasEnded, most_events}
 use Rattle.runs_simulation.specs.Laws.{MachinesRecord, Records, SomeTaskIsReady}
 use Rattle.runs_simulation.proofs.Lively.{stuck_run}
-use Rattle.runs_sound.proofs.Never.{exits_a_block, forks_few}
+use Rattle.runs_sound.proofs.moments.Never.{exits_a_block, forks_few}
 use Rattle.runs_theorem.specs.Guarantee.{MachinesAreNotStuck, MachinesMakeProgress}
 use Rattle.runs_theorem.proofs.Few.{has_few}
 

@@ -2,7 +2,7 @@
 use Rattle.std.proofs.Common.{◌∙◌, sym, subst, reverse}
 use Rattle.runs_theorem.specs.Laws.{RunsAreGathered}
 use Rattle.runs_simulation.specs.Laws.{MachinesRecord, Records}
-use Rattle.runs_theory.proofs.Schedules.{ran_legal}
+use Rattle.runs_theory.proofs.runs.Schedules.{ran_legal}
 use Rattle.runs_sound.specs.RunLaws.{RunsAreSound}
 use Rattle.runs_program.specs.Interfering.{lets}
 use Rattle.runs_program.specs.Steps.{stepped}

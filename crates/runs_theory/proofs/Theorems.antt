@@ -5,19 +5,19 @@ use Rattle.runs_theory.specs.Laws.{Respects, SameEvents, SameOutcome, SomeReady}
 use Rattle.runs_theory.specs.Objects.{Path, size}
 use Rattle.runs_theory.specs.Order.{Agree, Came, ending_of, printed, trapped}
 use Rattle.runs_theory.specs.Runs.{Ended, Event, Faithful, Run, Upto, cells_of, entry_step, event_cells, event_steps, later, mine, now, steps_of, total}
-use Rattle.runs_theory.proofs.Mine.{mine_step, number_of}
-use Rattle.runs_theory.proofs.Faithful.{agree_self, none_after_end}
-use Rattle.runs_theory.proofs.Written.{allowed_from, legal_faithful, valid_from, legal_from}
-use Rattle.runs_theory.proofs.Between.{complete, respects_passing, order_of}
-use Rattle.runs_theory.proofs.Compare.{present}
-use Rattle.runs_theory.proofs.Agreement.{agree, same_all, same_end}
-use Rattle.runs_theory.proofs.Sorting.{sort}
-use Rattle.runs_theory.proofs.Ready.{some_ready}
-use Rattle.runs_theory.proofs.Greatest.{greatest_order}
-use Rattle.runs_theory.proofs.Numbers.{number_one, number_of_begun}
-use Rattle.runs_theory.proofs.Schedules.{same_step}
-use Rattle.runs_theory.proofs.Cost.{total_le, most_events}
-use Rattle.runs_theory.proofs.Sorted.{one_order}
+use Rattle.runs_theory.proofs.events.Mine.{mine_step, number_of}
+use Rattle.runs_theory.proofs.runs.Faithful.{agree_self, none_after_end}
+use Rattle.runs_theory.proofs.runs.Written.{allowed_from, legal_faithful, valid_from, legal_from}
+use Rattle.runs_theory.proofs.order.Between.{complete, respects_passing, order_of}
+use Rattle.runs_theory.proofs.order.Compare.{present}
+use Rattle.runs_theory.proofs.order.Agreement.{agree, same_all, same_end}
+use Rattle.runs_theory.proofs.order.Sorting.{sort}
+use Rattle.runs_theory.proofs.runs.Ready.{some_ready}
+use Rattle.runs_theory.proofs.order.Greatest.{greatest_order}
+use Rattle.runs_theory.proofs.events.Numbers.{number_one, number_of_begun}
+use Rattle.runs_theory.proofs.runs.Schedules.{same_step}
+use Rattle.runs_theory.proofs.events.Cost.{total_le, most_events}
+use Rattle.runs_theory.proofs.order.Sorted.{one_order}
 
 pub blocks_by_standing : BlocksByStanding
 blocks_by_standing P D R = (λ l. valid_from P R l, λ l. legal_from P D R l)

@@ -9,12 +9,12 @@ use Rattle.sound_decls.specs.Laws.{AcceptedIsDeclared, Declared, GoodParent, Goo
 use Rattle.sound_decls.specs.Laws.{AcceptedHasMain, AcceptedInherits, Inherits, KeepsSuper}
 use Rattle.sound_bodies.specs.Laws.{AcceptedIsWellTyped}
 use Rattle.sound_bodies.specs.Whole.{BodiesPass, GoodBody, made_of, never_forks}
-use Rattle.sound_bodies.proofs.ForksReported.{forks_reported}
-use Rattle.sound_bodies.proofs.Lineage.{supers_agree}
-use Rattle.sound_bodies.proofs.MemberBodies.{bodies_pass}
-use Rattle.sound_bodies.proofs.Reported.{table_tells}
-use Rattle.sound_bodies.proofs.Unmarked.{none_forks}
-use Rattle.sound_bodies.proofs.Unnamed.{all_signed}
+use Rattle.sound_bodies.proofs.reach.ForksReported.{forks_reported}
+use Rattle.sound_bodies.proofs.table.Lineage.{supers_agree}
+use Rattle.sound_bodies.proofs.statements.MemberBodies.{bodies_pass}
+use Rattle.sound_bodies.proofs.table.Reported.{table_tells}
+use Rattle.sound_bodies.proofs.reach.Unmarked.{none_forks}
+use Rattle.sound_bodies.proofs.scope.Unnamed.{all_signed}
 
 extends_so : (P : PlainProgram) (rank : ℕ → ℕ) (c : ℕ) (k : PlainClass) (p : PlainParent) → GoodParent P k p → KeepsSuper P rank c k p → Extends P rank c k p
 extends_so P rank c k p good keeps =

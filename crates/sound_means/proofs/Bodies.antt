@@ -53,10 +53,10 @@ use Rattle.lang_base.specs.Effects.{set_covers}
 use Rattle.lang_base.specs.Types.{plain_type}
 use Rattle.sound_lemmas.specs.Accepted.{IsAccepted}
 use Rattle.sound_lemmas.proofs.Lists.{ok_same}
-use Rattle.sound_decls.proofs.Text.{class_header}
+use Rattle.sound_decls.proofs.table.Text.{class_header}
 use Rattle.sound_bodies.specs.Seen.{Tells}
 use Rattle.sound_bodies.specs.Whole.{made_of, never_forks, StandsIn, StandsAmong}
-use Rattle.sound_bodies.proofs.Membership.{IsMember}
+use Rattle.sound_bodies.proofs.table.Membership.{IsMember}
 use Rattle.sound_means.proofs.Around.{KnowsPaths, HeadersTell}
 use Rattle.sound_means.proofs.Finding.{name_spelled, headers_tell, field_found, method_called}
 use Rattle.sound_means.proofs.Knows.{Knows, knows_formals}

@@ -59,14 +59,14 @@ use Rattle.sound_lemmas.specs.Accepted.{IsAccepted}
 use Rattle.sound_lemmas.proofs.Free.{append_none, fault_none, joined_free, none_reported}
 use Rattle.sound_lemmas.proofs.Known.{args_known, given_known}
 use Rattle.sound_lemmas.proofs.Lists.{some_same, and_then_there, map_there, got_mapped}
-use Rattle.sound_decls.proofs.Above.{class_there, upper_there}
-use Rattle.sound_decls.proofs.Classes.{ClassText, class_text, class_small, member_small, none_wrong, plain_number, short_type}
-use Rattle.sound_decls.proofs.Finding.{supers_few}
-use Rattle.sound_decls.proofs.Supers.{last_there, parent_type}
-use Rattle.sound_decls.proofs.Text.{class_constraints, super_text}
+use Rattle.sound_decls.proofs.table.Above.{class_there, upper_there}
+use Rattle.sound_decls.proofs.classes.Classes.{ClassText, class_text, class_small, member_small, none_wrong, plain_number, short_type}
+use Rattle.sound_decls.proofs.table.Finding.{supers_few}
+use Rattle.sound_decls.proofs.table.Supers.{last_there, parent_type}
+use Rattle.sound_decls.proofs.table.Text.{class_constraints, super_text}
 use Rattle.sound_bodies.specs.Whole.{made_of}
-use Rattle.sound_bodies.proofs.Sizes.{inherited_fields, fields_step}
-use Rattle.sound_bodies.proofs.Slots.{own_fields as fields_own}
+use Rattle.sound_bodies.proofs.table.Sizes.{inherited_fields, fields_step}
+use Rattle.sound_bodies.proofs.table.Slots.{own_fields as fields_own}
 use Rattle.sound_means.proofs.Around.{KnowsPaths}
 use Rattle.sound_means.proofs.Finding.{constructor_found, headers_tell, no_constructor, parent_found}
 use Rattle.sound_means.proofs.Rows.{row_means}

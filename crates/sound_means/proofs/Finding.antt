@@ -51,14 +51,14 @@ use Rattle.syntax_laws.specs.Written.{IsWritten}
 use Rattle.syntax_means.specs.Declares.{OwnRegion, OwnMethod, member_regions, member_fields, regions_from, all_regions, all_methods, spelled, method_name, ClassNamed, DeclaresRegion, IsMethodOf, DeclaresField, DeclaresMethod, DeclaresConstructor, inherited_fields, MeansIn}
 use Rattle.sound_lemmas.specs.Accepted.{IsAccepted}
 use Rattle.sound_lemmas.proofs.Lists.{some_same, and_then_there, map_there, got_mapped, there}
-use Rattle.sound_decls.proofs.Above.{upper_there}
-use Rattle.sound_decls.proofs.Supers.{last_there, parent_entry}
-use Rattle.sound_decls.proofs.Text.{class_header}
+use Rattle.sound_decls.proofs.table.Above.{upper_there}
+use Rattle.sound_decls.proofs.table.Supers.{last_there, parent_entry}
+use Rattle.sound_decls.proofs.table.Text.{class_header}
 use Rattle.sound_bodies.specs.Whole.{made_of}
-use Rattle.sound_bodies.proofs.Lineage.{class_there, parent_there, parent_is}
-use Rattle.sound_bodies.proofs.Sizes.{first_is, slots_few}
-use Rattle.sound_bodies.proofs.Slots.{meant_small, stands_in}
-use Rattle.sound_bodies.proofs.Slots.{own_fields as fields_of_class}
+use Rattle.sound_bodies.proofs.table.Lineage.{class_there, parent_there, parent_is}
+use Rattle.sound_bodies.proofs.table.Sizes.{first_is, slots_few}
+use Rattle.sound_bodies.proofs.table.Slots.{meant_small, stands_in}
+use Rattle.sound_bodies.proofs.table.Slots.{own_fields as fields_of_class}
 use Rattle.sound_means.proofs.Around.{HeadersTell}
 use Rattle.sound_means.proofs.Methods.{Row, own_row, row_own}
 

@@ -22,8 +22,8 @@ use Rattle.body_check.specs.Methods.{formals_declared}
 use Rattle.body_check.specs.Simple.{has_room, local_declared, part_declared, region_declared}
 use Rattle.sound_lemmas.proofs.Lists.{some_same, got_first, got_later, and_then_there, there}
 use Rattle.sound_bodies.specs.Seen.{InStep, Tells}
-use Rattle.sound_bodies.proofs.Declaring.{last_push, last_within, local_pushed, indices_reported, step_row}
-use Rattle.sound_bodies.proofs.Growing.{Kept, kept_step, step_region}
+use Rattle.sound_bodies.proofs.scope.Declaring.{last_push, last_within, local_pushed, indices_reported, step_row}
+use Rattle.sound_bodies.proofs.scope.Growing.{Kept, kept_step, step_region}
 use Rattle.sound_means.proofs.Around.{KnowsPaths}
 
 -- what is around a place of a body for the checker is around it here; parts are of arrays

@@ -40,16 +40,16 @@ use Rattle.syntax_laws.specs.Written.{IsWritten}
 use Rattle.sound_lemmas.specs.Accepted.{IsAccepted}
 use Rattle.sound_lemmas.proofs.Free.{append_none}
 use Rattle.sound_lemmas.proofs.Lists.{some_same, got_first, got_later}
-use Rattle.sound_decls.proofs.Around.{formal_barred}
-use Rattle.sound_decls.proofs.Classes.{class_text, class_there, short_type}
-use Rattle.sound_decls.proofs.Members.{accepted_declared}
-use Rattle.sound_decls.proofs.Signs.{Short}
-use Rattle.sound_decls.proofs.Text.{counted_in}
+use Rattle.sound_decls.proofs.written.Around.{formal_barred}
+use Rattle.sound_decls.proofs.classes.Classes.{class_text, class_there, short_type}
+use Rattle.sound_decls.proofs.classes.Members.{accepted_declared}
+use Rattle.sound_decls.proofs.written.Signs.{Short}
+use Rattle.sound_decls.proofs.table.Text.{counted_in}
 use Rattle.sound_bodies.specs.Seen.{Tells}
 use Rattle.sound_bodies.specs.Whole.{made_of, never_forks, StandsIn, StandsAmong}
 use Rattle.sound_bodies.specs.Whole.StandsIn.{here, later}
 use Rattle.sound_bodies.specs.Whole.StandsAmong.{in_class as stands_in_class, in_later}
-use Rattle.sound_bodies.proofs.Membership.{IsMember, member_of_text}
+use Rattle.sound_bodies.proofs.table.Membership.{IsMember, member_of_text}
 use Rattle.sound_means.proofs.Around.{KnowsPaths}
 use Rattle.sound_means.proofs.Bodies.{body_meant}
 use Rattle.sound_means.proofs.Finding.{headers_tell}

@@ -32,7 +32,7 @@ use Rattle.decl_laws.specs.Rows.{HasRows}
 use Rattle.decl_laws.proofs.Facts.{got_either}
 use Rattle.sound_lemmas.proofs.Free.{append_none, fault_none, none_reported, or_false}
 use Rattle.sound_lemmas.proofs.Lists.{some_same, got_mapped, there}
-use Rattle.sound_decls.proofs.Text.{flat_free}
+use Rattle.sound_decls.proofs.table.Text.{flat_free}
 
 -- the rows of methods and constructors, where so many stand before them in the text
 abbrev rows_of : Headers → List (List Constraint) → ℕ → List OwnMethod → List PlainMethod

@@ -37,7 +37,7 @@ use Rattle.body_assembly.specs.Assembled.{PlainBody, parent_at}
 use Rattle.sound_lemmas.specs.Accepted.{IsAccepted}
 use Rattle.sound_lemmas.proofs.Free.{and_split}
 use Rattle.sound_lemmas.proofs.Lists.{some_same, map_there}
-use Rattle.sound_decls.proofs.Above.{P, parent_there, upper_there, class_there}
+use Rattle.sound_decls.proofs.table.Above.{P, parent_there, upper_there, class_there}
 use Rattle.sound_means.proofs.Methods.{row_own, own_row, one_name}
 
 -- what a list has after a change

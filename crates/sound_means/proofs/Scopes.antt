@@ -24,7 +24,7 @@ use Rattle.decl_resolve.specs.Scopes.{PlainScope, class_param, after_class, meth
 use Rattle.decl_classes.specs.Around.{param_names}
 use Rattle.decl_laws.proofs.Facts.{got_either}
 use Rattle.sound_lemmas.proofs.Lists.{some_same, and_then_there, map_there, there, got_first, got_later, got_mapped}
-use Rattle.sound_decls.proofs.Around.{param_values}
+use Rattle.sound_decls.proofs.written.Around.{param_values}
 use Rattle.sound_means.proofs.Around.{KnowsPaths, HeadersTell}
 
 -- the last that passes a test, and the last of a name

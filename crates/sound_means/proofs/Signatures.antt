@@ -33,9 +33,9 @@ use Rattle.lang_typed.specs.Statements.{SameEffects}
 use Rattle.body_assembly.specs.Assembled.{field_of}
 use Rattle.sound_lemmas.proofs.Free.{append_none, joined_free}
 use Rattle.sound_lemmas.proofs.Known.{path_known, type_known}
-use Rattle.sound_decls.proofs.Signs.{Short}
-use Rattle.sound_bodies.proofs.Gathered.{nothing_in}
-use Rattle.sound_bodies.proofs.Left.{gathered_from, gathered_kept, gathered_new}
+use Rattle.sound_decls.proofs.written.Signs.{Short}
+use Rattle.sound_bodies.proofs.effects.Gathered.{nothing_in}
+use Rattle.sound_bodies.proofs.effects.Left.{gathered_from, gathered_kept, gathered_new}
 use Rattle.sound_means.proofs.Around.{KnowsPaths}
 use Rattle.sound_means.proofs.Written.{path_here, region_here, type_here}
 

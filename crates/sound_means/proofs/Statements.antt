@@ -48,9 +48,9 @@ use Rattle.body_check.specs.Walks.{Walk, Verdict, passes, refused, left_scope}
 use Rattle.sound_lemmas.proofs.Bodies.{not_faulty, free_if, free_found, declared_free, regions_free}
 use Rattle.sound_lemmas.proofs.Free.{parts_free}
 use Rattle.sound_lemmas.proofs.Known.{type_known}
-use Rattle.sound_bodies.proofs.Growing.{Kept, room_free}
-use Rattle.sound_bodies.proofs.LocalRegions.{regions_are}
-use Rattle.sound_bodies.proofs.Walks.{If, judged_if, after_if, After, Walked, checking_walked, scope_walked}
+use Rattle.sound_bodies.proofs.scope.Growing.{Kept, room_free}
+use Rattle.sound_bodies.proofs.scope.LocalRegions.{regions_are}
+use Rattle.sound_bodies.proofs.statements.Walks.{If, judged_if, after_if, After, Walked, checking_walked, scope_walked}
 use Rattle.sound_means.proofs.Expressions.{Meant, typing_meant, PartMeant, part_meant, FieldMeant, field_meant}
 use Rattle.sound_means.proofs.Knows.{Knows, knows_kept, knows_local, knows_part, knows_region}
 use Rattle.sound_means.proofs.Written.{type_here}

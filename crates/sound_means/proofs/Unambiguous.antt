@@ -38,7 +38,7 @@ use Rattle.syntax_means.specs.Paths.{Around}
 use Rattle.syntax_means.specs.Unambiguous.{IsUnambiguous}
 use Rattle.sound_lemmas.proofs.Free.{append_none, fault_none, none_reported, not_false, or_false}
 use Rattle.sound_lemmas.proofs.Lists.{some_same, got_later, got_mapped}
-use Rattle.sound_decls.proofs.Text.{flat_free}
+use Rattle.sound_decls.proofs.table.Text.{flat_free}
 use Rattle.sound_means.proofs.Methods.{one_name, range_there}
 
 -- names of which none stands a second time

@@ -48,9 +48,9 @@ use Rattle.sound_lemmas.proofs.Counting.{bodies_made}
 use Rattle.sound_lemmas.proofs.Free.{append_none, fault_none, none_reported, not_false, and_split}
 use Rattle.sound_lemmas.proofs.Lists.{and_then_there, there}
 use Rattle.sound_lemmas.proofs.Signatures.{rows_many as methods_many}
-use Rattle.sound_decls.proofs.Finding.{class_within}
+use Rattle.sound_decls.proofs.table.Finding.{class_within}
 use Rattle.sound_bodies.specs.Whole.{made_of}
-use Rattle.sound_bodies.proofs.Reported.{table_tells}
+use Rattle.sound_bodies.proofs.table.Reported.{table_tells}
 use Rattle.sound_means.proofs.Classes.{class_means}
 use Rattle.sound_means.proofs.Finding.{headers_tell, name_spelled}
 use Rattle.sound_means.proofs.Members.{member_means}

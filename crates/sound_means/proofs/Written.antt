@@ -47,7 +47,7 @@ use Rattle.body_exprs.specs.Typed.{may_be, is_int}
 use Rattle.syntax_means.specs.Declares.{DeclaresRegion, MeansIn}
 use Rattle.syntax_means.specs.Paths.{Around, RegionMeans, HeadMeans, ElemMeans, PathMeans, PathOrRoot, ArgsMean, NamesClass, BaseMeans, ArraysMean, FormMeans, TypeMeans, IsParam, IsLocalRegion, beside, index_of, index_names}
 use Rattle.syntax_means.specs.Paths.{root_path as root}
-use Rattle.sound_decls.proofs.Paths.{none_goes_on, goes_step}
+use Rattle.sound_decls.proofs.written.Paths.{none_goes_on, goes_step}
 use Rattle.sound_lemmas.proofs.Known.{path_known}
 use Rattle.sound_lemmas.proofs.Lists.{some_same, and_then_there, map_there}
 use Rattle.sound_means.proofs.Around.{KnowsPaths}

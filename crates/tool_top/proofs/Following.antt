@@ -31,7 +31,7 @@ use Rattle.runs_theory.specs.Meaning.{Disciplined}
 use Rattle.runs_theory.specs.Objects.{Path}
 use Rattle.runs_theory.specs.Runs.{Ended, Event}
 use Rattle.runs_theory.specs.Schedules.{Numbered, Ready, branch_is, root_is}
-use Rattle.runs_theory.proofs.Schedules.{one_run}
+use Rattle.runs_theory.proofs.runs.Schedules.{one_run}
 use Rattle.runs_program.specs.Laws.{EachKeeps}
 use Rattle.runs_program.specs.Steps.{stepped}
 use Rattle.exec_world.specs.Ready.{IsReady}

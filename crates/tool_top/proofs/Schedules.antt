@@ -5,7 +5,7 @@ use Rattle.runs_theory.specs.Meaning.{Disciplined}
 use Rattle.runs_theory.specs.Order.{Comes, Outcome}
 use Rattle.runs_theory.specs.Runs.{Ended, Event, Run}
 use Rattle.runs_theory.specs.Schedules.{Finished, Limits, Ran, Ready, Within, ended, no_room, over}
-use Rattle.runs_theory.proofs.Schedules.{one_run, ran_legal}
+use Rattle.runs_theory.proofs.runs.Schedules.{one_run, ran_legal}
 use Rattle.runs_theory.proofs.Theorems.{comes_one_way, nothing_after, one_next}
 
 module _ (P : Program) (D : Disciplined P) (L : Limits) where

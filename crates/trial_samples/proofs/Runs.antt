@@ -9,7 +9,7 @@ use Rattle.runs_reduction.specs.Gathered.{gather}
 use Rattle.runs_reduction.specs.Guarded.{InBlock}
 use Rattle.runs_reduction.specs.Insertion.{rearranged}
 use Rattle.runs_reduction.specs.Laws.{IsGathered}
-use Rattle.runs_reduction.proofs.Tests.{upto_without, without}
+use Rattle.runs_reduction.proofs.samples.Tests.{upto_without, without}
 use Rattle.runs_theory.specs.Actions.{Answer, Do, Got, Out, Program, Read, Returned, Went, Write}
 use Rattle.runs_theory.specs.Blocks.{Legal}
 use Rattle.runs_theory.specs.Meaning.{Disciplined}
@@ -17,8 +17,8 @@ use Rattle.runs_theory.specs.Objects.{Name, Path, same_path}
 use Rattle.runs_theory.specs.Order.{write_read}
 use Rattle.runs_theory.specs.Runs.{Ended, Event, Run, Upto, last_written, mine, things, total}
 use Rattle.runs_theory.specs.Standing.{above, first_of}
-use Rattle.runs_theory.proofs.Play.{has_ended_with, play, played, run_of}
-use Rattle.runs_theory.proofs.Written.{legal_from}
+use Rattle.runs_theory.proofs.samples.Play.{has_ended_with, play, played, run_of}
+use Rattle.runs_theory.proofs.runs.Written.{legal_from}
 use Rattle.runs_sound.specs.Laws.{main_bounds}
 use Rattle.runs_sound.specs.Soundness.{IsSound}
 use Rattle.runs_program.specs.Steps.{stepped}

@@ -1,6 +1,6 @@
 use Rattle.runs_theory.proofs.Theorems.{comparison, none_costs_more, same_outcome, greatest_first}
-use Rattle.runs_theory.proofs.Bound.{finished_bounded}
-use Rattle.runs_theory.proofs.Finishing.{each_finishes, schedules_agree}
+use Rattle.runs_theory.proofs.runs.Bound.{finished_bounded}
+use Rattle.runs_theory.proofs.runs.Finishing.{each_finishes, schedules_agree}
 use Rattle.runs_program.proofs.Steps.{each_keeps}
 use Rattle.runs_program.specs.Steps.{stepped}
 use Rattle.runs_program.proofs.laws.law_steps.Goals as goal

@@ -1,5 +1,5 @@
 use Rattle.runs_reduction.proofs.Theorems.{gathering, still_open}
-use Rattle.runs_reduction.proofs.OneGathered.{one_gathered}
+use Rattle.runs_reduction.proofs.gathered.OneGathered.{one_gathered}
 use Rattle.runs_reduction.proofs.laws.law_gathering.Goals as goal
 
 pub returns : goal.returns

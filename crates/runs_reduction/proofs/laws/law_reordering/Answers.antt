@@ -1,5 +1,5 @@
 use Rattle.runs_reduction.proofs.Theorems.{moving, moving_by, moving_ended, moving_inside}
-use Rattle.runs_reduction.proofs.OneMoved.{one_moved}
+use Rattle.runs_reduction.proofs.moved.OneMoved.{one_moved}
 use Rattle.runs_reduction.proofs.laws.law_reordering.Goals as goal
 
 pub returns : goal.returns

@@ -1,5 +1,5 @@
-use Rattle.runs_reduction.proofs.Samples.{both_apply, gathering_needs_guarded, gathering_needs_known, moving_needs_weaker}
-use Rattle.runs_reduction.proofs.Waiting.{moving_ended_applies, moving_needs_ended}
+use Rattle.runs_reduction.proofs.samples.Samples.{both_apply, gathering_needs_guarded, gathering_needs_known, moving_needs_weaker}
+use Rattle.runs_reduction.proofs.moved.Waiting.{moving_ended_applies, moving_needs_ended}
 use Rattle.runs_reduction.proofs.laws.law_samples.Goals as goal
 
 pub returns : goal.returns

@@ -1,4 +1,4 @@
-use Rattle.runs_sound.proofs.Quiet.{branches_quiet, iterations_quiet, nd_branches_quiet, nd_branches_separate, nd_iterations_quiet, nd_iterations_separate}
+use Rattle.runs_sound.proofs.paths.Quiet.{branches_quiet, iterations_quiet, nd_branches_quiet, nd_branches_separate, nd_iterations_quiet, nd_iterations_separate}
 use Rattle.runs_sound.proofs.laws.law_quiet.Goals as goal
 
 pub returns : goal.returns

@@ -1,7 +1,7 @@
-use Rattle.runs_sound.proofs.Free.{runs_are_free}
-use Rattle.runs_sound.proofs.Guarding.{conflicts_are_guarded, nd_forks_are_outside}
-use Rattle.runs_sound.proofs.Levels.{conflicts_are_levelled, entries_are_let}
-use Rattle.runs_sound.proofs.There.{names_are_known_by_any_rule}
+use Rattle.runs_sound.proofs.accesses.Free.{runs_are_free}
+use Rattle.runs_sound.proofs.accesses.Guarding.{conflicts_are_guarded, nd_forks_are_outside}
+use Rattle.runs_sound.proofs.accesses.Levels.{conflicts_are_levelled, entries_are_let}
+use Rattle.runs_sound.proofs.moments.There.{names_are_known_by_any_rule}
 use Rattle.runs_sound.proofs.laws.law_runs.Goals as goal
 
 pub returns : goal.returns

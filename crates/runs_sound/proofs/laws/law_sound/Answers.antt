@@ -1,4 +1,4 @@
-use Rattle.runs_sound.proofs.Keeping.{runs_are_sound}
+use Rattle.runs_sound.proofs.moments.Keeping.{runs_are_sound}
 use Rattle.runs_sound.proofs.laws.law_sound.Goals as goal
 
 pub returns : goal.returns

@@ -1,6 +1,6 @@
-use Rattle.runs_sound.proofs.Root.{root_in_order}
-use Rattle.runs_sound.proofs.Statements.{forking_in_order}
-use Rattle.runs_sound.proofs.Tasks.{tasks_in_order, branches_in_order}
+use Rattle.runs_sound.proofs.moments.Root.{root_in_order}
+use Rattle.runs_sound.proofs.work.Statements.{forking_in_order}
+use Rattle.runs_sound.proofs.work.Tasks.{tasks_in_order, branches_in_order}
 use Rattle.runs_sound.proofs.laws.law_statements.Goals as goal
 
 pub returns : goal.returns

@@ -1,5 +1,5 @@
 use Rattle.runs_theory.proofs.Theorems.{blocks_by_standing}
-use Rattle.runs_theory.proofs.Written.{legal_faithful}
+use Rattle.runs_theory.proofs.runs.Written.{legal_faithful}
 use Rattle.runs_theory.proofs.laws.law_blocks.Goals as goal
 
 pub returns : goal.returns

@@ -1,4 +1,4 @@
-use Rattle.runs_theory.proofs.Finishing.{schedules_agree}
+use Rattle.runs_theory.proofs.runs.Finishing.{schedules_agree}
 use Rattle.runs_theory.proofs.laws.law_determinism.Goals as goal
 
 pub returns : goal.returns

@@ -1,5 +1,5 @@
 use Rattle.runs_theory.proofs.Theorems.{greatest_first}
-use Rattle.runs_theory.proofs.Finishing.{greatest_finishes}
+use Rattle.runs_theory.proofs.runs.Finishing.{greatest_finishes}
 use Rattle.runs_theory.proofs.laws.law_greatest.Goals as goal
 
 pub returns : goal.returns

@@ -1,5 +1,5 @@
-use Rattle.runs_theory.proofs.Samples.{comparison_applies, comparison_needs_free, respects_needs_passing, ready_applies, ready_needs_known, bound_applies}
-use Rattle.runs_theory.proofs.Samples.{bound_needs_paced, determinism_applies, greatest_applies}
+use Rattle.runs_theory.proofs.samples.Samples.{comparison_applies, comparison_needs_free, respects_needs_passing, ready_applies, ready_needs_known, bound_applies}
+use Rattle.runs_theory.proofs.samples.Samples.{bound_needs_paced, determinism_applies, greatest_applies}
 use Rattle.runs_theory.proofs.laws.law_samples.Goals as goal
 
 pub returns : goal.returns

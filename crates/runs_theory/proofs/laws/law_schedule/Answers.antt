@@ -1,6 +1,6 @@
-use Rattle.runs_theory.proofs.Schedules.{one_run, ran_legal, recorded}
-use Rattle.runs_theory.proofs.Bound.{ran_bounded, finished_bounded}
-use Rattle.runs_theory.proofs.Finishing.{each_finishes}
+use Rattle.runs_theory.proofs.runs.Schedules.{one_run, ran_legal, recorded}
+use Rattle.runs_theory.proofs.runs.Bound.{ran_bounded, finished_bounded}
+use Rattle.runs_theory.proofs.runs.Finishing.{each_finishes}
 use Rattle.runs_theory.proofs.laws.law_schedule.Goals as goal
 
 pub returns : goal.returns

@@ -1,4 +1,4 @@
-use Rattle.sound_bodies.proofs.Bodies.{block_agrees}
+use Rattle.sound_bodies.proofs.statements.Bodies.{block_agrees}
 use Rattle.sound_bodies.proofs.laws.law_blocks.Goals as goal
 
 pub returns : goal.returns

@@ -1,4 +1,4 @@
-use Rattle.sound_bodies.proofs.Expressions.{expression_agrees}
+use Rattle.sound_bodies.proofs.statements.Expressions.{expression_agrees}
 use Rattle.sound_bodies.proofs.laws.law_expressions.Goals as goal
 
 pub returns : goal.returns

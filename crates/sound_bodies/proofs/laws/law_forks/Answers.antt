@@ -1,5 +1,5 @@
-use Rattle.sound_bodies.proofs.ForksReported.{forks_reported}
-use Rattle.sound_bodies.proofs.Unmarked.{none_forks}
+use Rattle.sound_bodies.proofs.reach.ForksReported.{forks_reported}
+use Rattle.sound_bodies.proofs.reach.Unmarked.{none_forks}
 use Rattle.sound_bodies.proofs.laws.law_forks.Goals as goal
 
 pub returns : goal.returns

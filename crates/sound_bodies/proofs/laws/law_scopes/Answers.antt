@@ -1,4 +1,4 @@
-use Rattle.sound_bodies.proofs.InScopeStatements.{all_names}
+use Rattle.sound_bodies.proofs.scope.InScopeStatements.{all_names}
 use Rattle.sound_bodies.proofs.laws.law_scopes.Goals as goal
 
 pub returns : goal.returns

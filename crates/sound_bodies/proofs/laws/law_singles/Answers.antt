@@ -1,4 +1,4 @@
-use Rattle.sound_bodies.proofs.Singles.{assigning, performing, returning, printing}
+use Rattle.sound_bodies.proofs.statements.Singles.{assigning, performing, returning, printing}
 use Rattle.sound_bodies.proofs.laws.law_singles.Goals as goal
 
 pub returns : goal.returns

@@ -1,4 +1,4 @@
-use Rattle.sound_bodies.proofs.Subtypes.{fits_subtype}
+use Rattle.sound_bodies.proofs.table.Subtypes.{fits_subtype}
 use Rattle.sound_bodies.proofs.laws.law_subtypes.Goals as goal
 
 pub returns : goal.returns

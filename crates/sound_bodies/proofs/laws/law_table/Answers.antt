@@ -1,6 +1,6 @@
-use Rattle.sound_bodies.proofs.Lineage.{supers_agree}
-use Rattle.sound_bodies.proofs.Reported.{table_tells}
-use Rattle.sound_bodies.proofs.Unnamed.{all_signed}
+use Rattle.sound_bodies.proofs.table.Lineage.{supers_agree}
+use Rattle.sound_bodies.proofs.table.Reported.{table_tells}
+use Rattle.sound_bodies.proofs.scope.Unnamed.{all_signed}
 use Rattle.sound_bodies.proofs.laws.law_table.Goals as goal
 
 pub returns : goal.returns

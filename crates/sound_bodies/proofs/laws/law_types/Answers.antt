@@ -1,4 +1,4 @@
-use Rattle.sound_bodies.proofs.Meant.{declared_good}
+use Rattle.sound_bodies.proofs.scope.Meant.{declared_good}
 use Rattle.sound_bodies.proofs.laws.law_types.Goals as goal
 
 pub returns : goal.returns

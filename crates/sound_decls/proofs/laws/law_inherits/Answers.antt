@@ -1,4 +1,4 @@
-use Rattle.sound_decls.proofs.Inheriting.{accepted_inherits}
+use Rattle.sound_decls.proofs.classes.Inheriting.{accepted_inherits}
 use Rattle.sound_decls.proofs.laws.law_inherits.Goals as goal
 
 pub returns : goal.returns

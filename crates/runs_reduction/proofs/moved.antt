@@ -1,0 +1,8 @@
+-- The run with each deterministic construct after its fork.
+pub mod AfterForks
+pub mod Branch
+pub mod Ended
+pub mod Loose
+pub mod Move
+pub mod OneMoved
+pub mod Waiting

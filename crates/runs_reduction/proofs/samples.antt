@@ -1,0 +1,3 @@
+-- Closed samples.
+pub mod Samples
+pub mod Tests

@@ -1,0 +1,4 @@
+-- Numbers of 32 bits.
+pub mod Ints
+pub mod Numbers
+pub mod Small

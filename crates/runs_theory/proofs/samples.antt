@@ -1,0 +1,5 @@
+-- Closed samples.
+pub mod Play
+pub mod Samples
+pub mod Scripts
+pub mod Tests
