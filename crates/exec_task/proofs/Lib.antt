@@ -5,9 +5,9 @@ pub mod Branching
 pub mod Starting
 pub mod Stepping
 pub mod Resuming
-pub mod Walking
+pub mod RunningToAction
 pub mod Dropped
 pub mod Leading
 pub mod Idle
-pub mod Stretching
+pub mod RunningLocally
 mod Spots

@@ -72,7 +72,7 @@ pub record Paced (t : Task) : Type 0 where
 
 -- a task has gone on to another, or stands where it was where it waits there for an answer
 pub record Reaches (C : PlainCode) (old new : Task) : Type 0 where
-  pub way : OnTheWay C old new
+  pub running : OnTheWay C old new
   pub number : new.number ≡ old.number
   pub paced : Paced new
   pub again : IsAsking (front_of C old) → new ≡ old

@@ -7,4 +7,4 @@ pub mod Advances
 pub mod Fuel
 pub mod Frames
 pub mod Answers
-pub mod Paces
+pub mod StepsLocally

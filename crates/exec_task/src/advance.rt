@@ -3,7 +3,7 @@ ghost use Rattle.code_instrs.specs.Machine.{Stuck};
 ghost use Rattle.code_instrs.specs.Plain.{plain_code};
 ghost use Rattle.exec_task.specs.Advances.{step_at, Kept, StepsTo, Advances, StandsAt};
 ghost use Rattle.exec_task.specs.Halts.{Paced, IsAsking, stands};
-ghost use Rattle.exec_task.specs.Paces.{IsAtOther};
+ghost use Rattle.exec_task.specs.StepsLocally.{IsAtOther};
 ghost use Rattle.exec_task.specs.Steps.{HasNext, with_local};
 ghost use Rattle.exec_task.specs.Tasks.{plain_level};
 

@@ -2,7 +2,7 @@ ghost use Rattle.std.specs.Prelude.{◌≡◌, ℕ, false, map, IfOk, OnErr};
 ghost use Rattle.code_instrs.specs.Machine.{exec};
 ghost use Rattle.code_instrs.specs.Plain.{plain_code};
 ghost use Rattle.exec_task.specs.Names.{names_of};
-ghost use Rattle.exec_task.specs.Paces.{is_own};
+ghost use Rattle.exec_task.specs.StepsLocally.{is_own};
 ghost use Rattle.exec_task.specs.Steps.{Comes, HasNext};
 ghost use Rattle.exec_task.specs.Tasks.{plain_level};
 

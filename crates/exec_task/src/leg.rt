@@ -3,9 +3,9 @@ ghost use Rattle.code_instrs.specs.Plain.{plain_code};
 ghost use Rattle.exec_task.specs.Halts.{Halts, OnTheWay, front_of, Tells, IsAsking, Ends, Paced};
 
 use crate::action::Action;
+use crate::run_to_action::run_to_action;
+use crate::running::Running;
 use crate::task::{Start, Task};
-use crate::walk::walk;
-use crate::way::Way;
 use code_instrs::Code;
 use exec_frames::Frame;
 use lang_base::{Items, NoMemory};
@@ -21,15 +21,15 @@ impl Task {
         ensures ends { Ends (plain_code code.now) self.new }
         ensures paced { Paced self.new }
         ensures number { self.new.number ≡ self.old.number }
-        ensures way { OnTheWay (plain_code code.now) self.old self.new }
+        ensures running { OnTheWay (plain_code code.now) self.old self.new }
         ensures halts { OnOk result (Halts (plain_code code.now) self.new (front_of (plain_code code.now) self.new)) }
         ensures tells { IfOk result (λ action. Tells (plain_code code.now) action (front_of (plain_code code.now) self.new)) }
         ensures again { IsAsking (front_of (plain_code code.now) self.old) → self.new ≡ self.old }
     {
         let task = mem::replace(self, absent(alloc));
-        let mut way = Way { task, code };
-        let action = walk(&mut way, alloc);
-        let Way { task, .. } = way;
+        let mut running = Running { task, code };
+        let action = run_to_action(&mut running, alloc);
+        let Running { task, .. } = running;
         *self = task;
         action
     }

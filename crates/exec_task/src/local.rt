@@ -7,12 +7,12 @@ ghost use Rattle.code_instrs.specs.Machine.{exec, pushes, one, two, next, operat
 ghost use Rattle.code_instrs.specs.Plain.{PlainCode};
 ghost use Rattle.exec_frames.specs.Names.{plain_value};
 ghost use Rattle.exec_task.specs.Names.{names_of};
-ghost use Rattle.exec_task.specs.Paces.{Paces, IsOwn, is_own};
+ghost use Rattle.exec_task.specs.StepsLocally.{StepsLocally, IsOwn, is_own};
 ghost use Rattle.exec_task.specs.Steps.{Comes, Local, HasNext};
 ghost use Rattle.exec_task.specs.Tasks.{plain_level};
 
 use crate::action::Ending;
-use crate::pace::Pace;
+use crate::local_step::LocalStep;
 use crate::step::Step;
 use crate::task::Level;
 use code_instrs::Instr;
@@ -21,10 +21,10 @@ use lang_base::{BinaryOp, NoMemory, Place, Trap, UnaryOp, Value};
 
 impl Level {
     /// An instruction of values and jumps; at any other the level stays as it is.
-    pub fn pace(&mut self, instr: Instr) -> Pace
+    pub fn local_step(&mut self, instr: Instr) -> LocalStep
         requires { HasNext self.old }
-        ensures pace { (task : ℕ) (C : PlainCode) → Paces (λ place fs. exec (names_of task) C place instr (plain_level self.old) fs) self.old result self.new }
-        ensures other { result ≡ Pace.Other → is_own instr ≡ false }
+        ensures local_step { (task : ℕ) (C : PlainCode) → StepsLocally (λ place fs. exec (names_of task) C place instr (plain_level self.old) fs) self.old result self.new }
+        ensures other { result ≡ LocalStep.Other → is_own instr ≡ false }
         ensures body { self.new.body ≡ self.old.body }
     {
         match instr {
@@ -39,27 +39,27 @@ impl Level {
             Instr::Jump(to) => self.jump(to),
             Instr::Unless(to) => self.jump_unless(to),
             Instr::Turn => self.turn(),
-            _ => Pace::Other,
+            _ => LocalStep::Other,
         }
     }
 
     /// Puts a value on the stack.
-    fn push(&mut self, value: Value) -> Pace
+    fn push(&mut self, value: Value) -> LocalStep
         requires { HasNext self.old }
-        ensures pace { Paces (λ place. pushes (plain_value value) (plain_level self.old)) self.old result self.new }
+        ensures local_step { StepsLocally (λ place. pushes (plain_value value) (plain_level self.old)) self.old result self.new }
         ensures own { IsOwn self.old result self.new }
     {
         if self.stack.push(value).is_err() {
-            return Pace::Full;
+            return LocalStep::Full;
         }
         self.at += 1;
-        Pace::Goes
+        LocalStep::Goes
     }
 
     /// Puts the value of a slot on the stack.
-    fn load(&mut self, at: usize) -> Pace
+    fn load(&mut self, at: usize) -> LocalStep
         requires { HasNext self.old }
-        ensures pace { Paces (λ place. pushes (slot_value (map plain_value self.old.frame.values) at) (plain_level self.old)) self.old result self.new }
+        ensures local_step { StepsLocally (λ place. pushes (slot_value (map plain_value self.old.frame.values) at) (plain_level self.old)) self.old result self.new }
         ensures own { IsOwn self.old result self.new }
     {
         let value = slot(&self.frame.values, at);
@@ -67,98 +67,98 @@ impl Level {
     }
 
     /// Takes a value into a slot.
-    fn store(&mut self, slot: usize) -> Pace
+    fn store(&mut self, slot: usize) -> LocalStep
         requires { HasNext self.old }
-        ensures pace { Paces (λ place fs. one (plain_level self.old).stack (λ v st. Goes (On (record (plain_level self.old) { at = suc self.old.at; frame = with_value (plain_level self.old).frame slot v; stack = st }) fs))) self.old result self.new }
+        ensures local_step { StepsLocally (λ place fs. one (plain_level self.old).stack (λ v st. Goes (On (record (plain_level self.old) { at = suc self.old.at; frame = with_value (plain_level self.old).frame slot v; stack = st }) fs))) self.old result self.new }
         ensures own { IsOwn self.old result self.new }
     {
         let Some(value) = self.stack.pop() else {
-            return Pace::Stuck;
+            return LocalStep::Stuck;
         };
         set_slot(&mut self.frame.values, slot, value);
         self.at += 1;
-        Pace::Goes
+        LocalStep::Goes
     }
 
     /// An operation on the two values on top.
-    fn operate(&mut self, op: BinaryOp) -> Pace
+    fn operate(&mut self, op: BinaryOp) -> LocalStep
         requires { HasNext self.old }
-        ensures pace { Paces (λ place. operates (names_of 0) place op (plain_level self.old)) self.old result self.new }
+        ensures local_step { StepsLocally (λ place. operates (names_of 0) place op (plain_level self.old)) self.old result self.new }
         ensures own { IsOwn self.old result self.new }
     {
         let Some((left, right)) = self.stack.top_two() else {
-            return Pace::Stuck;
+            return LocalStep::Stuck;
         };
         let Some(value) = operated(op, left, right) else {
-            return Pace::Divides;
+            return LocalStep::Divides;
         };
         self.stack.drop_top(1);
         self.stack.set_top(value);
         self.at += 1;
-        Pace::Goes
+        LocalStep::Goes
     }
 
     /// Takes a value off.
-    fn discard(&mut self) -> Pace
+    fn discard(&mut self) -> LocalStep
         requires { HasNext self.old }
-        ensures pace { Paces (λ place fs. one (plain_level self.old).stack (λ v st. Goes (next (plain_level self.old) st fs))) self.old result self.new }
+        ensures local_step { StepsLocally (λ place fs. one (plain_level self.old).stack (λ v st. Goes (next (plain_level self.old) st fs))) self.old result self.new }
         ensures own { IsOwn self.old result self.new }
     {
         if self.stack.pop().is_none() {
-            return Pace::Stuck;
+            return LocalStep::Stuck;
         }
         self.at += 1;
-        Pace::Goes
+        LocalStep::Goes
     }
 
     /// An operation on the value on top.
-    fn apply(&mut self, op: UnaryOp) -> Pace
+    fn apply(&mut self, op: UnaryOp) -> LocalStep
         requires { HasNext self.old }
-        ensures pace { Paces (λ place fs. one (plain_level self.old).stack (λ v st. Goes (next (plain_level self.old) (unary op v ∷ st) fs))) self.old result self.new }
+        ensures local_step { StepsLocally (λ place fs. one (plain_level self.old).stack (λ v st. Goes (next (plain_level self.old) (unary op v ∷ st) fs))) self.old result self.new }
         ensures own { IsOwn self.old result self.new }
     {
         let Some(value) = self.stack.top() else {
-            return Pace::Stuck;
+            return LocalStep::Stuck;
         };
         self.stack.set_top(apply(op, value));
         self.at += 1;
-        Pace::Goes
+        LocalStep::Goes
     }
 
     /// To another position.
-    fn jump(&mut self, at: usize) -> Pace
-        ensures pace { Paces (λ place fs. Goes (On (record (plain_level self.old) { at = at }) fs)) self.old result self.new }
+    fn jump(&mut self, at: usize) -> LocalStep
+        ensures local_step { StepsLocally (λ place fs. Goes (On (record (plain_level self.old) { at = at }) fs)) self.old result self.new }
         ensures own { IsOwn self.old result self.new }
     {
         self.at = at;
-        Pace::Goes
+        LocalStep::Goes
     }
 
     /// To another position, where the value on top is false.
-    fn jump_unless(&mut self, at: usize) -> Pace
+    fn jump_unless(&mut self, at: usize) -> LocalStep
         requires { HasNext self.old }
-        ensures pace { Paces (λ place fs. one (plain_level self.old).stack (λ v st. Goes (On (record (plain_level self.old) { at = cond (truth v) (suc self.old.at) at; stack = st }) fs))) self.old result self.new }
+        ensures local_step { StepsLocally (λ place fs. one (plain_level self.old).stack (λ v st. Goes (On (record (plain_level self.old) { at = cond (truth v) (suc self.old.at) at; stack = st }) fs))) self.old result self.new }
         ensures own { IsOwn self.old result self.new }
     {
         let Some(value) = self.stack.pop() else {
-            return Pace::Stuck;
+            return LocalStep::Stuck;
         };
         if truth(value) {
             self.at += 1;
         } else {
             self.at = at;
         }
-        Pace::Goes
+        LocalStep::Goes
     }
 
     /// A turn of a loop.
-    fn turn(&mut self) -> Pace
+    fn turn(&mut self) -> LocalStep
         requires { HasNext self.old }
-        ensures pace { Paces (λ place fs. Turns (next (plain_level self.old) (plain_level self.old).stack fs)) self.old result self.new }
+        ensures local_step { StepsLocally (λ place fs. Turns (next (plain_level self.old) (plain_level self.old).stack fs)) self.old result self.new }
         ensures own { IsOwn self.old result self.new }
     {
         self.at += 1;
-        Pace::Turns
+        LocalStep::Turns
     }
 
     /// Takes the part of an array that the branch has.

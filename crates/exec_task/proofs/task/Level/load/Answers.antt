@@ -1,4 +1,4 @@
 use Rattle.exec_task.proofs.task.Level.load.Goals as goal
 
-pub returns-clause-pace : goal.returns-clause-pace
-returns-clause-pace c = rw c.slot-value.ensures at c.push.ensures.pace
+pub returns-clause-local_step : goal.returns-clause-local_step
+returns-clause-local_step c = rw c.slot-value.ensures at c.push.ensures.local_step

@@ -8,21 +8,21 @@ use Rattle.code_instrs.specs.Machine.{On, Off, Stand, Goes, Turns, Stuck}
 use Rattle.code_instrs.specs.Machine as machine
 use Rattle.code_instrs.specs.Plain.{PlainCode, Line, body_at}
 use Rattle.exec_task.specs.declared.action.Ending.TheVariants as ending
-use Rattle.exec_task.specs.declared.pace.Pace.{Pace}
-use Rattle.exec_task.specs.declared.pace.Pace.TheVariants as pace
+use Rattle.exec_task.specs.declared.local_step.LocalStep.{LocalStep}
+use Rattle.exec_task.specs.declared.local_step.LocalStep.TheVariants as local_step
 use Rattle.exec_task.specs.declared.task.Level.{Level}
 use Rattle.exec_task.specs.declared.task.Standing.TheVariants as standing
 use Rattle.exec_task.specs.declared.task.Task.{Task}
 use Rattle.exec_task.specs.Tasks.{plain_level, plain_ending}
 
 -- what it comes to, wherever it stands and whatever the callers are; unless it goes on, the level is as it was
-abbrev pub Paces : (Place → List (machine.Level ℕ (ℕ × ℕ)) → Stand ℕ (ℕ × ℕ)) → Level → Pace → Level → Type 0
-Paces o g pace.Goes h = (at : Place) (fs : List Level) → o at (map plain_level fs) ≡ Goes (On (plain_level h) (map plain_level fs))
-Paces o g pace.Turns h = (at : Place) (fs : List Level) → o at (map plain_level fs) ≡ Turns (On (plain_level h) (map plain_level fs))
-Paces o g pace.Divides h = ((at : Place) (fs : List Level) → o at (map plain_level fs) ≡ Goes (Off (plain_ending (ending.Trapped trap.Divide at)))) × (h ≡ g)
-Paces o g pace.Stuck h = ((at : Place) (fs : List Level) → o at (map plain_level fs) ≡ Stuck) × (h ≡ g)
-Paces o g pace.Full h = h ≡ g
-Paces o g pace.Other h = h ≡ g
+abbrev pub StepsLocally : (Place → List (machine.Level ℕ (ℕ × ℕ)) → Stand ℕ (ℕ × ℕ)) → Level → LocalStep → Level → Type 0
+StepsLocally o g local_step.Goes h = (at : Place) (fs : List Level) → o at (map plain_level fs) ≡ Goes (On (plain_level h) (map plain_level fs))
+StepsLocally o g local_step.Turns h = (at : Place) (fs : List Level) → o at (map plain_level fs) ≡ Turns (On (plain_level h) (map plain_level fs))
+StepsLocally o g local_step.Divides h = ((at : Place) (fs : List Level) → o at (map plain_level fs) ≡ Goes (Off (plain_ending (ending.Trapped trap.Divide at)))) × (h ≡ g)
+StepsLocally o g local_step.Stuck h = ((at : Place) (fs : List Level) → o at (map plain_level fs) ≡ Stuck) × (h ≡ g)
+StepsLocally o g local_step.Full h = h ≡ g
+StepsLocally o g local_step.Other h = h ≡ g
 
 -- whether an instruction is one of values and jumps
 abbrev pub is_own : Instr → Bool
@@ -40,9 +40,9 @@ is_own i.Turn = true
 is_own x = false
 
 -- such an instruction leaves its level in its body
-pub record IsOwn (old : Level) (p : Pace) (new : Level) : Type 0 where
+pub record IsOwn (old : Level) (p : LocalStep) (new : Level) : Type 0 where
   pub body : new.body ≡ old.body
-  pub own : p ≡ pace.Other → ⊥
+  pub own : p ≡ local_step.Other → ⊥
 
 -- where a task is at an instruction, it is another one
 abbrev pub IsAtOther : PlainCode → Task → Type 0

@@ -1,7 +1,7 @@
 /// What an instruction of values and jumps comes to, which touches nothing but the stack and the slots of its level. It is
 /// small, since most instructions are such.
 #[derive(Clone, Copy, Debug, PartialEq, Eq)]
-pub enum Pace {
+pub enum LocalStep {
     /// The next instruction.
     Goes,
     /// The next instruction, after a turn.

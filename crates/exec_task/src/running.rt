@@ -6,7 +6,7 @@ use code_instrs::Code;
 
 /// A task on the way to its next action, with its code; the way has an end.
 #[derive(Drop)]
-pub struct Way<'a> {
+pub struct Running<'a> {
     pub task: Task,
     pub code: &'a Code,
     ghost ends: { Least (plain_code code.now) task } by { Least-prop (plain_code code.now) task },

@@ -98,7 +98,7 @@ module _ (C : PlainCode) where
   pub reaches_next : (a b c : Task) → Reaches C a b → b.turns < 4096 → Advances C b c → c.number ≡ b.number → Paced c
       → (IsAsking (stands b.turns b.made (step_at C b)) → ⊥) → Reaches C a c
   reaches_next a b c r h adv e p m = record {
-    way = λ x z. r.way x (record { fuel = suc z.fuel; runs = adv z.fuel ∙ z.runs });
+    running = λ x z. r.running x (record { fuel = suc z.fuel; runs = adv z.fuel ∙ z.runs });
     number = e ∙ r.number;
     paced = p;
     again = λ z. absurd (m (subst IsAsking (front_is b h) (subst (λ t. IsAsking (front_of C t)) (sym (r.again z)) z)));

@@ -16,11 +16,11 @@ use Rattle.exec_task.specs.Advances.{step_at, Advances}
 use Rattle.exec_task.specs.Fuel.{Least, one_least}
 use Rattle.exec_task.specs.Halts.{Paced, Reaches, IsAsking, stands, front_of}
 use Rattle.exec_task.specs.Names.{names_of}
-use Rattle.exec_task.specs.Paces.{is_own, IsAtOther}
+use Rattle.exec_task.specs.StepsLocally.{is_own, IsAtOther}
 use Rattle.exec_task.specs.Tasks.{plain_level, plain_ending}
 use Rattle.exec_task.proofs.Bodies.{without_place, with_both}
 use Rattle.exec_task.proofs.Stepping.{run_short, run_at, goes_by_itself, turns_by_itself, by_going, by_turning}
-use Rattle.exec_task.proofs.Walking.{next_less, least_next, not_stuck, reaches_next}
+use Rattle.exec_task.proofs.RunningToAction.{next_less, least_next, not_stuck, reaches_next}
 
 -- the task after a step, and after none
 pub record Stepped (K C : Code) (a : Task) (n : ℕ) (new : Task) : Type 0 where
@@ -126,7 +126,7 @@ no_line C t h at l g = let e : None ≡ Some l = h ∙ sym g in absurd (cc)
 -- from one task to another, and on to a third
 pub reaches_on : (C : PlainCode) (a b c : Task) → Reaches C a b → Reaches C b c → Reaches C a c
 reaches_on C a b c r s = record {
-  way = λ h x. r.way h (s.way h x);
+  running = λ h x. r.running h (s.running h x);
   number = s.number ∙ r.number;
   paced = s.paced;
   again = λ z. s.again (subst (λ t. IsAsking (front_of C t)) (sym (r.again z)) z) ∙ r.again z;
