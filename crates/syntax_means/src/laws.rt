@@ -1,8 +1,14 @@
-//! That what a tree means has one elision, the clause of a function that does nothing.
+//! That a text has one elision, the clause of a function that does nothing but name others.
 
 ghost use Rattle.syntax_means.specs.Laws.{OneMeaning};
 
-/// Two well-typed programs that a tree means, in which no name is declared twice, have one elision.
+use syntax_parse::one_tree;
+use syntax_tokens::one_cutting;
+
+/// Whatever well-typed programs a text is accepted as, they have one elision.
 pub fn law_one_meaning()
-    ensures one { OneMeaning }
-{}
+    ensures { OneMeaning }
+{
+    one_tree();
+    one_cutting();
+}
