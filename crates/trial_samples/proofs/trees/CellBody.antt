@@ -14,7 +14,7 @@ use Rattle.syntax_tree.specs.declared.region.Named.{Named}
 use Rattle.syntax_tree.specs.declared.region.RplHead.{RplHead}
 use Rattle.syntax_tree.specs.declared.region.TypeTree.{TypeTree}
 use Rattle.syntax_tree.specs.Plain.{PlainExpr, PlainStmt, PlainStmts, atomic, block, call, cobegin, create, create_array, declare, element, foreach, local, local_regions, no_exprs, more_exprs, no_stmts, more_stmts, assign_element, plain_stmt, plain_stmts, return_value}
-use Rattle.lang_typed.specs.Plain.{PlainProgram, PlainParent, TypedExpr, TypedStmt, TypedStmts, typed}
+use Rattle.lang_typed.specs.Plain.{PlainProgram, TypedExpr, TypedStmt, TypedStmts, typed}
 use Rattle.lang_typed.specs.declared.stmt.Forking.TheVariants.{Deterministic}
 use Rattle.lang_typed.specs.Plain as made
 use Rattle.lang_typed.specs.Scope.{parent_of}

@@ -11,7 +11,7 @@ use Rattle.syntax_tree.specs.declared.region.Named.{Named}
 use Rattle.syntax_tree.specs.declared.stmt.StmtKind.{the_lemmas}
 use Rattle.syntax_tree.specs.Nd.{program_uses_nd}
 use Rattle.syntax_tree.specs.Plain.{PlainStmt, more_stmts, no_stmts}
-use Rattle.lang_typed.specs.Plain.{TypedStmt, PlainMember}
+use Rattle.lang_typed.specs.Plain.{TypedStmt}
 use Rattle.lang_typed.specs.Plain as made
 use Rattle.syntax_means.specs.Bodies.{AllMean, BranchesMean, ExprMeans, ExprsMean, PartMeans, SourceMeans, StmtMeans, with_local}
 use Rattle.syntax_means.specs.Declares.{DeclaresField, OwnMethod, all_methods, all_regions, its_own}

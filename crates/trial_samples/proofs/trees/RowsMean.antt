@@ -1,5 +1,5 @@
 -- The rows of a class with a superclass.
-use Rattle.std.proofs.Common.{◌≡◌, ◌∙◌, ℕ, pos, false, List, [], ◌∷◌, Option, Some, None, refl, sym, subst, ap, arith, map, rules}
+use Rattle.std.proofs.Common.{◌≡◌, ◌∙◌, ℕ, pos, false, List, [], ◌∷◌, Option, refl, sym, subst, ap, arith, map, rules}
 use Rattle.lang_base.specs.Types.{PlainType as ty}
 use Rattle.syntax_tree.specs.declared.class.MethodResult.TheVariants as outcome
 use Rattle.syntax_tree.specs.declared.expr.ExprKind.{the_lemmas as expr_lemmas}
