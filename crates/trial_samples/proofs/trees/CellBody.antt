@@ -14,7 +14,7 @@ use Rattle.syntax_tree.specs.declared.region.Named.{Named}
 use Rattle.syntax_tree.specs.declared.region.RplHead.{RplHead}
 use Rattle.syntax_tree.specs.declared.region.TypeTree.{TypeTree}
 use Rattle.syntax_tree.specs.Plain.{PlainExpr, PlainStmt, PlainStmts, atomic, block, call, cobegin, create, create_array, declare, element, foreach, local, local_regions, no_exprs, more_exprs, no_stmts, more_stmts, assign_element, plain_stmt, plain_stmts, return_value}
-use Rattle.lang_typed.specs.Plain.{PlainProgram, PlainParent, TypedExpr, TypedStmt, TypedStmts, typed}
+use Rattle.lang_typed.specs.Plain.{PlainProgram, TypedExpr, TypedStmt, TypedStmts, typed}
 use Rattle.lang_typed.specs.declared.stmt.Forking.TheVariants.{Deterministic}
 use Rattle.lang_typed.specs.Plain as made
 use Rattle.lang_typed.specs.Scope.{parent_of}
@@ -146,6 +146,13 @@ actual_is : {A : Around} {x : ℕ} → AllMean A (more_stmts (does (return_value
     beside A.locals 6 ≡ Some x
 actual_is (AllMean.more_stmts (StmtMeans.a_return_value (ExprMeans.a_call e row name m args (ExprsMean.more_exprs h n))) r) = local_is h
 
+-- the slots of the locals of the two blocks
+pub slots_are : (q : Picks) → Means tree (program q) → (q.first ≡ right.first) × (q.second ≡ right.second)
+slots_are q m =
+    let k : MemberMeans tree (program q) main_of_main (main_member q) = m.members 2 main_of_main (main_member q) refl refl in
+    let counted = k.slots in
+    (counted.1.0, counted.1.1.0)
+
 -- the body of `main`
 pub body_of : (q : Picks) → Means tree (program q) → AllMean (in_method tree (program q) main_tree main_of_main) main_plain (main_does q)
 body_of q m =
@@ -156,7 +163,7 @@ body_of q m =
 
 pub record BodyIs (q : Picks) : Type 0 where
   pub args : q.args ≡ right.args
-  pub printed : q.printed ≡ right.printed
+  pub printed : q.printed ≡ q.second
   pub local_region : q.local_region ≡ right.local_region
   pub slot : q.slot ≡ right.slot
   pub index : q.index ≡ right.index

@@ -15,16 +15,15 @@ use Rattle.syntax_tree.specs.declared.class.MethodResult.TheVariants as outcome
 use Rattle.syntax_tree.specs.declared.stmt.StmtKind.{the_lemmas}
 use Rattle.syntax_tree.specs.Nd.{program_uses_nd}
 use Rattle.syntax_tree.specs.declared.region.ElemTree.TheVariants as elem
-use Rattle.syntax_means.specs.Bodies.{AllMean, AreNumbered, BranchesMean, ExprMeans, ExprsMean, PartMeans, StmtMeans, with_local, with_regions}
+use Rattle.syntax_means.specs.Bodies.{AllMean, BranchesMean, ExprMeans, ExprsMean, PartMeans, StmtMeans, with_local, with_regions}
 use Rattle.syntax_tree.specs.Plain.{create, create_array, local, no_exprs, PlainStmt, more_stmts, no_stmts}
-use Rattle.lang_typed.specs.Plain.{PlainParent, typed, TypedStmt}
+use Rattle.lang_typed.specs.Plain.{typed, TypedStmt}
 use Rattle.lang_typed.specs.Plain as made
-use Rattle.lang_typed.specs.Scope.{row_at}
-use Rattle.syntax_means.specs.Declares.{method_name, DeclaresConstructor, DeclaresRegion, OwnMethod, all_methods, all_regions, its_own, inherited}
-use Rattle.syntax_means.specs.Means.{ClassMeans, FieldMeans, MemberMeans, Means, RowMeans, SummaryMeans, ParentMeans, ResultMeans, in_class, in_method}
+use Rattle.syntax_means.specs.Declares.{DeclaresConstructor, DeclaresRegion, OwnMethod, all_methods, all_regions, its_own, inherited}
+use Rattle.syntax_means.specs.Means.{ClassMeans, FieldMeans, MemberMeans, Means, SummaryMeans, ParentMeans, ResultMeans, in_class, in_method}
 use Rattle.syntax_means.specs.Paths.{beside, ArgsMean, ArraysMean, Around, BaseMeans, ElemMeans, FormMeans, HeadMeans, PathMeans, PathOrRoot, RegionMeans, TypeMeans}
 use Rattle.trial_samples.specs.trees.Cells.{here, plain_kind, int_local, right, program, tree, cell_tree, sub_tree, main_tree, main_method, main_does, main_made, cell_made, sub_made, getter, main_member, below_param, in_b, int_method, int_field, reads_below, gives_field, region_at, path, name_at, int_in, by_index, arrays_in, array_kind, prints, stores}
-use Rattle.trial_samples.proofs.trees.Each.{some_is, nothing_there, each_of, both_of}
+use Rattle.trial_samples.proofs.trees.Each.{nothing_there, each_of, both_of}
 use Rattle.trial_samples.proofs.trees.CellBodies.{at, gives_is, main_is, main_plain, prints_plain, sets_plain}
 
 -- the methods
@@ -100,11 +99,6 @@ summary_of name h =
     (record { path = record { start = below_param []; begins = h; elems = Star ∷ []; goes_on = (ElemMeans.a_star, tt); is = refl }; is = refl }, tt) tt (λ e. ((λ h. h), (λ h. h)))
 
 -- the classes
-same_name : (p : PlainParent) (m : ℕ) → record { class = 0; args = below_param [] ∷ [] } ≡ p → row_at (program right) p.class 0 ≡ Some m → method_name tree m ≡ Some 5
-same_name p m e k =
-    let j : row_at (program right) 0 0 ≡ Some m = subst (λ (z : PlainParent). row_at (program right) z.class 0 ≡ Some m) (sym e) k in
-    subst (λ z. method_name tree z ≡ Some 5) (some_is 0 m j) refl
-
 sub_parent : ParentMeans in_sub (Some (record { name = name_at 0; args = path 8 [] ∷ [] })) (Some (record { class = 0; args = below_param [] ∷ [] }))
 sub_parent = ParentMeans.a_parent (record {
   class = cell_made right;
@@ -123,8 +117,7 @@ cell_means = record {
   fields = refl;
   inherited = refl;
   declared = (int_field_means 3 x_region, (int_field_means 4 y_region, tt));
-  rows = each_of (RowMeans tree (program right) 0 None) (0 ∷ [])
-      (record { name = 5; is = its_own (get_of_cell.method, refl, (λ e. absurd (cc)), refl); same = λ p m e. nothing_there p e }, tt);
+  rows = refl;
   constructor = no_constructor 0;
 }
 
@@ -138,16 +131,9 @@ sub_means = record {
   fields = refl;
   inherited = refl;
   declared = (int_field_means 9 z_region, tt);
-  rows = each_of (RowMeans tree (program right) 1 (sub_made right).parent) (1 ∷ []) (get_row, tt);
+  rows = refl;
   constructor = no_constructor 1;
 }
-  where
-    get_row : RowMeans tree (program right) 1 (sub_made right).parent 0 1
-    get_row = record {
-      name = 5;
-      is = its_own (get_of_sub.method, refl, (λ e. absurd (cc)), refl);
-      same = λ p m e k. same_name p m (some_is _ p e) k;
-    }
 
 main_class_means : ClassMeans tree (program right) 2 main_tree main_made
 main_class_means = record {
@@ -159,8 +145,7 @@ main_class_means = record {
   fields = refl;
   inherited = refl;
   declared = tt;
-  rows = each_of (RowMeans tree (program right) 2 None) (2 ∷ [])
-      (record { name = 12; is = its_own (main_method, refl, (λ e. absurd (cc)), refl); same = λ p m e. nothing_there p e }, tt);
+  rows = refl;
   constructor = no_constructor 2;
 }
 
@@ -177,6 +162,8 @@ get_of_cell_means = record {
   summary = summary_of 1 (HeadMeans.at_param (refl, refl));
   body = subst (λ z. AllMean (in_method tree (program right) cell_tree get_of_cell) z (getter 0 0 (below_param (Star ∷ []))).body) (sym (gives_is 3))
       (AllMean.more_stmts (StmtMeans.a_return_value (ExprMeans.a_field ExprMeans.itself (its_own (cell_tree, int_field 3 (path 1 []), 0, refl, refl, refl, refl)))) AllMean.no_stmts);
+  slots = refl;
+  regions = refl;
 }
 
 get_of_sub_means : MemberMeans tree (program right) get_of_sub (getter 1 2 (below_param (Star ∷ [])))
@@ -192,6 +179,8 @@ get_of_sub_means = record {
   body = subst (λ z. AllMean (in_method tree (program right) sub_tree get_of_sub) z (getter 1 2 (below_param (Star ∷ []))).body) (sym (gives_is 9))
       (AllMean.more_stmts (StmtMeans.a_return_value (ExprMeans.a_field ExprMeans.itself
       (its_own (sub_tree, int_field 9 (path 8 (elem.Name (region_at 2) ∷ [])), 0, refl, refl, refl, refl)))) AllMean.no_stmts);
+  slots = refl;
+  regions = refl;
 }
 
 -- the body of `main`
@@ -219,9 +208,6 @@ after_cell = with_local 14 2 after_region
 
 abbrev after_array : Around
 after_array = with_local 16 5 after_cell
-
-one_region : AreNumbered (name_at 13 ∷ []) (0 ∷ [])
-one_region = (refl, λ i j d lt in_list. absurd (omega arith))
 
 is_cell : TypeMeans after_region (plain_kind (base.Class (name_at 0) (path 11 [] ∷ []))) (ty.class 0 (in_b ∷ []))
 is_cell = record {
@@ -263,7 +249,7 @@ one h = AllMean.more_stmts h AllMean.no_stmts
 
 body_means : AllMean in_main main_plain (main_does right)
 body_means =
-    AllMean.new_regions one_region
+    AllMean.new_regions refl
     (AllMean.a_declaration is_cell new_sub
     (AllMean.more_stmts (prints_means 3 1)
     (AllMean.more_stmts (prints_means 4 2)
@@ -285,6 +271,8 @@ main_means = record {
   result = ResultMeans.a_value an_int;
   summary = SummaryMeans.left_out;
   body = subst (λ z. AllMean in_main z (main_does right)) (sym main_is) body_means;
+  slots = (refl, (refl, (refl, (refl, (refl, refl)))));
+  regions = (refl, refl);
 }
 
 no_nd : false ≡ program_uses_nd tree

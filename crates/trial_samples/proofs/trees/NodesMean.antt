@@ -11,11 +11,11 @@ use Rattle.syntax_tree.specs.declared.region.Named.{Named}
 use Rattle.syntax_tree.specs.declared.stmt.StmtKind.{the_lemmas}
 use Rattle.syntax_tree.specs.Nd.{program_uses_nd}
 use Rattle.syntax_tree.specs.Plain.{PlainStmt, more_stmts, no_stmts}
-use Rattle.lang_typed.specs.Plain.{TypedStmt, PlainMember}
+use Rattle.lang_typed.specs.Plain.{TypedStmt}
 use Rattle.lang_typed.specs.Plain as made
 use Rattle.syntax_means.specs.Bodies.{AllMean, BranchesMean, ExprMeans, ExprsMean, PartMeans, SourceMeans, StmtMeans, with_local}
 use Rattle.syntax_means.specs.Declares.{DeclaresField, OwnMethod, all_methods, all_regions, its_own}
-use Rattle.syntax_means.specs.Means.{ClassMeans, FieldMeans, ItemMeans, MemberMeans, Means, RowMeans, SummaryMeans, ParentMeans, ResultMeans, in_class, in_method}
+use Rattle.syntax_means.specs.Means.{ClassMeans, FieldMeans, ItemMeans, MemberMeans, Means, SummaryMeans, ParentMeans, ResultMeans, in_class, in_method}
 use Rattle.syntax_means.specs.Paths.{beside, ArgsMean, ArraysMean, Around, BaseMeans, FormMeans, HeadMeans, PathMeans, PathOrRoot, RegionMeans, TypeMeans}
 use Rattle.trial_samples.specs.trees.Cells.{name_at, path, plain_kind, int_field, int_in, below_param, anything}
 use Rattle.trial_samples.specs.trees.Nodes.{tree, node_tree, main_tree, main_method, makes_node, big, wipe, item, writes_p, ints_in, other_right, other_program, node_made, main_made, member_made, constructor_made, big_made, wipe_made, main_does, effect, at_param, in_region, ints_at}
@@ -73,10 +73,7 @@ node_means = record {
   fields = refl;
   inherited = refl;
   declared = (field_means 3, (field_means 4, tt));
-  rows = each_of (RowMeans tree (other_program other_right) 0 None) (1 ∷ 2 ∷ []) (
-    record { name = 7; is = its_own (big, refl, (λ e. absurd (cc)), refl); same = λ p m e. nothing_there p e },
-    (record { name = 10; is = its_own (wipe, refl, (λ e. absurd (cc)), refl); same = λ p m e. nothing_there p e }, tt),
-  );
+  rows = refl;
   constructor = (makes_node, refl, refl);
 }
 
@@ -90,8 +87,7 @@ main_class_means = record {
   fields = refl;
   inherited = refl;
   declared = tt;
-  rows = each_of (RowMeans tree (other_program other_right) 1 None) (3 ∷ [])
-      (record { name = 14; is = its_own (main_method, refl, (λ e. absurd (cc)), refl); same = λ p m e. nothing_there p e }, tt);
+  rows = refl;
   constructor = λ n (method, is, made).
       each_of (λ k own. own.class ≡ 1 → own.method.result ≡ outcome.Constructor → ⊥) (all_methods tree)
       ((λ e f. absurd (omega arith)), ((λ e f. absurd (omega arith)), ((λ e f. absurd (omega arith)), ((λ e f. absurd (cc)), tt)))) n (record { class = 1; method = method }) is refl made;
@@ -119,6 +115,8 @@ constructor_means = record {
   summary = writes_means refl;
   body = subst (λ z. AllMean (in_method tree (other_program other_right) node_tree own_constructor) z constructor_made.body) (sym constructor_is)
       (one (StmtMeans.to_field ExprMeans.itself (its_own v_own) (ExprMeans.a_local refl)));
+  slots = refl;
+  regions = refl;
 }
 
 big_means : MemberMeans tree (other_program other_right) own_big big_made
@@ -136,6 +134,8 @@ big_means = record {
       (ExprMeans.two_operands (ExprMeans.two_operands (ExprMeans.a_field ExprMeans.itself (its_own v_own)) (ExprMeans.an_element (ExprMeans.a_local refl) (ExprMeans.a_local refl)))
       (ExprMeans.array_length (ExprMeans.a_local refl) refl))
       (ExprMeans.one_operand ExprMeans.a_boolean))));
+  slots = refl;
+  regions = refl;
 }
 
 wipe_means : MemberMeans tree (other_program other_right) own_wipe wipe_made
@@ -150,6 +150,8 @@ wipe_means = record {
   summary = writes_means refl;
   body = subst (λ z. AllMean (in_method tree (other_program other_right) node_tree own_wipe) z wipe_made.body) (sym wipe_is)
       (AllMean.more_stmts (StmtMeans.to_field ExprMeans.itself (its_own v_own) ExprMeans.an_int) (one StmtMeans.a_return));
+  slots = refl;
+  regions = refl;
 }
 
 -- the regions A and U in `main`
@@ -220,6 +222,8 @@ main_means = record {
   result = ResultMeans.a_value an_int;
   summary = SummaryMeans.left_out;
   body = subst (λ z. AllMean in_main z (main_does other_right)) (sym other_is) other_means;
+  slots = (refl, (refl, (refl, (refl, (refl, (refl, (refl, (refl, (refl, (refl, (refl, (refl, (refl, refl)))))))))))));
+  regions = refl;
 }
 
 pub uses_nd : true ≡ program_uses_nd tree

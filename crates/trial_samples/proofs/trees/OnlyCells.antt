@@ -15,7 +15,7 @@ use Rattle.syntax_means.specs.Means.{ItemMeans, MemberMeans, Means, in_method, S
 use Rattle.syntax_means.specs.Paths.{Around, ElemMeans, root_path}
 use Rattle.trial_samples.specs.trees.Cells.{Picks, right, program, tree, getter, sub_tree, reads_below, below_param, in_b}
 use Rattle.trial_samples.proofs.trees.Each.{some_is}
-use Rattle.trial_samples.proofs.trees.CellBody.{BodyIs, body_is, body_of}
+use Rattle.trial_samples.proofs.trees.CellBody.{BodyIs, body_is, body_of, slots_are}
 use Rattle.trial_samples.proofs.trees.CellsMean.{get_of_sub}
 use Rattle.trial_samples.proofs.trees.Refused.{at_param_and, region_is, parent_is, row_is, main_is}
 
@@ -49,19 +49,20 @@ summary_is q m =
     let k : MemberMeans tree (program q) get_of_sub (getter 1 2 q.summary) = m.members 1 get_of_sub (getter 1 2 q.summary) refl refl in
     summary_means (ap (λ (class : Class). (in_method tree (program q) class get_of_sub).params) (sym (some_is sub_tree k.class k.stands))) k.summary
 
-abbrev make : Rpl → Rpl → ℕ → Rpl → List Rpl → ℕ → ℕ → ℕ → ℕ → ℕ → ℕ → Picks
-make region parent row summary args printed local_region slot index actual main = record { region = region; parent = parent; row = row; summary = summary; args = args; printed = printed; local_region = local_region; slot = slot; index = index; actual = actual; main = main }
+abbrev make : Rpl → Rpl → ℕ → Rpl → List Rpl → ℕ → ℕ → ℕ → ℕ → ℕ → ℕ → ℕ → ℕ → Picks
+make region parent row summary args first second printed local_region slot index actual main = record { region = region; parent = parent; row = row; summary = summary; args = args; first = first; second = second; printed = printed; local_region = local_region; slot = slot; index = index; actual = actual; main = main }
 
-same_made : (a0 b0 : Rpl) (a1 b1 : Rpl) (a2 b2 : ℕ) (a3 b3 : Rpl) (a4 b4 : List Rpl) (a5 b5 : ℕ) (a6 b6 : ℕ) (a7 b7 : ℕ) (a8 b8 : ℕ) (a9 b9 : ℕ) (a10 b10 : ℕ) → a0 ≡ b0 → a1 ≡ b1 → a2 ≡ b2 → a3 ≡ b3 → a4 ≡ b4 → a5 ≡ b5 → a6 ≡ b6 → a7 ≡ b7 → a8 ≡ b8 → a9 ≡ b9 → a10 ≡ b10 → make a0 a1 a2 a3 a4 a5 a6 a7 a8 a9 a10 ≡ make b0 b1 b2 b3 b4 b5 b6 b7 b8 b9 b10
-same_made a0 b0 a1 b1 a2 b2 a3 b3 a4 b4 a5 b5 a6 b6 a7 b7 a8 b8 a9 b9 a10 b10 e0 e1 e2 e3 e4 e5 e6 e7 e8 e9 e10 = cc
+same_made : (a0 b0 : Rpl) (a1 b1 : Rpl) (a2 b2 : ℕ) (a3 b3 : Rpl) (a4 b4 : List Rpl) (a5 b5 : ℕ) (a6 b6 : ℕ) (a7 b7 : ℕ) (a8 b8 : ℕ) (a9 b9 : ℕ) (a10 b10 : ℕ) (a11 b11 : ℕ) (a12 b12 : ℕ) → a0 ≡ b0 → a1 ≡ b1 → a2 ≡ b2 → a3 ≡ b3 → a4 ≡ b4 → a5 ≡ b5 → a6 ≡ b6 → a7 ≡ b7 → a8 ≡ b8 → a9 ≡ b9 → a10 ≡ b10 → a11 ≡ b11 → a12 ≡ b12 → make a0 a1 a2 a3 a4 a5 a6 a7 a8 a9 a10 a11 a12 ≡ make b0 b1 b2 b3 b4 b5 b6 b7 b8 b9 b10 b11 b12
+same_made a0 b0 a1 b1 a2 b2 a3 b3 a4 b4 a5 b5 a6 b6 a7 b7 a8 b8 a9 b9 a10 b10 a11 b11 a12 b12 e0 e1 e2 e3 e4 e5 e6 e7 e8 e9 e10 e11 e12 = cc
 
-same_picks : (a b : Picks) → a.region ≡ b.region → a.parent ≡ b.parent → a.row ≡ b.row → a.summary ≡ b.summary → a.args ≡ b.args → a.printed ≡ b.printed → a.local_region ≡ b.local_region → a.slot ≡ b.slot → a.index ≡ b.index → a.actual ≡ b.actual → a.main ≡ b.main → a ≡ b
-same_picks a b e0 e1 e2 e3 e4 e5 e6 e7 e8 e9 e10 = same_made a.region b.region a.parent b.parent a.row b.row a.summary b.summary a.args b.args a.printed b.printed a.local_region b.local_region a.slot b.slot a.index b.index a.actual b.actual a.main b.main e0 e1 e2 e3 e4 e5 e6 e7 e8 e9 e10
+same_picks : (a b : Picks) → a.region ≡ b.region → a.parent ≡ b.parent → a.row ≡ b.row → a.summary ≡ b.summary → a.args ≡ b.args → a.first ≡ b.first → a.second ≡ b.second → a.printed ≡ b.printed → a.local_region ≡ b.local_region → a.slot ≡ b.slot → a.index ≡ b.index → a.actual ≡ b.actual → a.main ≡ b.main → a ≡ b
+same_picks a b e0 e1 e2 e3 e4 e5 e6 e7 e8 e9 e10 e11 e12 = same_made a.region b.region a.parent b.parent a.row b.row a.summary b.summary a.args b.args a.first b.first a.second b.second a.printed b.printed a.local_region b.local_region a.slot b.slot a.index b.index a.actual b.actual a.main b.main e0 e1 e2 e3 e4 e5 e6 e7 e8 e9 e10 e11 e12
 
 pub only : (q : Picks) → Means tree (program q) → q ≡ right
 only q m =
     let b : BodyIs q = body_is q (body_of q m) in
-    same_picks q right (region_is q m) (parent_is q m) (row_is q m) (summary_is q m) b.args b.printed b.local_region b.slot b.index b.actual (main_is q m)
+    let s = slots_are q m in
+    same_picks q right (region_is q m) (parent_is q m) (row_is q m) (summary_is q m) b.args s.0 s.1 (b.printed ∙ s.1) b.local_region b.slot b.index b.actual (main_is q m)
 
 -- paths that differ in their heads or in their length
 root_isn't : (n : ℕ) (xs : List Elem) → root_path ≡ record { head = Param n; elems = xs } → ⊥
@@ -90,6 +91,7 @@ refused = record {
   summary = λ m. root_isn't 0 (Star ∷ []) (summary_is (record right { summary = root_path }) m);
   no_args = λ m. args_differ in_b (in_body (record right { args = [] }) m).args;
   root_args = λ m. root_isn't_b (arg_is root_path in_b (in_body (record right { args = root_path ∷ [] }) m).args);
+  slots = λ m. larger_differ 4 3 (omega arith) (slots_are (record right { first = 4; second = 3; printed = 3 }) m).0;
   printed = λ m. numbers_differ 3 4 (omega arith) (in_body (record right { printed = 3 }) m).printed;
   local_region = λ m. larger_differ 1 0 (omega arith) (in_body (record right { local_region = 1 }) m).local_region;
   slot = λ m. numbers_differ 0 1 (omega arith) (in_body (record right { slot = 0 }) m).slot;

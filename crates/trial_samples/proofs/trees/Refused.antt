@@ -10,14 +10,13 @@ use Rattle.syntax_tree.specs.declared.class.Parent.{Parent}
 use Rattle.syntax_tree.specs.declared.region.ElemTree.{ElemTree}
 use Rattle.syntax_tree.specs.declared.region.Named.{Named}
 use Rattle.syntax_tree.specs.declared.region.RplHead.{RplHead}
-use Rattle.lang_typed.specs.Plain.{PlainProgram, PlainParent, PlainField}
+use Rattle.lang_typed.specs.Plain.{PlainProgram, PlainField}
 use Rattle.lang_typed.specs.Scope.{parent_of}
-use Rattle.syntax_means.specs.Declares.{method_name, spelled, DeclaresMethod, DeclaresRegion, MeansIn, all_methods, all_regions, its_own, inherited, own_fields}
-use Rattle.syntax_means.specs.Means.{ClassMeans, FieldMeans, Means, ParentMeans, RowMeans, in_class}
+use Rattle.syntax_means.specs.Declares.{method_name, spelled, DeclaresRegion, MeansIn, all_regions, its_own, inherited, own_fields}
+use Rattle.syntax_means.specs.Means.{ClassMeans, FieldMeans, Means, ParentMeans, in_class}
 use Rattle.syntax_means.specs.Paths.{ArgsMean, Around, ElemMeans, HeadMeans, PathMeans, PathOrRoot, RegionMeans}
 use Rattle.trial_samples.specs.trees.Cells.{names, Picks, right, program, tree, cell_tree, sub_tree, cell_made, sub_made, below_param, region_at, path}
 use Rattle.trial_samples.proofs.trees.Each.{some_is, nothing_there, each_of, each_at}
-use Rattle.trial_samples.proofs.trees.CellsMean.{get_of_sub}
 
 -- a path at the only parameter begins there
 at_one : {A : Around} {name : ℕ} {start : Rpl} → A.params ≡ name ∷ [] → HeadMeans A (RplHead.Name (region_at name)) start → start ≡ below_param []
@@ -88,25 +87,11 @@ pub parent_is : (q : Picks) → Means tree (program q) → q.parent ≡ right.pa
 parent_is q m = parent_given refl refl (m.classes 1 sub_tree (sub_made q) refl refl).parent
 
 -- the member in the row of Sub
-only_get : {P : PlainProgram} (name c n : ℕ) → c ≡ 0 → parent_of P 0 ≡ None → MeansIn P (DeclaresMethod tree name) c n → name ≡ 5
-only_get {P = P} name c n z e (its_own (method, is, isn't, named)) =
-    sym named ∙ each_of (λ m own. own.class ≡ 0 → own.method.name ≡ 5) (all_methods tree) ((λ e. refl), ((λ e. absurd (omega arith)), ((λ e. absurd (omega arith)), tt)))
-    n (record { class = c; method = method }) is z
-only_get {P = P} name c n z e (inherited {p = p} never above h) = nothing_there p (sym e ∙ subst (λ d. parent_of P d ≡ Some p) z above)
-
-row_means : {P : PlainProgram} (name n : ℕ) (r : Rpl) → parent_of P 0 ≡ None → parent_of P 1 ≡ Some (record { class = 0; args = r ∷ [] }) →
-    MeansIn P (DeclaresMethod tree name) 1 n → n ≡ 1
-row_means name n r e f (its_own (method, is, isn't, named)) =
-    each_of (λ m own. own.class ≡ 1 → m ≡ 1) (all_methods tree) ((λ e. absurd (omega arith)), ((λ e. refl), ((λ e. absurd (omega arith)), tt)))
-    n (record { class = 1; method = method }) is refl
-row_means {P = P} name n r e f (inherited {p = p} never above h) =
-    let k : record { class = 0; args = r ∷ [] } ≡ p = some_is _ p (sym f ∙ above) in
-    absurd (never 1 (get_of_sub.method, refl, (λ e. absurd (cc)), sym (only_get {P = P} name p.class n (ap (λ (z : PlainParent). z.class) (sym k)) e h)))
+one_row : (a b : ℕ) → a ∷ [] ≡ b ∷ [] → a ≡ b
+one_row a b e = cc
 
 pub row_is : (q : Picks) → Means tree (program q) → q.row ≡ right.row
-row_is q m =
-    let row : RowMeans tree (program q) 1 (sub_made q).parent 0 q.row = (m.classes 1 sub_tree (sub_made q) refl refl).rows 0 q.row refl in
-    row_means {P = program q} row.name q.row q.parent refl refl row.is
+row_is q m = one_row q.row 1 (m.classes 1 sub_tree (sub_made q) refl refl).rows
 
 -- where a run begins
 -- (no other name begins so)

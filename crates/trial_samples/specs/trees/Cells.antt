@@ -200,8 +200,10 @@ pub record Picks : Type 0 where
   pub summary : Rpl
   -- the region arguments of `new Sub`
   pub args : List Rpl
-  -- the local that the second block prints, the local region of the array that is made, the slot of `c.y`, the local in `a[j]`, and
+  -- the slots of the locals of the two blocks, the local that the second one prints, the local region of the array that is made, the slot of `c.y`, the local in `a[j]`, and
   -- the actual of the call
+  pub first : ℕ
+  pub second : ℕ
   pub printed : ℕ
   pub local_region : ℕ
   pub slot : ℕ
@@ -223,6 +225,8 @@ right = record {
   row = 1;
   summary = below_param (Star ∷ []);
   args = in_b ∷ [];
+  first = 3;
+  second = 4;
   printed = 4;
   local_region = 0;
   slot = 1;
@@ -298,8 +302,8 @@ abbrev pub main_does : Picks → TypedStmts
 main_does q =
     more_stmts (makes (made.local_regions (0 ∷ [])))
     (more_stmts (makes (made.declare 2 (ty.class 0 (in_b ∷ [])) false (typed here (ty.class 1 q.args) (made.create no_exprs))))
-    (more_stmts (prints 3 1 3)
-    (more_stmts (prints 4 2 q.printed)
+    (more_stmts (prints q.first 1 q.first)
+    (more_stmts (prints q.second 2 q.printed)
     (more_stmts (makes (made.declare 5 (arrays_in 0) false (typed here (arrays_in q.local_region) (made.create_array (int_local 1)))))
     (more_stmts (makes (made.cobegin Deterministic (more_branches [] (stores 0 1) (more_branches [] (stores q.slot 2) no_branches))))
     (more_stmts (makes (made.foreach Deterministic 6 (number 0) (int_local 1)

@@ -40,7 +40,7 @@ assigned copies = made.more_branches copies (makes (made.store 7 (number 1))) ma
 
 -- o.f() for an `o` of the class High, whose superclass declares f
 abbrev pub in_high : Around
-in_high = record { tree = rows_tree; typed = rows_program 0 2; class = 1; params = []; locals = (7, 1) ∷ []; regions = [] }
+in_high = record { tree = rows_tree; typed = rows_program (0 ∷ 1 ∷ []) (0 ∷ 2 ∷ []); class = 1; params = []; locals = (7, 1) ∷ []; regions = [] }
 
 abbrev pub calls_f : PlainExpr
 calls_f = expression here (tree.call (expression here (tree.local 7)) [] 1 tree.no_exprs)

@@ -1,9 +1,9 @@
--- A tree in which one of two methods is overridden, and typed programs that differ in the rows of the lower class.
+-- A tree in which one of two methods is overridden, and typed programs that differ in the rows of the two classes.
 --
 -- class Low { void f() { } void g() { } }
 -- class High extends Low { void g() { } }
 -- class Main { int main(int n) { return 0; } }
-use Rattle.std.specs.Prelude.{ℕ, false, [], ◌∷◌, codes, Some, None}
+use Rattle.std.specs.Prelude.{ℕ, false, List, [], ◌∷◌, codes, Some, None}
 use Rattle.lang_base.specs.Types.{PlainType as ty}
 use Rattle.syntax_tree.specs.declared.class.Class.{Class}
 use Rattle.syntax_tree.specs.declared.class.Member.TheVariants as member
@@ -46,14 +46,14 @@ tree = record {
   names = codes "Low" ∷ codes "f" ∷ codes "g" ∷ codes "High" ∷ codes "Main" ∷ codes "main" ∷ codes "n" ∷ [];
 }
 
-abbrev pub low_made : PlainClass
-low_made = record { params = []; given = []; parent = None; fields = []; rows = 0 ∷ 1 ∷ []; constructor = None }
+abbrev pub low_made : List ℕ → PlainClass
+low_made rows = record { params = []; given = []; parent = None; fields = []; rows = rows; constructor = None }
 
 abbrev pub below_low : PlainParent
 below_low = record { class = 0; args = [] }
 
-abbrev pub high_made : ℕ → ℕ → PlainClass
-high_made f g = record { params = []; given = []; parent = Some below_low; fields = []; rows = f ∷ g ∷ []; constructor = None }
+abbrev pub high_made : List ℕ → PlainClass
+high_made rows = record { params = []; given = []; parent = Some below_low; fields = []; rows = rows; constructor = None }
 
 abbrev pub main_made : PlainClass
 main_made = record { params = []; given = []; parent = None; fields = []; rows = 3 ∷ []; constructor = None }
@@ -67,10 +67,10 @@ gives_zero = more_stmts (makes (made.return_value (number 0))) no_stmts
 abbrev pub main_member : PlainMember
 main_member = member_made [] (ty.int ∷ []) ty.int (anything ∷ []) 2 2 gives_zero
 
--- with these two in the rows of the lower class
-abbrev pub rows_program : ℕ → ℕ → PlainProgram
-rows_program f g = record {
-  classes = low_made ∷ high_made f g ∷ main_made ∷ [];
+-- with these rows of the upper and of the lower class
+abbrev pub rows_program : List ℕ → List ℕ → PlainProgram
+rows_program low high = record {
+  classes = low_made low ∷ high_made high ∷ main_made ∷ [];
   members = empty_of 0 ∷ empty_of 0 ∷ empty_of 1 ∷ main_member ∷ [];
   region_names = [];
   main_class = 2;
