@@ -7,7 +7,7 @@ use Rattle.lang_typed.specs.Plain.{StmtForm as form}
 abbrev pub own_slots : StmtForm → List ℕ
 own_slots (form.declare x t is_final e) = x ∷ []
 own_slots (form.foreach forking x start count s) = x ∷ []
-own_slots (form.foreach_parts k source count s) = k ∷ k + 1 ∷ k + 2 ∷ k + 3 ∷ k + 4 ∷ []
+own_slots (form.foreach_parts k source count s) = k ∷ (k + 1) ∷ (k + 2) ∷ (k + 3) ∷ (k + 4) ∷ []
 own_slots s = []
 
 -- and the numbers that it gives to local regions
