@@ -110,8 +110,8 @@ module _ (tree : Program) (P Q : PlainProgram) (clear : IsUnambiguous tree P) (a
         let x = (typed.classes c k e).parent p up in
         let parent : parent_of R c ≡ Some p = parent_is R c k e ∙ up in
         let inherited : inherited_fields R c ≡ length x.above.fields =
-            ap (λ (o : Option PlainParent). option_map_or (λ (p : PlainParent). option_map_or (λ (k : PlainClass). length k.fields) (class_at R p.class) 0) o 0) parent
-            ∙ ap (λ (o : Option PlainClass). option_map_or (λ (k : PlainClass). length k.fields) o 0) x.is in
+        ap (λ (o : Option PlainParent). option_map_or (λ (p : PlainParent). option_map_or (λ (k : PlainClass). length k.fields) (class_at R p.class) 0) o 0) parent
+        ∙ ap (λ (o : Option PlainClass). option_map_or (λ (k : PlainClass). length k.fields) o 0) x.is in
         record {
           class = x.above;
           is = x.is;

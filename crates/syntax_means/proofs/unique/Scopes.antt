@@ -120,7 +120,7 @@ both_seen {t} {l} {k} a b = subst (λ o. LocalAlike o k) (sym a.is) (subst (Loca
 branch_none : (own others : List ℕ) (x : ℕ) → seen_in_branch own others x None ≡ None
 branch_none own others x = by (list_any (λ y. x == y) others) (list_any (λ y. x == y) own)
   where
-    by : (b c : Bool) → cond b (None {A = Local}) (cond c (None {A = Local}) (None {A = Local})) ≡ None {A = Local}
+    by : (b c : Bool) → (let o : Option Local = None in cond b o (cond c o o)) ≡ None
     by true c = refl
     by false true = refl
     by false false = refl
