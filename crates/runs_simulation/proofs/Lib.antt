@@ -9,6 +9,7 @@ pub mod Wrapping
 pub mod Ties
 pub mod Asked
 pub mod Trees
+pub mod Alikes
 pub mod Acting
 pub mod Owns
 pub mod Forks

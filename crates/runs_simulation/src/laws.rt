@@ -1,14 +1,15 @@
 //! The laws of recorded runs, each the clause of a function that does nothing.
 
-ghost use Rattle.runs_simulation.specs.Laws.{MachinesRecord, ReadyTasksAreReady, SomeTaskIsReady, SchedulesAreShort, StuckForFewReasons};
+ghost use Rattle.runs_simulation.specs.Laws.{EventForEvent, MachinesRecord, ReadyTasksAreReady, SomeTaskIsReady, SchedulesAreShort, StuckForFewReasons};
 
 use exec_progress::laws::law_code_progress;
 use runs_elision::laws::law_names;
 use runs_program::laws::law_steps;
 
-/// A schedule of a machine on compiled code records a run of the source.
+/// A schedule of a machine on compiled code records a run of the source, and what it makes is that run, event for event.
 pub fn law_simulation()
     ensures records { MachinesRecord }
+    ensures events { EventForEvent }
 {}
 
 /// A machine on compiled code has a ready task until its run has come out, and each that is ready in the run; its schedules are
