@@ -22,6 +22,7 @@ use Rattle.runs_program.specs.Steps.{named_by}
 use Rattle.exec_task.specs.Names.{names_of}
 use Rattle.exec_task.specs.Tasks.{Says, plain_answer}
 use Rattle.exec_task.specs.declared.action.Action.{Action as DeclaredAction}
+use Rattle.exec_task.specs.declared.action.Action.TheVariants as action
 use Rattle.exec_task.specs.declared.action.Answer.{Answer as DeclaredAnswer}
 use Rattle.exec_tasks.specs.Tree.{Tasks, ready}
 use Rattle.exec_tasks.specs.declared.task.Origin.{Origin}
@@ -82,6 +83,12 @@ bytes_like (new_like c h) = refl
 bytes_like (print_like bytes) = refl
 bytes_like (enter_like h) = refl
 bytes_like exit_like = refl
+
+-- a begin or a join: what a scope of branches has to allow
+abbrev pub IsScoped : DeclaredAction → Type 0
+IsScoped (action.Begin b) = Unit {0}
+IsScoped action.Join = Unit {0}
+IsScoped a = ⊥
 
 abbrev pub event_of : ℕ → ℕ → Option (List Effect) → DeclaredAction → DeclaredEvent
 event_of k turns wants a = record { task = k; turns = turns; action = a; wants = wants }

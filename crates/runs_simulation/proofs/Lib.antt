@@ -28,6 +28,8 @@ pub mod Ready
 pub mod Sizes
 pub mod Bodies
 pub mod Unstuck
+pub mod Sayings
+pub mod NextEvents
 pub mod Recorded
 pub mod Lively
 pub mod Segments

@@ -31,7 +31,6 @@ use Rattle.exec_world.specs.World.{seen as object_seen}
 use Rattle.exec_machine.specs.Replay.{Moment, NextOf, after}
 use Rattle.runs_elision.proofs.Worlds as elided
 use Rattle.runs_elision.proofs.Memory.{values_length}
-use Rattle.runs_elision.proofs.Worlds.{ValueLike}
 use Rattle.runs_simulation.proofs.Alikes.{rest_alike, read_alike, write_alike, look_alike, object_made, array_made, print_alike, enter_alike, exit_alike}
 use Rattle.runs_simulation.proofs.Sights.{Sight, an_object, an_array, OwnLike, rest_like, read_like, write_like, look_like, new_like, print_like, enter_like, exit_like}
 use Rattle.runs_simulation.proofs.Heaps.{OwnTied, went, reads, writes, looks, makes}

@@ -56,7 +56,7 @@ use Rattle.runs_simulation.proofs.Joins.{ForksAreJoined, forks_are_joined}
 use Rattle.runs_simulation.proofs.Ties.{Q, Tied}
 use Rattle.runs_simulation.proofs.Asked.{disciplined}
 use Rattle.runs_simulation.proofs.Trees.{entered_next}
-use Rattle.runs_simulation.proofs.Acting.{RightFor, event_of, Matched, Stepped}
+use Rattle.runs_simulation.proofs.Acting.{RightFor, IsScoped, event_of, Matched, Stepped}
 use Rattle.runs_simulation.proofs.Owns.{FieldsFor, rests, reads_cell, writes_cell, looks_at, makes_object, makes_array, prints, enters, exits}
 use Rattle.runs_simulation.proofs.Forks.{forks_next}
 use Rattle.runs_simulation.proofs.Begins.{begins_branch}
@@ -195,7 +195,7 @@ module _ (code : Code) (P : PlainProgram) (arg : ℤ) (L : Limits) (right : Righ
   Matched_of m e w R k n = Matched code P arg rule L right m e w R k n
 
   step_any : {m : Moment} {w : Sight} {R : Run} (T : Tied P arg rule C L m w R) → m.world.steps ≤ 20000001 → (k turns : ℕ) (wants : Option (List PathEffect)) (a : DeclaredAction)
-      (x : NextOf C m k (event_of k turns wants a)) → CanBeMade C m.world (event_of k turns wants a) x.stands.state
+      (x : NextOf C m k (event_of k turns wants a)) → (IsScoped a → CanBeMade C m.world (event_of k turns wants a) x.stands.state)
       → Matched_of m (event_of k turns wants a) w R k (after code m (event_of k turns wants a) x.stands.state x.stands.made)
   step_any T short k turns wants action.Rest x can = rests code P arg rule L right fields T k turns wants x
   step_any T short k turns wants (action.Read n j) x can = reads_cell code P arg rule L right fields T k turns wants n j x
@@ -207,14 +207,14 @@ module _ (code : Code) (P : PlainProgram) (arg : ℤ) (L : Limits) (right : Righ
   step_any T short k turns wants (action.Enter effects) x can = enters code P arg rule L right fields T k turns wants effects x
   step_any T short k turns wants action.Exit x can = exits code P arg rule L right fields T k turns wants x
   step_any T short k turns wants (action.Fork forking many) x can = forks_next code P arg rule L right FJ T k turns wants forking many x
-  step_any T short k turns wants (action.Begin b) x can = begins_branch code P arg rule L right FJ T short k turns wants b x can
-  step_any T short k turns wants action.Join x can = joins_next code P arg rule L right FJ T k turns wants x can
+  step_any T short k turns wants (action.Begin b) x can = begins_branch code P arg rule L right FJ T short k turns wants b x (can tt)
+  step_any T short k turns wants action.Join x can = joins_next code P arg rule L right FJ T k turns wants x (can tt)
   step_any T short k turns wants (action.End c) x can = ends_next code P arg rule L right T k turns wants c x
 
   any_event : {m : Moment} {w : Sight} {R : Run} (T : Tied P arg rule C L m w R) → m.world.steps ≤ 20000001 → (k : ℕ) (e : DeclaredEvent) (x : NextOf C m k e)
-      → CanBeMade C m.world e x.stands.state → Matched_of m e w R k (after code m e x.stands.state x.stands.made)
+      → (IsScoped e.action → CanBeMade C m.world e x.stands.state) → Matched_of m e w R k (after code m e x.stands.state x.stands.made)
   any_event {m} {w} {R} T short k e x can =
-      subst (λ j. (y : NextOf C m j e) → CanBeMade C m.world e y.stands.state → Matched_of m e w R j (after code m e y.stands.state y.stands.made)) x.stands.number
+      subst (λ j. (y : NextOf C m j e) → (IsScoped e.action → CanBeMade C m.world e y.stands.state) → Matched_of m e w R j (after code m e y.stands.state y.stands.made)) x.stands.number
       (λ y can. step_any T short e.task e.turns e.wants e.action y can) x can
 
   -- the limits are those of the run
@@ -247,27 +247,34 @@ module _ (code : Code) (P : PlainProgram) (arg : ℤ) (L : Limits) (right : Righ
     pub lives : LivesTied sight run m
     pub short : m.world.steps ≤ 20000001
 
+  -- the next event of a ready task is ready in the run
+  ready_next : {ks : List ℕ} {m n : Moment} {k : ℕ} (leads : LeadsTo code L arg ks m) (A : Led ks m) (e : DeclaredEvent) (x : NextOf C m k e)
+      (S : Next_of A.sight A.run k n) → Ready QR A.run k S.event
+  ready_next {ks} {m} {n} {k} leads A e x S = record {
+    allowed = allowed_from QR (disciplined P arg rule C) A.run S.event A.tied.faithful (record {
+      follows = S.follows;
+      enters = λ E act. entry_allowed code P arg rule L right A.tied A.short A.blocks (all_noted code L arg ks m leads) k e x n S E act;
+    });
+    number = A.tied.numbers.numbered k S.event.path S.there;
+  }
+
+  pub ready_in_run : {ks : List ℕ} {m : Moment} {k : ℕ} (leads : LeadsTo code L arg ks m) (A : Led ks m) (e : DeclaredEvent) (x : NextOf C m k e)
+      → (IsScoped e.action → CanBeMade C m.world e x.stands.state) → (f : Event) × Ready QR A.run k f
+  ready_in_run {ks} {m} {k} leads A e x can =
+      let S : Next_of A.sight A.run k (after code m e x.stands.state x.stands.made) = (any_event A.tied A.short k e x can).stepped in
+      (S.event, ready_next leads A e x S)
+
   zero_path : {R : Run} {k : ℕ} {p : Path} → Numbered R k p → k ≡ 0 → p ≡ []
   zero_path (root_is a b) e = a
   zero_path (branch_is q u G g a b c d n i) e = absurd (omega (arith, i, e))
 
   module _ (few : L.steps ≤ 20000000) (first : (m : Moment) → Opens code L arg m → m.outcome ≡ None → (w : Sight) × Tied P arg rule C L m w [])
       (main_so : length (first_fields code code.main_class) ≡ size QR.object) where
-    ready_next : {ks : List ℕ} {m n : Moment} {k : ℕ} (leads : LeadsTo code L arg ks m) (A : Led ks m) (e : DeclaredEvent) (x : NextOf C m k e)
-        → CanBeMade C m.world e x.stands.state → (S : Next_of A.sight A.run k n) → Ready QR A.run k S.event
-    ready_next {ks} {m} {n} {k} leads A e x can S = record {
-      allowed = allowed_from QR (disciplined P arg rule C) A.run S.event A.tied.faithful (record {
-        follows = S.follows;
-        enters = λ E act. entry_allowed code P arg rule L right A.tied A.short A.blocks (all_noted code L arg ks m leads) k e x can n S E act;
-      });
-      number = A.tied.numbers.numbered k S.event.path S.there;
-    }
-
     -- the run with one event more
     abbrev next_ran : {ks : List ℕ} {m : Moment} {k : ℕ} (leads : LeadsTo code L arg ks m) (A : Led ks m) (e : DeclaredEvent) (x : NextOf C m k e)
-        (can : CanBeMade C m.world e x.stands.state) → MachineWithin code m.world e
+        → MachineWithin code m.world e
         → (S : Next_of A.sight A.run k (after code m e x.stands.state x.stands.made)) → Ran QR L (k ∷ ks) (S.event ∷ A.run)
-    next_ran leads A e x can within S = (A.ran, ready_next leads A e x can S, (within_next e A.tied S.tied S.follows refl).0 within)
+    next_ran leads A e x within S = (A.ran, ready_next leads A e x S, (within_next e A.tied S.tied S.follows refl).0 within)
 
     -- with this event
     abbrev led_with : {ks : List ℕ} {m : Moment} {k : ℕ} (leads : LeadsTo code L arg ks m) (A : Led ks m) (e : DeclaredEvent) (x : NextOf C m k e)
@@ -276,7 +283,7 @@ module _ (code : Code) (P : PlainProgram) (arg : ℤ) (L : Limits) (right : Righ
     led_with {ks} {m} {k} leads A e x can within S = record {
       run = S.event ∷ A.run;
       sight = S.sight;
-      ran = next_ran leads A e x can within S;
+      ran = next_ran leads A e x within S;
       tied = S.tied;
       blocks = blocks_next code P arg rule L right A.tied A.short A.blocks (all_noted code L arg ks m leads) k e x S;
       lives = lives_next code P arg rule L right A.tied A.short A.blocks (all_noted code L arg ks m leads) A.lives k e x can S;
@@ -285,7 +292,7 @@ module _ (code : Code) (P : PlainProgram) (arg : ℤ) (L : Limits) (right : Righ
 
     led_next : {ks : List ℕ} {m : Moment} {k : ℕ} (leads : LeadsTo code L arg ks m) (A : Led ks m) (e : DeclaredEvent) (x : NextOf C m k e)
         (can : CanBeMade C m.world e x.stands.state) → MachineWithin code m.world e → Led (k ∷ ks) (after code m e x.stands.state x.stands.made)
-    led_next {ks} {m} {k} leads A e x can within = led_with leads A e x can within (any_event A.tied A.short k e x can).stepped
+    led_next {ks} {m} {k} leads A e x can within = led_with leads A e x can within (any_event A.tied A.short k e x (λ scoped. can)).stepped
 
     -- at the start the root alone is there, and stands in no block
     blocks_first : {m : Moment} {w : Sight} → Tied P arg rule C L m w [] → m.world
@@ -376,7 +383,7 @@ module _ (code : Code) (P : PlainProgram) (arg : ℤ) (L : Limits) (right : Righ
     }
       where
         D : Matched_of m x.event A.led.sight A.led.run k (after code m x.event y.next.stands.state y.next.stands.made)
-        D = any_event A.led.tied A.led.short k x.event y.next can
+        D = any_event A.led.tied A.led.short k x.event y.next (λ scoped. can)
 
         here : EventAlike D.stepped.sight x D.stepped.event
         here = record {
@@ -455,7 +462,7 @@ module _ (code : Code) (P : PlainProgram) (arg : ℤ) (L : Limits) (right : Righ
         S = B.stepped
 
         ran : Ran QR L (k ∷ ks) (S.event ∷ A.run)
-        ran = next_ran leads A (event_of k turns wants (action.End c)) x can within S
+        ran = next_ran leads A (event_of k turns wants (action.End c)) x within S
 
         path : S.event.path ≡ []
         path = zero_path (A.tied.numbers.numbered k S.event.path S.there) is_root
@@ -524,9 +531,9 @@ module _ (code : Code) (P : PlainProgram) (arg : ℤ) (L : Limits) (right : Righ
       where
         over_limit : Led ks before → Records QR L (k ∷ ks) (Some o)
         over_limit A =
-            let S = (any_event A.tied A.short k e x can).stepped in (
+            let S = (any_event A.tied A.short k e x (λ scoped. can)).stepped in (
               Limited L.steps L.cells,
-              over k ks A.run S.event A.ran (ready_next leads A e x can S)
+              over k ks A.run S.event A.ran (ready_next leads A e x S)
                   (λ w. beyond ((within_next e A.tied S.tied S.follows refl).1 w)),
               (let both : Some (limited L) ≡ Some o = sym (ap (λ (n : Moment). n.outcome) is) ∙ some in let same : limited L ≡ o = cc in sym same),
             )
@@ -562,6 +569,10 @@ module _ (code : Code) (P : PlainProgram) (L : Limits) (arg : ℤ) (is : plain_c
 
   pub led_to : (ks : List ℕ) (m : Moment) → LeadsTo code L arg ks m → m.outcome ≡ None → LedTo ks m
   led_to = led code P arg L right (fields_for code P is) FJ few first (main_size code P arg rule L is resolved main)
+
+  pub ready_as_recorded : {ks : List ℕ} {m : Moment} {k : ℕ} → LeadsTo code L arg ks m → (A : LedTo ks m) (e : DeclaredEvent) (x : NextOf (plain_code code) m k e)
+      → (IsScoped e.action → CanBeMade (plain_code code) m.world e x.stands.state) → (f : Event) × Ready (stepped P arg) A.run k f
+  ready_as_recorded leads A e x can = ready_in_run code P arg L right (fields_for code P is) FJ leads A e x can
 
 pub machines_record : MachinesRecord
 machines_record code P L arg is resolved main few = recorded code P L arg is resolved main few

@@ -61,6 +61,13 @@ ReadyTasksAreReady =
     → (ks : List ℕ) (m : Moment) → LeadsTo code L argument ks m → m.outcome ≡ None → (R : Run) → Ran (stepped P argument) L ks R
     → (k : ℕ) (e : Event) → Ready (stepped P argument) R k e → IsReady m.world k
 
+-- and no others are: each task that is ready in the machine is ready in the run
+abbrev pub NoOthersAreReady : Type 0
+NoOthersAreReady =
+    (code : Code) (P : PlainProgram) (L : Limits) (argument : ℤ) → plain_code code ≡ compiled P → Resolved P → HasMain P → L.steps ≤ 20000000
+    → (ks : List ℕ) (m : Moment) → LeadsTo code L argument ks m → m.outcome ≡ None → (R : Run) → Ran (stepped P argument) L ks R
+    → (k : ℕ) → IsReady m.world k → (e : Event) × Ready (stepped P argument) R k e
+
 -- and a schedule has at most twice as many numbers as there are steps, and two more
 abbrev pub SchedulesAreShort : Type 0
 SchedulesAreShort =
