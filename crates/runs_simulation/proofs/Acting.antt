@@ -22,15 +22,18 @@ use Rattle.runs_program.specs.Steps.{named_by}
 use Rattle.exec_task.specs.Names.{names_of}
 use Rattle.exec_task.specs.Tasks.{Says, plain_answer}
 use Rattle.exec_task.specs.declared.action.Action.{Action as DeclaredAction}
+use Rattle.exec_task.specs.declared.action.Action.TheVariants as action
 use Rattle.exec_task.specs.declared.action.Answer.{Answer as DeclaredAnswer}
 use Rattle.exec_tasks.specs.Tree.{Tasks, ready}
 use Rattle.exec_tasks.specs.declared.task.Origin.{Origin}
 use Rattle.exec_tasks.specs.declared.task.State.TheVariants.{Running as Runs, Forked}
 use Rattle.exec_tasks.specs.declared.task.Task.{Task as Live}
-use Rattle.exec_world.specs.World.{answer_at}
+use Rattle.exec_world.specs.World.{answer_at, answer_to}
 use Rattle.exec_world.specs.declared.event.Event.{Event as DeclaredEvent}
 use Rattle.exec_machine.specs.Replay.{Moment, NextOf, with_task}
 use Rattle.exec_machine.specs.Running.{Running, answered, front}
+use Rattle.runs_simulation.specs.Alike.{ActionAlike, AnswerAlike}
+use Rattle.runs_simulation.proofs.Alikes.{action_later, answer_alike}
 use Rattle.runs_simulation.proofs.Sights.{Sight, Wider, OwnLike, AnswerLike, rest_like, read_like, write_like, look_like, new_like, print_like, enter_like, exit_like}
 use Rattle.runs_simulation.proofs.Legs.{HaltOf, StandsAfter, after_answer}
 use Rattle.runs_simulation.proofs.Heaps.{OwnTied}
@@ -81,6 +84,12 @@ bytes_like (print_like bytes) = refl
 bytes_like (enter_like h) = refl
 bytes_like exit_like = refl
 
+-- a begin or a join: what a scope of branches has to allow
+abbrev pub IsScoped : DeclaredAction → Type 0
+IsScoped (action.Begin b) = Unit {0}
+IsScoped action.Join = Unit {0}
+IsScoped a = ⊥
+
 abbrev pub event_of : ℕ → ℕ → Option (List Effect) → DeclaredAction → DeclaredEvent
 event_of k turns wants a = record { task = k; turns = turns; action = a; wants = wants }
 
@@ -95,6 +104,14 @@ module _ (code : Code) (P : PlainProgram) (arg : ℤ) (rule : Rule) (L : Limits)
     pub there : slice_get w.paths k ≡ Some event.path
     pub sight : Sight
     pub tied : Tied P arg rule C L n sight (event ∷ R)
+
+  -- and it is like the event that the machine makes
+  pub record Matched (m : Moment) (d : DeclaredEvent) (w : Sight) (R : Run) (k : ℕ) (n : Moment) : Type 0 where
+    pub stepped : Stepped w R k n
+    pub wider : Wider w stepped.sight
+    pub turns : d.turns ≡ stepped.event.turns
+    pub action : ActionAlike stepped.sight d.action stepped.event.act
+    pub answer : AnswerAlike stepped.sight (answer_to m.world d) stepped.event.ans
 
   -- the live task of a ready number, at its next action
   module _ {m : Moment} {w : Sight} {R : Run} (T : Tied P arg rule C L m w R) (k turns : ℕ) (wants : Option (List Effect)) (a : DeclaredAction)
@@ -195,6 +212,7 @@ module _ (code : Code) (P : PlainProgram) (arg : ℤ) (rule : Rule) (L : Limits)
 
   module _ {m : Moment} {w : Sight} {R : Run} (T : Tied P arg rule C L m w R) (k turns : ℕ) (wants : Option (List Effect)) (a : DeclaredAction)
       (x : NextOf C m k (event_of k turns wants a)) (n : Moment) (o : OwnOver ℕ (ℕ × ℕ)) (says : (b : ActionIn) → Says C a b → b ≡ Do o)
+      (alike : (q : Own) → OwnLike w o q → ActionAlike w a (Do q))
       (tasks_are : (j : ℕ) → n.tasks j ≡ with_task m.tasks k (answered (at T k turns wants a x) (answer_at m.world k a)) j)
       (does : (p : Path) (q : Own) → OwnLike w o q → OwnTied (Q P arg rule C) w R p turns q (answer_at m.world k a) n.world.heap.objects)
       (costs : (q : Own) → OwnLike w o q → OwnCosts m n turns q) (begun_same : n.world.tree.begun ≡ m.world.tree.begun)
@@ -248,8 +266,8 @@ module _ (code : Code) (P : PlainProgram) (arg : ℤ) (rule : Rule) (L : Limits)
       fine = inl (trapped_step event H.segment ∙ fine);
     }
 
-    pub own_next : Stepped w R k n
-    own_next = record {
+    abbrev stepped : Stepped w R k n
+    stepped = record {
       event = event;
       follows = follows;
       there = V.there;
@@ -262,4 +280,13 @@ module _ (code : Code) (P : PlainProgram) (arg : ℤ) (rule : Rule) (L : Limits)
           (subst (λ s. OutLive (event ∷ R) V.path (goes_to T k turns wants a x (Do o) A (answer_at m.world k a)).state y.0.out s) (sym (y.3 ∙ runs)) out_now)
           (childless_if T k turns wants a x runs)
           (record { steps = K.steps; cells = K.cells; most_steps = K.most_steps; most_cells = K.most_cells });
+    }
+
+    pub own_next : Matched m (event_of k turns wants a) w R k n
+    own_next = record {
+      stepped = stepped;
+      wider = D.wider;
+      turns = refl;
+      action = action_later D.wider (alike own.0 own.2);
+      answer = answer_alike (answer_at m.world k a) D.like;
     }

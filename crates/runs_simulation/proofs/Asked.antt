@@ -125,6 +125,12 @@ module _ (C : PlainCode) (P : PlainProgram) where
   same_fork Join kind cs s = absurd (cc)
   same_fork (End x) kind cs s = absurd (cc)
 
+  pub fork_kind : (ts : Branches) (kind : Forking) (cs : List (Start Name LocalRegion)) → SameAct C P (Fork ts) (Fork (record { kind = kind; tasks = cs })) → ts.kind ≡ kind
+  fork_kind ts kind cs s = kind_of s.1
+    where
+      kind_of : {r q : meaning.Branches (Start Name LocalRegion)} → ◌≡◌ {A = ActionOf} (Fork r) (Fork q) → q.kind ≡ r.kind
+      kind_of {r} {q} e = (let same : r ≡ q = cc in ap (λ (z : meaning.Branches (Start Name LocalRegion)). z.kind) (sym same))
+
   pub same_begin : (a : Action) (n : ℕ) → SameAct C P a (Begin n) → a ≡ Begin n
   same_begin (Do o) n s = absurd (cc)
   same_begin (Fork ts) n s = absurd (let e = s.1 in cc)

@@ -38,6 +38,7 @@ use Rattle.exec_machine.specs.Replay.{Moment, NextOf, CanBeMade, StartsIn, after
 use Rattle.exec_machine.specs.Running.{Running, at_start}
 use Rattle.runs_elision.proofs.Worlds.{later_none, no_values, still_there}
 use Rattle.runs_elision.proofs.Writes.{last_there}
+use Rattle.runs_simulation.specs.Alike.{begin_alike, went_alike}
 use Rattle.runs_simulation.proofs.Sights.{Sight, Wider, Each, each_none, each_more, on_like, StartLike, starts_later, start_later, went_like}
 use Rattle.runs_simulation.proofs.Joins.{ForksAreJoined}
 use Rattle.runs_simulation.proofs.Forking.{AtJoin, HasBegun, Kept, step_keeps, join_leg}
@@ -47,7 +48,7 @@ use Rattle.runs_simulation.proofs.Heaps.{HeapTied, heap_wider, structural, last_
 use Rattle.runs_simulation.proofs.Ties.{Q, EndsTied, ForkTied, ScopeTied, BranchTied, OriginTied, LiveTied, NumbersTied, TaskTied, Tied, ends_later}
 use Rattle.runs_simulation.proofs.Asked.{ActionIn, acts_at, beginning_like, same_begin, begins_next, compiled_at, disciplined}
 use Rattle.runs_simulation.proofs.Trees.{placed, beside, changed_own, changed_other, numbered_later, entered_next, costs_next, above_apart, path_one, not_itself, live_with, branch_later, origin_later}
-use Rattle.runs_simulation.proofs.Acting.{RightFor, event_of, Stepped, found, live, at, leg_here, AskedAt, asked_at, goes_to, goes_so, task_next}
+use Rattle.runs_simulation.proofs.Acting.{RightFor, event_of, Matched, Stepped, found, live, at, leg_here, AskedAt, asked_at, goes_to, goes_so, task_next}
 use Rattle.runs_simulation.proofs.Forks.{front_step}
 use Rattle.runs_simulation.proofs.Outs.{BeginsSince, OutLive, OutForks, begins_more, ends_out_later, ends_out_more}
 use Rattle.runs_simulation.proofs.Segments.{Seg, seg_later, seg_none}
@@ -434,8 +435,11 @@ module _ (code : Code) (P : PlainProgram) (arg : ℤ) (rule : Rule) (L : Limits)
       entered = inl (entered_next {P = Q P arg rule C} event follows T.numbers.entered);
     }
 
-    pub begins_branch : Stepped code P arg rule L right w R k n
-    begins_branch = record {
+    seen_later : HeapTied (Q P arg rule C) w (event ∷ R) m.world.heap.objects → HeapTied (Q P arg rule C) v (event ∷ R) m.world.heap.objects
+    seen_later H = heap_wider (Q P arg rule C) H wide refl
+
+    abbrev stepped : Stepped code P arg rule L right w R k n
+    stepped = record {
       event = event;
       follows = follows;
       there = V.there;
@@ -448,6 +452,6 @@ module _ (code : Code) (P : PlainProgram) (arg : ℤ) (rule : Rule) (L : Limits)
         live = subst (λ ts. (j : ℕ) (u : Live) → get ts j ≡ Some u → LiveTied P arg rule C v (event ∷ R) ts n.tasks j u) (sym tree_is) live_next;
       };
     }
-      where
-        seen_later : HeapTied (Q P arg rule C) w (event ∷ R) m.world.heap.objects → HeapTied (Q P arg rule C) v (event ∷ R) m.world.heap.objects
-        seen_later H = heap_wider (Q P arg rule C) H wide refl
+
+    pub begins_branch : Matched code P arg rule L right m (event_of k turns wants (action.Begin b)) w R k n
+    begins_branch = record { stepped = stepped; wider = wide; turns = refl; action = begin_alike b; answer = went_alike }

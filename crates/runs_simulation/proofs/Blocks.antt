@@ -35,7 +35,7 @@ use Rattle.exec_task.specs.Tasks.{Says}
 use Rattle.exec_task.specs.declared.action.Action.{Action as DeclaredAction}
 use Rattle.exec_task.specs.declared.action.Action.TheVariants as action
 use Rattle.exec_locks.specs.Locks as locks
-use Rattle.exec_locks.specs.Locks.{is_inside, hinders, lists_interfere}
+use Rattle.exec_locks.specs.Locks.{lists_interfere}
 use Rattle.exec_locks.specs.declared.standing.Standing.{Standing as Lock}
 use Rattle.exec_locks.specs.declared.standing.Standing.TheVariants.{Opener}
 use Rattle.exec_tasks.specs.Scope.{Branches as Scope, with_branch}
@@ -46,11 +46,12 @@ use Rattle.exec_tasks.specs.declared.task.State.TheVariants.{Running as Runs, Fo
 use Rattle.exec_tasks.specs.declared.task.Task.{Task as Live}
 use Rattle.exec_tasks.proofs.Numbers.{get_inserted, get_beside, itself}
 use Rattle.exec_world.specs.Waits.{wanted as wanted_of}
-use Rattle.exec_world.specs.World.{CanEnter as CanEnterAt, adopted_by, world_after, trap_in, slots_in}
+use Rattle.exec_world.specs.Ready.{IsFreeFor}
+use Rattle.exec_world.specs.World.{adopted_by, world_after, trap_in, slots_in}
 use Rattle.exec_progress.proofs.Trees.{ended_begun}
 use Rattle.exec_world.specs.declared.event.Event.{Event as DeclaredEvent}
 use Rattle.exec_world.specs.declared.world.World.{World}
-use Rattle.exec_machine.specs.Replay.{Moment, NextOf, CanBeMade, after}
+use Rattle.exec_machine.specs.Replay.{Moment, NextOf, after}
 use Rattle.exec_machine.specs.Wants.{noted}
 use Rattle.runs_simulation.proofs.Sights.{Sight, EffectsLike, OwnLike, ActionLike, HaltLike, asks_like, finished_like, dead_like, rest_like, read_like, write_like, look_like, new_like, print_like, enter_like, exit_like, end_like}
 use Rattle.runs_simulation.proofs.Asked.{ActionIn, ActionOf, own_like, forking_like, beginning_like, joining_like, same_do, same_fork, same_begin, same_join, same_end, disciplined}
@@ -600,13 +601,13 @@ module _ (code : Code) (P : PlainProgram) (arg : ℤ) (rule : Rule) (L : Limits)
     not_quiet : (E : List Effect) (a : Action) → Quiet a → a ≡ Do (Enter E) → ⊥
     not_quiet E a q e = (let both : In_block 0 E ≡ Out_of = subst Quiet e q Out_of in cc)
 
-    module _ (effects : List PathEffect) (x : NextOf C m k (event_of k turns wants (action.Enter effects))) (can : CanBeMade C m.world (event_of k turns wants (action.Enter effects)) x.stands.state)
+    module _ (effects : List PathEffect) (x : NextOf C m k (event_of k turns wants (action.Enter effects)))
         (p : Path) (own_path : slice_get w.paths k ≡ Some p) (F : List Effect) (like : EffectsLike w (map plain_effect effects) F) where
       abbrev E_in : EffectsIn
       E_in = map plain_effect effects
 
       may : locks.MayEnter m.world.locks k (map noted E_in)
-      may = subst (λ o. CanEnterAt m.world.locks k o) (entry_noted C m k turns wants effects x wanted) can.fits
+      may = subst (λ o. IsFreeFor m.world.locks k o) (entry_noted C m k turns wants effects x wanted) x.ready.1
 
       one : OneNumber w
       one i j q a b = number_same (T.numbers.numbered i q a) (T.numbers.numbered j q b)
@@ -705,11 +706,11 @@ module _ (code : Code) (P : PlainProgram) (arg : ℤ) (rule : Rule) (L : Limits)
 
     -- an entry of the run is one of the machine
     abbrev Enters : DeclaredAction → Type 0
-    Enters a = (x : NextOf C m k (event_of k turns wants a)) → CanBeMade C m.world (event_of k turns wants a) x.stands.state → (n : Moment)
+    Enters a = (x : NextOf C m k (event_of k turns wants a)) (n : Moment)
         → (S : Stepped code P arg rule L right w R k n) (F : List Effect) → S.event.act ≡ Do (Enter F) → CanEnter run.lets R S.event.path F
 
     enters_any : (a : DeclaredAction) → Enters a
-    enters_any (action.Enter effects) x can n S F act = record { clear = λ out q G stands. apart_so effects x can S.event.path S.there F like out q G stands }
+    enters_any (action.Enter effects) x n S F act = record { clear = λ out q G stands. apart_so effects x S.event.path S.there F like out q G stands }
       where
         e : ActsLike w (action.Enter effects) S.event.act
         e = event_like T k turns wants (action.Enter effects) x S
@@ -719,20 +720,20 @@ module _ (code : Code) (P : PlainProgram) (arg : ℤ) (rule : Rule) (L : Limits)
           where
             same_entry : (H G : List Effect) → ◌≡◌ {A = Action} (Do (Enter H)) (Do (Enter G)) → H ≡ G
             same_entry H G e = cc
-    enters_any action.Rest x can n S F act = absurd (not_quiet F S.event.act (event_like T k turns wants action.Rest x S) act)
-    enters_any (action.Read i j) x can n S F act = absurd (not_quiet F S.event.act (event_like T k turns wants (action.Read i j) x S) act)
-    enters_any (action.Write i j u) x can n S F act = absurd (not_quiet F S.event.act (event_like T k turns wants (action.Write i j u) x S) act)
-    enters_any (action.Look i) x can n S F act = absurd (not_quiet F S.event.act (event_like T k turns wants (action.Look i) x S) act)
-    enters_any (action.NewObject d rs constructor) x can n S F act =
+    enters_any action.Rest x n S F act = absurd (not_quiet F S.event.act (event_like T k turns wants action.Rest x S) act)
+    enters_any (action.Read i j) x n S F act = absurd (not_quiet F S.event.act (event_like T k turns wants (action.Read i j) x S) act)
+    enters_any (action.Write i j u) x n S F act = absurd (not_quiet F S.event.act (event_like T k turns wants (action.Write i j u) x S) act)
+    enters_any (action.Look i) x n S F act = absurd (not_quiet F S.event.act (event_like T k turns wants (action.Look i) x S) act)
+    enters_any (action.NewObject d rs constructor) x n S F act =
         absurd (not_quiet F S.event.act (event_like T k turns wants (action.NewObject d rs constructor) x S) act)
-    enters_any (action.NewArray region len first) x can n S F act =
+    enters_any (action.NewArray region len first) x n S F act =
         absurd (not_quiet F S.event.act (event_like T k turns wants (action.NewArray region len first) x S) act)
-    enters_any (action.Print bytes) x can n S F act = absurd (not_quiet F S.event.act (event_like T k turns wants (action.Print bytes) x S) act)
-    enters_any (action.Fork forking many) x can n S F act = absurd (not_quiet F S.event.act (event_like T k turns wants (action.Fork forking many) x S) act)
-    enters_any action.Join x can n S F act = absurd (not_quiet F S.event.act (event_like T k turns wants action.Join x S) act)
-    enters_any action.Exit x can n S F act = absurd (let both : Do Exit ≡ Do (Enter F) = sym (event_like T k turns wants action.Exit x S) ∙ act in cc)
-    enters_any (action.Begin b) x can n S F act = absurd (let both : Begin b ≡ Do (Enter F) = sym (event_like T k turns wants (action.Begin b) x S) ∙ act in cc)
-    enters_any (action.End c) x can n S F act = absurd (let e = event_like T k turns wants (action.End c) x S in let both : End e.0 ≡ Do (Enter F) = sym e.1 ∙ act in cc)
+    enters_any (action.Print bytes) x n S F act = absurd (not_quiet F S.event.act (event_like T k turns wants (action.Print bytes) x S) act)
+    enters_any (action.Fork forking many) x n S F act = absurd (not_quiet F S.event.act (event_like T k turns wants (action.Fork forking many) x S) act)
+    enters_any action.Join x n S F act = absurd (not_quiet F S.event.act (event_like T k turns wants action.Join x S) act)
+    enters_any action.Exit x n S F act = absurd (let both : Do Exit ≡ Do (Enter F) = sym (event_like T k turns wants action.Exit x S) ∙ act in cc)
+    enters_any (action.Begin b) x n S F act = absurd (let both : Begin b ≡ Do (Enter F) = sym (event_like T k turns wants (action.Begin b) x S) ∙ act in cc)
+    enters_any (action.End c) x n S F act = absurd (let e = event_like T k turns wants (action.End c) x S in let both : End e.0 ≡ Do (Enter F) = sym e.1 ∙ act in cc)
 
   -- of any task
   module _ {m : Moment} {w : Sight} {R : Run} (T : Tied P arg rule C L m w R) (short : m.world.steps ≤ 20000001) (B : BlocksTied w R m.world) (wanted : AllNoted C m) (k : ℕ)
@@ -743,8 +744,8 @@ module _ (code : Code) (P : PlainProgram) (arg : ℤ) (rule : Rule) (L : Limits)
         subst (λ j. (x : NextOf C m j e) (S : Stepped code P arg rule L right w R j (after code m e x.stands.state x.stands.made))
         → BlocksTied S.sight (S.event ∷ R) (world_after code m.world e)) x.stands.number (λ x S. blocks_any T short B wanted e.task e.turns e.wants e.action x S) x S
 
-    pub entry_allowed : (x : NextOf C m k e) → CanBeMade C m.world e x.stands.state → (n : Moment) (S : Stepped code P arg rule L right w R k n) (F : List Effect)
+    pub entry_allowed : (x : NextOf C m k e) (n : Moment) (S : Stepped code P arg rule L right w R k n) (F : List Effect)
         → S.event.act ≡ Do (Enter F) → CanEnter run.lets R S.event.path F
-    entry_allowed x can n S F act =
-        subst (λ j. (x : NextOf C m j e) → CanBeMade C m.world e x.stands.state → (S : Stepped code P arg rule L right w R j n) → S.event.act ≡ Do (Enter F)
-        → CanEnter run.lets R S.event.path F) x.stands.number (λ x can S act. enters_any T short B wanted e.task e.turns e.wants e.action x can n S F act) x can S act
+    entry_allowed x n S F act =
+        subst (λ j. (x : NextOf C m j e) (S : Stepped code P arg rule L right w R j n) → S.event.act ≡ Do (Enter F)
+        → CanEnter run.lets R S.event.path F) x.stands.number (λ x S act. enters_any T short B wanted e.task e.turns e.wants e.action x n S F act) x S act

@@ -39,13 +39,15 @@ use Rattle.exec_progress.proofs.Trees.{ended_begun}
 use Rattle.exec_machine.specs.Replay.{Moment, NextOf, after}
 use Rattle.exec_machine.specs.Running.{front}
 use Rattle.runs_elision.proofs.Worlds.{Names, LocalsLike, no_locals, EndingLike, returned_like, assigned_like, trapped_like}
+use Rattle.runs_simulation.specs.Alike.{end_alike, went_alike}
+use Rattle.runs_simulation.proofs.Alikes.{ending_alike}
 use Rattle.runs_simulation.proofs.Sights.{Sight, wider_none, HaltLike, asks_like, finished_like, dead_like, ActionLike, end_like}
 use Rattle.runs_simulation.proofs.Legs.{HaltOf}
 use Rattle.runs_simulation.proofs.Heaps.{structural}
 use Rattle.runs_simulation.proofs.Ties.{Q, EndTied, EndsTied, ForkTied, ScopeTied, BranchTied, OriginTied, LiveTied, Tied, ends_later, task_later}
 use Rattle.runs_simulation.proofs.Asked.{ActionIn, ActionOf, reply_act, same_end, runs_if}
 use Rattle.runs_simulation.proofs.Trees.{beside, changed_own, changed_other, removed_tells, removed_other, numbers_kept, costs_next, apart_paths, above_apart, path_one, not_itself, live_later, live_with, branch_later, origin_later}
-use Rattle.runs_simulation.proofs.Acting.{RightFor, event_of, Stepped, found, live, at, here, leg_here, childless_if, off_leg, out_runs}
+use Rattle.runs_simulation.proofs.Acting.{RightFor, event_of, Matched, Stepped, found, live, at, here, leg_here, childless_if, off_leg, out_runs}
 use Rattle.runs_simulation.proofs.Outs.{BeginsSince, begins_none, begins_more, EndOut, IsFine, OutLive, OutRuns, OutForks, ends_out_later, ends_out_put, seg_with}
 use Rattle.runs_simulation.proofs.Segments.{Seg, seg_later, seg_own}
 use Rattle.runs_simulation.proofs.Sorted.{printed_step, trapped_step}
@@ -466,21 +468,24 @@ module _ (code : Code) (P : PlainProgram) (arg : ℤ) (rule : Rule) (L : Limits)
         branch_gone o (subst (λ u. OriginTied P arg rule C w R m.world.tree.tasks V.path u) e V.origin)
         (not_itself P arg rule C L w R m.world.tree.tasks k V.there y.origin V.origin o e)
 
+    abbrev stepped : Stepped code P arg rule L right w R k n
+    stepped = record {
+      event = event;
+      follows = follows;
+      there = V.there;
+      sight = w;
+      tied = record {
+        heap = structural (Q P arg rule C) T.heap V.path turns event refl (λ c. refl) (λ f. refl) refl;
+        numbers = numbers_kept {P = Q P arg rule C} event follows refl (wider_none T.heap.holds.distinct) refl (ended_begun m.world.tree k (machine_trap c) (slots_in c)) T.numbers;
+        costs = costs_next P arg rule C L m n event (record { steps = refl; cells = omega arith; most_steps = refl; most_cells = refl }) T.costs;
+        faithful = (follows, T.faithful);
+        live = subst (λ (t : Tree). LiveNext t.tasks) (sym tree_is) (live_next y.origin refl);
+      };
+    }
+
     pub end_reported : EndReported w R k n c (out_of (task_at m.world.tree k))
     end_reported = record {
-      stepped = record {
-        event = event;
-        follows = follows;
-        there = V.there;
-        sight = w;
-        tied = record {
-          heap = structural (Q P arg rule C) T.heap V.path turns event refl (λ c. refl) (λ f. refl) refl;
-          numbers = numbers_kept {P = Q P arg rule C} event follows refl (wider_none T.heap.holds.distinct) refl (ended_begun m.world.tree k (machine_trap c) (slots_in c)) T.numbers;
-          costs = costs_next P arg rule C L m n event (record { steps = refl; cells = omega arith; most_steps = refl; most_cells = refl }) T.costs;
-          faithful = (follows, T.faithful);
-          live = subst (λ (t : Tree). LiveNext t.tasks) (sym tree_is) (live_next y.origin refl);
-        };
-      };
+      stepped = stepped;
       ending = E.ending;
       act = refl;
       segment = event ∷ H.segment;
@@ -490,5 +495,11 @@ module _ (code : Code) (P : PlainProgram) (arg : ℤ) (rule : Rule) (L : Limits)
       like = E.like;
     }
 
-    pub ends_next : Stepped code P arg rule L right w R k n
-    ends_next = end_reported.stepped
+    pub ends_next : Matched code P arg rule L right m (event_of k turns wants (action.End c)) w R k n
+    ends_next = record {
+      stepped = stepped;
+      wider = wider_none T.heap.holds.distinct;
+      turns = refl;
+      action = end_alike (ending_alike c E.like);
+      answer = went_alike;
+    }

@@ -28,15 +28,16 @@ use Rattle.exec_tasks.specs.declared.task.State.TheVariants.{Running as Runs}
 use Rattle.exec_tasks.specs.declared.task.Task.{Task as Live}
 use Rattle.exec_machine.specs.Replay.{Moment, NextOf, after}
 use Rattle.exec_machine.specs.Running.{front}
+use Rattle.runs_simulation.specs.Alike.{fork_alike, went_alike}
 use Rattle.runs_simulation.proofs.Sights.{Sight, wider_none, each_length, StartsLike, went_like}
 use Rattle.runs_simulation.proofs.Joins.{ForksAreJoined}
 use Rattle.runs_simulation.proofs.Forking.{AtJoin, Kept, step_keeps}
 use Rattle.runs_simulation.proofs.Wrapping.{first_numbers, next_numbers}
 use Rattle.runs_simulation.proofs.Heaps.{structural}
 use Rattle.runs_simulation.proofs.Ties.{Q, ForkTied, LiveTied, Tied}
-use Rattle.runs_simulation.proofs.Asked.{ActionIn, ActsAt, forking_like, same_fork, runs_if, AllLength}
+use Rattle.runs_simulation.proofs.Asked.{ActionIn, ActsAt, forking_like, fork_kind, same_fork, runs_if, AllLength}
 use Rattle.runs_simulation.proofs.Trees.{placed, beside, changed_own, changed_other, plain_next}
-use Rattle.runs_simulation.proofs.Acting.{RightFor, event_of, Stepped, found, live, at, AskedAt, asked_at, goes_to, goes_so, task_next, childless_if, not_off, out_runs}
+use Rattle.runs_simulation.proofs.Acting.{RightFor, event_of, Matched, Stepped, found, live, at, AskedAt, asked_at, goes_to, goes_so, task_next, childless_if, not_off, out_runs}
 use Rattle.runs_simulation.proofs.Outs.{OutRuns, OutForks, begins_none, fine_none}
 use Rattle.runs_simulation.proofs.Segments.{seg_later, seg_own}
 use Rattle.runs_simulation.proofs.Sorted.{printed_step, trapped_step}
@@ -163,8 +164,8 @@ module _ (code : Code) (P : PlainProgram) (arg : ℤ) (rule : Rule) (L : Limits)
       ends = tt;
     }
 
-    pub forks_next : Stepped code P arg rule L right w R k n
-    forks_next = record {
+    abbrev stepped : Stepped code P arg rule L right w R k n
+    stepped = record {
       event = event;
       follows = follows;
       there = V.there;
@@ -177,4 +178,17 @@ module _ (code : Code) (P : PlainProgram) (arg : ℤ) (rule : Rule) (L : Limits)
           (task_next code P arg rule L right T k turns wants (action.Fork forking many) x forks A answer.Went event refl (wider_none T.heap.holds.distinct) went_like)
           fork out_now (childless_if code P arg rule L right T k turns wants (action.Fork forking many) x runs)
           (record { steps = refl; cells = omega arith; most_steps = refl; most_cells = refl });
+    }
+
+    many_are : length source.0.tasks ≡ many
+    many_are = sym (AllLength C P like.0 source.0.tasks source.2) ∙ sym (each_length like.2) ∙ reported.2
+
+    pub forks_next : Matched code P arg rule L right m (event_of k turns wants (action.Fork forking many)) w R k n
+    forks_next = record {
+      stepped = stepped;
+      wider = wider_none T.heap.holds.distinct;
+      turns = refl;
+      action = fork_alike forking many source.0 (fork_kind C P source.0 forking like.0 (subst (λ a. SameAct C P a (Fork (record { kind = forking; tasks = like.0 }))) source.1
+          (subst (λ b. SameAct C P A.act b) like.1 A.same))) many_are;
+      answer = went_alike;
     }

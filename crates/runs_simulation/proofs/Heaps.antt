@@ -27,7 +27,7 @@ use Rattle.exec_task.specs.declared.action.Answer.{Answer as DeclaredAnswer}
 use Rattle.exec_task.specs.declared.action.Answer.TheVariants as answer
 use Rattle.exec_world.specs.World.{read_at, got, wrote_at, written_at}
 use Rattle.exec_world.specs.World.{seen as object_seen}
-use Rattle.runs_elision.proofs.Worlds.{Names, Distinct, Later, name_later, ValueLike}
+use Rattle.runs_elision.proofs.Worlds.{Names, Later, name_later, ValueLike}
 use Rattle.runs_elision.proofs.Worlds as elided
 use Rattle.runs_elision.proofs.Memory.{Holds, Stands}
 use Rattle.runs_elision.proofs.Doing.{Answered, own_step, structure_step}

@@ -37,7 +37,9 @@ use Rattle.runs_simulation.proofs.Heaps.{structural}
 use Rattle.runs_simulation.proofs.Ties.{Q, EndTied, EndsTied, ForkTied, ScopeTied, BranchTied, OriginTied, LiveTied, Tied}
 use Rattle.runs_simulation.proofs.Asked.{acts_at, joining_like, same_join}
 use Rattle.runs_simulation.proofs.Trees.{placed, beside, changed_own, changed_other, plain_next}
-use Rattle.runs_simulation.proofs.Acting.{RightFor, event_of, Stepped, found, live, at, AskedAt, asked_at, goes_to, goes_so, task_next}
+use Rattle.runs_simulation.specs.Alike.{join_alike}
+use Rattle.runs_simulation.proofs.Alikes.{answer_alike}
+use Rattle.runs_simulation.proofs.Acting.{RightFor, event_of, Matched, Stepped, found, live, at, AskedAt, asked_at, goes_to, goes_so, task_next}
 use Rattle.runs_simulation.proofs.Outs.{OutLive, OutRuns, IsFine, out_joined}
 use Rattle.runs_simulation.proofs.Segments.{Seg, seg_later, seg_own}
 use Rattle.runs_simulation.proofs.Sorted.{printed_step, trapped_step}
@@ -238,8 +240,8 @@ module _ (code : Code) (P : PlainProgram) (arg : ℤ) (rule : Rule) (L : Limits)
       fine = subst (λ es. IsFine (event ∷ O.0) (then_at es)) (sym ends_are) fine;
     }
 
-    pub joins_next : Stepped code P arg rule L right w R k n
-    joins_next = record {
+    abbrev stepped : Stepped code P arg rule L right w R k n
+    stepped = record {
       event = event;
       follows = follows;
       there = V.there;
@@ -252,4 +254,13 @@ module _ (code : Code) (P : PlainProgram) (arg : ℤ) (rule : Rule) (L : Limits)
           (placed m.tasks k _ k refl ∙ goes_so code P arg rule L right T k turns wants action.Join x Join A (join_answer (ends_in (task_at m.world.tree k))))
           (task_next code P arg rule L right T k turns wants action.Join x Join A (join_answer (ends_in (task_at m.world.tree k))) event refl (wider_none T.heap.holds.distinct) like)
           tt out_now childless (record { steps = refl; cells = omega arith; most_steps = refl; most_cells = refl });
+    }
+
+    pub joins_next : Matched code P arg rule L right m (event_of k turns wants action.Join) w R k n
+    joins_next = record {
+      stepped = stepped;
+      wider = wider_none T.heap.holds.distinct;
+      turns = refl;
+      action = join_alike;
+      answer = answer_alike (join_answer (ends_in (task_at m.world.tree k))) like;
     }

@@ -9,6 +9,7 @@ pub mod Wrapping
 pub mod Ties
 pub mod Asked
 pub mod Trees
+pub mod Alikes
 pub mod Acting
 pub mod Owns
 pub mod Forks
@@ -27,6 +28,8 @@ pub mod Ready
 pub mod Sizes
 pub mod Bodies
 pub mod Unstuck
+pub mod Sayings
+pub mod NextEvents
 pub mod Recorded
 pub mod Lively
 pub mod Segments

@@ -24,15 +24,17 @@ use Rattle.exec_task.specs.declared.action.Action.TheVariants as action
 use Rattle.exec_heap.specs.Heap.{object_at, values_of}
 use Rattle.exec_progress.specs.Progress.{CodeMakesProgress}
 use Rattle.exec_tasks.specs.declared.task.Task.{Task as Live}
+use Rattle.exec_world.specs.declared.event.Event.{Event as DeclaredEvent}
 use Rattle.exec_machine.specs.Premise.{CanProgress}
 use Rattle.exec_machine.specs.Replay.{CanBeMade, IsStuck, LeadsTo, Moment, NextOf}
-use Rattle.runs_simulation.specs.Laws.{LeftOpen, ReadyTasksAreReady, Records, SchedulesAreShort, SomeTaskIsReady, StuckForFewReasons}
-use Rattle.runs_simulation.proofs.Acting.{event_of}
+use Rattle.runs_simulation.specs.Laws.{LeftOpen, NoOthersAreReady, ReadyTasksAreReady, Records, SchedulesAreShort, SomeTaskIsReady, StuckForFewReasons}
+use Rattle.runs_simulation.proofs.Acting.{IsScoped, event_of}
 use Rattle.runs_simulation.proofs.Blocks.{some_there}
+use Rattle.runs_simulation.proofs.NextEvents.{next_event}
 use Rattle.runs_simulation.proofs.Ready.{ready_there}
-use Rattle.runs_simulation.proofs.Recorded.{FJ, LedTo, led_to, recorded, right}
+use Rattle.runs_simulation.proofs.Recorded.{FJ, LedTo, led_to, ready_as_recorded, recorded, right}
 use Rattle.runs_simulation.proofs.Sizes.{all_charged, object_charged}
-use Rattle.runs_simulation.proofs.Unstuck.{exit_next, fork_next, stuck_any}
+use Rattle.runs_simulation.proofs.Unstuck.{exit_next, fork_next, scoped_can, stuck_any}
 use Rattle.runs_simulation.proofs.Waiting.{all_noted, all_rest}
 
 ran_within : (Q : Program) (L : Limits) (ks : List ℕ) (R : Run) → Ran Q L ks R → Within Q L R
@@ -57,6 +59,28 @@ module _ (keeps : EachKeeps) (known : NamesAreKnown) (going : CodeMakesProgress)
 
       goes : CanProgress code L arg
       goes = going code P L arg is resolved main few
+
+  pub no_others : NoOthersAreReady
+  no_others code P L arg is resolved main few ks m leads none R ran k ready =
+      (r.0, subst (λ S. Ready (stepped P arg) S k r.0) (one_run (stepped P arg) (keeps P arg).disciplined L ks A.run R A.ran ran) r.1)
+    where
+      A : LedTo code P L arg is resolved main few ks m
+      A = led_to code P L arg is resolved main few ks m leads none
+
+      goes : CanProgress code L arg
+      goes = going code P L arg is resolved main few
+
+      next : (e : DeclaredEvent) × NextOf (plain_code code) m k e
+      next = next_event (plain_code code) m k (goes ks m leads) none ready
+
+      can : IsScoped next.0.action → CanBeMade (plain_code code) m.world next.0 next.1.stands.state
+      can scoped =
+          subst (λ j. (x : NextOf (plain_code code) m j next.0) → CanBeMade (plain_code code) m.world next.0 x.stands.state) next.1.stands.number
+          (λ x. scoped_can code P arg lets L (right code P L arg is resolved main few) (FJ code P L arg is resolved main few) A.tied A.short A.blocks A.lives (all_noted code L arg ks m leads)
+          (keeps P arg).lively (keeps P arg).in_turn next.0.task next.0.turns next.0.wants next.0.action x scoped) next.1
+
+      r : (e : Event) × Ready (stepped P arg) A.run k e
+      r = ready_as_recorded code P L arg is resolved main few leads A next.0 next.1 can
 
   pub some_ready : SomeTaskIsReady
   some_ready code P L arg is resolved main few ks m leads none = (r.0, all_ready code P L arg is resolved main few ks m leads none A.run A.ran r.0 r.1 r.2)
@@ -97,8 +121,7 @@ module _ (keeps : EachKeeps) (known : NamesAreKnown) (going : CodeMakesProgress)
       subst (λ j. (x : NextOf (plain_code code) m j s.event) → (CanBeMade (plain_code code) m.world s.event x.stands.state → ⊥)
       → LeftOpen m.world j s.event.action) s.next.stands.number
       (λ x unmade. stuck_any code P arg lets L (right code P L arg is resolved main few) (FJ code P L arg is resolved main few) A.tied A.short A.blocks A.lives (all_noted code L arg ks m leads)
-      (small_values code P L arg is resolved main few cells ks m leads A) (keeps P arg).lively
-      (keeps P arg).in_turn s.event.task s.event.turns s.event.wants s.event.action x unmade) s.next s.unmade
+      (keeps P arg).lively (keeps P arg).in_turn s.event.task s.event.turns s.event.wants (small_values code P L arg is resolved main few cells ks m leads A) s.event.action x unmade) s.next s.unmade
     where
       A : LedTo code P L arg is resolved main few ks m
       A = led_to code P L arg is resolved main few ks m leads s.next.unfinished
@@ -125,11 +148,11 @@ module _ (keeps : EachKeeps) (known : NamesAreKnown) (going : CodeMakesProgress)
       by_action : (a : Action) (x : NextOf (plain_code code) m s.event.task (event_of s.event.task s.event.turns s.event.wants a)) → LeftOpen m.world s.event.task a → StuckRun P arg
       by_action action.Exit x left =
           let h = exit_next code P arg lets L (right code P L arg is resolved main few) (FJ code P L arg is resolved main few) A.tied A.short A.blocks A.lives (all_noted code L arg ks m leads)
-          (small_values code P L arg is resolved main few cells ks m leads A) (keeps P arg).lively (keeps P arg).in_turn s.event.task s.event.turns s.event.wants x left in
+          (keeps P arg).lively (keeps P arg).in_turn s.event.task s.event.turns s.event.wants x left in
           record { run = A.run; event = h.0; legal = (h.1, legal); what = inl (h.2, h.3) }
       by_action (action.Fork forking many) x left =
           let h = fork_next code P arg lets L (right code P L arg is resolved main few) (FJ code P L arg is resolved main few) A.tied A.short A.blocks A.lives (all_noted code L arg ks m leads)
-          (small_values code P L arg is resolved main few cells ks m leads A) (keeps P arg).lively (keeps P arg).in_turn s.event.task s.event.turns s.event.wants forking many x in
+          (keeps P arg).lively (keeps P arg).in_turn s.event.task s.event.turns s.event.wants forking many x in
           record { run = A.run; event = h.0; legal = (h.1, legal); what = inr (h.2, h.3, (let n = h.4 in omega (arith, n, left))) }
       by_action action.Rest x left = absurd left
       by_action (action.Read n j) x left = absurd left

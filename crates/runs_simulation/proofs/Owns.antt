@@ -31,12 +31,12 @@ use Rattle.exec_world.specs.World.{seen as object_seen}
 use Rattle.exec_machine.specs.Replay.{Moment, NextOf, after}
 use Rattle.runs_elision.proofs.Worlds as elided
 use Rattle.runs_elision.proofs.Memory.{values_length}
-use Rattle.runs_elision.proofs.Worlds.{ValueLike}
+use Rattle.runs_simulation.proofs.Alikes.{rest_alike, read_alike, write_alike, look_alike, object_made, array_made, print_alike, enter_alike, exit_alike}
 use Rattle.runs_simulation.proofs.Sights.{Sight, an_object, an_array, OwnLike, rest_like, read_like, write_like, look_like, new_like, print_like, enter_like, exit_like}
 use Rattle.runs_simulation.proofs.Heaps.{OwnTied, went, reads, writes, looks, makes}
 use Rattle.runs_simulation.proofs.Ties.{Q, Tied}
 use Rattle.runs_simulation.proofs.Trees.{changed_own, changed_other}
-use Rattle.runs_simulation.proofs.Acting.{RightFor, found, event_of, Stepped, OwnCosts, same_live, own_next}
+use Rattle.runs_simulation.proofs.Acting.{RightFor, found, event_of, Matched, OwnCosts, same_live, own_next}
 
 -- a world that counts local regions keeps the lengths of regions alone
 any_part : Part LocalRegion → Part Counted
@@ -80,9 +80,9 @@ module _ (code : Code) (P : PlainProgram) (arg : ℤ) (rule : Rule) (L : Limits)
     }
 
     pub rests : (x : NextOf C m k (event_of k turns wants action.Rest))
-        → Stepped code P arg rule L right w R k (after code m (event_of k turns wants action.Rest) x.stands.state x.stands.made)
+        → Matched code P arg rule L right m (event_of k turns wants action.Rest) w R k (after code m (event_of k turns wants action.Rest) x.stands.state x.stands.made)
     rests x =
-        own_next code P arg rule L right T k turns wants action.Rest x (after code m (event_of k turns wants action.Rest) x.stands.state x.stands.made) Rest (λ b e. e)
+        own_next code P arg rule L right T k turns wants action.Rest x (after code m (event_of k turns wants action.Rest) x.stands.state x.stands.made) Rest (λ b e. e) rest_alike
         (λ j. refl) rest_does (rest_costs (after code m (event_of k turns wants action.Rest) x.stands.state x.stands.made) refl refl refl) refl
         (same_live code P arg rule L right m.world.tree.tasks k)
 
@@ -112,10 +112,10 @@ module _ (code : Code) (P : PlainProgram) (arg : ℤ) (rule : Rule) (L : Limits)
     read_does i j p q (read_like i' y j' e) = reads (Q P arg rule C) T.heap p turns i y j m.world.heap refl e
 
     pub reads_cell : (i : ℕ) (j : ℤ) (x : NextOf C m k (event_of k turns wants (action.Read i j)))
-        → Stepped code P arg rule L right w R k (after code m (event_of k turns wants (action.Read i j)) x.stands.state x.stands.made)
+        → Matched code P arg rule L right m (event_of k turns wants (action.Read i j)) w R k (after code m (event_of k turns wants (action.Read i j)) x.stands.state x.stands.made)
     reads_cell i j x =
         own_next code P arg rule L right T k turns wants (action.Read i j) x (after code m (event_of k turns wants (action.Read i j)) x.stands.state x.stands.made) (Read i j)
-        (λ b e. e) (λ j. refl) (read_does i j)
+        (λ b e. e) (read_alike i j) (λ j. refl) (read_does i j)
         (read_costs (after code m (event_of k turns wants (action.Read i j)) x.stands.state x.stands.made) refl refl refl refl i j) refl
         (same_live code P arg rule L right m.world.tree.tasks k)
 
@@ -124,10 +124,10 @@ module _ (code : Code) (P : PlainProgram) (arg : ℤ) (rule : Rule) (L : Limits)
     write_does i j v p q (write_like i' y j' e l) = writes (Q P arg rule C) T.heap p turns i y j v m.world.heap refl e l
 
     pub writes_cell : (i : ℕ) (j : ℤ) (v : Constant) (x : NextOf C m k (event_of k turns wants (action.Write i j v)))
-        → Stepped code P arg rule L right w R k (after code m (event_of k turns wants (action.Write i j v)) x.stands.state x.stands.made)
+        → Matched code P arg rule L right m (event_of k turns wants (action.Write i j v)) w R k (after code m (event_of k turns wants (action.Write i j v)) x.stands.state x.stands.made)
     writes_cell i j v x =
         own_next code P arg rule L right T k turns wants (action.Write i j v) x n (Write i j (plain_value v))
-        (λ b e. e) (λ j. refl) (write_does i j v) (write_costs n refl (used j) refl (limit j) i j (plain_value v)) refl
+        (λ b e. e) (write_alike i j v) (λ j. refl) (write_does i j v) (write_costs n refl (used j) refl (limit j) i j (plain_value v)) refl
         (same_live code P arg rule L right m.world.tree.tasks k)
       where
         n : Moment
@@ -153,10 +153,10 @@ module _ (code : Code) (P : PlainProgram) (arg : ℤ) (rule : Rule) (L : Limits)
     look_does i p q (look_like i' y e) = looks (Q P arg rule C) T.heap p turns i y m.world.heap refl e
 
     pub looks_at : (i : ℕ) (x : NextOf C m k (event_of k turns wants (action.Look i)))
-        → Stepped code P arg rule L right w R k (after code m (event_of k turns wants (action.Look i)) x.stands.state x.stands.made)
+        → Matched code P arg rule L right m (event_of k turns wants (action.Look i)) w R k (after code m (event_of k turns wants (action.Look i)) x.stands.state x.stands.made)
     looks_at i x =
         own_next code P arg rule L right T k turns wants (action.Look i) x (after code m (event_of k turns wants (action.Look i)) x.stands.state x.stands.made) (Look i)
-        (λ b e. e) (λ j. refl) (look_does i) (look_costs (after code m (event_of k turns wants (action.Look i)) x.stands.state x.stands.made) refl refl refl refl i) refl
+        (λ b e. e) (look_alike i) (λ j. refl) (look_does i) (look_costs (after code m (event_of k turns wants (action.Look i)) x.stands.state x.stands.made) refl refl refl refl i) refl
         (same_live code P arg rule L right m.world.tree.tasks k)
 
     enter_does : (E : List (meaning.Effect (ℕ × ℕ))) (p : Path) (q : Own) → OwnLike w (Enter E) q
@@ -164,10 +164,10 @@ module _ (code : Code) (P : PlainProgram) (arg : ℤ) (rule : Rule) (L : Limits)
     enter_does E p q (enter_like {F = F} l) = went (Q P arg rule C) T.heap p turns (elided.enter_like [] F) refl refl
 
     pub enters : (effects : List Effect) (x : NextOf C m k (event_of k turns wants (action.Enter effects)))
-        → Stepped code P arg rule L right w R k (after code m (event_of k turns wants (action.Enter effects)) x.stands.state x.stands.made)
+        → Matched code P arg rule L right m (event_of k turns wants (action.Enter effects)) w R k (after code m (event_of k turns wants (action.Enter effects)) x.stands.state x.stands.made)
     enters effects x =
         own_next code P arg rule L right T k turns wants (action.Enter effects) x (after code m (event_of k turns wants (action.Enter effects)) x.stands.state x.stands.made)
-        (Enter (map plain_effect effects)) (λ b e. e) (λ j. refl) (enter_does (map plain_effect effects))
+        (Enter (map plain_effect effects)) (λ b e. e) (enter_alike effects) (λ j. refl) (enter_does (map plain_effect effects))
         (enter_costs (after code m (event_of k turns wants (action.Enter effects)) x.stands.state x.stands.made) refl refl refl refl (map plain_effect effects)) refl
         (same_live code P arg rule L right m.world.tree.tasks k)
 
@@ -175,10 +175,10 @@ module _ (code : Code) (P : PlainProgram) (arg : ℤ) (rule : Rule) (L : Limits)
     exit_does p q exit_like = went (Q P arg rule C) T.heap p turns elided.exit_like refl refl
 
     pub exits : (x : NextOf C m k (event_of k turns wants action.Exit))
-        → Stepped code P arg rule L right w R k (after code m (event_of k turns wants action.Exit) x.stands.state x.stands.made)
+        → Matched code P arg rule L right m (event_of k turns wants action.Exit) w R k (after code m (event_of k turns wants action.Exit) x.stands.state x.stands.made)
     exits x =
         own_next code P arg rule L right T k turns wants action.Exit x (after code m (event_of k turns wants action.Exit) x.stands.state x.stands.made) Exit
-        (λ b e. e) (λ j. refl) exit_does (exit_costs (after code m (event_of k turns wants action.Exit) x.stands.state x.stands.made) refl refl refl refl) refl
+        (λ b e. e) exit_alike (λ j. refl) exit_does (exit_costs (after code m (event_of k turns wants action.Exit) x.stands.state x.stands.made) refl refl refl refl) refl
         (same_live code P arg rule L right m.world.tree.tasks k)
 
     print_does : (bytes : List ℕ) (p : Path) (q : Own) → OwnLike w (Print bytes) q → OwnTied (Q P arg rule C) w R p turns q answer.Went m.world.heap.objects
@@ -189,10 +189,10 @@ module _ (code : Code) (P : PlainProgram) (arg : ℤ) (rule : Rule) (L : Limits)
     print_costs n bytes e u s l q (print_like b) = record { steps = e; cells = u; most_steps = s; most_cells = l }
 
     pub prints : (bytes : List ℕ) (x : NextOf C m k (event_of k turns wants (action.Print bytes)))
-        → Stepped code P arg rule L right w R k (after code m (event_of k turns wants (action.Print bytes)) x.stands.state x.stands.made)
+        → Matched code P arg rule L right m (event_of k turns wants (action.Print bytes)) w R k (after code m (event_of k turns wants (action.Print bytes)) x.stands.state x.stands.made)
     prints bytes x =
         own_next code P arg rule L right T k turns wants (action.Print bytes) x (after code m (event_of k turns wants (action.Print bytes)) x.stands.state x.stands.made)
-        (Print bytes) (λ b e. e) (λ j. refl) (print_does bytes)
+        (Print bytes) (λ b e. e) (print_alike bytes) (λ j. refl) (print_does bytes)
         (print_costs (after code m (event_of k turns wants (action.Print bytes)) x.stands.state x.stands.made) bytes refl refl refl refl) refl
         (record {
           others = λ j apart. changed_other m.world.tree.tasks k (printed_task bytes) j (found code P arg rule L right T k turns wants (action.Print bytes) x).1 apart;
@@ -228,10 +228,10 @@ module _ (code : Code) (P : PlainProgram) (arg : ℤ) (rule : Rule) (L : Limits)
     }
 
     pub makes_object : (c : ℕ) (rs : List DeclaredRegion) (constructor : Bool) (x : NextOf C m k (event_of k turns wants (action.NewObject c rs constructor)))
-        → Stepped code P arg rule L right w R k (after code m (event_of k turns wants (action.NewObject c rs constructor)) x.stands.state x.stands.made)
+        → Matched code P arg rule L right m (event_of k turns wants (action.NewObject c rs constructor)) w R k (after code m (event_of k turns wants (action.NewObject c rs constructor)) x.stands.state x.stands.made)
     makes_object c rs constructor x =
         own_next code P arg rule L right T k turns wants (action.NewObject c rs constructor) x n
-        (New (An_object c (map plain_region rs) (map first_value (fields_of (class_at C c)))) constructor) (λ b e. e) (λ j. refl) (object_does c rs constructor)
+        (New (An_object c (map plain_region rs) (map first_value (fields_of (class_at C c)))) constructor) (λ b e. e) (object_made c rs (map first_value (fields_of (class_at C c))) constructor) (λ j. refl) (object_does c rs constructor)
         (object_costs n c (map plain_region rs) constructor refl refl refl refl) refl (same_live code P arg rule L right m.world.tree.tasks k)
       where
         n : Moment
@@ -257,10 +257,10 @@ module _ (code : Code) (P : PlainProgram) (arg : ℤ) (rule : Rule) (L : Limits)
     }
 
     pub makes_array : (region : DeclaredRegion) (len : ℕ) (first : Constant) (x : NextOf C m k (event_of k turns wants (action.NewArray region len first)))
-        → Stepped code P arg rule L right w R k (after code m (event_of k turns wants (action.NewArray region len first)) x.stands.state x.stands.made)
+        → Matched code P arg rule L right m (event_of k turns wants (action.NewArray region len first)) w R k (after code m (event_of k turns wants (action.NewArray region len first)) x.stands.state x.stands.made)
     makes_array region len first x =
         own_next code P arg rule L right T k turns wants (action.NewArray region len first) x n (New (An_array (plain_region region) len (plain_value first)) false)
-        (λ b e. e) (λ j. refl) (array_does region len first) (array_costs n (plain_region region) len first refl refl refl refl) refl
+        (λ b e. e) (array_made region len first) (λ j. refl) (array_does region len first) (array_costs n (plain_region region) len first refl refl refl refl) refl
         (same_live code P arg rule L right m.world.tree.tasks k)
       where
         n : Moment

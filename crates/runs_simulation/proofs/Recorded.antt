@@ -1,5 +1,5 @@
 -- Wherever a schedule leads a machine on compiled code, it records a run of the source.
-use Rattle.std.proofs.Common.{◌≡◌, ◌≤◌, inl, inr, ℕ, zero, suc, ◌+◌, ◌==◌, if◌then◌else◌, ℤ, pos, negsuc, Bool, true, false, cond, nat_lt, List, [], ◌∷◌, length, refl, sym, ap, ◌∙◌, subst, Option, Some, None, slice_get, arith}
+use Rattle.std.proofs.Common.{◌≡◌, ◌≤◌, inl, inr, ℕ, zero, suc, ◌+◌, ◌==◌, if◌then◌else◌, ℤ, pos, negsuc, Bool, true, false, cond, nat_lt, List, [], ◌∷◌, length, map, refl, sym, ap, ◌∙◌, subst, Option, Some, None, slice_get, arith}
 use Rattle.std.proofs.lemmas.Bool.Decides.{eqb_tells}
 use Rattle.std.proofs.lemmas.Option.{slice_get_within}
 use Rattle.std.specs.FinMap.{empty, get, get-empty}
@@ -45,15 +45,18 @@ use Rattle.exec_world.specs.Costs.{Within as MachineWithin, cells_of as machine_
 use Rattle.exec_world.specs.World.{at_start as world_at_start, with_heap, world_after, written_at}
 use Rattle.exec_world.specs.declared.event.Event.{Event as DeclaredEvent}
 use Rattle.exec_world.specs.declared.world.World.{World}
+use Rattle.exec_machine.specs.Events.{MadeEvent, Makes, MakesNext, makes, meets_limit, opens}
 use Rattle.exec_machine.specs.Replay.{Moment, NextOf, CanBeMade, Opens, LeadsTo, after, came_to, limited, number_given, opened, outcome_after}
 use Rattle.exec_machine.specs.Replay.{made as made_so, over as over_so, no_room as no_room_so}
-use Rattle.runs_simulation.specs.Laws.{AllRecord, MachinesRecord, Records}
-use Rattle.runs_simulation.proofs.Sights.{Sight}
+use Rattle.runs_simulation.specs.Alike.{AnswerAlike, EventAlike, EventsAlike, SightOf}
+use Rattle.runs_simulation.specs.Laws.{AllRecord, EventForEvent, MachinesRecord, Records}
+use Rattle.runs_simulation.proofs.Alikes.{event_later}
+use Rattle.runs_simulation.proofs.Sights.{Sight, each_more, each_none, each_weaker}
 use Rattle.runs_simulation.proofs.Joins.{ForksAreJoined, forks_are_joined}
 use Rattle.runs_simulation.proofs.Ties.{Q, Tied}
 use Rattle.runs_simulation.proofs.Asked.{disciplined}
 use Rattle.runs_simulation.proofs.Trees.{entered_next}
-use Rattle.runs_simulation.proofs.Acting.{RightFor, event_of, Stepped}
+use Rattle.runs_simulation.proofs.Acting.{RightFor, IsScoped, event_of, Matched, Stepped}
 use Rattle.runs_simulation.proofs.Owns.{FieldsFor, rests, reads_cell, writes_cell, looks_at, makes_object, makes_array, prints, enters, exits}
 use Rattle.runs_simulation.proofs.Forks.{forks_next}
 use Rattle.runs_simulation.proofs.Begins.{begins_branch}
@@ -188,9 +191,12 @@ module _ (code : Code) (P : PlainProgram) (arg : ℤ) (L : Limits) (right : Righ
   abbrev Next_of : Sight → Run → ℕ → Moment → Type 0
   Next_of w R k n = Stepped code P arg rule L right w R k n
 
+  abbrev Matched_of : Moment → DeclaredEvent → Sight → Run → ℕ → Moment → Type 0
+  Matched_of m e w R k n = Matched code P arg rule L right m e w R k n
+
   step_any : {m : Moment} {w : Sight} {R : Run} (T : Tied P arg rule C L m w R) → m.world.steps ≤ 20000001 → (k turns : ℕ) (wants : Option (List PathEffect)) (a : DeclaredAction)
-      (x : NextOf C m k (event_of k turns wants a)) → CanBeMade C m.world (event_of k turns wants a) x.stands.state
-      → Next_of w R k (after code m (event_of k turns wants a) x.stands.state x.stands.made)
+      (x : NextOf C m k (event_of k turns wants a)) → (IsScoped a → CanBeMade C m.world (event_of k turns wants a) x.stands.state)
+      → Matched_of m (event_of k turns wants a) w R k (after code m (event_of k turns wants a) x.stands.state x.stands.made)
   step_any T short k turns wants action.Rest x can = rests code P arg rule L right fields T k turns wants x
   step_any T short k turns wants (action.Read n j) x can = reads_cell code P arg rule L right fields T k turns wants n j x
   step_any T short k turns wants (action.Write n j v) x can = writes_cell code P arg rule L right fields T k turns wants n j v x
@@ -201,14 +207,14 @@ module _ (code : Code) (P : PlainProgram) (arg : ℤ) (L : Limits) (right : Righ
   step_any T short k turns wants (action.Enter effects) x can = enters code P arg rule L right fields T k turns wants effects x
   step_any T short k turns wants action.Exit x can = exits code P arg rule L right fields T k turns wants x
   step_any T short k turns wants (action.Fork forking many) x can = forks_next code P arg rule L right FJ T k turns wants forking many x
-  step_any T short k turns wants (action.Begin b) x can = begins_branch code P arg rule L right FJ T short k turns wants b x can
-  step_any T short k turns wants action.Join x can = joins_next code P arg rule L right FJ T k turns wants x can
+  step_any T short k turns wants (action.Begin b) x can = begins_branch code P arg rule L right FJ T short k turns wants b x (can tt)
+  step_any T short k turns wants action.Join x can = joins_next code P arg rule L right FJ T k turns wants x (can tt)
   step_any T short k turns wants (action.End c) x can = ends_next code P arg rule L right T k turns wants c x
 
   any_event : {m : Moment} {w : Sight} {R : Run} (T : Tied P arg rule C L m w R) → m.world.steps ≤ 20000001 → (k : ℕ) (e : DeclaredEvent) (x : NextOf C m k e)
-      → CanBeMade C m.world e x.stands.state → Next_of w R k (after code m e x.stands.state x.stands.made)
+      → (IsScoped e.action → CanBeMade C m.world e x.stands.state) → Matched_of m e w R k (after code m e x.stands.state x.stands.made)
   any_event {m} {w} {R} T short k e x can =
-      subst (λ j. (y : NextOf C m j e) → CanBeMade C m.world e y.stands.state → Next_of w R j (after code m e y.stands.state y.stands.made)) x.stands.number
+      subst (λ j. (y : NextOf C m j e) → (IsScoped e.action → CanBeMade C m.world e y.stands.state) → Matched_of m e w R j (after code m e y.stands.state y.stands.made)) x.stands.number
       (λ y can. step_any T short e.task e.turns e.wants e.action y can) x can
 
   -- the limits are those of the run
@@ -241,42 +247,52 @@ module _ (code : Code) (P : PlainProgram) (arg : ℤ) (L : Limits) (right : Righ
     pub lives : LivesTied sight run m
     pub short : m.world.steps ≤ 20000001
 
+  -- the next event of a ready task is ready in the run
+  ready_next : {ks : List ℕ} {m n : Moment} {k : ℕ} (leads : LeadsTo code L arg ks m) (A : Led ks m) (e : DeclaredEvent) (x : NextOf C m k e)
+      (S : Next_of A.sight A.run k n) → Ready QR A.run k S.event
+  ready_next {ks} {m} {n} {k} leads A e x S = record {
+    allowed = allowed_from QR (disciplined P arg rule C) A.run S.event A.tied.faithful (record {
+      follows = S.follows;
+      enters = λ E act. entry_allowed code P arg rule L right A.tied A.short A.blocks (all_noted code L arg ks m leads) k e x n S E act;
+    });
+    number = A.tied.numbers.numbered k S.event.path S.there;
+  }
+
+  pub ready_in_run : {ks : List ℕ} {m : Moment} {k : ℕ} (leads : LeadsTo code L arg ks m) (A : Led ks m) (e : DeclaredEvent) (x : NextOf C m k e)
+      → (IsScoped e.action → CanBeMade C m.world e x.stands.state) → (f : Event) × Ready QR A.run k f
+  ready_in_run {ks} {m} {k} leads A e x can =
+      let S : Next_of A.sight A.run k (after code m e x.stands.state x.stands.made) = (any_event A.tied A.short k e x can).stepped in
+      (S.event, ready_next leads A e x S)
+
   zero_path : {R : Run} {k : ℕ} {p : Path} → Numbered R k p → k ≡ 0 → p ≡ []
   zero_path (root_is a b) e = a
   zero_path (branch_is q u G g a b c d n i) e = absurd (omega (arith, i, e))
 
   module _ (few : L.steps ≤ 20000000) (first : (m : Moment) → Opens code L arg m → m.outcome ≡ None → (w : Sight) × Tied P arg rule C L m w [])
       (main_so : length (first_fields code code.main_class) ≡ size QR.object) where
-    ready_next : {ks : List ℕ} {m n : Moment} {k : ℕ} (leads : LeadsTo code L arg ks m) (A : Led ks m) (e : DeclaredEvent) (x : NextOf C m k e)
-        → CanBeMade C m.world e x.stands.state → (S : Next_of A.sight A.run k n) → Ready QR A.run k S.event
-    ready_next {ks} {m} {n} {k} leads A e x can S = record {
-      allowed = allowed_from QR (disciplined P arg rule C) A.run S.event A.tied.faithful (record {
-        follows = S.follows;
-        enters = λ E act. entry_allowed code P arg rule L right A.tied A.short A.blocks (all_noted code L arg ks m leads) k e x can n S E act;
-      });
-      number = A.tied.numbers.numbered k S.event.path S.there;
-    }
-
     -- the run with one event more
     abbrev next_ran : {ks : List ℕ} {m : Moment} {k : ℕ} (leads : LeadsTo code L arg ks m) (A : Led ks m) (e : DeclaredEvent) (x : NextOf C m k e)
-        (can : CanBeMade C m.world e x.stands.state) → MachineWithin code m.world e
+        → MachineWithin code m.world e
         → (S : Next_of A.sight A.run k (after code m e x.stands.state x.stands.made)) → Ran QR L (k ∷ ks) (S.event ∷ A.run)
-    next_ran leads A e x can within S = (A.ran, ready_next leads A e x can S, (within_next e A.tied S.tied S.follows refl).0 within)
+    next_ran leads A e x within S = (A.ran, ready_next leads A e x S, (within_next e A.tied S.tied S.follows refl).0 within)
 
-    led_next : {ks : List ℕ} {m : Moment} {k : ℕ} (leads : LeadsTo code L arg ks m) (A : Led ks m) (e : DeclaredEvent) (x : NextOf C m k e)
-        (can : CanBeMade C m.world e x.stands.state) → MachineWithin code m.world e → Led (k ∷ ks) (after code m e x.stands.state x.stands.made)
-    led_next {ks} {m} {k} leads A e x can within = record {
+    -- with this event
+    abbrev led_with : {ks : List ℕ} {m : Moment} {k : ℕ} (leads : LeadsTo code L arg ks m) (A : Led ks m) (e : DeclaredEvent) (x : NextOf C m k e)
+        (can : CanBeMade C m.world e x.stands.state) → MachineWithin code m.world e
+        → (S : Next_of A.sight A.run k (after code m e x.stands.state x.stands.made)) → Led (k ∷ ks) (after code m e x.stands.state x.stands.made)
+    led_with {ks} {m} {k} leads A e x can within S = record {
       run = S.event ∷ A.run;
       sight = S.sight;
-      ran = next_ran leads A e x can within S;
+      ran = next_ran leads A e x within S;
       tied = S.tied;
       blocks = blocks_next code P arg rule L right A.tied A.short A.blocks (all_noted code L arg ks m leads) k e x S;
       lives = lives_next code P arg rule L right A.tied A.short A.blocks (all_noted code L arg ks m leads) A.lives k e x can S;
       short = (let a = within.0 in let b = A.tied.costs.most_steps in let c = (charged code m.world e.task e.turns e.wants e.action).steps in omega (arith, a, b, c, few));
     }
-      where
-        S : Next_of A.sight A.run k (after code m e x.stands.state x.stands.made)
-        S = any_event A.tied A.short k e x can
+
+    led_next : {ks : List ℕ} {m : Moment} {k : ℕ} (leads : LeadsTo code L arg ks m) (A : Led ks m) (e : DeclaredEvent) (x : NextOf C m k e)
+        (can : CanBeMade C m.world e x.stands.state) → MachineWithin code m.world e → Led (k ∷ ks) (after code m e x.stands.state x.stands.made)
+    led_next {ks} {m} {k} leads A e x can within = led_with leads A e x can within (any_event A.tied A.short k e x (λ scoped. can)).stepped
 
     -- at the start the root alone is there, and stands in no block
     blocks_first : {m : Moment} {w : Sight} → Tied P arg rule C L m w [] → m.world
@@ -320,30 +336,114 @@ module _ (code : Code) (P : PlainProgram) (arg : ℤ) (L : Limits) (right : Righ
           | inr z ↦ (let both : None ≡ Some x = sym (get_beside empty 0 k (fresh None) z.1 ∙ get-empty nat_cmp k) ∙ live in cc)
         ]
 
-    pub led : (ks : List ℕ) (m : Moment) → LeadsTo code L arg ks m → m.outcome ≡ None → Led ks m
-    led [] m (opened room is) none = led_first (first m (opened room is) none)
+    led_opened : (m : Moment) → Opens code L arg m → m.outcome ≡ None → (A : Led [] m) × (A.run ≡ [])
+    led_opened m (opened room is) none = go (first m (opened room is) none)
       where
         used : m.world.heap.used ≡ length (first_fields code code.main_class) + 1
         used = ap (λ (n : Moment). n.world.heap.used) is ∙ omega arith
 
-        led_first : (w : Sight) × Tied P arg rule C L m w [] → Led [] m
-        led_first start = record {
-          run = [];
-          sight = start.0;
-          ran = record {
-            steps = (let z = total_nil event_steps in let n = ap entry_step (mine_nil []) in omega (arith, z, n));
-            cells = (let a = start.1.costs.cells in let b = used in let c = room in omega (arith, a, b, c));
-          };
-          tied = start.1;
-          blocks = blocks_first start.1 (ap (λ (n : Moment). n.world) is);
-          lives = lives_first m start.0 (ap (λ (n : Moment). n.world) is);
-          short = (let a = start.1.costs.steps in let z = total_nil event_steps in omega (arith, a, z));
-        }
-    led [] m (no_room_so full is) none = absurd (let both : None ≡ Some (limited L) = sym none ∙ ap (λ (n : Moment). n.outcome) is in cc)
+        go : (w : Sight) × Tied P arg rule C L m w [] → (A : Led [] m) × (A.run ≡ [])
+        go start = (
+          record {
+            run = [];
+            sight = start.0;
+            ran = record {
+              steps = (let z = total_nil event_steps in let n = ap entry_step (mine_nil []) in omega (arith, z, n));
+              cells = (let a = start.1.costs.cells in let b = used in let c = room in omega (arith, a, b, c));
+            };
+            tied = start.1;
+            blocks = blocks_first start.1 (ap (λ (n : Moment). n.world) is);
+            lives = lives_first m start.0 (ap (λ (n : Moment). n.world) is);
+            short = (let a = start.1.costs.steps in let z = total_nil event_steps in omega (arith, a, z));
+          },
+          refl,
+        )
+    led_opened m (no_room_so full is) none = absurd (let both : None ≡ Some (limited L) = sym none ∙ ap (λ (n : Moment). n.outcome) is in cc)
+
+    pub led : (ks : List ℕ) (m : Moment) → LeadsTo code L arg ks m → m.outcome ≡ None → Led ks m
+    led [] m start none = (led_opened m start none).0
     led (k ∷ ks) m (before, leads, made_so e x can within is) none =
         subst (λ n. Led (k ∷ ks) n) (sym is) (led_next leads (led ks before leads x.unfinished) e x can within)
     led (k ∷ ks) m (before, leads, over_so e x can beyond is) none =
         absurd (let both : None ≡ Some (limited L) = sym none ∙ ap (λ (n : Moment). n.outcome) is in cc)
+
+    -- the same, of the events that a schedule makes
+    record Followed (ks : List ℕ) (xs : List MadeEvent) (m : Moment) : Type 0 where
+      led : Led ks m
+      tasks : map (λ x. x.event.task) xs ≡ ks
+      alike : EventsAlike led.sight xs led.run
+
+    followed_next : {ks : List ℕ} {xs : List MadeEvent} {m : Moment} {k : ℕ} (leads : LeadsTo code L arg ks m) (A : Followed ks xs m) (x : MadeEvent)
+        (y : MakesNext C m k x) → CanBeMade C m.world x.event y.next.stands.state → MachineWithin code m.world x.event
+        → Followed (k ∷ ks) (x ∷ xs) (after code m x.event y.next.stands.state y.next.stands.made)
+    followed_next {ks} {xs} {m} {k} leads A x y can within = record {
+      led = led_with leads A.led x.event y.next can within D.stepped;
+      tasks = ap (λ j. j ∷ map (λ (x : MadeEvent). x.event.task) xs) y.next.stands.number ∙ ap (λ js. k ∷ js) A.tasks;
+      alike = each_more here (each_weaker (λ x e h. event_later D.wider h) A.alike);
+    }
+      where
+        D : Matched_of m x.event A.led.sight A.led.run k (after code m x.event y.next.stands.state y.next.stands.made)
+        D = any_event A.led.tied A.led.short k x.event y.next (λ scoped. can)
+
+        here : EventAlike D.stepped.sight x D.stepped.event
+        here = record {
+          task = D.wider.paths x.event.task D.stepped.event.path
+              (subst (λ j. slice_get A.led.sight.paths j ≡ Some D.stepped.event.path) (sym y.next.stands.number) D.stepped.there);
+          turns = D.turns;
+          action = D.action;
+          answer = subst (λ a. AnswerAlike D.stepped.sight a D.stepped.event.ans) (sym y.answer) D.answer;
+        }
+
+    makes_leads : {ks : List ℕ} {xs : List MadeEvent} {m : Moment} → Makes code L arg ks xs m → LeadsTo code L arg ks m
+    makes_leads (opens h) = h
+    makes_leads (makes {before} k x y h can within is) = (before, makes_leads h, made_so x.event y.next can within is)
+    makes_leads (meets_limit {before} k x y h can beyond is) = (before, makes_leads h, over_so x.event y.next can beyond is)
+
+    followed : {ks : List ℕ} {xs : List MadeEvent} {m : Moment} → Makes code L arg ks xs m → m.outcome ≡ None → Followed ks xs m
+    followed {m = m} (opens h) none =
+        (let A = led_opened m h none in record { led = A.0; tasks = refl; alike = subst (λ R. EventsAlike A.0.sight [] R) (sym A.1) each_none })
+    followed {ks = j ∷ js} {xs = z ∷ zs} (makes k x y h can within is) none =
+        subst (λ n. Followed (j ∷ js) (z ∷ zs) n) (sym is) (followed_next (makes_leads h) (followed h y.next.unfinished) x y can within)
+    followed (meets_limit k x y h can beyond is) none = absurd (let both : None ≡ Some (limited L) = sym none ∙ ap (λ (n : Moment). n.outcome) is in cc)
+
+    -- the run whose events they are
+    record AlikeRun (xs : List MadeEvent) : Type 0 where
+      run : Run
+      sight : Sight
+      ran : Ran QR L (map (λ x. x.event.task) xs) run
+      sight_of : SightOf sight run
+      alike : EventsAlike sight xs run
+
+    alike_run : {ks : List ℕ} {xs : List MadeEvent} {m : Moment} → Followed ks xs m → AlikeRun xs
+    alike_run {xs = xs} A = record {
+      run = A.led.run;
+      sight = A.led.sight;
+      ran = subst (λ js. Ran QR L js A.led.run) (sym A.tasks) A.led.ran;
+      sight_of = record { distinct = A.led.tied.heap.holds.distinct; numbered = A.led.tied.numbers.numbered };
+      alike = A.alike;
+    }
+
+    -- before any event
+    nothing_made : Within QR L [] → AlikeRun []
+    nothing_made room = record {
+      run = [];
+      sight = record { names = []; paths = [] };
+      ran = room;
+      sight_of = record {
+        distinct = record { one = λ n m x a b. absurd (let none : None ≡ Some x = a in cc) };
+        numbered = λ k p a. absurd (let none : None ≡ Some p = a in cc);
+      };
+      alike = each_none;
+    }
+
+    alike_made : {ks : List ℕ} {xs : List MadeEvent} {m : Moment} → Makes code L arg ks xs m → (xs ≡ [] → Within QR L []) → AlikeRun xs
+    alike_made (opens h) room = nothing_made (room refl)
+    alike_made (makes k x y h can within is) room = alike_run (followed_next (makes_leads h) (followed h y.next.unfinished) x y can within)
+    alike_made (meets_limit k x y h can beyond is) room = alike_run (followed h y.next.unfinished)
+
+    pub all_alike : (ks : List ℕ) (xs : List MadeEvent) (m : Moment) → Makes code L arg ks xs m → (xs ≡ [] → Within QR L [])
+        → (R : Run) × (w : Sight) × Ran QR L (map (λ x. x.event.task) xs) R × SightOf w R × EventsAlike w xs R
+    all_alike ks xs m made room = (let A = alike_made made room in (A.run, A.sight, A.ran, A.sight_of, A.alike))
 
     -- the root has ended
     at_end : {ks : List ℕ} {m : Moment} {k : ℕ} (leads : LeadsTo code L arg ks m) (A : Led ks m) (turns : ℕ) (wants : Option (List PathEffect)) (c : DeclaredEnding)
@@ -362,7 +462,7 @@ module _ (code : Code) (P : PlainProgram) (arg : ℤ) (L : Limits) (right : Righ
         S = B.stepped
 
         ran : Ran QR L (k ∷ ks) (S.event ∷ A.run)
-        ran = next_ran leads A (event_of k turns wants (action.End c)) x can within S
+        ran = next_ran leads A (event_of k turns wants (action.End c)) x within S
 
         path : S.event.path ≡ []
         path = zero_path (A.tied.numbers.numbered k S.event.path S.there) is_root
@@ -431,9 +531,9 @@ module _ (code : Code) (P : PlainProgram) (arg : ℤ) (L : Limits) (right : Righ
       where
         over_limit : Led ks before → Records QR L (k ∷ ks) (Some o)
         over_limit A =
-            let S = any_event A.tied A.short k e x can in (
+            let S = (any_event A.tied A.short k e x (λ scoped. can)).stepped in (
               Limited L.steps L.cells,
-              over k ks A.run S.event A.ran (ready_next leads A e x can S)
+              over k ks A.run S.event A.ran (ready_next leads A e x S)
                   (λ w. beyond ((within_next e A.tied S.tied S.follows refl).1 w)),
               (let both : Some (limited L) ≡ Some o = sym (ap (λ (n : Moment). n.outcome) is) ∙ some in let same : limited L ≡ o = cc in sym same),
             )
@@ -460,11 +560,22 @@ module _ (code : Code) (P : PlainProgram) (L : Limits) (arg : ℤ) (is : plain_c
   pub recorded : AllRecord (stepped P arg) code L arg
   recorded = all_record code P arg L right (fields_for code P is) FJ few first (main_size code P arg rule L is resolved main)
 
+  pub made_alike : (ks : List ℕ) (xs : List MadeEvent) (m : Moment) → Makes code L arg ks xs m → (xs ≡ [] → Within (stepped P arg) L [])
+      → (R : Run) × (w : Sight) × Ran (stepped P arg) L (map (λ x. x.event.task) xs) R × SightOf w R × EventsAlike w xs R
+  made_alike = all_alike code P arg L right (fields_for code P is) FJ few first (main_size code P arg rule L is resolved main)
+
   abbrev pub LedTo : List ℕ → Moment → Type 0
   LedTo ks m = Led code P arg L right (fields_for code P is) FJ ks m
 
   pub led_to : (ks : List ℕ) (m : Moment) → LeadsTo code L arg ks m → m.outcome ≡ None → LedTo ks m
   led_to = led code P arg L right (fields_for code P is) FJ few first (main_size code P arg rule L is resolved main)
 
+  pub ready_as_recorded : {ks : List ℕ} {m : Moment} {k : ℕ} → LeadsTo code L arg ks m → (A : LedTo ks m) (e : DeclaredEvent) (x : NextOf (plain_code code) m k e)
+      → (IsScoped e.action → CanBeMade (plain_code code) m.world e x.stands.state) → (f : Event) × Ready (stepped P arg) A.run k f
+  ready_as_recorded leads A e x can = ready_in_run code P arg L right (fields_for code P is) FJ leads A e x can
+
 pub machines_record : MachinesRecord
 machines_record code P L arg is resolved main few = recorded code P L arg is resolved main few
+
+pub event_for_event : EventForEvent
+event_for_event code P L arg is resolved main few = made_alike code P L arg is resolved main few

@@ -1,23 +1,19 @@
 -- Values, regions, frames and states of a machine, which numbers objects and tasks in the order in which they are made, and those
 -- of a run, which names objects by their makers and tasks by their paths: what is one in both is like.
-use Rattle.std.proofs.Common.{◌≡◌, ℕ, suc, ℤ, Bool, List, [], ◌∷◌, ◌++◌, length, refl, ap, Some, slice_get}
+use Rattle.std.proofs.Common.{◌≡◌, ℕ, suc, ℤ, Bool, List, ◌++◌, length, refl, ap, Some, slice_get}
 use Rattle.lang_base.specs.declared.place.Place.{Place}
 use Rattle.lang_base.specs.declared.value.Trap.{Trap}
 use Rattle.lang_typed.specs.declared.stmt.Forking.{Forking}
-use Rattle.lang_meaning.specs.Values.{Value, Part, Region_name, Number, Local, Own_index, Any_index, Any_parts, Region, Thing, An_object, An_array}
+use Rattle.lang_meaning.specs.Values.{Value, Part, Region, Thing, An_object, An_array}
 use Rattle.lang_meaning.specs.Actions.{Frame, Effect, Ending, Own, Rest, Read, Write, Look, New, Print, Enter, Exit, Action, Do, Fork, Begin, Join, End}
 use Rattle.lang_meaning.specs.Actions.{Answer, Went, Got, Out, Class, Length, Named, Joined, Fell}
 use Rattle.lang_meaning.specs.Regions.{Around}
 use Rattle.code_instrs.specs.Machine.{Level, Start, State, On, Rested, Off, Nowhere, Stand, Goes, Turns, Makes, Waits, Ends, Stuck}
 use Rattle.code_instrs.specs.Legs.{Halt, Asks, Finished, Dead}
-use Rattle.runs_theory.specs.Objects.{Path, Name, LocalRegion, Made, Unmade}
-use Rattle.runs_elision.proofs.Worlds.{Names, Distinct, Later, later_none, later_then, ValueLike, ValuesLike, values_later, LocalsLike}
+use Rattle.runs_theory.specs.Objects.{Path, Name, LocalRegion}
+use Rattle.runs_elision.proofs.Worlds.{Distinct, Later, later_none, later_then, ValueLike, ValuesLike, values_later, LocalsLike}
 use Rattle.runs_elision.proofs.Worlds.{EndingLike, ending_later}
-
--- the names of the objects, and the paths of the tasks, by their numbers
-pub record Sight : Type 0 where
-  pub names : Names
-  pub paths : List Path
+pub use Rattle.runs_simulation.specs.Alike.{Sight, Each, each_none, each_more, LocalLike, made_like, unmade_like, PartLike, a_name, a_number, a_local, own_index, any_index, any_parts, RegionLike, RegionsLike, EffectLike, EffectsLike}
 
 -- after more objects were made, and more tasks begun
 pub record Wider (v w : Sight) : Type 0 where
@@ -29,11 +25,6 @@ wider_none d = record { names = later_none d; paths = λ k p h. h }
 
 pub wider_then : {u v w : Sight} → Wider u v → Wider v w → Wider u w
 wider_then h k = record { names = later_then h.names k.names; paths = λ j p e. k.paths j p (h.paths j p e) }
-
--- lists whose elements are like one by one
-pub data Each {A B : Type 0} (L : A → B → Type 0) : List A → List B → Type 0 where
-  each_none : Each L [] []
-  each_more : {x : A} {y : B} {xs : List A} {ys : List B} → L x y → Each L xs ys → Each L (x ∷ xs) (y ∷ ys)
 
 pub each_weaker : {A B : Type 0} {L K : A → B → Type 0} {xs : List A} {ys : List B} → ((x : A) (y : B) → L x y → K x y) → Each L xs ys → Each K xs ys
 each_weaker f each_none = each_none
@@ -47,34 +38,8 @@ pub each_length : {A B : Type 0} {L : A → B → Type 0} {xs : List A} {ys : Li
 each_length each_none = refl
 each_length (each_more h k) = ap (λ n. suc n) (each_length k)
 
--- a local region: one that was made, or one that is declared and not made yet
-pub data LocalLike (w : Sight) : ℕ × ℕ → LocalRegion → Type 0 where
-  made_like : (k c : ℕ) (p : Path) → slice_get w.paths k ≡ Some p → LocalLike w (k, suc c) (Made p c)
-  unmade_like : (r : ℕ) → LocalLike w (r, 0) (Unmade r)
-
-pub data PartLike (w : Sight) : Part (ℕ × ℕ) → Part LocalRegion → Type 0 where
-  a_name : (n : ℕ) → PartLike w (Region_name n) (Region_name n)
-  a_number : (k : ℤ) → PartLike w (Number k) (Number k)
-  a_local : {l : ℕ × ℕ} {m : LocalRegion} → LocalLike w l m → PartLike w (Local l) (Local m)
-  own_index : PartLike w Own_index Own_index
-  any_index : PartLike w Any_index Any_index
-  any_parts : PartLike w Any_parts Any_parts
-
-abbrev pub RegionLike : Sight → Region (ℕ × ℕ) → Region LocalRegion → Type 0
-RegionLike w r q = Each (PartLike w) r q
-
-abbrev pub RegionsLike : Sight → List (Region (ℕ × ℕ)) → List (Region LocalRegion) → Type 0
-RegionsLike w rs qs = Each (RegionLike w) rs qs
-
 abbrev pub LocalRegionsLike : Sight → List (ℕ × ℕ) → List LocalRegion → Type 0
 LocalRegionsLike w ls ms = Each (LocalLike w) ls ms
-
-pub record EffectLike (w : Sight) (e : Effect (ℕ × ℕ)) (f : Effect LocalRegion) : Type 0 where
-  pub access : e.access ≡ f.access
-  pub region : RegionLike w e.region f.region
-
-abbrev pub EffectsLike : Sight → List (Effect (ℕ × ℕ)) → List (Effect LocalRegion) → Type 0
-EffectsLike w E F = Each (EffectLike w) E F
 
 pub record AroundLike (w : Sight) (f : Around ℕ (ℕ × ℕ)) (g : Around Name LocalRegion) : Type 0 where
   pub values : ValuesLike w.names f.values g.values

@@ -49,7 +49,7 @@ use Rattle.exec_machine.specs.Replay.{StartsIn, CanBeMade, Moment, NextOf}
 use Rattle.exec_machine.specs.Wants.{noted, wanted_after}
 use Rattle.runs_simulation.specs.Laws.{LeftOpen}
 use Rattle.runs_simulation.proofs.Sights.{each_length, Each, Sight, StartLike, each_more, each_none, ActionLike, HaltLike, OwnLike, asks_like, dead_like, end_like, finished_like, look_like, read_like, write_like}
-use Rattle.runs_simulation.proofs.Acting.{AskedAt, RightFor, asked_at, at, event_of, found as found_live, here, live}
+use Rattle.runs_simulation.proofs.Acting.{AskedAt, IsScoped, RightFor, asked_at, at, event_of, found as found_live, here, live}
 use Rattle.runs_simulation.proofs.Begins.{from_join_at, from_there_at}
 use Rattle.runs_simulation.proofs.Bodies.{body_there}
 use Rattle.runs_simulation.proofs.Forking.{AtJoin, HasBegun}
@@ -103,7 +103,7 @@ module _ (code : Code) (P : PlainProgram) (arg : ℤ) (rule : Rule) (L : Limits)
   QR = Q P arg rule C
 
   module _ {m : Moment} {w : Sight} {R : Run} (T : Tied P arg rule C L m w R) (short : m.world.steps ≤ 20000001) (B : BlocksTied w R m.world) (lives : LivesTied w R m)
-      (noted_all : AllNoted C m) (small : (n : ℕ) → length (values_of (object_at m.world.heap n)) < 2 ^ 31) (lively : Lively QR) (in_turn : InTurn QR) (k turns : ℕ) (wants : Option (List PathEffect)) where
+      (noted_all : AllNoted C m) (lively : Lively QR) (in_turn : InTurn QR) (k turns : ℕ) (wants : Option (List PathEffect)) where
     abbrev At : DeclaredAction → Type 0
     At a = NextOf C m k (event_of k turns wants a)
 
@@ -191,8 +191,8 @@ module _ (code : Code) (P : PlainProgram) (arg : ℤ) (rule : Rule) (L : Limits)
         write_there : {q : Own} → OwnLike w (meaning.Write n j (plain_value v)) q → n < length m.world.heap.objects
         write_there (write_like n z i e l) = object_in (action.Write n j v) x n z e
 
-    stuck_look : (n : ℕ) (x : At (action.Look n)) → Stuck_at (action.Look n) x
-    stuck_look n x unmade = asked_by (action.Look n) x ⊥ (λ i act b c asks says like same. (let q = own_acts C P act like same (meaning.Look n) says in
+    stuck_look : ((n : ℕ) → length (values_of (object_at m.world.heap n)) < 2 ^ 31) → (n : ℕ) (x : At (action.Look n)) → Stuck_at (action.Look n) x
+    stuck_look small n x unmade = asked_by (action.Look n) x ⊥ (λ i act b c asks says like same. (let q = own_acts C P act like same (meaning.Look n) says in
         unmade (record { fits = (look_there q.2, small n); starts = tt })))
       where
         look_there : {q : Own} → OwnLike w (meaning.Look n) q → n < length m.world.heap.objects
@@ -235,37 +235,40 @@ module _ (code : Code) (P : PlainProgram) (arg : ℤ) (rule : Rule) (L : Limits)
         }))))) (λ wide. wide) (cases_lt many (2 ^ 32))
 
     -- a join
-    stuck_join : (x : At action.Join) → Stuck_at action.Join x
-    stuck_join x unmade = asked_by action.Join x ⊥ (λ i act b c asks says like same.
+    join_can : (x : At action.Join) → CanBeMade C m.world (event_of k turns wants action.Join) x.stands.state
+    join_can x = asked_by action.Join x (CanBeMade C m.world (event_of k turns wants action.Join) x.stands.state) (λ i act b c asks says like same.
         joins i (asks ∙ ap (λ a. Next i a) (same_join C P act (subst (λ c. SameAct C P act c) (joining_like (subst (λ b. ActionLike w b c) says like)) same))))
       where
-        joins : (i : ℕ) → QR.meaning (V action.Join x).path (V action.Join x).task.task (answers (mine R (V action.Join x).path)) ≡ Next i Join → ⊥
+        joins : (i : ℕ) → QR.meaning (V action.Join x).path (V action.Join x).task.task (answers (mine R (V action.Join x).path)) ≡ Next i Join → CanBeMade C m.world (event_of k turns wants action.Join) x.stands.state
         joins i asks = by_state (y action.Join x).0.state refl (V action.Join x).scope
           where
             free : IsTrue (state_ready (y action.Join x).0.state)
             free = subst (λ o. IsTrue (ready o)) (y action.Join x).1 x.ready.0
 
-            by_state : (s : Scoped) → (y action.Join x).0.state ≡ s → ScopeTied P arg rule C w R (V action.Join x).path (V action.Join x).runs.state (y action.Join x).0.state → ⊥
+            by_state : (s : Scoped) → (y action.Join x).0.state ≡ s → ScopeTied P arg rule C w R (V action.Join x).path (V action.Join x).runs.state (y action.Join x).0.state → CanBeMade C m.world (event_of k turns wants action.Join) x.stands.state
             by_state Running s scope =
                 let j = lively.joins_forked (V action.Join x).path (V action.Join x).task.task (answers (mine R (V action.Join x).path)) (i, asks) in
-                forked action.Join x i (length j.0.tasks) Join asks j.0 (omega arith)
-                (fork_since QR R T.faithful (V action.Join x).path (V action.Join x).task.task j.0 (length j.0.tasks) (V action.Join x).task.begun j.1) s
+                absurd (forked action.Join x i (length j.0.tasks) Join asks j.0 (omega arith)
+                (fork_since QR R T.faithful (V action.Join x).path (V action.Join x).task.task j.0 (length j.0.tasks) (V action.Join x).task.begun j.1) s)
             by_state (Forked scope) s tied = by_count (nat_lt (length scope.ends) scope.count) refl
               where
                 F : ForkTied P arg rule C w R (V action.Join x).path (V action.Join x).runs.state scope
                 F = subst (λ s. ScopeTied P arg rule C w R (V action.Join x).path (V action.Join x).runs.state s) s tied
 
-                by_count : (b : Bool) → nat_lt (length scope.ends) scope.count ≡ b → ⊥
-                by_count true c =
+                by_count : (b : Bool) → nat_lt (length scope.ends) scope.count ≡ b → CanBeMade C m.world (event_of k turns wants action.Join) x.stands.state
+                by_count true c = absurd (
                     let both : Join ≡ Begin (length scope.ends) =
                     sym (asks_one P arg rule C R (V action.Join x).path (V action.Join x).task.task i
-                    (asks_begin P arg rule C T.faithful F (V action.Join x).task.task (V action.Join x).task.begun (ltb-true (length scope.ends) scope.count c)) asks) in cc
-                by_count false c = unmade (record {
+                    (asks_begin P arg rule C T.faithful F (V action.Join x).task.task (V action.Join x).task.begun (ltb-true (length scope.ends) scope.count c)) asks) in cc)
+                by_count false c = record {
                   fits = subst (λ o. OfTask o (λ task. OfScope task.state (λ scope. IsTrue (all_begun scope) × IsTrue (all_ended scope)))) (sym (y action.Join x).1)
                       (subst (λ s. OfScope s (λ scope. IsTrue (all_begun scope) × IsTrue (all_ended scope))) (sym s)
                       (ap not c, ap (λ b. b || all_ended scope) (sym c) ∙ subst (λ s. IsTrue (state_ready s)) s free));
                   starts = tt;
-                })
+                }
+
+    stuck_join : (x : At action.Join) → Stuck_at action.Join x
+    stuck_join x unmade = unmade (join_can x)
 
     -- a begin
     module _ (b : ℕ) (x : At (action.Begin b)) where
@@ -341,23 +344,32 @@ module _ (code : Code) (P : PlainProgram) (arg : ℤ) (rule : Rule) (L : Limits)
       opened : Opens
       opened = by_state (y (action.Begin b) x).0.state refl U.scope
 
-      stuck_begin : Stuck_at (action.Begin b) x
-      stuck_begin unmade = unmade (record { fits = (opened.opens, room, outside); starts = opened.starts })
+      begin_can : CanBeMade C m.world (event_of k turns wants (action.Begin b)) x.stands.state
+      begin_can = record { fits = (opened.opens, room, outside); starts = opened.starts }
 
-    pub stuck_any : (a : DeclaredAction) (x : At a) → Stuck_at a x
-    stuck_any action.Rest x unmade = stuck_rest x unmade
-    stuck_any (action.Read n j) x unmade = stuck_read n j x unmade
-    stuck_any (action.Write n j v) x unmade = stuck_write n j v x unmade
-    stuck_any (action.Look n) x unmade = stuck_look n x unmade
-    stuck_any (action.NewObject d rs constructor) x unmade = unmade (record { fits = tt; starts = tt })
-    stuck_any (action.NewArray region len first) x unmade = unmade (record { fits = tt; starts = tt })
-    stuck_any (action.Print bytes) x unmade = unmade (record { fits = tt; starts = tt })
-    stuck_any (action.Enter effects) x unmade = stuck_enter effects x unmade
-    stuck_any action.Exit x unmade = λ open_so. unmade (record { fits = open_so; starts = tt })
-    stuck_any (action.Fork forking many) x unmade = stuck_fork forking many x unmade
-    stuck_any (action.Begin b) x unmade = stuck_begin b x unmade
-    stuck_any action.Join x unmade = stuck_join x unmade
-    stuck_any (action.End z) x unmade = stuck_end z x unmade
+      stuck_begin : Stuck_at (action.Begin b) x
+      stuck_begin unmade = unmade begin_can
+
+    -- a begin or a join can be made
+    pub scoped_can : (a : DeclaredAction) (x : At a) → IsScoped a → CanBeMade C m.world (event_of k turns wants a) x.stands.state
+    scoped_can (action.Begin b) x scoped = begin_can b x
+    scoped_can action.Join x scoped = join_can x
+    scoped_can a x scoped = absurd scoped
+
+    pub stuck_any : ((n : ℕ) → length (values_of (object_at m.world.heap n)) < 2 ^ 31) → (a : DeclaredAction) (x : At a) → Stuck_at a x
+    stuck_any small action.Rest x unmade = stuck_rest x unmade
+    stuck_any small (action.Read n j) x unmade = stuck_read n j x unmade
+    stuck_any small (action.Write n j v) x unmade = stuck_write n j v x unmade
+    stuck_any small (action.Look n) x unmade = stuck_look small n x unmade
+    stuck_any small (action.NewObject d rs constructor) x unmade = unmade (record { fits = tt; starts = tt })
+    stuck_any small (action.NewArray region len first) x unmade = unmade (record { fits = tt; starts = tt })
+    stuck_any small (action.Print bytes) x unmade = unmade (record { fits = tt; starts = tt })
+    stuck_any small (action.Enter effects) x unmade = stuck_enter effects x unmade
+    stuck_any small action.Exit x unmade = λ open_so. unmade (record { fits = open_so; starts = tt })
+    stuck_any small (action.Fork forking many) x unmade = stuck_fork forking many x unmade
+    stuck_any small (action.Begin b) x unmade = stuck_begin b x unmade
+    stuck_any small action.Join x unmade = stuck_join x unmade
+    stuck_any small (action.End z) x unmade = stuck_end z x unmade
 
     -- an event that comes next in the run where the task stands, and is no entry
     module _ (a : DeclaredAction) (x : At a) where

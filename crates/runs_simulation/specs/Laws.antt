@@ -1,5 +1,5 @@
 -- That the schedule of a machine on compiled code records a run of the source, and that the machine goes on until it has come out.
-use Rattle.std.specs.Prelude.{ℕ, ℤ, pos, ◌≡◌, ◌≤◌, ◌+◌, ◌*◌, ◌^◌, length, List, [], Option, Some, None}
+use Rattle.std.specs.Prelude.{ℕ, ℤ, pos, ◌≡◌, ◌≤◌, ◌+◌, ◌*◌, ◌^◌, length, List, [], map, Option, Some, None}
 use Rattle.lang_base.specs.declared.outcome.Ending.{Ending as Came}
 use Rattle.lang_base.specs.declared.outcome.Ending.TheVariants as came
 use Rattle.lang_base.specs.declared.outcome.Outcome.{Outcome as DeclaredOutcome}
@@ -12,7 +12,7 @@ use Rattle.code_scheme.specs.Whole.{compiled}
 use Rattle.runs_theory.specs.Actions.{Ending, Program, Returned, Assigned, Trapped}
 use Rattle.runs_theory.specs.Order.{Came as came_out, Limited, Outcome}
 use Rattle.runs_theory.specs.Runs.{Event, Run}
-use Rattle.runs_theory.specs.Schedules.{Finished, Limits, Ran, Ready}
+use Rattle.runs_theory.specs.Schedules.{Finished, Limits, Ran, Ready, Within}
 use Rattle.runs_program.specs.Steps.{stepped}
 use Rattle.std.specs.FinMap.{get}
 use Rattle.exec_task.specs.declared.action.Action.{Action}
@@ -20,8 +20,10 @@ use Rattle.exec_task.specs.declared.action.Action.TheVariants as action
 use Rattle.exec_locks.specs.Locks.{HasEntry}
 use Rattle.exec_world.specs.Ready.{IsReady}
 use Rattle.exec_world.specs.declared.world.World.{World}
+use Rattle.exec_machine.specs.Events.{MadeEvent, Makes}
 use Rattle.exec_machine.specs.Replay.{IsStuck, LeadsTo, Moment}
 use Rattle.lang_meaning.specs.Reported.{reported}
+use Rattle.runs_simulation.specs.Alike.{EventsAlike, Sight, SightOf}
 
 -- a schedule records a run; or it has finished, and comes out so
 abbrev pub Records : Program → Limits → List ℕ → Option DeclaredOutcome → Type 0
@@ -38,6 +40,14 @@ MachinesRecord =
     (code : Code) (P : PlainProgram) (L : Limits) (argument : ℤ) → plain_code code ≡ compiled P → Resolved P → HasMain P → L.steps ≤ 20000000
     → AllRecord (stepped P argument) code L argument
 
+-- and the events that it makes are those of this run, event for event: of the same task, after as many turns, with like actions and
+-- like answers. Of a schedule that has made none, as far as there was room for the object that stands at the start
+abbrev pub EventForEvent : Type 0
+EventForEvent =
+    (code : Code) (P : PlainProgram) (L : Limits) (argument : ℤ) → plain_code code ≡ compiled P → Resolved P → HasMain P → L.steps ≤ 20000000
+    → (ks : List ℕ) (xs : List MadeEvent) (m : Moment) → Makes code L argument ks xs m → (xs ≡ [] → Within (stepped P argument) L [])
+    → (R : Run) × (w : Sight) × Ran (stepped P argument) L (map (λ x. x.event.task) xs) R × SightOf w R × EventsAlike w xs R
+
 -- until a run has come out some task of its machine is ready
 abbrev pub SomeTaskIsReady : Type 0
 SomeTaskIsReady =
@@ -50,6 +60,13 @@ ReadyTasksAreReady =
     (code : Code) (P : PlainProgram) (L : Limits) (argument : ℤ) → plain_code code ≡ compiled P → Resolved P → HasMain P → L.steps ≤ 20000000
     → (ks : List ℕ) (m : Moment) → LeadsTo code L argument ks m → m.outcome ≡ None → (R : Run) → Ran (stepped P argument) L ks R
     → (k : ℕ) (e : Event) → Ready (stepped P argument) R k e → IsReady m.world k
+
+-- and no others are: each task that is ready in the machine is ready in the run
+abbrev pub NoOthersAreReady : Type 0
+NoOthersAreReady =
+    (code : Code) (P : PlainProgram) (L : Limits) (argument : ℤ) → plain_code code ≡ compiled P → Resolved P → HasMain P → L.steps ≤ 20000000
+    → (ks : List ℕ) (m : Moment) → LeadsTo code L argument ks m → m.outcome ≡ None → (R : Run) → Ran (stepped P argument) L ks R
+    → (k : ℕ) → IsReady m.world k → (e : Event) × Ready (stepped P argument) R k e
 
 -- and a schedule has at most twice as many numbers as there are steps, and two more
 abbrev pub SchedulesAreShort : Type 0

@@ -12,10 +12,7 @@ use Rattle.code_instrs.specs.declared.code.Site.{Site as DeclaredSite}
 use Rattle.code_instrs.specs.declared.code.Site.TheVariants as site
 use Rattle.code_instrs.specs.declared.code.Title.{Title as DeclaredTitle}
 use Rattle.code_instrs.specs.declared.code.Title.TheVariants as title
-
-pub map_back : {A B : Type 0} (f : A → B) (g : B → A) → ((b : B) → f (g b) ≡ b) → (bs : List B) → map f (map g bs) ≡ bs
-map_back f g back [] = refl
-map_back f g back (b ∷ bs) = λ i. back b i ∷ map_back f g back bs i
+use Rattle.runs_simulation.proofs.Sayings.{map_back}
 
 lines_back : (ls : List Line) → lines_of (map (λ (l : Line). l.instr) ls) (map (λ (l : Line). l.place) ls) ≡ ls
 lines_back [] = refl

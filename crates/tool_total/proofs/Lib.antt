@@ -2,7 +2,6 @@ pub mod Lists
 pub mod Numbers
 pub mod Replays
 pub mod Codes
-pub mod Sayings
 pub mod Events
 pub mod Finishing
 pub mod Readiness

@@ -1,4 +1,4 @@
-use Rattle.runs_simulation.proofs.Lively.{all_ready, few_reasons, short, some_ready}
+use Rattle.runs_simulation.proofs.Lively.{all_ready, few_reasons, no_others, short, some_ready}
 use Rattle.runs_simulation.proofs.laws.law_lively.Goals as goal
 
 pub returns-clause-ready : goal.returns-clause-ready
@@ -6,6 +6,9 @@ returns-clause-ready c = some_ready c.law_steps.ensures.keeps c.law_names.ensure
 
 pub returns-clause-all_ready : goal.returns-clause-all_ready
 returns-clause-all_ready c = all_ready c.law_steps.ensures.keeps c.law_names.ensures.known c.law_code_progress.ensures.goes
+
+pub returns-clause-no_others : goal.returns-clause-no_others
+returns-clause-no_others c = no_others c.law_steps.ensures.keeps c.law_names.ensures.known c.law_code_progress.ensures.goes
 
 pub returns-clause-short : goal.returns-clause-short
 returns-clause-short c = short c.law_steps.ensures.keeps c.law_names.ensures.known c.law_code_progress.ensures.goes

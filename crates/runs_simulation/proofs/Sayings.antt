@@ -27,7 +27,10 @@ use Rattle.exec_task.specs.declared.action.Action.TheVariants as action
 use Rattle.exec_task.specs.declared.action.Ending.{Ending as DeclaredEnding}
 use Rattle.exec_task.specs.declared.action.Ending.TheVariants as ending
 use Rattle.exec_machine.specs.Wants.{noted, noted_part}
-use Rattle.tool_total.proofs.Codes.{map_back}
+
+pub map_back : {A B : Type 0} (f : A → B) (g : B → A) → ((b : B) → f (g b) ≡ b) → (bs : List B) → map f (map g bs) ≡ bs
+map_back f g back [] = refl
+map_back f g back (b ∷ bs) = λ i. back b i ∷ map_back f g back bs i
 
 -- the data of a run, as a machine has it
 part_back : (p : Part (ℕ × ℕ)) → plain_part (noted_part p) ≡ p
