@@ -1,5 +1,5 @@
 -- Alike bodies that pass run alike.
-use Rattle.std.proofs.Common.{◌≡◌, ℕ, zero, suc, ◌+◌, ◌-◌, ◌==◌, ℤ, pos, Bool, true, false, cond, List, [], ◌∷◌, Option, Some, None, refl, sym, ap, ◌∙◌}
+use Rattle.std.proofs.Common.{◌≡◌, ℕ, zero, suc, ◌+◌, ◌-◌, ◌==◌, ℤ, Bool, true, false, cond, List, [], ◌∷◌, Option, Some, None, refl, sym, ap, ◌∙◌}
 use Rattle.std.specs.Prelude.{slice_set, option_map}
 use Rattle.lang_base.specs.declared.place.Place.{Place}
 use Rattle.lang_base.specs.declared.region.Rpl.{Rpl}
@@ -9,10 +9,10 @@ use Rattle.lang_typed.specs.Plain.{PlainProgram, of_array, of_part, TypedExpr, T
 use Rattle.lang_typed.specs.Plain.{StmtForm as stmt}
 use Rattle.lang_typed.specs.Scope.{Scope, Local, constant, part, reserved, with_local, read_alone, in_loop_branch, member_at}
 use Rattle.lang_typed.specs.Effects.{Own}
-use Rattle.lang_typed.specs.Statements.{Passes, AllPass, BranchesPass, cuts_array, cuts_part, with_part}
+use Rattle.lang_typed.specs.Statements.{Passes, AllPass, BranchesPass, with_part}
 use Rattle.lang_typed.specs.Statements.{Passes as passes}
 use Rattle.lang_typed.specs.Statements.{AllPass as all}
-use Rattle.lang_meaning.specs.Actions.{Frame, Ending}
+use Rattle.lang_meaning.specs.Actions.{Ending}
 use Rattle.lang_meaning.specs.Asking.{meaning}
 use Rattle.lang_meaning.specs.Core.{Result, Goes_on, Returns, Out, Done, Stopped, Lost, bind, each_from, run}
 use Rattle.lang_meaning.specs.Core.{Out as out}
@@ -20,17 +20,14 @@ use Rattle.lang_meaning.specs.Counts.{number, truth, reference, slot_value, brou
 use Rattle.lang_meaning.specs.Elision.{LocalRegion, Store, Steps, in_order, at_end, one_by_one, one_step, sequential}
 use Rattle.lang_meaning.specs.Expressions.{Deeper}
 use Rattle.lang_meaning.specs.Outcomes.{joined as join}
-use Rattle.lang_meaning.specs.Statements.{joined, all_copies, branch_at, branch_of, tasks_of, iterations, numbered_frame, begun, forks, part_begun, part_taken_over}
+use Rattle.lang_meaning.specs.Statements.{joined, all_copies, branch_of, tasks_of, iterations, numbered_frame, begun, forks, part_begun, part_taken_over}
 use Rattle.lang_meaning.specs.Statements.{of_stmt, of_stmts}
 use Rattle.syntax_means.proofs.Alike.{StmtAlike, same, blocks, choices, choices_else, whiles, atomics, cobegins, foreaches, foreaches_parts, StmtsAlike, none_alike}
 use Rattle.syntax_means.proofs.Alike.{more_alike, BranchesAlike}
-use Rattle.syntax_means.proofs.elided.Branches.{branch_runs, runs_of_branches, EndsAlike, OutsAlike, both_done, both_trapped, both_stopped, both_lost, branches_run, same_join}
+use Rattle.syntax_means.proofs.elided.Branches.{runs_of_branches, EndsAlike, OutsAlike, both_done, both_trapped, both_stopped, both_lost, branches_run, same_join}
 use Rattle.syntax_means.proofs.elided.Forms.{sharing, used, SameUse, BodiesAlike, DeeperAlike, Deepers, deepest, deeper, MembersAlike, same_expr, same_stmt, same_stmts}
-use Rattle.syntax_means.proofs.elided.Runs.{Same, same_again, same_then, same_act, same_entry, same_loop, same_or, same_by}
+use Rattle.syntax_means.proofs.elided.Runs.{Slots, Same, same_again, same_then, same_act, same_entry, same_loop, same_or, same_by}
 use Rattle.syntax_means.proofs.elided.Untouched.{keeps_meaning}
-
-abbrev Slots : Type 0
-Slots = Frame ℕ LocalRegion
 
 -- what follows branches, that have run so
 abbrev after_join : TypedBranches → Slots → Out ℕ LocalRegion (List (Ending ℕ)) Store → Out ℕ LocalRegion (Result ℕ LocalRegion) Store

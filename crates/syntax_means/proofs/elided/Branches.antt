@@ -1,18 +1,15 @@
 -- Branches that run alike join alike, whatever each copies back beside what it assigns.
-use Rattle.std.proofs.Common.{◌≡◌, ℕ, suc, ◌==◌, ◌<◌, ◌⊎◌, inl, inr, Bool, true, false, cond, List, [], ◌∷◌, ◌++◌, length, Option, Some, None, refl, sym, ap, ◌∙◌, subst}
+use Rattle.std.proofs.Common.{◌≡◌, ℕ, suc, ◌<◌, ◌⊎◌, inl, inr, Bool, true, false, cond, List, [], ◌∷◌, ◌++◌, length, Option, Some, None, refl, sym, ap, ◌∙◌, subst}
 use Rattle.std.proofs.Common.{ext_get_or}
-use Rattle.std.specs.Prelude.{All, option_map}
-use Rattle.std.specs.List.{list_any}
 use Rattle.lang_base.specs.declared.place.Place.{Place}
 use Rattle.lang_base.specs.declared.value.Trap.{Trap}
-use Rattle.lang_typed.specs.Plain.{PlainProgram, TypedStmt, TypedStmts, no_stmts, more_stmts, TypedBranches, no_branches, more_branches}
+use Rattle.lang_typed.specs.Plain.{PlainProgram, TypedStmt, no_stmts, more_stmts, TypedBranches, no_branches, more_branches}
 use Rattle.lang_typed.specs.Scope.{Scope, Local, variable, frozen, constant, part, reserved, read_alone, seen_in_branch, in_branch}
 use Rattle.lang_typed.specs.Effects.{Own}
-use Rattle.lang_typed.specs.Statements.{AllPass, BranchesPass, no_branch, one_branch, IsVariable}
+use Rattle.lang_typed.specs.Statements.{BranchesPass, one_branch, IsVariable}
 use Rattle.lang_typed.specs.Statements.{all_copies as typed_copies}
 use Rattle.lang_meaning.specs.Values.{Value, Null}
-use Rattle.lang_meaning.specs.Actions.{Frame, Task, Work, Ending, Returned, Assigned, Trapped}
-use Rattle.lang_meaning.specs.Asking.{ended}
+use Rattle.lang_meaning.specs.Actions.{Ending, Returned, Assigned, Trapped}
 use Rattle.lang_meaning.specs.Core.{Result, Goes_on, Returns, Out, Done, Stopped, Lost, bind, each_from, run}
 use Rattle.lang_meaning.specs.Core.{Out as out}
 use Rattle.lang_meaning.specs.Counts.{slot_value, assigned, copied, brought}
@@ -21,21 +18,19 @@ use Rattle.lang_meaning.specs.Expressions.{Deeper, gives, none}
 use Rattle.lang_meaning.specs.Outcomes.{first_trap, trap_of, locals_of, all_locals, joined_or}
 use Rattle.lang_meaning.specs.Outcomes.{joined as join}
 use Rattle.lang_meaning.specs.Statements.{with_values, joined, all_copies, branch_at, branch_of, tasks_of}
-use Rattle.syntax_means.proofs.Alike.{StmtAlike, StmtsAlike, none_alike, more_alike, BranchesAlike, no_branch_alike, branch_alike}
+use Rattle.syntax_means.proofs.Alike.{none_alike, more_alike, BranchesAlike, no_branch_alike, branch_alike}
 use Rattle.syntax_means.proofs.elided.Copies.{among, not_in_append, of_all_among, last_value, last_assigned, copied_length, copied_out, copied_in}
 use Rattle.syntax_means.proofs.elided.Forms.{used, SameUse, BodiesAlike, DeeperAlike}
-use Rattle.syntax_means.proofs.elided.Frames.{settled, Still, Kept, AtDone, Keeps}
+use Rattle.syntax_means.proofs.elided.Frames.{settled, Kept, AtDone}
 use Rattle.syntax_means.proofs.elided.Untouched.{copies_are_variable}
-
-abbrev Slots : Type 0
-Slots = Frame ℕ LocalRegion
+use Rattle.syntax_means.proofs.elided.Runs.{Slots}
 
 copies_same : (bs : TypedBranches) → typed_copies bs ≡ all_copies bs
 copies_same no_branches = refl
 copies_same (more_branches copies s bs) = ap (λ xs. copies ++ xs) (copies_same bs)
 
 -- what the branches of a construct do
-abbrev pub branch_runs : Deeper ℕ LocalRegion → TypedBranches → Frame ℕ LocalRegion → List (Steps (Result ℕ LocalRegion))
+abbrev pub branch_runs : Deeper ℕ LocalRegion → TypedBranches → Slots → List (Steps (Result ℕ LocalRegion))
 branch_runs dp no_branches f = []
 branch_runs dp (more_branches copies s bs) f = (λ w. run sequential (dp (more_stmts s no_stmts) f) w) ∷ branch_runs dp bs f
 
@@ -51,13 +46,13 @@ runs_of_branches dp (more_branches copies s bs) f g =
     (each_later (λ i w. run sequential (dp (branch_at (more_branches copies s bs) i) g) w) 0 (tasks_of bs f) ∙ runs_of_branches dp bs f g)
 
 -- a local in use that one of the two doesn't copy back holds what it did
-pub record Unmoved (L : Scope) (copies others : List ℕ) (f g : Frame ℕ LocalRegion) : Type 0 where
+pub record Unmoved (L : Scope) (copies others : List ℕ) (f g : Slots) : Type 0 where
   pub holds : (x : ℕ) → used (L.local x) ≡ true → (among x copies ≡ false) ⊎ (among x others ≡ false) → slot_value g.values x ≡ slot_value f.values x
 
 -- ends of branches that are the same but for what they copy back
-pub data EndsAlike (L : Scope) (f : Frame ℕ LocalRegion) : TypedBranches → TypedBranches → List (Ending ℕ) → List (Ending ℕ) → Type 0 where
+pub data EndsAlike (L : Scope) (f : Slots) : TypedBranches → TypedBranches → List (Ending ℕ) → List (Ending ℕ) → Type 0 where
   no_ends : EndsAlike L f no_branches no_branches [] []
-  assign : {copies others : List ℕ} {s t : TypedStmt} {bs cs : TypedBranches} {xs ys : List (Ending ℕ)} (g : Frame ℕ LocalRegion) →
+  assign : {copies others : List ℕ} {s t : TypedStmt} {bs cs : TypedBranches} {xs ys : List (Ending ℕ)} (g : Slots) →
       Unmoved L copies others f g → EndsAlike L f bs cs xs ys →
       EndsAlike L f (more_branches copies s bs) (more_branches others t cs) (Assigned (assigned copies g.values) ∷ xs) (Assigned (assigned others g.values) ∷ ys)
   end : {copies others : List ℕ} {s t : TypedStmt} {bs cs : TypedBranches} {xs ys : List (Ending ℕ)} (x : Ending ℕ) → locals_of x ≡ [] →
@@ -167,14 +162,14 @@ module _ {P Q : PlainProgram} {L M : Scope} (uses : SameUse L M) {before other :
       at (Some fell) = refl
 
 -- outcomes of branches that are alike
-pub data OutsAlike (L : Scope) (f : Frame ℕ LocalRegion) (bs cs : TypedBranches) : Out ℕ LocalRegion (List (Ending ℕ)) Store
+pub data OutsAlike (L : Scope) (f : Slots) (bs cs : TypedBranches) : Out ℕ LocalRegion (List (Ending ℕ)) Store
     → Out ℕ LocalRegion (List (Ending ℕ)) Store → Type 0 where
   both_done : {xs ys : List (Ending ℕ)} {w : Store} → EndsAlike L f bs cs xs ys → OutsAlike L f bs cs (Done xs w) (Done ys w)
   both_trapped : {t : Trap} {at : Place} {w : Store} → OutsAlike L f bs cs (out.Trapped t at w) (out.Trapped t at w)
   both_stopped : {n : ℕ} {a : _} → OutsAlike L f bs cs (Stopped n a) (Stopped n a)
   both_lost : {w : Store} → OutsAlike L f bs cs (Lost w) (Lost w)
 
-abbrev UnmovedAt : Scope → List ℕ → List ℕ → Frame ℕ LocalRegion → Result ℕ LocalRegion → Type 0
+abbrev UnmovedAt : Scope → List ℕ → List ℕ → Slots → Result ℕ LocalRegion → Type 0
 UnmovedAt L copies others f (Goes_on v g) = Unmoved L copies others f g
 UnmovedAt L copies others f (Returns v) = Unit {0}
 

@@ -1,5 +1,5 @@
 -- What a slot holds after locals are copied back.
-use Rattle.std.proofs.Common.{◌≡◌, ℕ, suc, rules, ◌==◌, ◌<◌, Bool, true, false, cond, ◌||◌, List, [], ◌∷◌, ◌++◌, length, get_or, set, refl, sym, ap, ◌∙◌, subst}
+use Rattle.std.proofs.Common.{◌≡◌, ℕ, suc, rules, ◌==◌, ◌<◌, Bool, true, false, cond, ◌||◌, List, [], ◌∷◌, ◌++◌, length, refl, sym, ap, ◌∙◌, subst}
 use Rattle.std.proofs.Common.{length-set, get_or-set_other, get_or-set_same}
 use Rattle.std.proofs.lemmas.Bool.{eqb-true, eqb-false}
 use Rattle.std.specs.Prelude.{All, slice_set}
@@ -13,10 +13,6 @@ among y xs = list_any (λ x. y == x) xs
 pub neither : (a b : Bool) → (a || b) ≡ false → (a ≡ false) × (b ≡ false)
 neither true b e = absurd (cc)
 neither false b e = (refl, e)
-
-pub decided : (b : Bool) {A : Type 0} → (b ≡ true → A) → (b ≡ false → A) → A
-decided true h k = h refl
-decided false h k = k refl
 
 pub not_in_append : (y : ℕ) (xs ys : List ℕ) → among y (xs ++ ys) ≡ false → (among y xs ≡ false) × (among y ys ≡ false)
 not_in_append y [] ys e = (refl, e)

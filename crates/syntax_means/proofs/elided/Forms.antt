@@ -1,5 +1,5 @@
 -- The same expressions and statements run alike in two programs whose members do.
-use Rattle.std.proofs.Common.{◌≡◌, ℕ, zero, suc, ◌+◌, ◌-◌, ℤ, pos, negsuc, Bool, true, false, cond, List, [], ◌∷◌, ◌++◌, map, length, reverse, Option, Some, None}
+use Rattle.std.proofs.Common.{◌≡◌, ℕ, ◌+◌, ◌-◌, ℤ, Bool, true, false, List, [], ◌∷◌, ◌++◌, map, length, reverse, Option, Some, None}
 use Rattle.std.proofs.Common.{refl, ap, ◌∙◌}
 use Rattle.std.specs.Prelude.{slice_set}
 use Rattle.lang_base.specs.declared.place.Place.{Place}
@@ -13,16 +13,16 @@ use Rattle.lang_typed.specs.Scope.{Scope, Local, row_at, member_at, constructor_
 use Rattle.lang_typed.specs.Effects.{Own}
 use Rattle.lang_typed.specs.Statements.{AllPass}
 use Rattle.lang_meaning.specs.Values.{Value, Region, Object}
-use Rattle.lang_meaning.specs.Actions.{Frame, New}
-use Rattle.lang_meaning.specs.Counts.{number, truth, reference, name_made, class_seen, class_entered, slot_value, length_seen}
-use Rattle.lang_meaning.specs.Core.{Result, Goes_on, Returns, Prog, Traps, Act, on}
+use Rattle.lang_meaning.specs.Actions.{New}
+use Rattle.lang_meaning.specs.Counts.{number, truth, reference, name_made, class_seen, class_entered, slot_value}
+use Rattle.lang_meaning.specs.Core.{Result, Traps, Act, on}
 use Rattle.lang_meaning.specs.Elision.{LocalRegion, in_order}
 use Rattle.lang_meaning.specs.Regions.{around, concrete, some_long, regions_above}
-use Rattle.lang_meaning.specs.Expressions.{Deeper, gives, unless_null, entered, back, enter, called, created, new_object, class_in, of_expr, of_exprs}
-use Rattle.lang_meaning.specs.Statements.{with_value, forks, part_begun, part_taken_over, parts_of_array, of_stmt, of_stmts}
+use Rattle.lang_meaning.specs.Expressions.{Deeper, gives, entered, enter, called, created, new_object, class_in, of_expr, of_exprs}
+use Rattle.lang_meaning.specs.Statements.{forks, part_begun, part_taken_over, of_stmt, of_stmts}
 use Rattle.syntax_means.proofs.Alike.{StmtsAlike}
 use Rattle.syntax_means.proofs.elided.Frames.{Keeps}
-use Rattle.syntax_means.proofs.elided.Runs.{Tree, Same, same_again, same_after, same_path, same_on, same_then, same_act, same_entry, same_loop, same_split, same_or}
+use Rattle.syntax_means.proofs.elided.Runs.{Slots, Tree, Same, same_again, same_after, same_path, same_on, same_then, same_act, same_loop, same_split, same_or}
 use Rattle.syntax_means.proofs.elided.Runs.{same_if, same_by}
 
 -- the first program with the classes and the start of the second
@@ -51,10 +51,10 @@ pub record BodiesAlike (P Q : PlainProgram) (ss ts : TypedStmts) : Type 0 where
 
 -- what bodies do one call deeper: it is alike, and leaves alone what it should
 pub record DeeperAlike (P Q : PlainProgram) (dp dq : Deeper ℕ LocalRegion) : Type 0 where
-  pub same : (ss : TypedStmts) (f : Frame ℕ LocalRegion) → Same (dp ss f) (dq ss f)
-  pub alike : (ss ts : TypedStmts) → BodiesAlike P Q ss ts → (f : Frame ℕ LocalRegion) → Same (dp ss f) (dq ts f)
-  pub left : (L : Scope) (ss : TypedStmts) (E : List Own) → AllPass P L ss E → (f : Frame ℕ LocalRegion) → Keeps L f (dp ss f)
-  pub right : (L : Scope) (ss : TypedStmts) (E : List Own) → AllPass Q L ss E → (f : Frame ℕ LocalRegion) → Keeps L f (dq ss f)
+  pub same : (ss : TypedStmts) (f : Slots) → Same (dp ss f) (dq ss f)
+  pub alike : (ss ts : TypedStmts) → BodiesAlike P Q ss ts → (f : Slots) → Same (dp ss f) (dq ts f)
+  pub left : (L : Scope) (ss : TypedStmts) (E : List Own) → AllPass P L ss E → (f : Slots) → Keeps L f (dp ss f)
+  pub right : (L : Scope) (ss : TypedStmts) (E : List Own) → AllPass Q L ss E → (f : Slots) → Keeps L f (dq ss f)
 
 pub data Deepers (P Q : PlainProgram) : Option (Deeper ℕ LocalRegion) → Option (Deeper ℕ LocalRegion) → Type 0 where
   deepest : Deepers P Q None None
@@ -69,9 +69,6 @@ pub record EnteredAlike (P Q : PlainProgram) (m k : PlainMember) : Type 0 where
 pub data MembersAlike (P Q : PlainProgram) : Option PlainMember → Option PlainMember → Type 0 where
   no_member : MembersAlike P Q None None
   a_member : {m k : PlainMember} → EnteredAlike P Q m k → MembersAlike P Q (Some m) (Some k)
-
-abbrev Slots : Type 0
-Slots = Frame ℕ LocalRegion
 
 same_member : {P Q : PlainProgram} {m k : Option PlainMember} {p q : Tree} {i j : PlainMember → Tree} → MembersAlike P Q m k → Same p q
     → ((x y : PlainMember) → EnteredAlike P Q x y → Same (i x) (j y))

@@ -1,40 +1,32 @@
 -- What passes leaves each local alone that isn't a variable in its scope.
-use Rattle.std.proofs.Common.{◌≡◌, ℕ, zero, suc, ◌+◌, ◌-◌, ◌==◌, ℤ, pos, negsuc, Bool, true, false, cond, List, [], ◌∷◌, ◌++◌, map, length, reverse, Option, Some, None}
-use Rattle.std.proofs.Common.{refl, sym, ap, ◌∙◌, subst, lit<, arith, get_or-set_other, inl, inr, eqb}
-use Rattle.std.proofs.lemmas.Bool.{eqb-true, eqb-false}
-use Rattle.std.specs.Prelude.{All, slice_set, option_map}
-use Rattle.std.specs.List.{list_any}
+use Rattle.std.proofs.Common.{◌≡◌, ℕ, zero, suc, ◌+◌, ◌-◌, ℤ, pos, negsuc, Bool, true, false, cond, List, [], ◌∷◌, ◌++◌, map, length, reverse, Option, Some, None}
+use Rattle.std.proofs.Common.{refl, sym, ap, ◌∙◌, subst, get_or-set_other}
+use Rattle.std.specs.Prelude.{slice_set}
 use Rattle.lang_base.specs.declared.place.Place.{Place}
 use Rattle.lang_base.specs.declared.value.Trap.{Trap}
 use Rattle.lang_base.specs.declared.value.Trap.TheVariants as trap
 use Rattle.lang_base.specs.Types.{PlainType}
 use Rattle.lang_base.specs.Types.{PlainType as ty}
 use Rattle.lang_typed.specs.declared.stmt.Forking.{Forking}
-use Rattle.lang_typed.specs.Plain.{PlainProgram, of_array, of_part, TypedExpr, typed, TypedExprs, no_exprs, more_exprs, TypedStmt, statement, TypedStmts}
-use Rattle.lang_typed.specs.Plain.{no_stmts, more_stmts, TypedBranches, no_branches, more_branches}
+use Rattle.lang_typed.specs.Plain.{PlainProgram, TypedExpr, typed, TypedExprs, no_exprs, more_exprs, statement}
 use Rattle.lang_typed.specs.Plain.{ExprForm as form}
-use Rattle.lang_typed.specs.Plain.{StmtForm as stmt}
-use Rattle.lang_typed.specs.Scope.{Scope, Local, variable, frozen, constant, part, reserved, with_local, row_at, member_at, constructor_of, parent_of}
-use Rattle.lang_typed.specs.Effects.{Own}
-use Rattle.lang_typed.specs.Statements.{Passes, AllPass, BranchesPass, IsVariable, IsFree, declared_as}
+use Rattle.lang_typed.specs.Scope.{Scope, Local, variable, frozen, constant, part, reserved, row_at, member_at, constructor_of, parent_of}
 use Rattle.lang_typed.specs.Statements.{Passes as passes}
 use Rattle.lang_typed.specs.Statements.{AllPass as all}
-use Rattle.lang_meaning.specs.Values.{Value, Int, Region, Object}
-use Rattle.lang_meaning.specs.Actions.{Frame, Task, Own as Deed, Look, New, Rest, Enter, Exit, Print, Answer}
-use Rattle.lang_meaning.specs.Asking.{meaning}
-use Rattle.lang_meaning.specs.Core.{Result, Goes_on, Returns, Prog, Ret, Traps, Act, Makes, Again, Split, on, next_of, and_then, Out, Done, Stopped, Lost}
+use Rattle.lang_meaning.specs.Values.{Value, Region, Object}
+use Rattle.lang_meaning.specs.Actions.{Task, Own as Deed, New, Answer}
+use Rattle.lang_meaning.specs.Core.{Result, Goes_on, Returns, Ret, Traps, Act, Again, Split, on, next_of, and_then, Out, Done, Stopped, Lost}
 use Rattle.lang_meaning.specs.Core.{bind, loop, tested, rounded, each_from, run}
 use Rattle.lang_meaning.specs.Core.{Out as out}
-use Rattle.lang_meaning.specs.Counts.{number, truth, reference, value_read, is_out, length_seen, name_made, class_seen, class_entered, operated, slot_value}
-use Rattle.lang_meaning.specs.Counts.{part_place, Brought, Back, Trap_of_branch, copied, text_of}
+use Rattle.lang_meaning.specs.Counts.{number, truth, reference, value_read, is_out, name_made, class_seen, class_entered, operated, slot_value}
+use Rattle.lang_meaning.specs.Counts.{part_place, Brought, Back, Trap_of_branch}
 use Rattle.lang_meaning.specs.Elision.{LocalRegion, Store, in_order, one_turn, sequential}
 use Rattle.lang_meaning.specs.Regions.{around, concrete, some_long, is_long, regions_above}
 use Rattle.lang_meaning.specs.Expressions.{Deeper, gives, none, unless_null, read_cell, entered, back, enter, called, created, new_object, made_array}
 use Rattle.lang_meaning.specs.Expressions.{class_in, part_element, of_expr, of_exprs}
-use Rattle.lang_meaning.specs.Statements.{with_value, with_values, write_cell, prints, makes, joined, all_copies, forks, part_begun, part_taken_over, parts_of_array}
-use Rattle.lang_meaning.specs.Statements.{of_stmt, of_stmts}
-use Rattle.syntax_means.proofs.elided.Copies.{among, decided, of_all_among, copied_out}
-use Rattle.syntax_means.proofs.elided.Runs.{Tree, run_on}
+use Rattle.lang_meaning.specs.Statements.{with_value, write_cell, makes, joined}
+use Rattle.syntax_means.proofs.elided.Copies.{among, copied_out}
+use Rattle.syntax_means.proofs.elided.Runs.{Slots, Tree, run_on}
 
 -- a local that is in use and no variable
 abbrev pub settled : Option Local → Bool
@@ -45,11 +37,8 @@ settled (Some (constant t)) = true
 settled (Some (part t a)) = true
 settled (Some reserved) = true
 
-abbrev Slots : Type 0
-Slots = Frame ℕ LocalRegion
-
 -- the second frame holds in each settled local what the first does
-pub record Still (L : Scope) (f g : Frame ℕ LocalRegion) : Type 0 where
+pub record Still (L : Scope) (f g : Slots) : Type 0 where
   pub holds : (x : ℕ) → settled (L.local x) ≡ true → slot_value g.values x ≡ slot_value f.values x
 
 still : {L : Scope} {f : Slots} → Still L f f
@@ -64,7 +53,7 @@ still_set {L} {f} x v free = record {
   holds = λ y e. get_or-set_other f.values x y v _ (λ same. (let i : settled (L.local y) ≡ false = ap (λ z. settled (L.local z)) same ∙ free in cc));
 }
 
-abbrev pub Kept : Scope → Frame ℕ LocalRegion → Result ℕ LocalRegion → Type 0
+abbrev pub Kept : Scope → Slots → Result ℕ LocalRegion → Type 0
 Kept L f (Goes_on v g) = Still L f g
 Kept L f (Returns v) = Unit {0}
 
@@ -89,7 +78,7 @@ done_any R (Stopped n a) k e = tt
 done_any R (Lost w) k e = tt
 
 -- a tree that goes on, if at all, in such a frame
-pub record Keeps (L : Scope) (f : Frame ℕ LocalRegion) (p : Tree) : Type 0 where
+pub record Keeps (L : Scope) (f : Slots) (p : Tree) : Type 0 where
   pub from : (w : Store) → AtDone (Kept L f) (run sequential p w)
 
 kept_then : {L : Scope} {f g : Slots} → Still L f g → (r : Result ℕ LocalRegion) → Kept L g r → Kept L f r

@@ -2,12 +2,12 @@
 use Rattle.std.proofs.Common.{◌≡◌, ℕ, zero, suc, ℤ, true, List, [], ◌∷◌, length, Option, Some, None, refl, sym, ap, ◌∙◌, subst, arith}
 use Rattle.std.specs.Prelude.{slice_get, option_map}
 use Rattle.lang_base.specs.declared.outcome.Limits.{Limits}
-use Rattle.lang_typed.specs.Plain.{PlainProgram, PlainClass, PlainMember, TypedStmts, no_stmts}
+use Rattle.lang_typed.specs.Plain.{PlainProgram, PlainMember, TypedStmts, no_stmts}
 use Rattle.lang_typed.specs.Scope.{member_at, variable}
 use Rattle.lang_typed.specs.Table.{body_scope, GoodMember}
 use Rattle.lang_typed.specs.WellTyped.{WellTyped}
 use Rattle.lang_meaning.specs.Values.{Value, Int, Object}
-use Rattle.lang_meaning.specs.Actions.{Frame, Work, Ending}
+use Rattle.lang_meaning.specs.Actions.{Work}
 use Rattle.lang_meaning.specs.Asking.{meaning, does}
 use Rattle.lang_meaning.specs.Core.{Result, Goes_on, Returns, Out, Done, Stopped, Lost, run}
 use Rattle.lang_meaning.specs.Core.{Out as out}

@@ -1,6 +1,5 @@
 -- Trees that run alike in one heap, one task after the other.
 use Rattle.std.proofs.Common.{◌≡◌, ℕ, suc, refl, sym, ap, ◌∙◌, Bool, true, false, cond, Option, Some, None, List}
-use Rattle.lang_base.specs.declared.effect.Effect.{Effect as PathEffect}
 use Rattle.lang_typed.specs.declared.stmt.Forking.{Forking}
 use Rattle.lang_meaning.specs.Values.{Value}
 use Rattle.lang_meaning.specs.Actions.{Frame, Task, Effect, Own, Enter, Answer}
@@ -8,7 +7,7 @@ use Rattle.lang_meaning.specs.Core.{Result, Goes_on, Returns, Prog, Ret, Traps, 
 use Rattle.lang_meaning.specs.Core.{bind, World, loop, each_from, run}
 use Rattle.lang_meaning.specs.Core.{Out as out}
 use Rattle.lang_meaning.specs.Counts.{Brought}
-use Rattle.lang_meaning.specs.Elision.{LocalRegion, Store, Steps, one_turn, sequential}
+use Rattle.lang_meaning.specs.Elision.{LocalRegion, Store, one_turn, sequential}
 
 pub bind_assoc : {N M V U T W : Type 0} (o : Out N M V W) (j : V → W → Out N M U W) (k : U → W → Out N M T W) →
     bind (bind o j) k ≡ bind o (λ v w. bind (j v w) k)
@@ -38,6 +37,10 @@ run_on wd (Split forking ts bs j) k w =
     bind_through (wd.fork forking ts (each_from (λ i v. run wd (bs i) v) 0 ts) w) (λ x v. run wd (on (j x) k) v) (λ x v. run wd (j x) v)
     (λ f v. run wd (k f) v) (λ x v. run_on wd (j x) k v)
 
+-- the locals of a body where objects and local regions are numbered, and what it does
+abbrev pub Slots : Type 0
+Slots = Frame ℕ LocalRegion
+
 abbrev pub Tree : Type 0
 Tree = Prog ℕ LocalRegion
 
@@ -60,7 +63,7 @@ same_on {p} {q} {j} {k} h e = record {
       ∙ bind_same (run sequential q w) (λ r v. run sequential (j r) v) (λ r v. run sequential (k r) v) (λ r v. (e r).from v) ∙ sym (run_on sequential q k w);
 }
 
-pub same_then : {p q : Tree} {j k : Value ℕ → Frame ℕ LocalRegion → Tree} → Same p q → ((v : Value ℕ) (f : Frame ℕ LocalRegion) → Same (j v f) (k v f))
+pub same_then : {p q : Tree} {j k : Value ℕ → Slots → Tree} → Same p q → ((v : Value ℕ) (f : Slots) → Same (j v f) (k v f))
     → Same (and_then p j) (and_then q k)
 same_then {p} {q} {j} {k} h e = same_on h next
   where
@@ -76,8 +79,8 @@ pub same_entry : {E F : List (Effect LocalRegion)} {j k : Answer ℕ LocalRegion
     → Same (Act (Enter E) j) (Act (Enter F) k)
 same_entry {E} e = record { from = λ w. bind_same (sequential.act (Enter E) w) _ _ (λ x v. (e x).from v) }
 
-pub same_loop : {t u b c : Frame ℕ LocalRegion → Tree} {f : Frame ℕ LocalRegion} {k : Result ℕ LocalRegion → Tree} → ((g : Frame ℕ LocalRegion) → Same (t g) (u g))
-    → ((g : Frame ℕ LocalRegion) → Same (b g) (c g)) → Same (Again t b f k) (Again u c f k)
+pub same_loop : {t u b c : Slots → Tree} {f : Slots} {k : Result ℕ LocalRegion → Tree} → ((g : Slots) → Same (t g) (u g))
+    → ((g : Slots) → Same (b g) (c g)) → Same (Again t b f k) (Again u c f k)
 same_loop {f = f} {k = k} test body = record {
   from = λ w i. bind (loop (λ v. one_turn v.turns v) (λ g v. (test g).from v i) (λ g v. (body g).from v i) (suc w.turns) f w) (λ r v. run sequential (k r) v);
 }

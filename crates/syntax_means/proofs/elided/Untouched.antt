@@ -1,11 +1,11 @@
 -- What passes leaves each local alone that isn't a variable in its scope: its statements.
-use Rattle.std.proofs.Common.{◌≡◌, ℕ, zero, suc, ◌+◌, ◌==◌, ℤ, pos, Bool, true, false, cond, List, [], ◌∷◌, ◌++◌, Option, Some, None, refl, ap, ap₂, ◌∙◌, lit<, arith, ◌||◌}
+use Rattle.std.proofs.Common.{◌≡◌, ℕ, zero, suc, ◌+◌, ◌==◌, ℤ, pos, Bool, true, false, cond, List, [], ◌∷◌, Option, Some, None, refl, ap, ap₂, ◌∙◌, lit<, arith, ◌||◌}
 use Rattle.std.proofs.lemmas.Bool.{eqb-true}
 use Rattle.std.proofs.lemmas.List.Folds.{list_any-append}
 use Rattle.std.specs.Prelude.{All}
 use Rattle.lang_base.specs.declared.place.Place.{Place}
 use Rattle.lang_typed.specs.declared.stmt.Forking.{Forking}
-use Rattle.lang_typed.specs.Plain.{PlainProgram, TypedStmt, statement, TypedStmts, no_stmts, more_stmts, TypedBranches, no_branches, more_branches}
+use Rattle.lang_typed.specs.Plain.{PlainProgram, TypedStmt, statement, TypedStmts, TypedBranches}
 use Rattle.lang_typed.specs.Plain.{StmtForm as stmt}
 use Rattle.lang_typed.specs.Scope.{Scope, Local, with_local}
 use Rattle.lang_typed.specs.Effects.{Own}
@@ -13,19 +13,16 @@ use Rattle.lang_typed.specs.Statements.{Passes, AllPass, BranchesPass, no_branch
 use Rattle.lang_typed.specs.Statements.{Passes as passes}
 use Rattle.lang_typed.specs.Statements.{AllPass as all}
 use Rattle.lang_meaning.specs.Values.{Value, Int}
-use Rattle.lang_meaning.specs.Actions.{Frame}
 use Rattle.lang_meaning.specs.Asking.{meaning}
 use Rattle.lang_meaning.specs.Counts.{number, truth, slot_value}
 use Rattle.lang_meaning.specs.Elision.{LocalRegion, in_order}
 use Rattle.lang_meaning.specs.Expressions.{Deeper, of_expr}
 use Rattle.lang_meaning.specs.Statements.{with_value, all_copies, forks, part_begun, part_taken_over, parts_of_array, of_stmt, of_stmts}
-use Rattle.syntax_means.proofs.elided.Copies.{among, decided, of_all_among}
+use Rattle.syntax_means.proofs.elided.Copies.{among, of_all_among}
 use Rattle.syntax_means.proofs.elided.Frames.{settled, Still, still_then, still_set, Keeps, keeps_from, keeps_ret, keeps_same, keeps_back, keeps_trap, keeps_act}
 use Rattle.syntax_means.proofs.elided.Frames.{keeps_then, keeps_by, keeps_alone, keeps_less, keeps_loop, keeps_unless, keeps_write, keeps_part, keeps_makes}
 use Rattle.syntax_means.proofs.elided.Frames.{keeps_split, keeps_expr}
-
-abbrev Slots : Type 0
-Slots = Frame ℕ LocalRegion
+use Rattle.syntax_means.proofs.elided.Runs.{Slots}
 
 -- a local more
 more_settled : (L : Scope) (x : ℕ) (l : Local) → settled (L.local x) ≡ false → (y : ℕ) → settled (L.local y) ≡ true
