@@ -5,3 +5,5 @@ pub mod Classes
 pub mod Scopes
 pub mod Agreed
 pub mod Expressions
+pub mod Counting
+pub mod Statements
