@@ -1,5 +1,5 @@
 -- The body of each member of an accepted program is what its text means.
-use Rattle.std.proofs.Common.{◌≡◌, ◌∙◌, ◌≤◌, ◌+◌, ◌==◌, ◌&&◌, ℕ, Bool, true, false, cond, fold, List, [], ◌∷◌, ◌++◌, All, map, length, slice_get, codes, Option, Some, None, option_map, Ok, refl, sym, ap, subst, arith}
+use Rattle.std.proofs.Common.{◌≡◌, ◌∙◌, ◌≤◌, ◌+◌, ◌==◌, ◌&&◌, ℕ, suc, Bool, true, false, cond, fold, List, [], ◌∷◌, ◌++◌, All, map, length, slice_get, codes, Option, Some, None, option_map, Ok, refl, sym, ap, subst, arith}
 use Rattle.std.proofs.lemmas.Bool.{eqb-true}
 use Rattle.std.proofs.lemmas.List.{length-map}
 use Rattle.std.proofs.lemmas.List.Elements.{All-head, All-tail}
@@ -24,10 +24,11 @@ use Rattle.syntax_tree.specs.Plain.{plain_stmt, plain_stmts}
 use Rattle.syntax_tree.specs.Shaped.{MemberHasTargets}
 use Rattle.syntax_tree.specs.Targets.{HasTargets, AllHaveTargets}
 use Rattle.syntax_laws.specs.Written.{IsWritten}
-use Rattle.lang_typed.specs.Plain.{PlainProgram, PlainClass, PlainMember, TypedStmt}
+use Rattle.lang_typed.specs.Plain.{PlainProgram, PlainClass, PlainMember, TypedStmt, stmts_of}
 use Rattle.syntax_means.specs.Bodies.{AllMean, IsLength}
 use Rattle.syntax_means.specs.Means.{in_class, in_method}
 use Rattle.syntax_means.specs.Means.{param_names as names_written}
+use Rattle.syntax_means.specs.Numbered.{Counts, given_in_all, own_regions, own_slots}
 use Rattle.syntax_means.specs.Paths.{Around}
 use Rattle.decl_resolve.specs.Classes.{params_in}
 use Rattle.decl_resolve.specs.Names.{Names}
@@ -46,7 +47,7 @@ use Rattle.body_check.specs.Checking.{InBlock}
 use Rattle.body_check.specs.Completes.{all_complete}
 use Rattle.body_check.specs.Deciding.{has_value}
 use Rattle.body_check.specs.Keeping.{method_around}
-use Rattle.body_check.specs.Methods.{MethodChecking, body_begun, formals_declared, formal_types, typed_body, reported, method_reported, method_judged, summary_of}
+use Rattle.body_check.specs.Methods.{MethodChecking, body_begun, class_params, own_params, formals_declared, formal_types, typed_body, reported, method_reported, method_judged, summary_of}
 use Rattle.body_check.specs.Simple.{has_room}
 use Rattle.body_check.specs.Walks.{Walk, Verdict, passes, refused}
 use Rattle.lang_base.specs.Effects.{set_covers}
@@ -58,6 +59,7 @@ use Rattle.sound_bodies.specs.Seen.{Tells}
 use Rattle.sound_bodies.specs.Whole.{made_of, never_forks, StandsIn, StandsAmong}
 use Rattle.sound_bodies.proofs.table.Membership.{IsMember}
 use Rattle.sound_means.proofs.Around.{KnowsPaths, HeadersTell}
+use Rattle.sound_means.proofs.Counting.{block_numbered, formals_counted}
 use Rattle.sound_means.proofs.Finding.{name_spelled, headers_tell, field_found, method_called}
 use Rattle.sound_means.proofs.Knows.{Knows, knows_formals}
 use Rattle.sound_means.proofs.Scopes.{signed_known}
@@ -198,17 +200,40 @@ module _ (program : Program) (table : Table) (bodies : List PlainBody) (named : 
     abbrev begin_of : Option MethodRow → Env
     begin_of o = formals_declared (with_row (record (at_members (at_class start k.number)) { method = n }) o) k.method.formals (formal_types o)
 
-    begun : has_room (begin_of (Some k.row)) ≡ true → Knows (in_method program P text (record { class = k.number; method = k.method })) (begin_of (Some k.row))
-    begun room =
+    formals_many : length k.method.formals ≡ length k.row.params
+    formals_many =
         let many = ap (λ (r : PlainMethod). length r.params) k.row_is in
         let rows = length-map k.row.params plain_type in
         let trees = length-map k.method.formals (λ (formal : Formal). result_type (said_scope (class_scope (headers_of table) table.given k.number) k.method) (outcome.Value formal.ty)) in
-        knows_formals A entry 1 k.method.formals k.row.params refl (omega (arith, many, rows, trees)) room knows
+        omega (arith, many, rows, trees)
+
+    begun : has_room (begin_of (Some k.row)) ≡ true → Knows (in_method program P text (record { class = k.number; method = k.method })) (begin_of (Some k.row))
+    begun room = knows_formals A entry 1 k.method.formals k.row.params refl formals_many room knows
+
+    passed : Passed (at_class start k.number) (class_params (table_of start) k.number ++ own_params (table_of start) n) n k.method k.body
+    passed = passed_of k.checked
+
+    room : has_room (begin_of (Some k.row)) ≡ true
+    room = subst (λ o. has_room (begin_of o) ≡ true) (sym numbered_is) passed.room
 
     pub body_meant : AllMean (in_method program (made_of program table bodies) text (record { class = k.number; method = k.method })) (plain_stmts (map plain_stmt k.method.body)) m.body
     body_meant =
-        let p = passed_of k.checked in
-        let known = subst (λ o. Knows (in_method program P text (record { class = k.number; method = k.method })) (begin_of o)) numbered_is (begun (subst (λ o. has_room (begin_of o) ≡ true) (sym numbered_is) p.room)) in
-        let meant = block_meant (in_method program P text (record { class = k.number; method = k.method })) known (all_targets k.method.body (targets_among k.method k.stands written.shaped.targets)) k.written.numbers p.block in
+        let known = subst (λ o. Knows (in_method program P text (record { class = k.number; method = k.method })) (begin_of o)) numbered_is (begun room) in
+        let meant = block_meant (in_method program P text (record { class = k.number; method = k.method })) known (all_targets k.method.body (targets_among k.method k.stands written.shaped.targets)) k.written.numbers passed.block in
         subst (λ (x : PlainMember). AllMean (in_method program P text (record { class = k.number; method = k.method })) (plain_stmts (map plain_stmt k.method.body)) x.body) k.is
-        (subst (λ (b : PlainBody). AllMean (in_method program P text (record { class = k.number; method = k.method })) (plain_stmts (map plain_stmt k.method.body)) b.stmts) p.is meant)
+        (subst (λ (b : PlainBody). AllMean (in_method program P text (record { class = k.number; method = k.method })) (plain_stmts (map plain_stmt k.method.body)) b.stmts) passed.is meant)
+
+    -- slots are counted on after those of `this` and the formals, and local regions from the first
+    pub body_numbered : Counts (suc (length m.formals)) m.slots (given_in_all own_slots m.body) × Counts 0 m.local_regions (given_in_all own_regions m.body)
+    body_numbered =
+        let first = formals_counted entry k.method.formals k.row.params formals_many room in
+        let long = length-map k.row.params plain_type in
+        let slots : entry.slots + length k.row.params ≡ suc (length (map plain_type k.row.params)) = omega (arith, long) in
+        let done = passed.walk.env in
+        let made = stmts_of passed.made in
+        let counted = block_numbered passed.block in
+        subst (λ (x : PlainMember). Counts (suc (length x.formals)) x.slots (given_in_all own_slots x.body) × Counts 0 x.local_regions (given_in_all own_regions x.body)) k.is
+        (subst (λ (b : PlainBody). Counts (suc (length (map plain_type k.row.params))) b.slots (given_in_all own_slots b.stmts) × Counts 0 b.local_regions (given_in_all own_regions b.stmts)) passed.is (
+          subst (λ z. Counts z done.slots (given_in_all own_slots made)) (ap (λ o. (begin_of o).slots) (sym numbered_is) ∙ first.0 ∙ slots) counted.0,
+          subst (λ z. Counts z done.declared (given_in_all own_regions made)) (ap (λ o. (begin_of o).declared) (sym numbered_is) ∙ first.1) counted.1,
+        ))

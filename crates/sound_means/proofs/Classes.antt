@@ -18,9 +18,9 @@ use Rattle.syntax_tree.specs.declared.class.Parent.{Parent}
 use Rattle.syntax_tree.specs.declared.class.Program.{Program}
 use Rattle.syntax_tree.specs.declared.region.ParamTree.{ParamTree}
 use Rattle.syntax_tree.specs.Nd.{program_uses_nd}
-use Rattle.syntax_means.specs.Declares.{ClassNamed}
+use Rattle.syntax_means.specs.Declares.{ClassNamed, all_methods}
 use Rattle.syntax_means.specs.Declares.{inherited_fields as inherited_many}
-use Rattle.syntax_means.specs.Means.{ClassMeans, ConstructorMeans, ConstraintMeans, ParentMeans, RowMeans, in_class}
+use Rattle.syntax_means.specs.Means.{ClassMeans, ConstructorMeans, ConstraintMeans, ParentMeans, in_class, rows_above, with_methods}
 use Rattle.syntax_means.specs.Means.ParentMeans.{no_parent, a_parent}
 use Rattle.syntax_means.specs.Paths.{ArgsMean}
 use Rattle.decl_headers.specs.declared.faults.Faults.{Faults}
@@ -69,7 +69,7 @@ use Rattle.sound_bodies.proofs.table.Sizes.{inherited_fields, fields_step}
 use Rattle.sound_bodies.proofs.table.Slots.{own_fields as fields_own}
 use Rattle.sound_means.proofs.Around.{KnowsPaths}
 use Rattle.sound_means.proofs.Finding.{constructor_found, headers_tell, no_constructor, parent_found}
-use Rattle.sound_means.proofs.Rows.{row_means}
+use Rattle.sound_means.proofs.Rows.{rows_are}
 use Rattle.sound_means.proofs.Scopes.{rows_atomic, Signed, signed_known}
 use Rattle.sound_means.proofs.Signatures.{ShortFields, constraints_mean, fields_mean}
 use Rattle.sound_means.proofs.Written.{args_here}
@@ -320,7 +320,8 @@ module _ (program : Program) (table : Table) (bodies : List PlainBody) (written 
           fields = fields_are;
           inherited = above_many;
           declared = fields_mean (in_class program P c class) (class_scope headers table.given c) (knows table.given) (first_slot headers c) class.members short members_free;
-          rows = λ r n h. subst (λ p. RowMeans program P c p r n) (sym parent_is_made)
-              (row_means program table bodies accepted c r n (ap (λ (z : PlainClass). slice_get z.rows r) (sym t.is) ∙ h));
+          rows =
+              ap (λ (z : PlainClass). z.rows) t.is ∙ rows_are program table bodies accepted c
+              ∙ ap (λ p. with_methods program c 0 (all_methods program) (rows_above P p)) (sym parent_is_made);
           constructor = constructor_means;
         }

@@ -25,6 +25,7 @@ use Rattle.sound_bodies.specs.Seen.{InStep, Tells}
 use Rattle.sound_bodies.proofs.scope.Declaring.{last_push, last_within, local_pushed, indices_reported, step_row}
 use Rattle.sound_bodies.proofs.scope.Growing.{Kept, kept_step, step_region}
 use Rattle.sound_means.proofs.Around.{KnowsPaths}
+use Rattle.sound_means.proofs.Counting.{room_before}
 
 -- what is around a place of a body for the checker is around it here; parts are of arrays
 pub record Knows (A : Around) (env : Env) : Type 0 where
@@ -150,16 +151,6 @@ knows_region A env name room k = subst (λ b. Knows (record A { regions = (name,
   nd_free = k.nd_free;
   tells = k.tells;
 })
-
--- there was room before there was a further local
-room_before : (env : Env) (formals : List Formal) (types : List Ty) → has_room (formals_declared env formals types) ≡ true → has_room env ≡ true
-room_before env [] types room = room
-room_before env (formal ∷ formals) [] room = room
-room_before env (formal ∷ formals) (t ∷ types) room = by (has_room env) refl (room_before (local_declared env formal.name t false) formals types room)
-  where
-    by : (b : Bool) → has_room env ≡ b → has_room (cond b (declared_local env formal.name t false) env) ≡ true → has_room env ≡ true
-    by true is h = is
-    by false is h = h
 
 -- the formals of a method
 pub knows_formals : (A : Around) (env : Env) (x : ℕ) (formals : List Formal) (types : List Ty) → env.slots ≡ x → length formals ≡ length types → has_room (formals_declared env formals types) ≡ true → Knows A env →

@@ -1,6 +1,7 @@
 mod Around
 mod Bodies
 mod Classes
+mod Counting
 mod Expressions
 mod Finding
 mod Knows

@@ -20,6 +20,7 @@ use Rattle.syntax_tree.specs.Plain.{plain_stmt, plain_stmts}
 use Rattle.syntax_means.specs.Bodies.{AllMean}
 use Rattle.syntax_means.specs.Declares.{OwnMethod, member_methods, methods_from, all_methods}
 use Rattle.syntax_means.specs.Means.{ConstraintMeans, MemberMeans, ResultMeans, SummaryMeans, in_class, in_method}
+use Rattle.syntax_means.specs.Numbered.{Counts, given_in_all, own_regions, own_slots}
 use Rattle.syntax_means.specs.Paths.{Around, TypeMeans}
 use Rattle.decl_headers.specs.declared.header.Headers.{Headers}
 use Rattle.decl_headers.specs.declared.header.ParamRow.{ParamRow}
@@ -51,7 +52,7 @@ use Rattle.sound_bodies.specs.Whole.StandsIn.{here, later}
 use Rattle.sound_bodies.specs.Whole.StandsAmong.{in_class as stands_in_class, in_later}
 use Rattle.sound_bodies.proofs.table.Membership.{IsMember, member_of_text}
 use Rattle.sound_means.proofs.Around.{KnowsPaths}
-use Rattle.sound_means.proofs.Bodies.{body_meant}
+use Rattle.sound_means.proofs.Bodies.{body_meant, body_numbered}
 use Rattle.sound_means.proofs.Finding.{headers_tell}
 use Rattle.sound_means.proofs.Methods.{stands_in}
 use Rattle.sound_means.proofs.Scopes.{rows_atomic, Signed, signed_known, with_formals_known}
@@ -177,6 +178,7 @@ module _ (program : Program) (table : Table) (bodies : List PlainBody) (named : 
         own_means : MemberMeans program P own (member_of one.row one.body)
         own_means =
             let small = one.small in
+            let numbered = body_numbered program table bodies named written accepted tells n m k one class stands in
             let f = append_none (constraints_faults (method_scope scope method) method.params.given) (said_faults (said_scope scope method) method) one.free in
             let g = append_none (formal_faults (said_scope scope method) method.formals ++ result_faults (said_scope scope method) method.result) (summary_faults (said_scope scope method) method.summary) f.1 in
             let h = append_none (formal_faults (said_scope scope method) method.formals) (result_faults (said_scope scope method) method.result) g.0 in
@@ -195,6 +197,8 @@ module _ (program : Program) (table : Table) (bodies : List PlainBody) (named : 
                   (summary_means around (said_scope scope method) knows_said method.summary g.1);
               body = subst (λ (z : PlainMember). AllMean around (plain_stmts (map plain_stmt method.body)) z.body) (sym one.is)
                   (body_meant program table bodies named written accepted tells n m k one class stands);
+              slots = subst (λ (z : PlainMember). Counts (suc (length z.formals)) z.slots (given_in_all own_slots z.body)) (sym one.is) numbered.0;
+              regions = subst (λ (z : PlainMember). Counts 0 z.local_regions (given_in_all own_regions z.body)) (sym one.is) numbered.1;
             }
 
     pub member_means : (n : ℕ) (own : OwnMethod) (m : PlainMember) → slice_get (all_methods program) n ≡ Some own → member_at P n ≡ Some m → MemberMeans program P own m

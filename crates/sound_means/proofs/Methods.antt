@@ -265,7 +265,7 @@ module _ (program : Program) (table : Table) (has : HasRows program table)
     pub rows_many : length (methods_of table) ≡ length (all_methods program)
     rows_many = sym (length-map (methods_of table) plain_method) ∙ ap length rows_are ∙ rows_long (headers_of table) table.given 0 (all_methods program)
 
-    both : (n : ℕ) (own : OwnMethod) (row : MethodRow) → slice_get (all_methods program) n ≡ Some own → slice_get (methods_of table) n ≡ Some row → Row program table n own row
+    pub both : (n : ℕ) (own : OwnMethod) (row : MethodRow) → slice_get (all_methods program) n ≡ Some own → slice_get (methods_of table) n ≡ Some row → Row program table n own row
     both n own row e d =
         let w = stands_in 0 program.classes n own e in
         let plain : 0 + w.number ≡ w.number = omega arith in

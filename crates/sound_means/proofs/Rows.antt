@@ -1,17 +1,16 @@
--- In a row of a class stands the method that its name means there; and in a row of its superclass stands one of the same name.
+-- The rows of a class are those of its superclass, with the methods that it declares itself put in one after the other.
 use Rattle.std.proofs.Common.{◌≡◌, ◌≢◌, ◌∙◌, ◌⊎◌, ℕ, zero, suc, ◌+◌, ◌<◌, ◌≤◌, ◌==◌, ◌&&◌, not, is_some, Bool, true, false, cond, List, [], ◌∷◌, ◌++◌, length, map, fold, slice_set, inl, inr, Option, None, Some, option_map, option_and_then, refl, sym, ap, subst, arith}
-use Rattle.std.proofs.lemmas.Bool.{eq-eqb, false≢true}
+use Rattle.std.proofs.lemmas.Bool.{cases_eq, eq-eqb, eqb-true, false≢true}
 use Rattle.std.proofs.lemmas.List.{length-map}
 use Rattle.std.proofs.lemmas.Option.{none-some, slice_get-map}
-use Rattle.std.specs.List.{filter}
+use Rattle.std.specs.List.{filter, position_from}
 use Rattle.std.specs.Option.{option_map_or}
 use Rattle.std.specs.Prelude.{slice_get, unwrap_or}
 use Rattle.syntax_tree.specs.declared.class.MethodResult.{MethodResult}
 use Rattle.syntax_tree.specs.declared.class.MethodResult.TheVariants as outcome
 use Rattle.syntax_tree.specs.declared.class.Program.{Program}
-use Rattle.syntax_means.specs.Declares.{OwnMethod, DeclaresMethod, MeansIn, method_name}
-use Rattle.syntax_means.specs.Declares.MeansIn.{its_own, inherited}
-use Rattle.syntax_means.specs.Means.{RowMeans}
+use Rattle.syntax_means.specs.Declares.{OwnMethod, all_methods, method_name}
+use Rattle.syntax_means.specs.Means.{in_row, row_named, rows_above, with_method, with_methods}
 use Rattle.decl_headers.specs.Headers.{chain, nearest, parent_of, parents_of, class_count}
 use Rattle.decl_headers.specs.Passes.{is_constructor_result}
 use Rattle.decl_headers.specs.Rounds.{up}
@@ -27,18 +26,17 @@ use Rattle.decl_table.specs.Plain.{PlainMethod}
 use Rattle.decl_table.specs.Table.{headers_of, methods_of, own_method, overridden_by, row_of, parent_args_of}
 use Rattle.decl_laws.specs.Rows.{RowIs, as_overridden, as_next, HasRows}
 use Rattle.decl_laws.specs.Rows.{inherited as inherited_rows}
-use Rattle.decl_laws.proofs.Facts.{Facts, facts_of, parent_is, IsMethod, own_is, named_is, over_is}
+use Rattle.decl_laws.proofs.Facts.{Facts, facts_of, parent_is, IsMethod, own_is, named_is}
 use Rattle.decl_laws.proofs.Given.{rows_given}
 use Rattle.decl_laws.proofs.Numbers.{one_row, owner_of}
-use Rattle.decl_laws.proofs.Stand.{all_stand, rows_kept}
-use Rattle.lang_typed.specs.Plain.{PlainProgram, PlainClass, PlainParent}
-use Rattle.lang_typed.specs.Scope.{row_at}
+use Rattle.decl_laws.proofs.Stand.{all_stand}
+use Rattle.lang_typed.specs.Plain.{PlainClass}
 use Rattle.body_assembly.specs.Assembled.{PlainBody, parent_at}
 use Rattle.sound_lemmas.specs.Accepted.{IsAccepted}
 use Rattle.sound_lemmas.proofs.Free.{and_split}
-use Rattle.sound_lemmas.proofs.Lists.{some_same, map_there}
-use Rattle.sound_decls.proofs.table.Above.{P, parent_there, upper_there, class_there}
-use Rattle.sound_means.proofs.Methods.{row_own, own_row, one_name}
+use Rattle.sound_lemmas.proofs.Lists.{some_same, got_first, map_there}
+use Rattle.sound_decls.proofs.table.Above.{P, upper_there, class_there}
+use Rattle.sound_means.proofs.Methods.{Row, both, row_own, rows_many, one_name}
 
 -- what a list has after a change
 set_from : (xs : List ℕ) (at value r m : ℕ) → slice_get (slice_set xs at value) r ≡ Some m → (slice_get xs r ≡ Some m) ⊎ ((r ≡ at) × (m ≡ value))
@@ -61,6 +59,41 @@ pushed_from (x ∷ xs) value (suc r) m e =
       | inl old ↦ inl old
       | inr new ↦ inr (ap suc new.0, new.1)
     ]
+
+set_here : (xs : List ℕ) (at value old : ℕ) → slice_get xs at ≡ Some old → slice_get (slice_set xs at value) at ≡ Some value
+set_here [] at value old e = cc
+set_here (x ∷ xs) zero value old e = refl
+set_here (x ∷ xs) (suc at) value old e = set_here xs at value old e
+
+set_there : (xs : List ℕ) (at value r m : ℕ) → r ≢ at → slice_get xs r ≡ Some m → slice_get (slice_set xs at value) r ≡ Some m
+set_there [] at value r m apart e = cc
+set_there (x ∷ xs) zero value zero m apart e = absurd (apart refl)
+set_there (x ∷ xs) zero value (suc r) m apart e = e
+set_there (x ∷ xs) (suc at) value zero m apart e = e
+set_there (x ∷ xs) (suc at) value (suc r) m apart e = set_there xs at value r m (λ same. apart (ap suc same)) e
+
+-- the first place that passes a test, where no other does, or where none does
+first_place : {X : Type 0} (test : X → Bool) (at : ℕ) (xs : List X) (r : ℕ) (x : X) → slice_get xs r ≡ Some x → test x ≡ true → ((j : ℕ) (y : X) → slice_get xs j ≡ Some y → test y ≡ true → j ≡ r) →
+    position_from test at xs ≡ Some (at + r)
+first_place test at [] r x e t only = cc
+first_place {X} test at (y ∷ ys) zero x e t only =
+    let here : at ≡ at + 0 = omega arith in
+    ap (λ b. cond b (Some at) (position_from test (at + 1) ys)) (ap test (some_same e) ∙ t) ∙ ap Some here
+first_place {X} test at (y ∷ ys) (suc r) x e t only =
+    let on : at + 1 + r ≡ at + suc r = omega arith in
+    by (test y) refl (first_place test (at + 1) ys r x e t (λ j z d p. let same = only (suc j) z d p in omega (arith, same)) ∙ ap Some on)
+  where
+    by : (b : Bool) → test y ≡ b → position_from test (at + 1) ys ≡ Some (at + suc r) → cond b (Some at) (position_from test (at + 1) ys) ≡ Some (at + suc r)
+    by true is rest = let same = only 0 y refl is in absurd (omega (arith, same))
+    by false is rest = rest
+
+no_place : {X : Type 0} (test : X → Bool) (at : ℕ) (xs : List X) → ((j : ℕ) (y : X) → slice_get xs j ≡ Some y → test y ≡ true → ⊥) → position_from test at xs ≡ None
+no_place test at [] none = refl
+no_place {X} test at (y ∷ ys) none = by (test y) refl (no_place test (at + 1) ys (λ j z d p. none (suc j) z d p))
+  where
+    by : (b : Bool) → test y ≡ b → position_from test (at + 1) ys ≡ None → cond b (Some at) (position_from test (at + 1) ys) ≡ None
+    by true is rest = absurd (none 0 y refl is)
+    by false is rest = rest
 
 filtered_from : {X : Type 0} (test : X → Bool) (xs : List X) (i : ℕ) (x : X) → slice_get (filter test xs) i ≡ Some x → (j : ℕ) × (slice_get xs j ≡ Some x) × (test x ≡ true)
 filtered_from test [] i x e = cc
@@ -278,6 +311,23 @@ module _ (program : Program) (table : Table) (has : HasRows program table)
         subst (λ k. RowIs table.overrides (methods_of table) (inherited_rows table) k row) same h
     over_row id over row (as_next one also e be) is = cc (e, is)
 
+    -- what a name means in the superclass of a class
+    abbrev above_named : ℕ → ℕ → Option ℕ
+    above_named class name = option_and_then (λ above. method_named table above name) (parent_of (headers_of table) class)
+
+    -- a method overrides what its name means there, and has the row of that
+    over_told : (class n : ℕ) (row : MethodRow) → slice_get (methods_of table) n ≡ Some row → row.is_constructor ≡ false → row.owner ≡ class → overridden_by table n ≡ above_named class row.name
+    over_told class n row there plain owner =
+        facts.overrides n row there
+        ∙ ap (λ b. cond b None (option_and_then (λ above. method_named table above row.name) (parent_of (headers_of table) row.owner))) plain
+        ∙ ap (λ k. option_and_then (λ above. method_named table above row.name) (parent_of (headers_of table) k)) owner
+
+    row_same : (n over : ℕ) (row upper : MethodRow) → slice_get (methods_of table) n ≡ Some row → row.is_constructor ≡ false → slice_get (methods_of table) over ≡ Some upper → upper.is_constructor ≡ false →
+        overridden_by table n ≡ Some over → row_of table n ≡ row_of table over
+    row_same n over row upper there plain upper_there upper_plain is =
+        one_row table.overrides (methods_of table) (inherited_rows table) over (row_of table n) (row_of table over)
+        (over_row n over (row_of table n) (given n row there plain) is) (given over upper upper_there upper_plain)
+
     -- what stands in a row means itself there, and stands there alone
     record Seen (class r n : ℕ) : Type 0 where
       row : MethodRow
@@ -330,19 +380,10 @@ module _ (program : Program) (table : Table) (has : HasRows program table)
             by true h = cc
             by false h = refl
 
-        over : entry_at table.overrides m ≡ Some n
-        over =
-            facts.overrides m w.row w.there
-            ∙ ap (λ b. cond b None (option_and_then (λ above. method_named table above w.row.name) (parent_of (headers_of table) w.row.owner))) plain
-            ∙ ap (λ k. option_and_then (λ above. method_named table above w.row.name) (parent_of (headers_of table) k)) owner
-            ∙ ap (option_and_then (λ above. method_named table above w.row.name)) is
-            ∙ ap (method_named table parent) w.called
-            ∙ named_above class parent s.row.name n is s.named
-
         rows : row_of table m ≡ row_of table n
         rows =
-            one_row table.overrides (methods_of table) (inherited_rows table) n (row_of table m) (row_of table n)
-            (over_row m n (row_of table m) (given m w.row w.there plain) over) (given n s.row s.there s.plain)
+            row_same m n w.row s.row w.there plain s.there s.plain
+            (over_told class m w.row w.there plain owner ∙ ap (option_and_then (λ above. method_named table above w.row.name)) is ∙ ap (method_named table parent) w.called ∙ named_above class parent s.row.name n is s.named)
 
         within : class < class_count (headers_of table)
         within = let l = facts.owned m w.row w.there in let same = owner in omega (arith, l, same, many)
@@ -417,72 +458,254 @@ module _ (program : Program) (table : Table) (has : HasRows program table)
     placed : (class : ℕ) → Placed class
     placed class = placed_up (suc (length parents)) class (top_none parents (suc (length parents)) class facts.forest (omega arith))
 
-    row_named : (n : ℕ) (row : MethodRow) → slice_get (methods_of table) n ≡ Some row → method_name program n ≡ Some row.name
-    row_named n row e =
+    -- the name of a method, in the tree and in the table
+    name_told : (n : ℕ) (row : MethodRow) → slice_get (methods_of table) n ≡ Some row → method_name program n ≡ Some row.name
+    name_told n row e =
         let w = row_own program table has n row e in
         ap (option_map (λ (own : OwnMethod). own.method.name)) w.1.own_there ∙ ap Some (sym (ap (λ (r : PlainMethod). r.name) w.1.is))
 
-    -- the tree declares what the table tells, and no more
-    made_or_not : (r : MethodResult) → is_constructor_result r ≡ false → r ≡ outcome.Constructor → ⊥
-    made_or_not r plain made = false≢true (sym plain ∙ ap is_constructor_result made)
+    -- a method that the class declares itself, of a number below
+    record Own (class at n : ℕ) : Type 0 where
+      row : MethodRow
+      there : slice_get (methods_of table) n ≡ Some row
+      plain : row.is_constructor ≡ false
+      owner : row.owner ≡ class
+      below : n < at
 
-    not_made : (r : MethodResult) → (r ≡ outcome.Constructor → ⊥) → is_constructor_result r ≡ false
-    not_made outcome.Constructor h = absurd (h refl)
-    not_made outcome.Void h = refl
-    not_made (outcome.Value tree) h = refl
+    -- the rows that a class has from its superclass hold what their names mean there
+    record Begins (class : ℕ) (start : List ℕ) : Type 0 where
+      named : (r m name : ℕ) → slice_get start r ≡ Some m → method_name program m ≡ Some name → above_named class name ≡ Some m
+      stands : (name m : ℕ) → above_named class name ≡ Some m → slice_get start (row_of table m) ≡ Some m
+      called : (name m : ℕ) → above_named class name ≡ Some m → method_name program m ≡ Some name
+      plain : (r m : ℕ) → slice_get start r ≡ Some m → (row : MethodRow) × (slice_get (methods_of table) m ≡ Some row) × (row.is_constructor ≡ false)
+      once : Once start
 
-    declared : (class name n : ℕ) → own_method table class name ≡ Some n → DeclaresMethod program name class n
-    declared class name n e =
-        let m = own_is table facts class name n e in
-        let w = row_own program table has n m.row m.there in
-        let owner : w.0.class ≡ class = sym (ap (λ (r : PlainMethod). r.owner) w.1.is) ∙ owner_of class m.row m.own in
-        let plain : is_constructor_result w.0.method.result ≡ false = sym (ap (λ (r : PlainMethod). r.is_constructor) w.1.is) ∙ none m.row.is_constructor (and_split (not m.row.is_constructor) (m.row.owner == class) m.own).0 in
-        (w.0.method, w.1.own_there ∙ ap (λ k. Some (record { class = k; method = w.0.method })) owner, made_or_not w.0.method.result plain, sym (ap (λ (r : PlainMethod). r.name) w.1.is) ∙ m.called)
+    begins : (class : ℕ) → Begins class (start_of (parent_of (headers_of table) class))
+    begins class = by (parent_of (headers_of table) class) refl
       where
-        none : (b : Bool) → not b ≡ true → b ≡ false
-        none true h = cc
-        none false h = refl
+        by : (o : Option ℕ) → parent_of (headers_of table) class ≡ o → Begins class (start_of o)
+        by None is = record {
+          named = λ r m name e called. cc;
+          stands = λ name m h. none m (sym (ap (option_and_then (λ above. method_named table above name)) is) ∙ h);
+          called = λ name m h. none m (sym (ap (option_and_then (λ above. method_named table above name)) is) ∙ h);
+          plain = λ r m e. cc;
+          once = λ i j v e d. cc;
+        }
+          where
+            none : {T : Type 0} (m : ℕ) → None ≡ Some m → T
+            none m h = absurd (none-some m h)
+        by (Some parent) is = record {
+          named = λ r m name e called.
+              let s = p.seen r m e in
+              let same : s.row.name ≡ name = some_same (sym (name_told m s.row s.there) ∙ called) in
+              meant name ∙ sym (ap (method_named table parent) same) ∙ named_above class parent s.row.name m is s.named;
+          stands = λ name m h. all_stand table facts given parent name m (sym (meant name) ∙ h);
+          called = λ name m h.
+              let w = named_is table facts parent name m (sym (meant name) ∙ h) in
+              name_told m w.3.row w.3.there ∙ ap Some w.3.called;
+          plain = λ r m e. let s = p.seen r m e in (s.row, s.there, s.plain);
+          once = p.once;
+        }
+          where
+            p : Placed parent
+            p = placed parent
 
-    undeclared : (class name n : ℕ) → own_method table class name ≡ None → DeclaresMethod program name class n → ⊥
-    undeclared class name n e d =
-        let w = own_row program table has n (record { class = class; method = d.0 }) d.1 in
-        let found = own_found class n w.0 w.1.row_there (ap (λ (r : PlainMethod). r.is_constructor) w.1.is ∙ not_made d.0.result d.2) (ap (λ (r : PlainMethod). r.owner) w.1.is) in
-        let called : w.0.name ≡ name = ap (λ (r : PlainMethod). r.name) w.1.is ∙ d.3 in
-        none-some n (sym e ∙ sym (ap (own_method table class) called) ∙ found)
+            meant : (name : ℕ) → above_named class name ≡ method_named table parent name
+            meant name = ap (option_and_then (λ above. method_named table above name)) is
 
-module _ (program : Program) (table : Table) (bodies : List PlainBody) (accepted : IsAccepted program table bodies)
+    -- the rows of a class once its methods below a number have theirs: those of the superclass, by the same names, and new ones
+    record Filled (class : ℕ) (start rows : List ℕ) (at : ℕ) : Type 0 where
+      first : (r m : ℕ) → slice_get start r ≡ Some m → (n : ℕ) × (slice_get rows r ≡ Some n) × (method_name program n ≡ method_name program m)
+      each : (r n : ℕ) → slice_get rows r ≡ Some n → ((m : ℕ) × (slice_get start r ≡ Some m) × (method_name program n ≡ method_name program m)) ⊎ Own class at n
+
+    later : (class at n : ℕ) → Own class at n → Own class (suc at) n
+    later class at n own = record { row = own.row; there = own.there; plain = own.plain; owner = own.owner; below = (let l = own.below in omega (arith, l)) }
+
+    abbrev Same : ℕ → List ℕ → ℕ → Type 0
+    Same r start n = (m : ℕ) × (slice_get start r ≡ Some m) × (method_name program n ≡ method_name program m)
+
+    later_so : (class at n r : ℕ) (start : List ℕ) → Same r start n ⊎ Own class at n → Same r start n ⊎ Own class (suc at) n
+    later_so class at n r start (inl same) = inl same
+    later_so class at n r start (inr own) = inr (later class at n own)
+
+    passed : (class : ℕ) (start rows : List ℕ) (at : ℕ) → Filled class start rows at → Filled class start rows (suc at)
+    passed class start rows at f = record { first = f.first; each = λ r n e. later_so class at n r start (f.each r n e) }
+
+    -- a further method of the class
+    module _ (class : ℕ) (start : List ℕ) (b : Begins class start) (n : ℕ) (row : MethodRow) (there : slice_get (methods_of table) n ≡ Some row) (plain : row.is_constructor ≡ false) (owner : row.owner ≡ class) (rows : List ℕ)
+        (f : Filled class start rows n)
+      where
+        abbrev test : ℕ → Bool
+        test k = option_map_or (λ m. m == row.name) (method_name program k) false
+
+        tested : (k : ℕ) → method_name program k ≡ Some row.name → test k ≡ true
+        tested k e = ap (λ o. option_map_or (λ m. m == row.name) o false) e ∙ eq-eqb row.name row.name refl
+
+        name_so : (k : ℕ) → test k ≡ true → method_name program k ≡ Some row.name
+        name_so k = by (method_name program k)
+          where
+            by : (o : Option ℕ) → option_map_or (λ m. m == row.name) o false ≡ true → o ≡ Some row.name
+            by None t = absurd (false≢true t)
+            by (Some m) t = ap Some (eqb-true m row.name t)
+
+        told : overridden_by table n ≡ above_named class row.name
+        told = over_told class n row there plain owner
+
+        -- none of those before it has its name
+        not_before : (k : ℕ) → Own class n k → method_name program k ≡ Some row.name → ⊥
+        not_before k own e =
+            let x = row_own program table has k own.row own.there in
+            let y = row_own program table has n row there in
+            let l = own.below in
+            let same = one_name program table has k n x.0 y.0 x.1.own_there y.1.own_there
+            (sym (ap (λ (r : PlainMethod). r.owner) x.1.is) ∙ own.owner ∙ sym owner ∙ ap (λ (r : PlainMethod). r.owner) y.1.is)
+            (sym (ap (λ (r : PlainMethod). r.is_constructor) x.1.is) ∙ own.plain)
+            (sym (ap (λ (r : PlainMethod). r.is_constructor) y.1.is) ∙ plain)
+            (sym (ap (λ (r : PlainMethod). r.name) x.1.is) ∙ some_same (sym (name_told k own.row own.there) ∙ e) ∙ ap (λ (r : PlainMethod). r.name) y.1.is) in
+            omega (arith, l, same)
+
+        itself : Own class (suc n) n
+        itself = record { row = row; there = there; plain = plain; owner = owner; below = omega arith }
+
+        record Put (after : List ℕ) : Type 0 where
+          is : in_row n (row_named program row.name rows) rows ≡ after
+          filled : Filled class start after (suc n)
+
+        put_new : overridden_by table n ≡ None → Put (rows ++ n ∷ [])
+        put_new none = record {
+          is = ap (λ o. in_row n o rows) (no_place test 0 rows (λ j k e t. no j k e (name_so k t)));
+          filled = record {
+            first = λ r m e. let w = f.first r m e in (w.0, got_first rows (n ∷ []) r w.0 w.1, w.2);
+            each = λ r m e. of r m (pushed_from rows n r m e);
+          };
+        }
+          where
+            no : (j k : ℕ) → slice_get rows j ≡ Some k → method_name program k ≡ Some row.name → ⊥
+            no j k e called =
+                elim (f.each j k e) [
+                  | inl same ↦ none-some same.0 (sym none ∙ told ∙ b.named j same.0 row.name same.1 (sym same.2 ∙ called))
+                  | inr own ↦ not_before k own called
+                ]
+
+            of : (r m : ℕ) → (slice_get rows r ≡ Some m) ⊎ ((r ≡ length rows) × (m ≡ n)) → Same r start m ⊎ Own class (suc n) m
+            of r m (inl old) = later_so class n m r start (f.each r m old)
+            of r m (inr new) = inr (subst (Own class (suc n)) (sym new.1) itself)
+
+        put_over : (over : ℕ) → overridden_by table n ≡ Some over → Put (slice_set rows (row_of table n) n)
+        put_over over is = record {
+          is =
+              let at : 0 + row_of table n ≡ row_of table n = omega arith in
+              ap (λ o. in_row n o rows) (first_place test 0 rows (row_of table n) stood.0 stood.1 (tested stood.0 (stood.2 ∙ called)) only ∙ ap Some at);
+          filled = record {
+            first = λ r m e. first r m e (cases_eq r (row_of table n));
+            each = λ r m e. of r m (set_from rows (row_of table n) n r m e);
+          };
+        }
+          where
+            meant : above_named class row.name ≡ Some over
+            meant = sym told ∙ is
+
+            called : method_name program over ≡ Some row.name
+            called = b.called row.name over meant
+
+            stands : slice_get start (row_of table over) ≡ Some over
+            stands = b.stands row.name over meant
+
+            at_row : row_of table n ≡ row_of table over
+            at_row = let w = b.plain (row_of table over) over stands in row_same n over row w.0 there plain w.1 w.2 is
+
+            here : slice_get start (row_of table n) ≡ Some over
+            here = ap (slice_get start) at_row ∙ stands
+
+            stood : (k : ℕ) × (slice_get rows (row_of table n) ≡ Some k) × (method_name program k ≡ method_name program over)
+            stood = f.first (row_of table n) over here
+
+            only : (j k : ℕ) → slice_get rows j ≡ Some k → test k ≡ true → j ≡ row_of table n
+            only j k e t =
+                elim (f.each j k e) [
+                  | inl same ↦
+                      let one : same.0 ≡ over = some_same (sym (b.named j same.0 row.name same.1 (sym same.2 ∙ name_so k t)) ∙ meant) in
+                      b.once j (row_of table n) over (same.1 ∙ ap Some one) here
+                  | inr own ↦ absurd (not_before k own (name_so k t))
+                ]
+
+            first : (r m : ℕ) → slice_get start r ≡ Some m → (r ≡ row_of table n) ⊎ (r ≡ row_of table n → ⊥) →
+                (k : ℕ) × (slice_get (slice_set rows (row_of table n) n) r ≡ Some k) × (method_name program k ≡ method_name program m)
+            first r m e (inl same) =
+                let one : over ≡ m = some_same (sym here ∙ ap (slice_get start) (sym same) ∙ e) in
+                (n, ap (slice_get (slice_set rows (row_of table n) n)) same ∙ set_here rows (row_of table n) n stood.0 stood.1, name_told n row there ∙ sym called ∙ ap (method_name program) one)
+            first r m e (inr apart) = let w = f.first r m e in (w.0, set_there rows (row_of table n) n r w.0 apart w.1, w.2)
+
+            of : (r m : ℕ) → (slice_get rows r ≡ Some m) ⊎ ((r ≡ row_of table n) × (m ≡ n)) → Same r start m ⊎ Own class (suc n) m
+            of r m (inl old) = later_so class n m r start (f.each r m old)
+            of r m (inr new) = inr (subst (Own class (suc n)) (sym new.1) itself)
+
+        put : Put (with_member table rows n)
+        put = by (overridden_by table n) refl
+          where
+            by : (o : Option ℕ) → overridden_by table n ≡ o → Put (cond (is_some o) (slice_set rows (row_of table n) n) (rows ++ n ∷ []))
+            by None none = put_new none
+            by (Some over) is = put_over over is
+
+    -- all methods from a number on
+    abbrev own_ids : ℕ → List MethodRow → List ℕ
+    own_ids class rows = map (λ (row : MethodRow). row.id) (filter (λ row. not row.is_constructor && (row.owner == class)) rows)
+
+    all_put : (class : ℕ) (start : List ℕ) → Begins class start → (at : ℕ) (owns : List OwnMethod) (own_rows : List MethodRow) → length owns ≡ length own_rows →
+        ((i : ℕ) (own : OwnMethod) (row : MethodRow) → slice_get owns i ≡ Some own → slice_get own_rows i ≡ Some row → Row program table (at + i) own row) →
+        (rows : List ℕ) → Filled class start rows at → fold (with_member table) rows (own_ids class own_rows) ≡ with_methods program class at owns rows
+    all_put class start b at [] [] many each rows f = refl
+    all_put class start b at [] (row ∷ more) many each rows f = absurd (omega (arith, many))
+    all_put class start b at (own ∷ owns) [] many each rows f = absurd (omega (arith, many))
+    all_put class start b at (own ∷ owns) (row ∷ more) many each rows f =
+        ap (λ t. fold (with_member table) rows (map (λ (one : MethodRow). one.id) (cond t (row ∷ filter (λ one. not one.is_constructor && (one.owner == class)) more) (filter (λ one. not one.is_constructor && (one.owner == class)) more)))) tested
+        ∙ by (own.class == class) own.method.result refl refl
+        (all_put class start b (suc at) owns more (omega (arith, many)) (λ i other one e d. let on : at + suc i ≡ suc at + i = omega arith in subst (λ k. Row program table k other one) on (each (suc i) other one e d)))
+      where
+        here : Row program table at own row
+        here = let plain : at + 0 ≡ at = omega arith in subst (λ k. Row program table k own row) plain (each 0 own row refl refl)
+
+        tested : (not row.is_constructor && (row.owner == class)) ≡ (not (is_constructor_result own.method.result) && (own.class == class))
+        tested =
+            ap (λ c. not c && (row.owner == class)) (ap (λ (r : PlainMethod). r.is_constructor) here.is)
+            ∙ ap (λ k. not (is_constructor_result own.method.result) && (k == class)) (ap (λ (r : PlainMethod). r.owner) here.is)
+
+        number : row.id ≡ at
+        number = facts.numbered at row here.row_there
+
+        of : is_constructor_result own.method.result ≡ false → own.class ≡ class → ((some : List ℕ) → Filled class start some (suc at) → fold (with_member table) some (own_ids class more) ≡ with_methods program class (suc at) owns some) →
+            fold (with_member table) (with_member table rows row.id) (own_ids class more) ≡ with_methods program class (suc at) owns (in_row at (row_named program own.method.name rows) rows)
+        of plain owner rest =
+            let p = put class start b at row here.row_there (ap (λ (r : PlainMethod). r.is_constructor) here.is ∙ plain) (ap (λ (r : PlainMethod). r.owner) here.is ∙ owner) rows f in
+            ap (λ k. fold (with_member table) (with_member table rows k) (own_ids class more)) number ∙ rest (with_member table rows at) p.filled
+            ∙ ap (with_methods program class (suc at) owns) (sym p.is)
+            ∙ ap (λ name. with_methods program class (suc at) owns (in_row at (row_named program name rows) rows)) (ap (λ (r : PlainMethod). r.name) here.is)
+
+        by : (t : Bool) (r : MethodResult) → (own.class == class) ≡ t → own.method.result ≡ r → ((some : List ℕ) → Filled class start some (suc at) → fold (with_member table) some (own_ids class more) ≡ with_methods program class (suc at) owns some) →
+            fold (with_member table) rows (map (λ (one : MethodRow). one.id) (cond (not (is_constructor_result r) && t) (row ∷ filter (λ one. not one.is_constructor && (one.owner == class)) more) (filter (λ one. not one.is_constructor && (one.owner == class)) more)))
+            ≡ with_methods program class (suc at) owns (cond t (with_method program at own.method r rows) rows)
+        by true outcome.Constructor e d rest = rest rows (passed class start rows at f)
+        by false outcome.Constructor e d rest = rest rows (passed class start rows at f)
+        by false outcome.Void e d rest = rest rows (passed class start rows at f)
+        by false (outcome.Value kind) e d rest = rest rows (passed class start rows at f)
+        by true outcome.Void e d rest = of (ap is_constructor_result d) (eqb-true own.class class e) rest
+        by true (outcome.Value kind) e d rest = of (ap is_constructor_result d) (eqb-true own.class class e) rest
+
+    own_put : (class : ℕ) → members_in table class ≡ with_methods program class 0 (all_methods program) (start_of (parent_of (headers_of table) class))
+    own_put class =
+        let start = start_of (parent_of (headers_of table) class) in
+        made class
+        ∙ all_put class start (begins class) 0 (all_methods program) (methods_of table) (sym (rows_many program table has))
+        (λ i own row e d. let plain : i ≡ 0 + i = omega arith in subst (λ k. Row program table k own row) plain (both program table has i own row e d))
+        start (record { first = λ r m e. (m, e, refl); each = λ r n e. inl (n, e, refl) })
+
+-- the rows of a class
+pub rows_are : (program : Program) (table : Table) (bodies : List PlainBody) (accepted : IsAccepted program table bodies) (class : ℕ) →
+    members_in table class ≡ with_methods program class 0 (all_methods program) (rows_above (P program table bodies accepted) (parent_at table class))
+rows_are program table bodies accepted class =
+    own_put program table accepted.rows class ∙ ap (with_methods program class 0 (all_methods program)) (sym (by (parent_of (headers_of table) class) refl))
   where
-    abbrev has : HasRows program table
-    has = accepted.rows
-
-    abbrev made_program : PlainProgram
-    made_program = P program table bodies accepted
-
-    means : (name n class : ℕ) → Named table name n class → MeansIn made_program (DeclaresMethod program name) class n
-    means name n class (here e) = its_own (declared program table has class name n e)
-    means name n class (above {parent = parent} e is h) =
-        inherited (λ m d. undeclared program table has class name m e d) (parent_there program table bodies accepted class parent is) (means name n parent h)
-
-    -- a row of a class
-    pub row_means : (class r n : ℕ) → slice_get (members_in table class) r ≡ Some n → RowMeans program made_program class (parent_at table class) r n
-    row_means class r n e = record {
-      name = s.row.name;
-      is = means s.row.name n class s.named;
-      same = λ p m is there.
-          let a = map_there (λ (above : ℕ). record { class = above; args = parent_args_of table class }) (parent_of (headers_of table) class) p is in
-          let l = upper_there program table bodies accepted class a.0 a.1 in
-          let old : slice_get (members_in table a.0) r ≡ Some m =
-          sym (ap (option_and_then (λ (k : PlainClass). slice_get k.rows r)) (class_there program table bodies accepted a.0 l)) ∙ ap (λ (q : PlainParent). row_at made_program q.class r) a.2 ∙ there in
-          let w = rows_kept program table has class a.0 r m a.1 old in
-          of m (subst (λ k. (k ≡ m) ⊎ (overridden_by table k ≡ Some m)) (some_same (sym w.1 ∙ e)) w.2);
-    }
-      where
-        s : Seen program table has class r n
-        s = (placed program table has class).seen r n e
-
-        of : (m : ℕ) → (n ≡ m) ⊎ (overridden_by table n ≡ Some m) → method_name program m ≡ Some s.row.name
-        of m (inl same) = ap (method_name program) (sym same) ∙ row_named program table has n s.row s.there
-        of m (inr over) =
-            let o = over_is table (facts program table has) n m s.row s.there over in
-            let w = named_is table (facts program table has) o.0 s.row.name m o.2 in
-            row_named program table has m w.3.row w.3.there ∙ ap Some w.3.called
+    by : (o : Option ℕ) → parent_of (headers_of table) class ≡ o →
+        rows_above (P program table bodies accepted) (option_map (λ above. record { class = above; args = parent_args_of table class }) o) ≡ unwrap_or (option_map (members_in table) o) []
+    by None is = refl
+    by (Some parent) is = ap (λ o. option_map_or (λ (k : PlainClass). k.rows) o []) (class_there program table bodies accepted parent (upper_there program table bodies accepted class parent is))

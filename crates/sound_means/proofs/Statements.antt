@@ -1,7 +1,6 @@
 -- What is made of the statements of a body that pass is what they mean.
-use Rattle.std.proofs.Common.{◌≡◌, ◌∙◌, ◌≢◌, ◌≤◌, ◌<◌, ◌+◌, ℕ, zero, suc, Bool, true, false, not, cond, List, [], ◌∷◌, length, Option, Some, None, Result, Ok, Err, refl, sym, ap, subst, arith}
+use Rattle.std.proofs.Common.{◌≡◌, ◌∙◌, ◌≤◌, ◌+◌, ℕ, suc, Bool, true, false, not, cond, List, [], ◌∷◌, length, Option, Some, None, Result, Ok, Err, refl, sym, ap, subst}
 use Rattle.std.specs.Option.{option_map_or}
-use Rattle.std.specs.Prelude.{AllPairs, slice_index_or}
 use Rattle.lang_base.specs.declared.effect.Effect.{Effect}
 use Rattle.lang_base.specs.declared.place.Place.{Place}
 use Rattle.lang_base.specs.declared.refusal.Kind.{Kind}
@@ -23,7 +22,7 @@ use Rattle.syntax_tree.specs.Targets.{IsField, IsElement, HasTargets, FormHasTar
 use Rattle.syntax_laws.specs.Written.{Fitting, StmtFitting, StmtFormFitting, StmtsFitting}
 use Rattle.lang_typed.specs.Plain.{TypedExpr, type_of, Source, TypedStmt, statement, TypedStmts, stmts_of, branches_of, choice_form}
 use Rattle.lang_typed.specs.Plain as typed
-use Rattle.syntax_means.specs.Bodies.{with_local, ExprMeans, SourceMeans, AreNumbered, StmtMeans, PartMeans, AllMean, BranchesMean}
+use Rattle.syntax_means.specs.Bodies.{with_local, ExprMeans, SourceMeans, StmtMeans, PartMeans, AllMean, BranchesMean}
 use Rattle.syntax_means.specs.Bodies.{with_regions as numbered_regions}
 use Rattle.syntax_means.specs.Paths.{Around, TypeMeans}
 use Rattle.body_locals.specs.declared.branch.Touched.{Touched}
@@ -32,7 +31,7 @@ use Rattle.body_exprs.specs.declared.env.LocalRow.{LocalRow}
 use Rattle.body_exprs.specs.declared.found.Found.{Found}
 use Rattle.body_exprs.specs.Answer.{gives}
 use Rattle.body_exprs.specs.Elements.{index_of, array_element, element_in_part}
-use Rattle.body_exprs.specs.Env.{table_of, scope_of, part_of, with_part, with_region}
+use Rattle.body_exprs.specs.Env.{table_of, scope_of, part_of, with_part}
 use Rattle.body_exprs.specs.Fields.{PlainField, field_through}
 use Rattle.body_exprs.specs.Targeting.{to_element, TargetAnswer, aims, misses, aimed, in_field, field_target, in_element, element_target, in_part_element, part_target, Targeting}
 use Rattle.body_exprs.specs.Typed.{may_be, is_int, is_boolean, is_array, type_in}
@@ -42,15 +41,15 @@ use Rattle.body_check.specs.declared.node.Node.{Node}
 use Rattle.body_check.specs.Checking.{block_left, branch_of, variable_noted, cut_fault, cut_type, Cutting, parts_noted, parts_declared, Opening, BranchesVerdict, all_pass, one_refused, after_branch, Checking, Choosing, InOther, Standing, standing, InScope, in_scope, InBlock, in_block, InOrder, Branching, Forking, Iterating, Parting}
 use Rattle.body_check.specs.Deciding.{whole_fault}
 use Rattle.body_check.specs.Gathering.{with_uses}
-use Rattle.body_check.specs.Noting.{with_fault, with_found, with_fault_if, node_at as standing_node, fault_of}
-use Rattle.body_check.specs.Simple.{place_of, node_of, has_room, declared_type, declared_reported, declaration_noted, part_declared, region_declared, is_region_name, region_noted, regions_noted, with_regions, regions_made, stored, printed_form, Declaring, AssigningLocal, AssigningPlace, Performing, Returning, Printing}
+use Rattle.body_check.specs.Noting.{with_found, with_fault_if, node_at as standing_node, fault_of}
+use Rattle.body_check.specs.Simple.{place_of, node_of, declared_type, declared_reported, declaration_noted, part_declared, region_declared, region_noted, regions_noted, with_regions, regions_made, stored, printed_form, Declaring, AssigningLocal, AssigningPlace, Performing, Returning, Printing}
 use Rattle.body_check.specs.Walks.{Walk, Verdict, passes, refused, left_scope}
-use Rattle.sound_lemmas.proofs.Bodies.{not_faulty, free_if, free_found, declared_free, regions_free}
+use Rattle.sound_lemmas.proofs.Bodies.{free_if, free_found, declared_free, regions_free}
 use Rattle.sound_lemmas.proofs.Free.{parts_free}
 use Rattle.sound_lemmas.proofs.Known.{type_known}
 use Rattle.sound_bodies.proofs.scope.Growing.{Kept, room_free}
-use Rattle.sound_bodies.proofs.scope.LocalRegions.{regions_are}
 use Rattle.sound_bodies.proofs.statements.Walks.{If, judged_if, after_if, After, Walked, checking_walked, scope_walked}
+use Rattle.sound_means.proofs.Counting.{region_room}
 use Rattle.sound_means.proofs.Expressions.{Meant, typing_meant, PartMeant, part_meant, FieldMeant, field_meant}
 use Rattle.sound_means.proofs.Knows.{Knows, knows_kept, knows_local, knows_part, knows_region}
 use Rattle.sound_means.proofs.Written.{type_here}
@@ -101,37 +100,18 @@ declaring_goes A {node} {is_final} {written} {name} {value} {w} k few fits (Decl
       before = λ ds ss rest. AllMean.a_declaration (declared_means A w.env k written few unreported) (expr_made A w.env k value w.found g t fits d) rest;
     }))
 
-region_room : (env : Env) (named : Named) (node : Node) → fault_of (region_noted env named node) ≡ None → has_room env ≡ true
-region_room env named node h = by (has_room env) (cond (is_region_name env named.name) (with_fault node kind.Duplicate named.place) node) h
-  where
-    by : (b : Bool) (x : Node) → fault_of (cond b x (with_fault x kind.TooLong named.place)) ≡ None → b ≡ true
-    by true x h = refl
-    by false x h = absurd (not_faulty x kind.TooLong named.place h)
-
--- a number before greater ones
-apart_more : (x : ℕ) (rs : List ℕ) → ((n q : ℕ) → n < length rs → x + 1 ≤ slice_index_or rs n q) → AllPairs (λ r q. r ≢ q) rs → AllPairs (λ r q. r ≢ q) (x ∷ rs)
-apart_more x rs later pairs zero zero d l m = absurd (omega (arith, l))
-apart_more x rs later pairs zero (suc j) d l m = λ e. (let b = later j d (omega (arith, m)) in omega (arith, e, b))
-apart_more x rs later pairs (suc i) zero d l m = absurd (omega (arith, l))
-apart_more x rs later pairs (suc i) (suc j) d l m = pairs i j d (omega (arith, l)) (omega (arith, m))
-
--- local regions have numbers of their own
+-- local regions that are declared are as many as their names
 record RegionsGo (A : Around) (env : Env) (names : List Named) : Type 0 where
   knows : Knows (numbered_regions names (regions_made env names) A) (with_regions env names)
-  numbered : AreNumbered names (regions_made env names)
+  many : length (regions_made env names) ≡ length names
 
 regions_go : (A : Around) (env : Env) (node : Node) (names : List Named) → Knows A env → fault_of (regions_noted env node names) ≡ None → RegionsGo A env names
-regions_go A env node [] k free = record { knows = k; numbered = (refl, λ i j d l m. absurd (omega (arith, m))) }
+regions_go A env node [] k free = record { knows = k; many = refl }
 regions_go A env node (named ∷ names) k free =
     let room = region_room env named node (regions_free (region_declared env named.name) (region_noted env named node) names free) in
     let next = knows_region A env named.name room k in
     let rest = regions_go (record A { regions = (named.name, env.declared) ∷ A.regions }) (region_declared env named.name) (region_noted env named node) names next free in
-    let many = regions_are (region_declared env named.name) (region_noted env named node) names next.step free in
-    let number = ap (λ b. (cond b (with_region env named.name) env).declared) room in
-    record {
-      knows = rest.knows;
-      numbered = (ap suc rest.numbered.0, apart_more env.declared (regions_made (region_declared env named.name) names) (λ n q less. (let e = many.each n q less in let a = e.0 in omega (arith, a, number))) rest.numbered.1);
-    }
+    record { knows = rest.knows; many = ap suc rest.many }
 
 -- assignments
 
@@ -323,7 +303,7 @@ mutual
       subst (If (Goes A (tree.statement node.place (tree.local_regions names)))) j
       (judged_if (Goes A (tree.statement node.place (tree.local_regions names))) _ _ _ (λ free.
       let r = regions_go A w.env node names k free in
-      record { after = numbered_regions names (regions_made w.env names) A; knows = r.knows; before = λ ds ss rest. AllMean.new_regions r.numbered rest }))
+      record { after = numbered_regions names (regions_made w.env names) A; knows = r.knows; before = λ ds ss rest. AllMean.new_regions r.many rest }))
   checking_goes {params = params} {around = around} {node = node} {w = w} {v = v} A k targets fits (Checking.of_block {all = all} {u = u} d j) =
       kept_goes A (tree.block all) node w (λ a b h. h) k v
       (subst (If (MeansSo A node (tree.block all))) j
