@@ -10,3 +10,4 @@ pub mod Statements
 pub mod Rows
 pub mod Members
 pub mod Programs
+pub mod Names
