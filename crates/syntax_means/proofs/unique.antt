@@ -7,3 +7,7 @@ pub mod Agreed
 pub mod Expressions
 pub mod Counting
 pub mod Statements
+pub mod Rows
+pub mod Members
+pub mod Programs
+pub mod Names

@@ -1,12 +1,10 @@
 -- Two programs of one tree whose classes and signatures are known to be the same: what names mean in both, and rows and fields.
-use Rattle.std.proofs.Common.{◌≡◌, ◌∙◌, ℕ, ◌+◌, List, Option, Some, option_map, option_and_then, refl, ap, sym, subst}
-use Rattle.std.specs.Prelude.{slice_get}
+use Rattle.std.proofs.Common.{◌≡◌, ◌∙◌, ℕ, ◌+◌, List, Some, ap, sym}
 use Rattle.lang_base.specs.declared.region.Rpl.{Rpl}
 use Rattle.syntax_tree.specs.declared.class.Program.{Program}
-use Rattle.lang_typed.specs.Plain.{PlainProgram, PlainClass, PlainField, PlainMember, PlainParent}
-use Rattle.lang_typed.specs.Scope.{Above, class_at, field_at, member_at, parent_of, row_at}
+use Rattle.lang_typed.specs.Plain.{PlainProgram, PlainClass, PlainMember}
+use Rattle.lang_typed.specs.Scope.{Above, field_at, member_at, parent_of, row_at}
 use Rattle.syntax_means.specs.Declares.{DeclaresField, MeansIn, inherited_fields, method_name}
-use Rattle.syntax_means.proofs.unique.Lists.{both_some}
 use Rattle.syntax_means.proofs.unique.Paths.{SameClasses, means_one}
 
 -- a member stands in the same class in both, over as many region parameters, and gives the same

@@ -1,5 +1,5 @@
 -- The classes that a tree means are one list.
-use Rattle.std.proofs.Common.{◌≡◌, ◌∙◌, ℕ, zero, suc, ◌<◌, List, [], ◌∷◌, ◌++◌, length, map, Option, Some, None, option_map, option_and_then, refl, ap, sym, subst, arith}
+use Rattle.std.proofs.Common.{◌≡◌, ◌∙◌, ℕ, zero, suc, ◌<◌, List, [], ◌++◌, length, map, Option, Some, None, option_map, option_and_then, refl, ap, sym, subst, arith}
 use Rattle.std.proofs.lemmas.List.{length-map}
 use Rattle.std.proofs.lemmas.Option.{slice_get_within}
 use Rattle.std.specs.Option.{option_map_or}
@@ -19,7 +19,7 @@ use Rattle.syntax_means.specs.Means.{ClassMeans, ConstraintMeans, ConstructorMea
 use Rattle.syntax_means.specs.Paths.{Around}
 use Rattle.syntax_means.specs.Unambiguous.{IsUnambiguous}
 use Rattle.syntax_means.proofs.unique.Apart.{IsApart}
-use Rattle.syntax_means.proofs.unique.Lists.{some_same, both_some, there, zip_one, same_elements, same_first}
+use Rattle.syntax_means.proofs.unique.Lists.{there, zip_one, same_elements, same_first}
 use Rattle.syntax_means.proofs.unique.Paths.{SameClasses, OneNumber, path_one, path_or_root_one, class_one, type_one}
 
 same_class : (k l : PlainClass) → k.params ≡ l.params → k.given ≡ l.given → k.parent ≡ l.parent → k.fields ≡ l.fields → k.rows ≡ l.rows → k.constructor ≡ l.constructor → k ≡ l

@@ -1,5 +1,5 @@
 -- An expression means one typed expression, in two programs that agree, where the judgement fixes the types.
-use Rattle.std.proofs.Common.{◌≡◌, ◌∙◌, ℕ, Bool, List, [], ◌∷◌, ◌++◌, is_some, Option, Some, None, refl, ap, sym, subst}
+use Rattle.std.proofs.Common.{◌≡◌, ◌∙◌, ℕ, Bool, List, [], ◌∷◌, ◌++◌, Some, refl, ap, sym, subst}
 use Rattle.lang_base.specs.declared.place.Place.{Place}
 use Rattle.lang_base.specs.declared.region.Rpl.{Rpl}
 use Rattle.lang_base.specs.Types.{PlainType, type_with, type_at}
@@ -15,7 +15,7 @@ use Rattle.lang_typed.specs.Typing.{Has, Fit, Holds, index_elem}
 use Rattle.syntax_means.specs.Bodies.{ExprMeans, ExprsMean, FieldIn}
 use Rattle.syntax_means.specs.Declares.{method_name}
 use Rattle.syntax_means.specs.Paths.{Around, ArgsMean}
-use Rattle.syntax_means.proofs.unique.Agreed.{Agreed, SameSignature, above_one, field_same, row_one, row_same, slot_one}
+use Rattle.syntax_means.proofs.unique.Agreed.{Agreed, above_one, field_same, row_one, row_same, slot_one}
 use Rattle.syntax_means.proofs.unique.Lists.{both_some}
 use Rattle.syntax_means.proofs.unique.Paths.{OneNumber, args_one, class_one, form_one, path_or_root_one}
 use Rattle.syntax_means.proofs.unique.Scopes.{ScopesAlike, held_one, held_no_part, part_not_held, part_one, element_same}

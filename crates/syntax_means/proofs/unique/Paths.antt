@@ -1,6 +1,6 @@
 -- What region paths, region arguments and types mean is one thing, in two programs whose classes have the same superclasses and as
 -- many region parameters.
-use Rattle.std.proofs.Common.{◌≡◌, ◌∙◌, ℕ, Bool, List, [], ◌∷◌, ◌++◌, is_some, map, Option, Some, None, option_map, refl, ap, sym, subst}
+use Rattle.std.proofs.Common.{◌≡◌, ◌∙◌, ℕ, Bool, List, [], ◌∷◌, ◌++◌, is_some, map, Option, Some, option_map, refl, ap, sym, subst}
 use Rattle.std.specs.Prelude.{slice_get}
 use Rattle.lang_base.specs.declared.elems.Elem.{Elem}
 use Rattle.lang_base.specs.declared.elems.Elem.TheVariants.{Name, Local}
@@ -10,7 +10,6 @@ use Rattle.lang_base.specs.declared.region.Head.TheVariants.{Root, Param}
 use Rattle.lang_base.specs.declared.region.Rpl.{Rpl}
 use Rattle.lang_base.specs.Regions.{following}
 use Rattle.lang_base.specs.Types.{PlainType, array}
-use Rattle.lang_base.specs.Types.{PlainType as ty}
 use Rattle.syntax_tree.specs.declared.class.Program.{Program}
 use Rattle.syntax_tree.specs.declared.region.BaseTree.{BaseTree}
 use Rattle.syntax_tree.specs.declared.region.ElemTree.{ElemTree}

@@ -1,5 +1,5 @@
 -- Scopes that are alike but for what branches copy: what can be read in both has one type, and constants and parts are the same.
-use Rattle.std.proofs.Common.{◌≡◌, ◌∙◌, ◌⊎◌, ℕ, ◌==◌, Bool, true, false, cond, List, inl, inr, Option, Some, None, option_map, refl, ap, sym, subst}
+use Rattle.std.proofs.Common.{◌≡◌, ◌∙◌, ℕ, ◌==◌, Bool, true, false, cond, List, inl, inr, Option, Some, None, option_map, refl, ap, sym, subst}
 use Rattle.std.specs.List.{list_any}
 use Rattle.lang_base.specs.declared.region.Rpl.{Rpl}
 use Rattle.lang_base.specs.Types.{PlainType, int}

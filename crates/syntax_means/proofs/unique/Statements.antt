@@ -1,16 +1,14 @@
 -- The statements of a body mean statements that are alike, in two programs that agree, where both pass and are counted alike.
-use Rattle.std.proofs.Common.{◌≡◌, ◌∙◌, ℕ, suc, ◌+◌, ◌==◌, ◌||◌, Bool, true, false, List, [], ◌∷◌, ◌++◌, length, Some, refl, ap, sym, subst}
+use Rattle.std.proofs.Common.{◌≡◌, ◌∙◌, ℕ, ◌+◌, ◌==◌, ◌||◌, Bool, true, false, List, [], ◌∷◌, ◌++◌, length, Some, refl, ap, sym, subst}
 use Rattle.std.proofs.lemmas.Bool.{eqb-true}
 use Rattle.std.proofs.lemmas.List.Elements.{All-head, All-tail}
 use Rattle.std.proofs.lemmas.List.Folds.{list_any-append}
 use Rattle.std.specs.List.{list_any}
 use Rattle.std.specs.Prelude.{All}
-use Rattle.lang_base.specs.declared.effect.Effect.{Effect}
 use Rattle.lang_base.specs.declared.place.Place.{Place}
 use Rattle.lang_base.specs.declared.region.Rpl.{Rpl}
 use Rattle.lang_base.specs.Types.{PlainType, int}
 use Rattle.lang_base.specs.Types.{PlainType as ty}
-use Rattle.syntax_tree.specs.declared.class.Program.{Program}
 use Rattle.syntax_tree.specs.declared.region.Named.{Named}
 use Rattle.syntax_tree.specs.declared.region.TypeTree.{TypeTree}
 use Rattle.syntax_tree.specs.Plain.{PlainExpr, PlainStmt, PlainStmts}
@@ -19,7 +17,7 @@ use Rattle.lang_typed.specs.declared.stmt.Forking.{Forking}
 use Rattle.lang_typed.specs.Effects.{Own}
 use Rattle.lang_typed.specs.Plain.{PlainProgram, TypedExpr, type_of, Source, of_array, of_part, TypedStmt, statement, TypedStmts, no_stmts, more_stmts, TypedBranches, no_branches, more_branches}
 use Rattle.lang_typed.specs.Plain.{StmtForm as form}
-use Rattle.lang_typed.specs.Scope.{Scope, variable, constant, part, reserved, with_local, with_regions, in_atomic_block, in_branch, in_loop_branch}
+use Rattle.lang_typed.specs.Scope.{Scope, constant, part, reserved, with_local, with_regions, in_atomic_block, in_branch, in_loop_branch}
 use Rattle.lang_typed.specs.Statements.{AllPass, BranchesPass, Cuts, IsVariable, Passes, all_copies, declared_as, with_part}
 use Rattle.lang_typed.specs.Typing.{Has}
 use Rattle.syntax_means.specs.Bodies.{AllMean, BranchesMean, ExprMeans, PartMeans, SourceMeans, StmtMeans}
@@ -28,7 +26,7 @@ use Rattle.syntax_means.specs.Numbered.{given_in, given_in_all, given_in_branche
 use Rattle.syntax_means.specs.Paths.{Around}
 use Rattle.syntax_means.proofs.Alike.{StmtAlike, StmtsAlike, BranchesAlike}
 use Rattle.syntax_means.proofs.unique.Agreed.{Agreed}
-use Rattle.syntax_means.proofs.unique.Counting.{Counted, CountedAll, CountedBranches, CountedStmt, alone, declared, goes_on, in_else, in_first, in_more_branches, in_one_branch, in_rest, in_then, part_declared, regions_declared, region_after, same_numbers, slot_after}
+use Rattle.syntax_means.proofs.unique.Counting.{Counted, CountedAll, CountedBranches, CountedStmt, alone, declared, goes_on, in_else, in_first, in_more_branches, in_one_branch, in_rest, in_then, part_declared, regions_declared, same_numbers}
 use Rattle.syntax_means.proofs.unique.Expressions.{expr_one, no_held_part, no_part_held, slot_same}
 use Rattle.syntax_means.proofs.unique.Lists.{both_some}
 use Rattle.syntax_means.proofs.unique.Paths.{OneNumber, type_one}
