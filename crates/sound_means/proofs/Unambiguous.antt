@@ -468,6 +468,12 @@ module _ (program : Program) (table : Table) (has : HasRows program table)
         both_once (own_params class) (param_names own.method.params.list) p q name f.params m.params
         (subst (λ names. slice_get names p ≡ Some name) around h) (subst (λ names. slice_get names q ≡ Some name) around k)
 
+    one_class_param : (c p q name : ℕ) (class : Class) → slice_get classes c ≡ Some class → slice_get (params_of class.params) p ≡ Some name
+        → slice_get (params_of class.params) q ≡ Some name → p ≡ q
+    one_class_param c p q name class e h k =
+        let names = sym (params_are class.params.list) in
+        once [] (own_params class) p q name (free c class e).params (subst (λ ns. slice_get ns p ≡ Some name) names h) (subst (λ ns. slice_get ns q ≡ Some name) names k)
+
     pub unambiguous : (P : PlainProgram) → IsUnambiguous program P
     unambiguous P =
         record {
@@ -477,4 +483,5 @@ module _ (program : Program) (table : Table) (has : HasRows program table)
           methods = one_method;
           constructors = one_constructor;
           params = one_param P;
+          class_params = one_class_param;
         }
