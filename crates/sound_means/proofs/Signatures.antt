@@ -1,5 +1,5 @@
 -- What the parts of a signature say without faults is what their trees mean.
-use Rattle.std.proofs.Common.{◌≡◌, ◌∙◌, ◌⊎◌, ℕ, suc, ◌+◌, false, List, [], ◌∷◌, ◌++◌, All, map, flat_map, Contains, ⊎_elim, Option, None, Some, option_map, option_and_then, refl, sym, ap, subst}
+use Rattle.std.proofs.Common.{◌≡◌, ◌∙◌, ℕ, suc, ◌+◌, false, List, [], ◌∷◌, ◌++◌, All, map, flat_map, ⊎_elim, Option, None, Some, option_map, option_and_then, refl, sym, ap, subst}
 use Rattle.std.proofs.lemmas.List.Elements.{All-head, All-tail, Contains-append_cases, Contains-append_left, Contains-append_right}
 use Rattle.std.specs.List.{AllZip, cons_option}
 use Rattle.std.specs.Prelude.{slice_get, unwrap_or}
