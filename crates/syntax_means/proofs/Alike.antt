@@ -1,6 +1,6 @@
 -- Programs that are the same but for what a tree leaves open: the effects by which blocks are entered, those of summaries, and
 -- what a branch copies back.
-use Rattle.std.specs.Prelude.{◌≡◌, ℕ, List, length, slice_get, Some}
+use Rattle.std.specs.Prelude.{◌≡◌, ℕ, List, length, Some}
 use Rattle.lang_base.specs.declared.effect.Effect.{Effect}
 use Rattle.lang_base.specs.declared.place.Place.{Place}
 use Rattle.lang_typed.specs.declared.stmt.Forking.{Forking}

@@ -1,6 +1,5 @@
 -- A text has one tree.
-use Rattle.std.proofs.Common.{◌≡◌, ℕ, List, refl, sym, ap, ◌∙◌, subst}
-use Rattle.syntax_tokens.specs.declared.terminal.Placed.{Placed}
+use Rattle.std.proofs.Common.{◌≡◌, ℕ, List, sym, ap, ◌∙◌, subst}
 use Rattle.syntax_tokens.specs.Cutting.{OneCutting}
 use Rattle.syntax_tokens.specs.Says.{MeanAll, distinct_names}
 use Rattle.syntax_tree.specs.declared.class.Class.{Class}

@@ -1,5 +1,5 @@
 -- What passes leaves each local alone that isn't a variable in its scope.
-use Rattle.std.proofs.Common.{◌≡◌, ℕ, zero, suc, ◌+◌, ◌-◌, ℤ, pos, negsuc, Bool, true, false, cond, List, [], ◌∷◌, ◌++◌, map, length, reverse, Option, Some, None}
+use Rattle.std.proofs.Common.{◌≡◌, ℕ, zero, suc, ◌-◌, ℤ, pos, negsuc, Bool, true, false, cond, List, [], ◌∷◌, ◌++◌, map, length, reverse, Option, Some, None}
 use Rattle.std.proofs.Common.{refl, sym, ap, ◌∙◌, subst, get_or-set_other}
 use Rattle.std.specs.Prelude.{slice_set}
 use Rattle.lang_base.specs.declared.place.Place.{Place}
@@ -8,11 +8,9 @@ use Rattle.lang_base.specs.declared.value.Trap.TheVariants as trap
 use Rattle.lang_base.specs.Types.{PlainType}
 use Rattle.lang_base.specs.Types.{PlainType as ty}
 use Rattle.lang_typed.specs.declared.stmt.Forking.{Forking}
-use Rattle.lang_typed.specs.Plain.{PlainProgram, TypedExpr, typed, TypedExprs, no_exprs, more_exprs, statement}
+use Rattle.lang_typed.specs.Plain.{PlainProgram, TypedExpr, typed, TypedExprs, no_exprs, more_exprs}
 use Rattle.lang_typed.specs.Plain.{ExprForm as form}
 use Rattle.lang_typed.specs.Scope.{Scope, Local, variable, frozen, constant, part, reserved, row_at, member_at, constructor_of, parent_of}
-use Rattle.lang_typed.specs.Statements.{Passes as passes}
-use Rattle.lang_typed.specs.Statements.{AllPass as all}
 use Rattle.lang_meaning.specs.Values.{Value, Region, Object}
 use Rattle.lang_meaning.specs.Actions.{Task, Own as Deed, New, Answer}
 use Rattle.lang_meaning.specs.Core.{Result, Goes_on, Returns, Ret, Traps, Act, Again, Split, on, next_of, and_then, Out, Done, Stopped, Lost}

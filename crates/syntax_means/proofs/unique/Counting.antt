@@ -2,7 +2,7 @@
 use Rattle.std.proofs.Common.{◌≡◌, ◌∙◌, ℕ, suc, ◌+◌, List, [], ◌∷◌, ◌++◌, length, append-nil, refl, ap, sym, subst, arith}
 use Rattle.lang_base.specs.declared.effect.Effect.{Effect}
 use Rattle.lang_typed.specs.declared.stmt.Forking.{Forking}
-use Rattle.lang_typed.specs.Plain.{TypedExpr, Source, TypedStmt, statement, StmtForm, TypedStmts, no_stmts, more_stmts, TypedBranches, more_branches}
+use Rattle.lang_typed.specs.Plain.{TypedExpr, Source, TypedStmt, StmtForm, TypedStmts, no_stmts, more_stmts, TypedBranches, more_branches}
 use Rattle.lang_typed.specs.Plain.{StmtForm as form}
 use Rattle.syntax_means.specs.Numbered.{Counts, given_in, given_in_all, given_in_branches, own_regions, own_slots}
 use Rattle.syntax_means.proofs.Alike.{StmtAlike, StmtsAlike, BranchesAlike}

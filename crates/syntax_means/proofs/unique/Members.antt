@@ -7,7 +7,6 @@ use Rattle.lang_base.specs.Types.{PlainType}
 use Rattle.syntax_tree.specs.declared.class.Class.{Class}
 use Rattle.syntax_tree.specs.declared.class.Formal.{Formal}
 use Rattle.syntax_tree.specs.declared.class.MethodResult.{MethodResult}
-use Rattle.syntax_tree.specs.declared.class.MethodResult.TheVariants as outcome
 use Rattle.syntax_tree.specs.declared.class.Program.{Program}
 use Rattle.syntax_tree.specs.Plain.{plain_stmt, plain_stmts}
 use Rattle.lang_typed.specs.Plain.{PlainProgram, PlainClass, PlainMember}

@@ -15,7 +15,7 @@ use Rattle.syntax_tree.specs.Plain.{PlainExpr, PlainStmt, PlainStmts}
 use Rattle.syntax_tree.specs.Plain as tree
 use Rattle.lang_typed.specs.declared.stmt.Forking.{Forking}
 use Rattle.lang_typed.specs.Effects.{Own}
-use Rattle.lang_typed.specs.Plain.{PlainProgram, TypedExpr, type_of, Source, of_array, of_part, TypedStmt, statement, TypedStmts, no_stmts, more_stmts, TypedBranches, no_branches, more_branches}
+use Rattle.lang_typed.specs.Plain.{PlainProgram, TypedExpr, type_of, Source, of_array, of_part, TypedStmt, statement, TypedStmts, no_stmts, more_stmts, TypedBranches}
 use Rattle.lang_typed.specs.Plain.{StmtForm as form}
 use Rattle.lang_typed.specs.Scope.{Scope, constant, part, reserved, with_local, with_regions, in_atomic_block, in_branch, in_loop_branch}
 use Rattle.lang_typed.specs.Statements.{AllPass, BranchesPass, Cuts, IsVariable, Passes, all_copies, declared_as, with_part}

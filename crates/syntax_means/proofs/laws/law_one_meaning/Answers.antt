@@ -1,5 +1,4 @@
 use Rattle.std.proofs.Common.{sym, subst}
-use Rattle.lang_typed.specs.Plain.{PlainProgram}
 use Rattle.syntax_tree.specs.declared.class.Program.{Program}
 use Rattle.syntax_means.specs.Means.{Means}
 use Rattle.syntax_means.proofs.elided.Programs.{one_elision}
