@@ -65,15 +65,17 @@ class Call:
                 raise Fault(USAGE, f"dpj: `{word}`: the settings of view are {', '.join(SETTINGS)}")
             if names.count(name) > 1:
                 raise Fault(USAGE, f"dpj: {name} is set twice")
-        self.take_output(output)
-
-    def take_output(self, output):
-        """Finds where the page goes, and whether it can go there."""
+        self.is_named = bool(output)
         self.output = output[0] if output else "-" if self.file == "-" else beside(self.file)
+        if self.output == "-" and not self.is_named and os.isatty(1):
+            raise Fault(USAGE, "dpj: the page is long; --output=NAME writes it to a file")
+
+    def see_output(self):
+        """Sees that the page can go where it is to go."""
         if self.output == "-":
             return
-        folder, is_named = os.path.dirname(self.output) or ".", bool(output)
-        way = "" if is_named else "; --output=NAME writes it elsewhere"
+        folder = os.path.dirname(self.output) or "."
+        way = "" if self.is_named else "; --output=NAME writes it elsewhere"
         if not os.path.isdir(folder):
             raise Fault(WRITE_FAULT, f"dpj: {self.output} can't be written: there is no folder {folder}{way}")
         if os.path.isdir(self.output):
@@ -81,8 +83,7 @@ class Call:
         if not os.access(folder, os.W_OK):
             raise Fault(WRITE_FAULT, f"dpj: {self.output} can't be written: nothing may be written in {folder}{way}")
         if os.path.exists(self.output) and not is_page(self.output):
-            raise Fault(WRITE_FAULT, f"dpj: {self.output} is there already, and is no page of view; {'' if is_named else '--output=NAME writes '}"
-                        f"{'it is left alone' if is_named else 'elsewhere'}")
+            raise Fault(WRITE_FAULT, f"dpj: {self.output} is there already, and is no page of view, so it is left alone{way}")
 
 
 def beside(file):
@@ -183,6 +184,7 @@ def many(number, what):
 def answered(call):
     """Answers a call: the bytes, the lines for standard error, and the status."""
     text = text_of(call)
+    call.see_output()
     report, status = asked(call, text)
     if status == REFUSED:
         verdict = Verdict("check", (report, status))

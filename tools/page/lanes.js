@@ -126,7 +126,7 @@ class Lanes {
     }
     line(from, end, "goes");
     if (task.join >= 0) line(end, this.row(task.join), "ended");
-    return parts.join("");
+    return `<g data-task="${task.number}">${parts.join("")}</g>`;
   }
 
   band({ task, first, last, block }) {
