@@ -166,9 +166,10 @@ class Lanes {
 
   drawHeads(at) {
     const each = String(this.run.tasks.length - 1).length * 7 + 4 > this.width ? 5 : 1, parts = [];
+    const own = at.event ? this.run.tasks[at.event.task].lane : -each;
     for (let lane = this.firstLane; lane <= this.lastLane; lane += 1) {
-      const number = this.run.lanes[lane], isOwn = at.event?.task === number;
-      if ((lane % each === 0 && this.x(lane) < this.shown - 6) || isOwn) parts.push(`<text x="${this.x(lane)}" y="17"${isOwn ? ' class="own"' : ""}>${number}</text>`);
+      const number = this.run.lanes[lane], isOwn = lane === own;
+      if ((lane % each === 0 && this.x(lane) < this.shown - 6 && (each === 1 || Math.abs(lane - own) > 2)) || isOwn) parts.push(`<text x="${this.x(lane)}" y="17"${isOwn ? ' class="own"' : ""}>${number}</text>`);
     }
     this.heads.setAttribute("width", this.shown);
     this.heads.innerHTML = parts.join("");

@@ -19,7 +19,9 @@ class Source {
     });
     place.querySelector("ol").replaceChildren(...this.rows);
     place.style.setProperty("--digits", String(this.rows.length).length);
+    this.gutter = 8 * String(this.rows.length).length + 34;
     this.lit = null;
+    new ResizeObserver(() => this.lit !== null && this.reveal(this.rows[this.lit])).observe(place);
   }
 
   // Lights what begins at a place; nothing where there is none.
@@ -37,12 +39,13 @@ class Source {
   }
 
   reveal(row) {
-    const { place } = this, top = row.offsetTop - place.offsetTop, margin = row.offsetHeight * 2;
+    const { place } = this, top = row.offsetTop, margin = row.offsetHeight * 2;
     if (top < place.scrollTop + margin || top + row.offsetHeight > place.scrollTop + place.clientHeight - margin)
       place.scrollTop = top - place.clientHeight / 3;
-    const mark = row.querySelector("mark");
-    if (mark && mark.offsetLeft + 40 > place.scrollLeft + place.clientWidth) place.scrollLeft = mark.offsetLeft - 60;
-    else if (mark && mark.offsetLeft < place.scrollLeft + 60) place.scrollLeft = 0;
+    const mark = row.querySelector("mark"), gutter = this.gutter;
+    if (!mark) return;
+    const right = mark.offsetLeft + mark.offsetWidth + 24 - place.clientWidth;
+    if (right > place.scrollLeft || mark.offsetLeft < place.scrollLeft + gutter) place.scrollLeft = Math.min(right, mark.offsetLeft - gutter - 8);
   }
 }
 
