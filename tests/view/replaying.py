@@ -248,8 +248,9 @@ def events_of(text, start, count):
     lines, at = text[start:].split("\n"), 0
     for number in range(1, count + 1):
         line, at = lines[at], at + 1
-        # Lines ends that were printed.
-        while line.split(" ")[2:3] == ["print"] and not PLACE.search(line):
+        # Line ends that were printed.
+        after = re.compile(r"(result|trap|limit)\b" if number == count else rf"{number + 1} \d+ [a-z_]+( |\Z)")
+        while line.split(" ")[2:3] == ["print"] and not (PLACE.search(line) and after.match(lines[at])):
             line, at = f"{line}\n{lines[at]}", at + 1
         place = PLACE.search(line)
         words = (line[: place.start()] if place else line).split(" ", 3)

@@ -40,6 +40,7 @@ TEXTS = {
     "values": "class Node { Node next; boolean set; } class Main { int main(int n) { Node[] all = new Node[2]; boolean[] b = new boolean[1]; "
     "all[0] = new Node(); all[0].next = all[0]; all[0].set = b[0] || all[1] == null; b[0] = all[0].next.set; print(b[0]); return all.length; } }",
     "quoted": 'class Main { int main(int n) { print("<script>\\"&amp;</script>"); print(""); print("at 3:4"); print(" - at 1:1"); return n; } }',
+    "line ends": 'class Main { int main(int n) { print("a\\nb 1 at 2:3\\n\\n"); print("\\n3"); return n; } }',
     "nested": "class Main { atomic region C; int x in C; void add() writes atomic C { atomic { this.x = this.x + 1; } } int main(int n) "
     "{ foreach_nd (int i in 0, n) { atomic { this.add(); this.add(); } } return this.x; } }",
     "block with branches": "class Main { atomic region C; region A, B; int x in C; int a in A; int b in B; int main(int n) { foreach_nd (int i in 0, 2) "

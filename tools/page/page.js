@@ -71,7 +71,7 @@ class View {
     element("count").textContent = `${this.made} of ${this.order.length}`;
     for (const id of ["first", "back"]) element(id).disabled = this.made === 0;
     for (const id of ["on", "last"]) element(id).disabled = this.made === this.order.length;
-    this.source.light(event?.line, event?.column);
+    this.source.light(event?.line, event?.column, event?.kind);
     this.lanes.soon();
     element("step").replaceChildren(...this.stepParts(event));
     this.showChoice();

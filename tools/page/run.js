@@ -4,6 +4,8 @@
 const FORKS = new Set(["fork", "fork_nd"]);
 const HEADER = /^dpj-events 1\narg (-?\d+) steps (\d+) cells (\d+)\nevents (\d+)\n/;
 const PLACE = / at (\d+):(\d+)$/;
+const EVENT = /^\d+ \d+ [a-z_]+( |$)/m;
+const PRINT = /^\d+ \d+ print /;
 const ACCESS = /^(\S+?)(?: = (\S+))?( out)?$/;
 
 // The number of an event is its index here, from 0; a person sees it from 1.
@@ -26,8 +28,8 @@ class Run {
     while (this.events.length < count) {
       let end = text.indexOf("\n", at);
       let line = text.slice(at, end);
-      // A text that is printed may have line ends in it; its event goes on up to its place.
-      while (end >= 0 && !PLACE.test(line) && / \d+ print/.test(line.slice(0, 30)) && end + 1 < text.length) {
+      // A text that is printed may have line ends in it; its event goes on up to the next one.
+      while (end >= 0 && PRINT.test(line) && !(PLACE.test(line) && this.isNext(text, end + 1, count))) {
         end = text.indexOf("\n", end + 1);
         line = text.slice(at, end);
       }
@@ -36,6 +38,12 @@ class Run {
       this.add(line);
     }
     return at;
+  }
+
+  // Whether an event stands at a place of the text, or behind the last one what the run came to.
+  isNext(text, at, count) {
+    const number = this.events.length + 2, line = text.slice(at, at + 40);
+    return number > count ? /^(result|trap|limit)\b/.test(line) : line.startsWith(`${number} `) && EVENT.test(line);
   }
 
   add(line) {
