@@ -36,7 +36,7 @@ use Rattle.exec_tasks.proofs.Numbers.{get_beside, get_inserted}
 use Rattle.exec_tasks.specs.Scope.{Branches as Scope}
 use Rattle.exec_tasks.specs.declared.task.State.TheVariants.{Running as Runs, Forked}
 use Rattle.runs_theory.proofs.events.Upto.{upto_none}
-use Rattle.runs_simulation.proofs.Lives.{LivesTied, NoForkLast, lives_next}
+use Rattle.runs_simulation.proofs.tied.Lives.{LivesTied, NoForkLast, lives_next}
 use Rattle.std.specs.Prelude.{is_some}
 use Rattle.exec_tasks.specs.Tree.{fresh, only_root, out_of, task_at}
 use Rattle.exec_tasks.specs.declared.task.Task.{Task as Live}
@@ -50,20 +50,20 @@ use Rattle.exec_machine.specs.Replay.{Moment, NextOf, CanBeMade, Opens, LeadsTo,
 use Rattle.exec_machine.specs.Replay.{made as made_so, over as over_so, no_room as no_room_so}
 use Rattle.runs_simulation.specs.Alike.{AnswerAlike, EventAlike, EventsAlike, SightOf}
 use Rattle.runs_simulation.specs.Laws.{AllRecord, EventForEvent, MachinesRecord, Records}
-use Rattle.runs_simulation.proofs.Alikes.{event_later}
-use Rattle.runs_simulation.proofs.Sights.{Sight, each_more, each_none, each_weaker}
-use Rattle.runs_simulation.proofs.Joins.{ForksAreJoined, forks_are_joined}
-use Rattle.runs_simulation.proofs.Ties.{Q, Tied}
-use Rattle.runs_simulation.proofs.Asked.{disciplined}
-use Rattle.runs_simulation.proofs.Trees.{entered_next}
-use Rattle.runs_simulation.proofs.Acting.{RightFor, IsScoped, event_of, Matched, Stepped}
-use Rattle.runs_simulation.proofs.Owns.{FieldsFor, rests, reads_cell, writes_cell, looks_at, makes_object, makes_array, prints, enters, exits}
-use Rattle.runs_simulation.proofs.Forks.{forks_next}
-use Rattle.runs_simulation.proofs.Begins.{begins_branch}
-use Rattle.runs_simulation.proofs.Joinings.{joins_next}
-use Rattle.runs_simulation.proofs.Endings.{EndReported, end_reported, ends_next}
-use Rattle.runs_simulation.proofs.Segments.{Seg, seg_in_order}
-use Rattle.runs_simulation.proofs.Sorted.{seg_whole}
+use Rattle.runs_simulation.proofs.alike.Alikes.{event_later}
+use Rattle.runs_simulation.proofs.alike.Sights.{Sight, each_more, each_none, each_weaker}
+use Rattle.runs_simulation.proofs.events.Joins.{ForksAreJoined, forks_are_joined}
+use Rattle.runs_simulation.proofs.tied.Ties.{Q, Tied}
+use Rattle.runs_simulation.proofs.events.Asked.{disciplined}
+use Rattle.runs_simulation.proofs.tied.Trees.{entered_next}
+use Rattle.runs_simulation.proofs.events.Acting.{RightFor, IsScoped, event_of, Matched, Stepped}
+use Rattle.runs_simulation.proofs.events.Owns.{FieldsFor, rests, reads_cell, writes_cell, looks_at, makes_object, makes_array, prints, enters, exits}
+use Rattle.runs_simulation.proofs.events.Forks.{forks_next}
+use Rattle.runs_simulation.proofs.events.Begins.{begins_branch}
+use Rattle.runs_simulation.proofs.events.Joinings.{joins_next}
+use Rattle.runs_simulation.proofs.events.Endings.{EndReported, end_reported, ends_next}
+use Rattle.runs_simulation.proofs.tied.Segments.{Seg, seg_in_order}
+use Rattle.runs_simulation.proofs.tied.Sorted.{seg_whole}
 use Rattle.runs_theory.specs.Order.{Came as CameOut}
 use Rattle.lang_base.specs.declared.value.Value.{Value as Constant}
 use Rattle.lang_base.specs.declared.value.Value.TheVariants as constant
@@ -78,10 +78,10 @@ use Rattle.exec_frames.specs.Names.{plain_value}
 use Rattle.exec_task.specs.declared.action.Ending.TheVariants as ending
 use Rattle.exec_world.specs.World.{trap_in as machine_trap}
 use Rattle.runs_elision.proofs.Worlds.{Names, ValueLike, int_like, boolean_like, null_like, object_like, EndingLike, returned_like, assigned_like, trapped_like}
-use Rattle.runs_simulation.proofs.Blocks.{blocks_next, entry_allowed}
-use Rattle.runs_simulation.proofs.Inside.{BlocksTied, StandTied, stands_out}
-use Rattle.runs_simulation.proofs.Waiting.{all_noted}
-use Rattle.runs_simulation.proofs.Starting.{fields_for, first_tied, first_sight, main_size}
+use Rattle.runs_simulation.proofs.events.Blocks.{blocks_next, entry_allowed}
+use Rattle.runs_simulation.proofs.tied.Inside.{BlocksTied, StandTied, stands_out}
+use Rattle.runs_simulation.proofs.tied.Waiting.{all_noted}
+use Rattle.runs_simulation.proofs.tied.Starting.{fields_for, first_tied, first_sight, main_size}
 use Rattle.lang_meaning.specs.Reported.{reported, reported_ending}
 
 replicated : {A : Type 0} (n : ℕ) (x : A) → length (replicate n x) ≡ n

@@ -12,7 +12,7 @@ use Rattle.exec_progress.specs.Progress.{CodeMakesProgress}
 use Rattle.exec_world.specs.Ready.{NoneReady}
 use Rattle.exec_machine.specs.Keeping.{HasEnded, most_events}
 use Rattle.runs_simulation.specs.Laws.{MachinesRecord, Records, SomeTaskIsReady}
-use Rattle.runs_simulation.proofs.Lively.{stuck_run}
+use Rattle.runs_simulation.proofs.ready.Lively.{stuck_run}
 use Rattle.runs_sound.proofs.moments.Never.{exits_a_block, forks_few}
 use Rattle.runs_theorem.specs.Guarantee.{MachinesAreNotStuck, MachinesMakeProgress}
 use Rattle.runs_theorem.proofs.Few.{has_few}

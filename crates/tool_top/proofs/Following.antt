@@ -17,10 +17,10 @@ use Rattle.exec_machine.specs.Keeping.{IsReplayed, Played}
 use Rattle.exec_machine.specs.Premise.{CanProgress}
 use Rattle.exec_machine.specs.Replay.{LeadsTo, Moment}
 use Rattle.runs_simulation.specs.Laws.{ReadyTasksAreReady, Records}
-use Rattle.runs_simulation.proofs.Blocks.{some_there}
-use Rattle.runs_simulation.proofs.Ready.{ready_there}
+use Rattle.runs_simulation.proofs.events.Blocks.{some_there}
+use Rattle.runs_simulation.proofs.ready.Ready.{ready_there}
 use Rattle.runs_simulation.proofs.Recorded.{LedTo, led_to, recorded, right}
-use Rattle.runs_simulation.proofs.Waiting.{all_rest}
+use Rattle.runs_simulation.proofs.tied.Waiting.{all_rest}
 use Rattle.exec_run.specs.Replays.{HasFollowed}
 use Rattle.tool_top.specs.Refusing.{CannotGoOn, finished}
 use Rattle.tool_top.specs.Refusing.{not_ready as refused, too_early as ends_early}

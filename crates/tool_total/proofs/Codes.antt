@@ -12,7 +12,7 @@ use Rattle.code_instrs.specs.declared.code.Site.{Site as DeclaredSite}
 use Rattle.code_instrs.specs.declared.code.Site.TheVariants as site
 use Rattle.code_instrs.specs.declared.code.Title.{Title as DeclaredTitle}
 use Rattle.code_instrs.specs.declared.code.Title.TheVariants as title
-use Rattle.runs_simulation.proofs.Sayings.{map_back}
+use Rattle.runs_simulation.proofs.events.Sayings.{map_back}
 
 lines_back : (ls : List Line) → lines_of (map (λ (l : Line). l.instr) ls) (map (λ (l : Line). l.place) ls) ≡ ls
 lines_back [] = refl

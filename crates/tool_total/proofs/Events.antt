@@ -28,7 +28,7 @@ use Rattle.exec_world.specs.declared.event.Event.{Event}
 use Rattle.exec_world.specs.declared.world.World.{World}
 use Rattle.exec_machine.specs.Premise.{GoesOn}
 use Rattle.exec_machine.specs.Replay.{CanBeMade, HasStart, IsStuck, Moment, Moves, NextOf, StartsIn, after, limited, made, over}
-use Rattle.runs_simulation.proofs.NextEvents.{next_event}
+use Rattle.runs_simulation.proofs.events.NextEvents.{next_event}
 
 -- what is not ruled out is so
 abbrev Stable : Type 0 → Type 0

@@ -1,4 +1,4 @@
-use Rattle.runs_simulation.proofs.Lively.{all_ready, few_reasons, no_others, short, some_ready}
+use Rattle.runs_simulation.proofs.ready.Lively.{all_ready, few_reasons, no_others, short, some_ready}
 use Rattle.runs_simulation.proofs.laws.law_lively.Goals as goal
 
 pub returns-clause-ready : goal.returns-clause-ready

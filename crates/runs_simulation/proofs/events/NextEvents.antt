@@ -1,0 +1,119 @@
+-- A ready task of a machine has a next event.
+use Rattle.std.proofs.Common.{◌≡◌, ◌∙◌, ℕ, suc, zero, ◌==◌, if◌then◌else◌, Bool, true, false, map, Some, None, option_map, refl, ap, sym, subst}
+use Rattle.lang_meaning.specs.Actions.{Do, End, Rest}
+use Rattle.lang_meaning.specs.Asking.{most_turns}
+use Rattle.code_instrs.specs.Legs.{Asks, Dead, Halt, Leg, leg, legged}
+use Rattle.code_instrs.specs.Machine.{Ends, Makes, Stand, State, Stuck, Turns, Waits, step}
+use Rattle.code_instrs.specs.Machine.{Goes as GoesTo}
+use Rattle.code_instrs.specs.Plain.{PlainCode}
+use Rattle.exec_task.specs.Halts.{Tells, stands}
+use Rattle.exec_task.specs.Names.{names_of}
+use Rattle.exec_task.specs.declared.action.Action.{Action}
+use Rattle.exec_task.specs.declared.action.Action.TheVariants as action
+use Rattle.exec_world.specs.Ready.{IsReady}
+use Rattle.exec_world.specs.declared.event.Event.{Event}
+use Rattle.exec_machine.specs.Premise.{GoesOn}
+use Rattle.exec_machine.specs.Replay.{Moment, NextOf}
+use Rattle.exec_machine.specs.Running.{Goes, Running, front}
+use Rattle.exec_machine.specs.Wants.{WantsRightly, noted, wanted_after}
+use Rattle.runs_simulation.proofs.events.Sayings.{WaitsRight, said_by, step_right}
+
+-- where a leg ends, with the action that says so
+record Front (C : PlainCode) (k : ℕ) (h : Halt ℕ (ℕ × ℕ)) : Type 0 where
+  turns : ℕ
+  made : ℕ
+  state : State ℕ (ℕ × ℕ)
+  is : front C k turns made state ≡ h
+  action : Action
+  tells : Tells C action h
+
+abbrev Further : PlainCode → ℕ → ℕ → Type 0
+Further C k fuel =
+    (turns made : ℕ) (z : State ℕ (ℕ × ℕ)) (h : Halt ℕ (ℕ × ℕ)) → (turns == most_turns) ≡ false → leg (names_of k) C fuel turns made z ≡ Some h → (h ≡ Dead → ⊥) → Front C k h
+
+same_halt : {A : Type 0} {x y : A} → Some x ≡ Some y → x ≡ y
+same_halt e = cc
+
+module _ (C : PlainCode) (k fuel : ℕ) (more : Further C k fuel) where
+  -- after a turn: the task rests, or goes on
+  turned : (turns made : ℕ) (z : State ℕ (ℕ × ℕ)) (h : Halt ℕ (ℕ × ℕ)) (b : Bool) → (turns == most_turns) ≡ b
+      → (if b then Some (Asks turns made (Do Rest) (λ x. z)) else leg (names_of k) C fuel turns made z) ≡ Some h → (h ≡ Dead → ⊥) → Front C k h
+  turned turns count z h true last runs alive = record {
+    turns = turns;
+    made = count;
+    state = z;
+    is = ap (λ b. if b then Asks turns count (Do Rest) (λ x. z) else stands turns count (step (names_of k) C z)) last ∙ same_halt runs;
+    action = action.Rest;
+    tells = subst (Tells C action.Rest) (same_halt runs) refl;
+  }
+  turned turns count z h false last runs alive = more turns count z h last runs alive
+
+  module _ (turns made : ℕ) (z : State ℕ (ℕ × ℕ)) (h : Halt ℕ (ℕ × ℕ)) (less : (turns == most_turns) ≡ false) (alive : h ≡ Dead → ⊥) where
+    here : (s : Stand ℕ (ℕ × ℕ)) → step (names_of k) C z ≡ s → front C k turns made z ≡ stands turns made s
+    here s e =
+        ap (λ b. if b then Asks turns made (Do Rest) (λ x. z) else stands turns made (step (names_of k) C z)) less ∙ ap (stands turns made) e
+
+    by_stand : (s : Stand ℕ (ℕ × ℕ)) → step (names_of k) C z ≡ s → legged (names_of k) (λ n m t. leg (names_of k) C fuel n m t) turns made s ≡ Some h → Front C k h
+    by_stand (GoesTo t) e runs = more turns made t h less runs alive
+    by_stand (Turns t) e runs = turned (suc turns) made t h (suc turns == most_turns) refl runs alive
+    by_stand (Makes made_so) e runs = turned (suc turns) (suc made) (made_so ((names_of k).made made)) h (suc turns == most_turns) refl runs alive
+    by_stand (Waits a kont) e runs =
+        let said = said_by C a (subst (WaitsRight C) e (step_right (names_of k) C z)) in record {
+          turns = turns;
+          made = made;
+          state = z;
+          is = here (Waits a kont) e ∙ same_halt runs;
+          action = said.0;
+          tells = subst (Tells C said.0) (same_halt runs) said.1;
+        }
+    by_stand (Ends x) e runs =
+        let said = said_by C (End x) tt in record {
+          turns = turns;
+          made = made;
+          state = z;
+          is = here (Ends x) e ∙ same_halt runs;
+          action = said.0;
+          tells = subst (Tells C said.0) (same_halt runs) said.1;
+        }
+    by_stand Stuck e runs = absurd (alive (sym (same_halt runs)))
+
+front_there : (C : PlainCode) (k fuel : ℕ) → Further C k fuel
+front_there C k zero turns count z h less runs alive = absurd (let none : None ≡ Some h = runs in cc)
+front_there C k (suc fuel) turns count z h less runs alive = by_stand C k fuel (front_there C k fuel) turns count z h less alive (step (names_of k) C z) refl runs
+
+wants_rightly : (C : PlainCode) (z : State ℕ (ℕ × ℕ)) (turns : ℕ) (a : Action) → WantsRightly C z turns a (option_map (map noted) (wanted_after C turns z))
+wants_rightly C z turns action.Rest = refl
+wants_rightly C z turns a = tt
+
+first_turn : (0 == most_turns) ≡ false
+unfolding most_turns
+first_turn = refl
+
+-- a ready task has a next event
+pub next_event : (C : PlainCode) (m : Moment) (k : ℕ) → GoesOn C m → m.outcome ≡ None → IsReady m.world k → (e : Event) × NextOf C m k e
+next_event C m k goes unfinished ready = (
+  record { task = k; turns = F.turns; action = F.action; wants = option_map (map noted) (wanted_after C F.turns F.state) },
+  record {
+    unfinished = unfinished;
+    ready = ready;
+    task = live.0;
+    there = live.1;
+    stands = record {
+      state = F.state;
+      made = F.made;
+      leg = subst (λ h. Leg (names_of k) C live.0.made live.0.state h) (sym F.is) G.leg;
+      tells = subst (Tells C F.action) (sym F.is) F.tells;
+      number = refl;
+      wants = wants_rightly C F.state F.turns F.action;
+    };
+  },
+)
+  where
+    live : (t : Running) × (m.tasks k ≡ Some t)
+    live = goes.live k ready
+
+    G : Goes C k live.0
+    G = goes.legs k live.0 live.1
+
+    F : Front C k G.halt
+    F = front_there C k G.leg.fuel 0 live.0.made live.0.state G.halt first_turn G.leg.runs G.alive
