@@ -1,16 +1,13 @@
 -- That the schedule of a machine on compiled code records a run of the source, and that the machine goes on until it has come out.
-use Rattle.std.specs.Prelude.{ℕ, ℤ, pos, ◌≡◌, ◌≤◌, ◌+◌, ◌*◌, ◌^◌, length, List, [], map, Option, Some, None}
-use Rattle.lang_base.specs.declared.outcome.Ending.{Ending as Came}
-use Rattle.lang_base.specs.declared.outcome.Ending.TheVariants as came
+use Rattle.std.specs.Prelude.{ℕ, ℤ, ◌≡◌, ◌≤◌, ◌+◌, ◌*◌, ◌^◌, length, List, [], map, Option, Some, None}
 use Rattle.lang_base.specs.declared.outcome.Outcome.{Outcome as DeclaredOutcome}
 use Rattle.lang_typed.specs.Plain.{PlainProgram}
 use Rattle.lang_typed.specs.Resolved.{Resolved, HasMain}
-use Rattle.lang_meaning.specs.Counts.{number}
 use Rattle.code_instrs.specs.Plain.{plain_code}
 use Rattle.code_instrs.specs.declared.code.Code.{Code}
 use Rattle.code_scheme.specs.Whole.{compiled}
-use Rattle.runs_theory.specs.Actions.{Ending, Program, Returned, Assigned, Trapped}
-use Rattle.runs_theory.specs.Order.{Came as came_out, Limited, Outcome}
+use Rattle.runs_theory.specs.Actions.{Program}
+use Rattle.runs_theory.specs.Order.{Outcome}
 use Rattle.runs_theory.specs.Runs.{Event, Run}
 use Rattle.runs_theory.specs.Schedules.{Finished, Limits, Ran, Ready, Within}
 use Rattle.runs_program.specs.Steps.{stepped}
