@@ -1,0 +1,3 @@
+-- No value or answer of a wrong kind is met.
+pub mod Expressions
+pub mod Uses
