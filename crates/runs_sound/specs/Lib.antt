@@ -1,6 +1,8 @@
 pub mod Accesses
 pub mod Branches
 pub mod Frames
+pub mod KindLaws
+pub mod Kinds
 pub mod Laws
 pub mod RunLaws
 pub mod Runs

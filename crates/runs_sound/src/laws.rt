@@ -1,6 +1,7 @@
 //! The laws of well-typed programs, each the clause of a function that does nothing.
 
 ghost use Rattle.runs_sound.specs.Laws.{BranchesInOrder, BranchesQuiet, CallsEnterWhatTheySee, ExpressionsInOrder, ForkingInOrder, IterationsQuiet, NdBranchesQuiet, NdBranchesSeparate, NdIterationsQuiet, NdIterationsSeparate, RootInOrder, TasksInOrder};
+ghost use Rattle.runs_sound.specs.KindLaws.{BranchesMeetNoWrongKind, ExpressionsMeetNoWrongKind, KindsAreLookedAtAlone, RootMeetsNoWrongKind, TasksMeetNoWrongKind};
 ghost use Rattle.runs_sound.specs.RunLaws.{ConflictsAreGuarded, ConflictsAreLevelled, EntriesAreLet, NamesAreKnownByAnyRule, NdForksAreOutside, RunsAreFree, RunsAreSound};
 
 /// Each expression of a well-typed program is in order. A call enters the class that it sees, which is that of its object's type or one
@@ -17,6 +18,16 @@ pub fn law_statements()
     ensures tasks { TasksInOrder }
     ensures branches { BranchesInOrder }
     ensures root { RootInOrder }
+{}
+
+/// None meets a value or an answer of a wrong kind: the meaning that looks at kinds is in order, whatever is done at a wrong one. That
+/// meaning is the other, where at a wrong kind is done what the other does there.
+pub fn law_kinds()
+    ensures expressions { ExpressionsMeetNoWrongKind }
+    ensures tasks { TasksMeetNoWrongKind }
+    ensures branches { BranchesMeetNoWrongKind }
+    ensures root { RootMeetsNoWrongKind }
+    ensures meaning { KindsAreLookedAtAlone }
 {}
 
 /// Branches and iterations of deterministic constructs whose effects don't clash touch no cell in a way that shows, and those of

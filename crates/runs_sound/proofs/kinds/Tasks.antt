@@ -1,0 +1,39 @@
+-- So are tasks to their end, at each depth of calls, and branches that begin.
+use Rattle.std.proofs.Common.{arith, inl, ℕ, ◌∷◌, sym, subst, Some, None, zero, suc}
+use Rattle.lang_typed.specs.Plain.{PlainProgram}
+use Rattle.lang_typed.specs.WellTyped.{WellTyped}
+use Rattle.lang_meaning.specs.Expressions.{none}
+use Rattle.lang_meaning.specs.Statements.{begun, forks}
+use Rattle.runs_program.specs.Steps.{named_by}
+use Rattle.runs_sound.proofs.work.Entering.{body_good}
+use Rattle.runs_sound.specs.Accesses.{Bounds, InEachEntry}
+use Rattle.runs_sound.specs.Laws.{DeeperInOrder, scope_of, branch_bounds}
+use Rattle.runs_sound.proofs.work.Blocks.{frame_later}
+use Rattle.runs_sound.proofs.kinds.Statements.{strict_statements_in_order}
+use Rattle.runs_theory.specs.Objects.{Name, LocalRegion}
+use Rattle.runs_sound.specs.KindLaws.{BranchesMeetNoWrongKind, RootMeetsNoWrongKind, TasksMeetNoWrongKind}
+use Rattle.runs_sound.specs.Kinds.{Wrong, strict_meaning}
+
+-- at each depth of calls, by recursion on it
+module _ (wrong : Wrong Name LocalRegion) (P : PlainProgram) (wt : WellTyped P) (b : Bounds) where
+  strict_bodies_in_order : (left : ℕ) → DeeperInOrder P wt b (Some (strict_meaning wrong (named_by b.path) P left))
+  unfolding strict_meaning
+  strict_bodies_in_order zero n m there g st f ff w =
+      strict_statements_in_order wrong P wt b None tt (scope_of P wt n m there) m.body (wt.members n m there).effects (wt.members n m there).passes
+      (body_good P wt n m there) g st f ff w
+  strict_bodies_in_order (suc left) n m there g st f ff w =
+      strict_statements_in_order wrong P wt b (Some (strict_meaning wrong (named_by b.path) P left)) (strict_bodies_in_order left) (scope_of P wt n m there) m.body (wt.members n m there).effects
+      (wt.members n m there).passes (body_good P wt n m there) g st f ff w
+
+pub strict_tasks_in_order : TasksMeetNoWrongKind
+unfolding strict_meaning
+strict_tasks_in_order wrong P wt b L ss E p good zero g st f ff w = strict_statements_in_order wrong P wt b None tt L ss E p good g st f ff w
+strict_tasks_in_order wrong P wt b L ss E p good (suc left) g st f ff w =
+    strict_statements_in_order wrong P wt b (Some (strict_meaning wrong (named_by b.path) P left)) (strict_bodies_in_order wrong P wt b left) L ss E p good g st f ff w
+
+pub strict_branches_in_order : BranchesMeetNoWrongKind
+strict_branches_in_order wrong P wt b st forking ts forks u t e h grows none =
+    let fits = forks.branch u.1 t e in
+    strict_tasks_in_order wrong P wt (branch_bounds b st forks u) (forks.scope u.1) t.work.stmts (forks.effects u.1) fits.passes fits.scope t.frame.left
+    (forks.setting u.1) h (begun t.work.takes t.frame) (frame_later grows (omega arith) (fits.fits u.0))
+    (λ a gu l. record { effects = inl l; blocks = subst (λ z. InEachEntry (u ∷ b.path) z a) (sym none) tt })
