@@ -1,7 +1,7 @@
 -- The laws, from the lemmas.
 use Rattle.std.proofs.Common.{◌≡◌, ◌≤◌, ◌+◌, suc, [], ◌∷◌, sym, ap, ◌∙◌, subst, ⊎_elim}
 use Rattle.runs_theory.specs.Actions.{Ending, Program}
-use Rattle.runs_theory.specs.Blocks.{leaving_locals, with_rule}
+use Rattle.runs_theory.specs.Blocks.{Legal, leaving_locals, with_rule}
 use Rattle.runs_theory.specs.Meaning.{Disciplined, Known}
 use Rattle.runs_theory.specs.Objects.{Path, size}
 use Rattle.runs_theory.specs.Order.{Came, Comes, Outcome, ending_of, printed, trapped}
@@ -10,7 +10,7 @@ use Rattle.runs_theory.specs.Schedules.{Limits, Within}
 use Rattle.runs_theory.specs.Standing.{Valid}
 use Rattle.runs_reduction.specs.Gathered.{gather}
 use Rattle.runs_reduction.specs.Guarded.{LevelsGuarded}
-use Rattle.runs_reduction.specs.Laws.{Gathering, IsMoved, Moving, MovingBy, MovingEnded, MovingInside, Rearranges, StillOpen}
+use Rattle.runs_reduction.specs.Laws.{Arranging, Gathering, IsMoved, Moving, MovingBy, MovingEnded, MovingInside, Rearranges, StillOpen}
 use Rattle.runs_reduction.specs.Moved.{move}
 use Rattle.runs_reduction.specs.Guarded.{LevelsGuarded}
 use Rattle.runs_theory.proofs.runs.Written.{legal_faithful, valid_from, legal_from}
@@ -18,14 +18,15 @@ use Rattle.runs_theory.proofs.runs.Standing.{Stands, stands}
 use Rattle.runs_theory.proofs.events.Carry.{begun_in, ended_in}
 use Rattle.runs_theory.proofs.events.Mine.{path_cases, mine_same, mine_other}
 use Rattle.runs_theory.proofs.Theorems.{same_total}
-use Rattle.runs_reduction.proofs.shifts.Insertion.{Rebuilt, grown_back}
+use Rattle.runs_reduction.proofs.shifts.Insertion.{Rebuilt}
 use Rattle.runs_reduction.proofs.gathered.Gather.{gathered}
 use Rattle.runs_reduction.proofs.gathered.AtEntries.{at_entries, together}
 use Rattle.runs_reduction.proofs.moved.Move.{moved}
 use Rattle.runs_reduction.proofs.moved.AfterForks.{after_forks}
-use Rattle.runs_reduction.proofs.shifts.Rules.{valid_rule, disciplined_rule}
+use Rattle.runs_reduction.proofs.shifts.Rules.{valid_rule, disciplined_rule, faithful_rule}
 use Rattle.runs_reduction.proofs.moved.Loose.{loosely}
 use Rattle.runs_reduction.proofs.moved.Ended.{by_weaker}
+use Rattle.runs_reduction.proofs.moved.Together.{moved_together}
 
 same_ended : {R G : Run} → ((p : Path) → mine G p ≡ mine R p) → (p : Path) (x : Ending) → Ended R p x → Ended G p x
 same_ended {R} {G} m p x h = ended_in (subst (λ es. Upto (mine R p) es) (sym (m p)) now) h
@@ -57,16 +58,19 @@ same_within P L R G e m w =
     let c = same_costs P (e ∷ R) (e ∷ G) (λ p. one_more R G e m p) in
     record { steps = subst (λ n. n ≤ L.steps) (sym c.0) w.steps; cells = subst (λ n. n ≤ L.cells) (sym c.1) w.cells }
 
-rearranges : (P : Program) → Disciplined P → (R G : Run) → Rebuilt P R G → Rearranges P R G
-rearranges P D R G g = record {
-  legal = legal_from P D G g.valid;
-  events = λ p. g.same p;
-  costs = λ w. same_total w G R (λ p. g.same p);
-  ended = λ p x h. same_ended (λ q. g.same q) p x h;
-  outcome = λ o c. same_comes P R G (λ p. g.same p) o c;
-  begun = λ p t b. begun_in (grown_back g) b;
-  over = λ L e n w. n (same_within P L R G e (λ p. g.same p) w);
+by_events : (P : Program) (R G : Run) → Legal P G → ((p : Path) → mine G p ≡ mine R p) → Rearranges P R G
+by_events P R G l m = record {
+  legal = l;
+  events = m;
+  costs = λ w. same_total w G R m;
+  ended = λ p x h. same_ended m p x h;
+  outcome = λ o c. same_comes P R G m o c;
+  begun = λ p t b. begun_in (record { each = λ q. subst (λ es. Upto (mine R q) es) (sym (m q)) now }) b;
+  over = λ L e n w. n (same_within P L R G e m w);
 }
+
+rearranges : (P : Program) → Disciplined P → (R G : Run) → Rebuilt P R G → Rearranges P R G
+rearranges P D R G g = by_events P R G (legal_from P D G g.valid) (λ p. g.same p)
 
 pub gathering : Gathering
 gathering P D known R l f =
@@ -95,3 +99,15 @@ moving_ended P weak w D known R x l ended f lets =
     let m = loosely P D known R v f in
     let g = by_weaker P D weak w R (move R) v (x, ended) lets m.rebuilt m.placed in
     record { rearranges = rearranges (with_rule weak P) (disciplined_rule P weak D) R (move R) g; after_forks = m.placed }
+
+pub arranging : Arranging
+arranging P rule D T R l g m =
+    let same = λ (p : Path). m.rearranges.events p ∙ g.rearranges.events p in
+    let loose = faithful_rule (with_rule rule P) P.rule (move (gather R)) (legal_faithful (with_rule rule P) (move (gather R)) m.rearranges.legal) in
+    record {
+      rearranges = by_events (with_rule rule P) R (move (gather R)) m.rearranges.legal same;
+      after_forks = m.after_forks;
+      together = moved_together P D T (legal_faithful P R l)
+          (record { faithful = legal_faithful P (gather R) g.rearranges.legal; same = g.rearranges.events }) (record { faithful = loose; same = same })
+          g.together m.after_forks;
+    }

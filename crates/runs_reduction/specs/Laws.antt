@@ -76,3 +76,15 @@ MovingInside = (P : Program) → Weaker (leaving_locals P.rule) P.rule → Disci
 abbrev pub MovingEnded : Type 0
 MovingEnded = (P : Program) (weak : Rule) → Weaker weak P.rule → Disciplined P → Known (with_rule anything P) → (R : Run) (x : Ending) → Legal P R
     → Ended R [] x → AccessesLevelled P.rule R → EntriesLet weak R → IsMoved (with_rule weak P) R
+
+-- gathered and then moved, R is rearranged, each construct's events stand directly after its fork, branch after branch, and all else as it
+-- stands gathered; and each block's events still stand together
+pub record IsArranged (P : Program) (R : Run) : Type 0 where
+  pub rearranges : Rearranges P R (move (gather R))
+  pub after_forks : AfterForks (gather R) (move (gather R))
+  pub together : Together R (move (gather R))
+
+-- so it is where the run can be gathered, and the gathered run moved to one that is legal by another rule
+abbrev pub Arranging : Type 0
+Arranging = (P : Program) (rule : Rule) → Disciplined P → InTurn P → (R : Run) → Legal P R → IsGathered P R → IsMoved (with_rule rule P) (gather R)
+    → IsArranged (with_rule rule P) R

@@ -1,6 +1,6 @@
 //! The laws of gathering and moving, each the clause of a function that does nothing.
 
-ghost use Rattle.runs_reduction.specs.Laws.{Gathering, OneGathered, StillOpen, Moving, OneMoved, MovingBy, MovingEnded, MovingInside};
+ghost use Rattle.runs_reduction.specs.Laws.{Arranging, Gathering, OneGathered, StillOpen, Moving, OneMoved, MovingBy, MovingEnded, MovingInside};
 ghost use Rattle.runs_reduction.specs.Samples.{BothApply, GatheringNeedsGuarded, GatheringNeedsKnown, MovingEndedApplies, MovingNeedsEnded, MovingNeedsWeaker};
 
 /// Where unordered conflicts are guarded by blocks, each block's events can be gathered at its entry.
@@ -17,6 +17,11 @@ pub fn law_reordering()
     ensures by_weaker { MovingBy }
     ensures inside { MovingInside }
     ensures ended { MovingEnded }
+{}
+
+/// A gathered run can be moved: blocks stand together in it, and constructs after their forks.
+pub fn law_arranging()
+    ensures { Arranging }
 {}
 
 /// The laws say something of some runs, and what they ask is needed.

@@ -38,7 +38,7 @@ put_is Outside e (x ∷ G) = sym (after_here (All_of []) e x G (true_of [] x.pat
 put_is (Inside o E) e G = refl
 
 -- two events at one place of a run are one
-same_place : {x y : Event} {X Y R : Run} → Upto (x ∷ X) R → Upto (y ∷ Y) R → X ≡ Y → x ≡ y
+pub same_place : {x y : Event} {X Y R : Run} → Upto (x ∷ X) R → Upto (y ∷ Y) R → X ≡ Y → x ≡ y
 same_place {x} {y} {X} {Y} hx hy e = go (which hx hy)
   where
     go : Which x X y Y → x ≡ y
@@ -51,16 +51,30 @@ anchor_length {Y} {B} (itself s p q) = let n = ap length p in omega arith
 anchor_length {Y} {B} (entry o E s t) = let n = upto_length t.stands in omega arith
 
 -- a task at or below another
-below_or : (o p : Path) → Under o p → (p ≡ o) ⊎ ((xs : Path) × (u : ℕ × ℕ) × (p ≡ xs ++ u ∷ o))
+pub below_or : (o p : Path) → Under o p → (p ≡ o) ⊎ ((xs : Path) × (u : ℕ × ℕ) × (p ≡ xs ++ u ∷ o))
 below_or o p h = go h.below h.is
   where
     go : (ws : Path) → p ≡ ws ++ o → (p ≡ o) ⊎ ((xs : Path) × (u : ℕ × ℕ) × (p ≡ xs ++ u ∷ o))
     go [] e = inl e
     go (w ∷ ws) e = let r = snoc w ws in inr (r.0, r.1, e ∙ ap (λ l. l ++ o) r.2 ∙ append_assoc r.0 (r.1 ∷ []) o)
 
-above_under : (R : Run) (q o : Path) (E : List Effect) → above R q ≡ Inside o E → (xs : Path) → above R (xs ++ q) ≡ Inside o E
+pub above_under : (R : Run) (q o : Path) (E : List Effect) → above R q ≡ Inside o E → (xs : Path) → above R (xs ++ q) ≡ Inside o E
 above_under R q o E h [] = h
 above_under R q o E h (x ∷ xs) = above_step R x (xs ++ q) ∙ ap (λ s. joined_by s (xs ++ q) (hold (first_of x.0 (mine R (xs ++ q))))) (above_under R q o E h xs)
+
+module _ (P : Program) (D : Disciplined P) where
+  pub anchor_of : {R : Run} (X : Run) (x : Event) → Faithful P R → Upto (x ∷ X) R → (A : Run) × (a : Event) × Anchor X x A a
+  anchor_of X x l h = go (standing X x.path) refl
+    where
+      lx : Faithful P (x ∷ X)
+      lx = faithful_upto P h l
+
+      go : (h : Standing) → standing X x.path ≡ h → (A : Run) × (a : Event) × Anchor X x A a
+      go Outside k = (X, x, itself k refl refl)
+      go (Inside o E) k =
+          let s = stands P D o E lx k in
+          let t = entry_at X o s.depth E s.held in
+          (t.before, t.event, entry o E k (record { stands = t.stands; path = t.path; outside = t.outside; act = t.act; open_since = t.open_since }))
 
 module _ (P : Program) (D : Disciplined P) (known : Known P) where
   -- the latest event of the block of the task that goes on belongs to the block's entry
@@ -138,19 +152,6 @@ module _ (P : Program) (D : Disciplined P) (known : Known P) where
       go : (z.path ≡ o) ⊎ ((xs : Path) × (u : ℕ × ℕ) × (z.path ≡ xs ++ u ∷ o)) → Anchor zr.before z A a
       go (inl k) = by_opener k (cases_order _ _)
       go (inr k) = by_branch k.0 k.1 k.2 (fork_above P D k.0 o k.1 l.1 zr.stands k.2) (cases_order _ _)
-
-  anchor_of : {R : Run} (X : Run) (x : Event) → Faithful P R → Upto (x ∷ X) R → (A : Run) × (a : Event) × Anchor X x A a
-  anchor_of X x l h = go (standing X x.path) refl
-    where
-      lx : Faithful P (x ∷ X)
-      lx = faithful_upto P h l
-
-      go : (h : Standing) → standing X x.path ≡ h → (A : Run) × (a : Event) × Anchor X x A a
-      go Outside k = (X, x, itself k refl refl)
-      go (Inside o E) k =
-          let s = stands P D o E lx k in
-          let t = entry_at X o s.depth E s.held in
-          (t.before, t.event, entry o E k (record { stands = t.stands; path = t.path; outside = t.outside; act = t.act; open_since = t.open_since }))
 
   module _ (R : Run) (e : Event) (l : Faithful P (e ∷ R)) (G0 : Run) (g : Rebuilt P R G0) (rec : AtEntries R G0) where
     abbrev Sooner : (A X B Y : Run) (x a : Event) → Type 0
@@ -287,7 +288,7 @@ module _ (P : Program) (D : Disciplined P) (known : Known P) where
         absurd (cc)
 
     step_in_place : AtEntries (e ∷ R) (put (standing R e.path) e G0)
-    step_in_place = record { each = each; has = λ X x h. anchor_of X x l h }
+    step_in_place = record { each = each; has = λ X x h. anchor_of P D X x l h }
       where
         each : (X Y A B : Run) (x y a b : Event) → Upto (x ∷ X) (e ∷ R) → Upto (y ∷ Y) (e ∷ R) → Anchor X x A a → Anchor Y y B b → Sooner A X B Y x a
             → Earlier (put (standing R e.path) e G0) x.path (count X x.path) y.path (count Y y.path)
