@@ -5,8 +5,9 @@
 
 PROGRAM is the path of the program dpj. For each example and a few texts besides, and for a few seeds, the events are made again on a heap
 (replaying.py): each read and each length has to be what was written, and what was printed and how the run ended what `run` writes with the same
-seed; folded to their tasks they have to be the schedule that `trace` writes. The page has to hold these events and the text. Other calls are on scripts in place of the
-program. In a browser the pages are tried by tests/slow/pages.py. Writes a line for each failure, and then `N passed, N failed`.
+seed; folded to their tasks they have to be the schedule that `trace` writes. The page has to hold these events and the text, and the pages in
+examples/ have to be those that are written now. Other calls are on scripts in place of the program. In a browser the pages are tried by
+tests/slow/pages.py. Writes a line for each failure, and then `N passed, N failed`.
 """
 import concurrent.futures
 import json
@@ -126,6 +127,18 @@ def try_runs(tally, program):
                 tally.sees(*sight)
 
 
+def try_examples(tally, program, room):
+    """The pages in examples/ are those that are written now."""
+    pages = sorted((TOP / "examples").glob("view-*.html"))
+    tally.sees("there are pages", len(pages) >= 3, True)
+    for page in pages:
+        text, = (TOP / "examples").rglob(f"{page.stem.removeprefix('view-')}.dpj")
+        settings = json.loads(DATA.search(page.read_text(encoding="utf-8"))[1])["settings"]
+        status = called(program, text, *settings, f"--output={room / page.name}")[2]
+        words = f"./dpj view {text.relative_to(TOP)} {' '.join(settings)} --output={page.relative_to(TOP)}"
+        tally.sees(f"{page.name}, written anew by {words}", (status, (room / page.name).read_bytes() == page.read_bytes()), (0, True))
+
+
 def try_files(tally, program, room):
     """Where the page goes."""
     text = TEXTS["values"].encode()
@@ -176,7 +189,7 @@ def main(words):
         return 0 if words else 1
     program, tally = pathlib.Path(words[0]).resolve(), Tally()
     try_runs(tally, program)
-    for one in (try_files, try_calls):
+    for one in (try_examples, try_files, try_calls):
         with tempfile.TemporaryDirectory() as room:
             one(tally, program, pathlib.Path(room).resolve())
     print(f"{tally.passed} passed, {tally.failed} failed")
