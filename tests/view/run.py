@@ -50,6 +50,28 @@ TEXTS = {
 REFUSED = "class Main {\n  int main(int n) { return m; }\n}\n"
 LONG = "class Main { int x; int main(int n) { while (0 == 0) { this.x = this.x + 1; } return 0; } }\n"
 
+# A text that is one of events, and changes after which it is none.
+EVENTS = """dpj-events 1
+arg 0 steps 10 cells 10
+events 9
+1 0 new int[2]#1 at 1:1
+2 0 write int[]#1[0] = 5 at 1:2
+3 0 fork 1 at 1:3
+4 0 begin 1 at 1:3
+5 1 read int[]#1[0] = 5 at 1:4
+6 1 look int[]#1 = 2 at 1:5
+7 1 end
+8 0 join at 1:3
+9 0 end 5
+result 5
+"""
+CHANGES = [
+    ("= 5 at 1:4", "= 4 at 1:4"), ("= 5 at 1:4", "= true at 1:4"), ("[0] = 5 at 1:4", "[1] = 5 at 1:4"), ("[0] = 5 at 1:4", "[2] = 0 at 1:4"),
+    ("[0] = 5 at 1:4", "[0] out at 1:4"), ("[0] = 5 at 1:2", "[2] = 5 at 1:2"), ("= 2 at 1:5", "= 3 at 1:5"), ("= 2 at 1:5", "at 1:5"), ("#1 at 1:1", "#2 at 1:1"),
+    ("fork 1", "fork 2"), ("begin 1", "begin 2"), ("5 1 read", "5 2 read"), ("5 1 read", "6 1 read"), ("7 1 end\n8 0 join at 1:3", "7 0 join at 1:3\n8 1 end"),
+    ("result 5", "result 6"), ("result 5", "limit"), ("events 9", "events 8"), ("look int[]#1", "look Main#1"), ("7 1 end", "7 1 end at 1:1"), (" at 1:1", ""),
+]  # fmt: skip
+
 
 class Tally:
     """Counts what is so and what isn't."""
@@ -117,6 +139,17 @@ def try_run(program, name, text, settings, seed):
         (f"{name}, seed {seed}: the text in the page", data.get("source"), text.decode(errors="replace")),
         (f"{name}, seed {seed}: the page asks for nothing", re.findall(r'(?:src|href)="(?!data:)|https?://|@import', DATA.sub("", page)), []),
     ]
+
+
+def try_changes(tally):
+    """What is no run is seen to be none."""
+    tally.sees("a text of events", replayed(EVENTS).output, "result 5\n")
+    for old, new in CHANGES:
+        try:
+            replayed(EVENTS.replace(old, new, 1))
+            tally.sees(f"with {new} in place of {old}", "accepted", "wrong")
+        except Wrong:
+            tally.passed += 1
 
 
 def try_runs(tally, program):
@@ -188,6 +221,7 @@ def main(words):
         print(__doc__.strip())
         return 0 if words else 1
     program, tally = pathlib.Path(words[0]).resolve(), Tally()
+    try_changes(tally)
     try_runs(tally, program)
     for one in (try_examples, try_files, try_calls):
         with tempfile.TemporaryDirectory() as room:
