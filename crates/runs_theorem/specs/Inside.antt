@@ -11,7 +11,8 @@ use Rattle.code_instrs.specs.Plain.{plain_code}
 use Rattle.runs_theorem.specs.Laws.{stepped_inside}
 use Rattle.code_scheme.specs.Whole.{compiled}
 use Rattle.exec_machine.specs.Keeping.{Played, IsReplayed}
-use Rattle.runs_reduction.specs.Laws.{IsMoved}
+use Rattle.runs_reduction.specs.Laws.{IsArranged, IsMoved}
+use Rattle.runs_reduction.specs.Gathered.{gather}
 use Rattle.runs_reduction.specs.Moved.{move}
 use Rattle.runs_theory.specs.Order.{Comes, Outcome}
 use Rattle.runs_theory.specs.Runs.{Run}
@@ -21,7 +22,7 @@ use Rattle.lang_meaning.specs.Reported.{reported}
 
 -- the run of the source that a schedule records, its outcome, and the run with deterministic constructs moved: a legal run, in
 -- which blocks don't wait for each other for effects on local regions alone, with the same events of each task, the same cost and
--- the same outcome
+-- the same outcome. So is the run that is first gathered and then moved, in which each block's events stand together too
 pub record ElidedInside (P : PlainProgram) (L : Limits) (argument : ℤ) (schedule : List ℕ) (o : Declared) : Type 0 where
   pub run : Run
   pub ran : Ran (stepped P argument) L (reverse schedule) run
@@ -30,6 +31,8 @@ pub record ElidedInside (P : PlainProgram) (L : Limits) (argument : ℤ) (schedu
   pub is_reported : o ≡ reported outcome
   pub moved : IsMoved (stepped_inside P argument) run
   pub comes_moved : Comes (stepped_inside P argument) (move run) outcome
+  pub arranged : IsArranged (stepped_inside P argument) run
+  pub comes_arranged : Comes (stepped_inside P argument) (move (gather run)) outcome
 
 -- there is such a run, unless a limit was met
 abbrev pub ComesOutElidedInside : PlainProgram → Limits → ℤ → List ℕ → Declared → Type 0

@@ -7,7 +7,7 @@ use Rattle.runs_elision.specs.Laws.{ComesOutAsElided, IsElided}
 use Rattle.lang_meaning.specs.Actions.{Ending as EndingOf}
 use Rattle.lang_meaning.specs.Elision.{elided}
 use Rattle.lang_meaning.specs.Outcomes.{Came as CameIn}
-use Rattle.runs_reduction.specs.Laws.{IsGathered, IsMoved}
+use Rattle.runs_reduction.specs.Laws.{IsArranged, IsGathered, IsMoved}
 use Rattle.runs_theory.specs.Actions.{Ending, Program}
 use Rattle.runs_theory.specs.Blocks.{Legal, leaving_locals, with_rule}
 use Rattle.runs_theory.specs.Order.{Outcome}
@@ -44,3 +44,8 @@ stepped_inside P arg = with_rule (leaving_locals (stepped P arg).rule) (stepped 
 abbrev pub RunsAreMoved : Type 0
 RunsAreMoved = (P : PlainProgram) → WellTyped P → (arg : ℤ) → FitsSigned w32 arg → (R : Run) (x : Ending) → Legal (stepped P arg) R → Ended R [] x
     → IsMoved (stepped_inside P arg) R
+
+-- and both can be had of it at once: gathered and then moved
+abbrev pub RunsAreArranged : Type 0
+RunsAreArranged = (P : PlainProgram) → WellTyped P → (arg : ℤ) → FitsSigned w32 arg → (R : Run) (x : Ending) → Legal (stepped P arg) R → Ended R [] x
+    → IsArranged (stepped_inside P arg) R

@@ -1,6 +1,6 @@
 //! The laws of whole runs of well-typed programs, each the clause of a function that does nothing but name others.
 
-ghost use Rattle.runs_theorem.specs.Laws.{NoRunCostsMore, RunsAreGathered, RunsAreMoved, RunsComeOutAsElided, SchedulesComeOutAsElided};
+ghost use Rattle.runs_theorem.specs.Laws.{NoRunCostsMore, RunsAreArranged, RunsAreGathered, RunsAreMoved, RunsComeOutAsElided, SchedulesComeOutAsElided};
 ghost use Rattle.runs_theorem.specs.Inside.{MachinesElideInside};
 ghost use Rattle.runs_theorem.specs.Guarantee.{GreedyMachinesElide, MachinesAreNotStuck, MachinesComeOutAsElided, MachinesMakeProgress};
 ghost use Rattle.runs_theorem.specs.Reduced.{MachinesAreReduced};
@@ -8,7 +8,7 @@ ghost use Rattle.runs_theorem.specs.Reduced.{MachinesAreReduced};
 use exec_progress::laws::law_code_progress;
 use runs_elision::laws::{law_determinism, law_greatest, law_names};
 use runs_program::laws::law_steps;
-use runs_reduction::laws::{law_gathering, law_reordering};
+use runs_reduction::laws::{law_arranging, law_gathering, law_reordering};
 use runs_simulation::laws::{law_lively, law_simulation};
 use runs_sound::laws::{law_runs, law_sound};
 
@@ -43,6 +43,16 @@ pub fn law_reordered()
     law_reordering();
 }
 
+/// Both can be had at once: in the gathered run, moved, each atomic block's events still stand together.
+pub fn law_arranged()
+    ensures { RunsAreArranged }
+{
+    law_steps();
+    law_reduction();
+    law_reordered();
+    law_arranging();
+}
+
 /// A run of the code of a well-typed program without nd constructs comes out as the program's serial elision, limits included,
 /// whatever its schedule is.
 pub fn law_guarantee()
@@ -74,14 +84,15 @@ pub fn law_reduced()
 }
 
 /// A run of a well-typed program, nd constructs or not, whose root has ended can be moved so that each deterministic construct's branches
-/// stand directly after its fork, one after another; so can the run that a machine's schedule records, with the same outcome. Blocks then
-/// don't wait for each other for effects on local regions alone.
+/// stand directly after its fork, one after another; so can the run that a machine's schedule records, gathered first or not, with the same
+/// outcome. Blocks then don't wait for each other for effects on local regions alone.
 pub fn law_inside()
     ensures runs { RunsAreMoved }
     ensures machines { MachinesElideInside }
 {
     law_simulation();
     law_reordered();
+    law_arranged();
 }
 
 /// A machine on the code of a well-typed program is never stuck: until its run has come out it has a ready task, whose next event can
