@@ -1,7 +1,7 @@
 -- No value or answer of a wrong kind is met.
 pub mod Expressions
 pub mod Meaning
-pub mod Root
+pub mod Runs
 pub mod Statements
 pub mod Tasks
 pub mod Uses

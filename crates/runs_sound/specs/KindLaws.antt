@@ -1,8 +1,7 @@
 -- A well-typed program meets no value and no answer of a wrong kind, as statements: the meaning that looks at kinds is in order whatever is done at a
 -- wrong one, so also where that is never in order.
-use Rattle.std.specs.Prelude.{◌≡◌, ℕ, ℤ, FitsSigned, List, [], ◌∷◌, Option, Some, slice_get}
+use Rattle.std.specs.Prelude.{◌≡◌, ℕ, ℤ, FitsSigned, List, [], Option}
 use Rattle.std.specs.Int.{w32}
-use Rattle.lang_typed.specs.declared.stmt.Forking.{Forking}
 use Rattle.lang_typed.specs.Plain.{PlainProgram, TypedExpr, TypedStmts}
 use Rattle.lang_typed.specs.Effects.{Own}
 use Rattle.lang_typed.specs.Scope.{Scope}
@@ -10,18 +9,18 @@ use Rattle.lang_typed.specs.Statements.{AllPass}
 use Rattle.lang_typed.specs.Typing.{Has}
 use Rattle.lang_typed.specs.WellTyped.{WellTyped}
 use Rattle.lang_meaning.specs.Asking.{ask}
-use Rattle.lang_meaning.specs.Elision.{root_task}
-use Rattle.runs_theory.specs.Actions.{Answer, Task}
+use Rattle.runs_theory.specs.Actions.{Answer, Rule, Task}
 use Rattle.runs_theory.specs.Objects.{Path, Name, LocalRegion}
-use Rattle.runs_program.specs.Steps.{named_by, first_name}
-use Rattle.runs_sound.specs.Settings.{Setting, class_setting}
-use Rattle.runs_sound.specs.Shapes.{Grows}
+use Rattle.runs_theory.specs.Blocks.{Legal, with_rule}
+use Rattle.runs_theory.specs.Runs.{Begun, Run}
+use Rattle.runs_program.specs.Steps.{named_by, stepped}
+use Rattle.runs_sound.specs.Settings.{Setting}
 use Rattle.runs_sound.specs.Accesses.{Bounds, Within}
 use Rattle.runs_sound.specs.Frames.{Frame, State, FrameFits}
 use Rattle.runs_sound.specs.Scopes.{GoodScope}
-use Rattle.runs_sound.specs.Branches.{Forks}
 use Rattle.runs_sound.specs.Work.{InOrder}
-use Rattle.runs_sound.specs.Laws.{Deeper, Yields, Leaves, DeeperInOrder, branch_bounds, start, main_scope, main_bounds}
+use Rattle.runs_sound.specs.Laws.{Deeper, Yields, Leaves, DeeperInOrder, main_bounds}
+use Rattle.runs_sound.specs.Runs.{KeepsTo}
 use Rattle.runs_sound.specs.Kinds.{Wrong, strict_expr, strict_meaning, strict_does, strict_ask}
 
 -- an expression, where the bodies that it enters are in order
@@ -37,18 +36,11 @@ TasksMeetNoWrongKind = (wrong : Wrong Name LocalRegion) (P : PlainProgram) (wt :
     (L : Scope) (ss : TypedStmts) (E : List Own) → AllPass P L ss E → GoodScope L → (left : ℕ) (g : Setting) (st : State) (f : Frame) →
     FrameFits P b.path st g L f → Within b st.entries g E → InOrder P b (Leaves P b L g ss st) st (strict_meaning wrong (named_by b.path) P left ss f)
 
--- so each branch that was in order at its fork, whenever it begins
-abbrev pub BranchesMeetNoWrongKind : Type 0
-BranchesMeetNoWrongKind = (wrong : Wrong Name LocalRegion) (P : PlainProgram) (wt : WellTyped P) → (b : Bounds) (st : State) (forking : Forking) (ts : List Task) (forks : Forks P b st forking ts) →
-    (u : ℕ × ℕ) (t : Task) → slice_get ts u.1 ≡ Some t → (h : State) → Grows st.shapes h.shapes → h.entries ≡ [] →
-    InOrder P (branch_bounds b st forks u) (Leaves P (branch_bounds b st forks u) (forks.scope u.1) (forks.setting u.1) t.work.stmts h) h
-    (strict_does wrong (named_by (u ∷ b.path)) P t)
-
--- and the root, from the start
-abbrev pub RootMeetsNoWrongKind : Type 0
-RootMeetsNoWrongKind = (wrong : Wrong Name LocalRegion) (P : PlainProgram) (wt : WellTyped P) (arg : ℤ) → FitsSigned w32 arg →
-    InOrder P (main_bounds P wt) (Leaves P (main_bounds P wt) (main_scope P wt) (class_setting []) wt.main.member.body (start P)) (start P)
-    (strict_does wrong (named_by []) P (root_task (named_by []) P first_name arg))
+-- and each task of a run that is legal by any rule of open blocks, from what has been made there, within what it keeps to
+abbrev pub RunsMeetNoWrongKind : Type 0
+RunsMeetNoWrongKind = (wrong : Wrong Name LocalRegion) (P : PlainProgram) (wt : WellTyped P) (arg : ℤ) → FitsSigned w32 arg → (rule : Rule) (R : Run) →
+    Legal (with_rule rule (stepped P arg)) R → (keeps : KeepsTo P (stepped P arg) (main_bounds P wt) R) (p : Path) (t : Task) → Begun (stepped P arg) R p t →
+    InOrder P (keeps.bounds p) (λ h r. Unit {0}) (record { shapes = keeps.shapes; made = 0; entries = [] }) (strict_does wrong (named_by p) P t)
 
 -- where at a wrong kind is done what the meaning does there, it is the meaning
 abbrev pub KindsAreLookedAtAlone : Type 0

@@ -1,7 +1,7 @@
 //! The laws of well-typed programs, each the clause of a function that does nothing.
 
 ghost use Rattle.runs_sound.specs.Laws.{BranchesInOrder, BranchesQuiet, CallsEnterWhatTheySee, ExpressionsInOrder, ForkingInOrder, IterationsQuiet, NdBranchesQuiet, NdBranchesSeparate, NdIterationsQuiet, NdIterationsSeparate, RootInOrder, TasksInOrder};
-ghost use Rattle.runs_sound.specs.KindLaws.{BranchesMeetNoWrongKind, ExpressionsMeetNoWrongKind, KindsAreLookedAtAlone, RootMeetsNoWrongKind, TasksMeetNoWrongKind};
+ghost use Rattle.runs_sound.specs.KindLaws.{ExpressionsMeetNoWrongKind, KindsAreLookedAtAlone, RunsMeetNoWrongKind, TasksMeetNoWrongKind};
 ghost use Rattle.runs_sound.specs.RunLaws.{ConflictsAreGuarded, ConflictsAreLevelled, EntriesAreLet, NamesAreKnownByAnyRule, NdForksAreOutside, RunsAreFree, RunsAreSound};
 
 /// Each expression of a well-typed program is in order. A call enters the class that it sees, which is that of its object's type or one
@@ -25,8 +25,7 @@ pub fn law_statements()
 pub fn law_kinds()
     ensures expressions { ExpressionsMeetNoWrongKind }
     ensures tasks { TasksMeetNoWrongKind }
-    ensures branches { BranchesMeetNoWrongKind }
-    ensures root { RootMeetsNoWrongKind }
+    ensures runs { RunsMeetNoWrongKind }
     ensures meaning { KindsAreLookedAtAlone }
 {}
 

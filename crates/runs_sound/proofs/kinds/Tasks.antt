@@ -1,4 +1,4 @@
--- So are tasks to their end, at each depth of calls, and branches that begin.
+-- So are tasks to their end, at each depth of calls.
 use Rattle.std.proofs.Common.{arith, inl, ℕ, ◌∷◌, sym, subst, Some, None, zero, suc}
 use Rattle.lang_typed.specs.Plain.{PlainProgram}
 use Rattle.lang_typed.specs.WellTyped.{WellTyped}
@@ -11,7 +11,7 @@ use Rattle.runs_sound.specs.Laws.{DeeperInOrder, scope_of, branch_bounds}
 use Rattle.runs_sound.proofs.work.Blocks.{frame_later}
 use Rattle.runs_sound.proofs.kinds.Statements.{strict_statements_in_order}
 use Rattle.runs_theory.specs.Objects.{Name, LocalRegion}
-use Rattle.runs_sound.specs.KindLaws.{BranchesMeetNoWrongKind, RootMeetsNoWrongKind, TasksMeetNoWrongKind}
+use Rattle.runs_sound.specs.KindLaws.{TasksMeetNoWrongKind}
 use Rattle.runs_sound.specs.Kinds.{Wrong, strict_meaning}
 
 -- at each depth of calls, by recursion on it
@@ -30,10 +30,3 @@ unfolding strict_meaning
 strict_tasks_in_order wrong P wt b L ss E p good zero g st f ff w = strict_statements_in_order wrong P wt b None tt L ss E p good g st f ff w
 strict_tasks_in_order wrong P wt b L ss E p good (suc left) g st f ff w =
     strict_statements_in_order wrong P wt b (Some (strict_meaning wrong (named_by b.path) P left)) (strict_bodies_in_order wrong P wt b left) L ss E p good g st f ff w
-
-pub strict_branches_in_order : BranchesMeetNoWrongKind
-strict_branches_in_order wrong P wt b st forking ts forks u t e h grows none =
-    let fits = forks.branch u.1 t e in
-    strict_tasks_in_order wrong P wt (branch_bounds b st forks u) (forks.scope u.1) t.work.stmts (forks.effects u.1) fits.passes fits.scope t.frame.left
-    (forks.setting u.1) h (begun t.work.takes t.frame) (frame_later grows (omega arith) (fits.fits u.0))
-    (λ a gu l. record { effects = inl l; blocks = subst (λ z. InEachEntry (u ∷ b.path) z a) (sym none) tt })
