@@ -5,3 +5,4 @@ pub mod Reducing
 pub mod Few
 pub mod Progress
 pub mod Inside
+pub mod Readiness

@@ -3,6 +3,7 @@
 ghost use Rattle.runs_theorem.specs.Laws.{NoRunCostsMore, RunsAreArranged, RunsAreGathered, RunsAreMoved, RunsComeOutAsElided, SchedulesComeOutAsElided};
 ghost use Rattle.runs_theorem.specs.Inside.{MachinesElideInside};
 ghost use Rattle.runs_theorem.specs.Guarantee.{GreedyMachinesElide, MachinesAreNotStuck, MachinesComeOutAsElided, MachinesMakeProgress};
+ghost use Rattle.runs_theorem.specs.Readiness.{MachinesAreReadyAsTheirRuns};
 ghost use Rattle.runs_theorem.specs.Reduced.{MachinesAreReduced};
 
 use exec_progress::laws::law_code_progress;
@@ -93,6 +94,15 @@ pub fn law_inside()
     law_simulation();
     law_reordered();
     law_arranged();
+}
+
+/// A machine on the code of any resolved program with a `main` is ready for exactly the tasks that are ready in the run that its schedule
+/// records: so rounds are of the tasks that are ready in the run of the source.
+pub fn law_readiness()
+    ensures { MachinesAreReadyAsTheirRuns }
+{
+    law_simulation();
+    law_lively();
 }
 
 /// A machine on the code of a well-typed program is never stuck: until its run has come out it has a ready task, whose next event can
