@@ -1,3 +1,4 @@
 -- Closed samples.
+pub mod Arranged
 pub mod Samples
 pub mod Tests

@@ -4,7 +4,7 @@ use Rattle.runs_theory.specs.Actions.{Ending, Program}
 use Rattle.runs_theory.specs.Runs.{Ended, Event, Run, Upto}
 use Rattle.runs_theory.specs.Blocks.{Legal, leaving_locals, with_rule}
 use Rattle.runs_theory.specs.Order.{Conflict, Unordered}
-use Rattle.runs_theory.specs.Meaning.{Disciplined, Known}
+use Rattle.runs_theory.specs.Meaning.{Disciplined, InTurn, Known}
 use Rattle.runs_reduction.specs.Gathered.{gather}
 use Rattle.runs_reduction.specs.Moved.{inner, move}
 use Rattle.runs_reduction.specs.Guarded.{AccessesLevelled, ConflictsGuarded, EntriesLet, LevelsGuarded, anything}
@@ -52,3 +52,8 @@ MovingEndedApplies = (P : Program) × Disciplined P × Known (with_rule anything
 abbrev pub MovingNeedsEnded : Type 0
 MovingNeedsEnded = (P : Program) × Disciplined P × Known (with_rule anything P) × (R : Run) × Legal P R × AccessesLevelled P.rule R × EntriesLet P.rule R
     × (Legal P (move R) → ⊥)
+
+-- a run that is gathered and moved may be another than the gathered run, and than the moved one
+abbrev pub ArrangingApplies : Type 0
+ArrangingApplies = (P : Program) × Disciplined P × InTurn P × Known P × (R : Run) × Legal P R × ConflictsGuarded P.rule R × LevelsGuarded P.rule (gather R)
+    × (move (gather R) ≡ gather R → ⊥) × (move (gather R) ≡ move R → ⊥)

@@ -1,7 +1,7 @@
 //! The laws of gathering and moving, each the clause of a function that does nothing.
 
 ghost use Rattle.runs_reduction.specs.Laws.{Arranging, Gathering, OneGathered, StillOpen, Moving, OneMoved, MovingBy, MovingEnded, MovingInside};
-ghost use Rattle.runs_reduction.specs.Samples.{BothApply, GatheringNeedsGuarded, GatheringNeedsKnown, MovingEndedApplies, MovingNeedsEnded, MovingNeedsWeaker};
+ghost use Rattle.runs_reduction.specs.Samples.{ArrangingApplies, BothApply, GatheringNeedsGuarded, GatheringNeedsKnown, MovingEndedApplies, MovingNeedsEnded, MovingNeedsWeaker};
 
 /// Where unordered conflicts are guarded by blocks, each block's events can be gathered at its entry.
 pub fn law_gathering()
@@ -32,4 +32,5 @@ pub fn law_samples()
     ensures weaker { MovingNeedsWeaker }
     ensures ended { MovingEndedApplies }
     ensures unended { MovingNeedsEnded }
+    ensures arranged { ArrangingApplies }
 {}

@@ -1,17 +1,12 @@
 -- How a machine's run comes out, by the source alone.
-use Rattle.std.specs.Prelude.{ℕ, ℤ, pos, ◌≡◌, ◌≤◌, FitsSigned, false, List, [], All, Some, None}
+use Rattle.std.specs.Prelude.{ℕ, ℤ, ◌≡◌, ◌≤◌, FitsSigned, false, List, [], All, Some, None}
 use Rattle.std.specs.Int.{w32}
-use Rattle.lang_base.specs.declared.outcome.Ending.{Ending as Came}
-use Rattle.lang_base.specs.declared.outcome.Ending.TheVariants as came
 use Rattle.lang_base.specs.declared.outcome.Limits.{Limits}
 use Rattle.lang_base.specs.declared.outcome.Outcome.{Outcome}
 use Rattle.lang_typed.specs.Plain.{PlainProgram}
 use Rattle.lang_typed.specs.Resolved.{Resolved, HasMain}
 use Rattle.lang_typed.specs.WellTyped.{WellTyped}
-use Rattle.lang_meaning.specs.Actions.{Ending, Returned, Assigned, Trapped}
-use Rattle.lang_meaning.specs.Counts.{number}
 use Rattle.lang_meaning.specs.Elision.{elided}
-use Rattle.lang_meaning.specs.Outcomes.{Outcome as ElidedOutcome, Came as came_out, Limited}
 use Rattle.code_instrs.specs.Plain.{plain_code}
 use Rattle.code_instrs.specs.declared.code.Code.{Code}
 use Rattle.code_scheme.specs.Whole.{compiled}

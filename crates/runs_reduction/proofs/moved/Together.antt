@@ -226,15 +226,15 @@ module _ (P : Program) (D : Disciplined P) (T : InTurn P) {R G M : Run} (l : Fai
         go (inr (inl o)) = o
         go (inr (inr o)) = absurd (contrary s (m.kept W V w v hw hv (sym e) o))
 
-    step : ⊥
-    step = same_spot P D l hx hy x_in (λ q k c d lt i not. y_in q k c d lt i (λ ix iz. not ix)) (end_begins hx ax) y_begins (home P D T l hx) (home P D T l hy)
+    never_between : ⊥
+    never_between = same_spot P D l hx hy x_in (λ q k c d lt i not. y_in q k c d lt i (λ ix iz. not ix)) (end_begins hx ax) y_begins (home P D T l hx) (home P D T l hy)
         (λ sx. same_spot P D l hz hy z_in (λ q k c d lt i not. y_in q k c d lt i (λ ix iz. not iz)) (end_begins hz az)
         (λ q k c d lt p i iz. y_in q k c d lt (its_begin p i) (λ ix k1. y_begins q k c d lt p i ix)) (home P D T l hz) (home P D T l hy)
         (λ sz. ne (t.none_between X Y Z A B A x y z a b a hx hy hz ax ay az refl (kept_order hx hy sx xy) (kept_order hy hz (sym sz) yz))))
 
   none_between : (n : ℕ) → NoneBetween n
   none_between zero X Y Z B x y z b hx hy hz ax ay az size xy yz ne = omega (arith, size)
-  none_between (suc n) X Y Z B x y z b hx hy hz ax ay az size xy yz ne = step n (none_between n) hx hy hz ax ay az size xy yz ne
+  none_between (suc n) X Y Z B x y z b hx hy hz ax ay az size xy yz ne = never_between n (none_between n) hx hy hz ax ay az size xy yz ne
 
 module _ (P : Program) (D : Disciplined P) (T : InTurn P) {R G M : Run} (l : Faithful P R) (t : Together R G) (m : Laid P R G M) where
   -- an event with two others of one block around it

@@ -48,14 +48,14 @@ pa = (0, 0) ∷ []
 abbrev pub pb : Path
 pb = (0, 1) ∷ []
 
-abbrev pc : Path
+abbrev pub pc : Path
 pc = (0, 2) ∷ []
 
 -- in the first branch's block, a branch of a deterministic construct
 abbrev pd : Path
 pd = (2, 0) ∷ pa
 
-abbrev block_of_writes : ℕ → ℕ → List Item
+abbrev pub block_of_writes : ℕ → ℕ → List Item
 block_of_writes region field = does 0 Rest ∷ does 0 (Enter (writes_to region)) ∷ does 0 (Write main (pos field) (int 1)) ∷ does 0 Exit ∷ []
 
 abbrev bodies : List Body
