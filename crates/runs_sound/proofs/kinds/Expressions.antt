@@ -1,17 +1,9 @@
 -- Each expression of a well-typed program is in order by the meaning that looks at kinds: by recursion on its typing.
-use Rattle.std.proofs.Common.{◌≡◌, inl, inr, ℕ, ◌+◌, ℤ, pos, Bool, true, false, cond, ◌||◌, not, List, [], ◌∷◌, ◌++◌, map, reverse, refl, sym, ap, ◌∙◌, subst, Option, Some, None, append_assoc}
-use Rattle.std.specs.Prelude.{int_lt}
+use Rattle.std.proofs.Common.{◌≡◌, inl, inr, ◌+◌, pos, true, false, List, [], ◌∷◌, ◌++◌, map, reverse, refl, sym, ap, ◌∙◌, subst, Option, append_assoc}
 use Rattle.std.specs.List.{AllZip}
-use Rattle.std.specs.Int.{w32, int_wrapping_add}
 use Rattle.std.proofs.lemmas.List.{reverse-append, append-nil}
-use Rattle.lang_base.specs.declared.elems.Elem.TheVariants.{At}
-use Rattle.lang_base.specs.declared.elems.Index.TheVariants.{Literal}
-use Rattle.lang_base.specs.declared.place.Place.{Place}
-use Rattle.lang_base.specs.declared.region.Rpl.{Rpl}
-use Rattle.lang_base.specs.declared.value.Trap.TheVariants as trap
-use Rattle.lang_base.specs.Matching.{Fits, put_in}
 use Rattle.lang_base.specs.Regions.{substituted}
-use Rattle.lang_base.specs.Types.{PlainType, int, boolean, void, null, class, array, type_with, path_at}
+use Rattle.lang_base.specs.Types.{PlainType, int, boolean, class, array, type_with, path_at}
 use Rattle.lang_typed.specs.Effects.{does, uses, reads}
 use Rattle.lang_typed.specs.Effects.{Own as EffectOwn}
 use Rattle.lang_typed.specs.Plain.{PlainProgram, TypedExpr, typed, type_of, TypedExprs}
@@ -21,24 +13,22 @@ use Rattle.lang_typed.specs.Typing.{Fit}
 use Rattle.lang_typed.specs.Typing.{index_elem}
 use Rattle.lang_typed.specs.Typing.{Fit as fit}
 use Rattle.lang_typed.specs.WellTyped.{WellTyped}
-use Rattle.lang_meaning.specs.Core.{Goes_on, Traps}
-use Rattle.lang_meaning.specs.Counts.{number, slot_value, part_place}
-use Rattle.lang_meaning.specs.Expressions.{unless_null, read_cell, part_element, of_expr, of_exprs}
-use Rattle.runs_theory.specs.Objects.{Name, LocalRegion, Value, Int, Boolean, Null, Object}
+use Rattle.lang_meaning.specs.Core.{Goes_on}
+use Rattle.lang_meaning.specs.Counts.{number, slot_value}
+use Rattle.runs_theory.specs.Objects.{Name, LocalRegion, Value, Int, Boolean, Null}
 use Rattle.runs_program.specs.Steps.{named_by}
-use Rattle.runs_sound.specs.Settings.{Setting, env_of, under}
-use Rattle.runs_sound.specs.Shapes.{elements, Instance, ArrayInstance, FitsIn, of_array}
+use Rattle.runs_sound.specs.Settings.{Setting, env_of}
+use Rattle.runs_sound.specs.Shapes.{Instance, ArrayInstance, FitsIn}
 use Rattle.runs_sound.specs.Accesses.{Bounds, Within}
-use Rattle.runs_sound.specs.Frames.{Frame, State, Since, PartFits, FrameFits}
+use Rattle.runs_sound.specs.Frames.{Frame, State, Since, FrameFits}
 use Rattle.runs_sound.specs.Scopes.{TypeInScope, GoodScope}
-use Rattle.runs_sound.specs.Work.{Result, Prog, Touches, access_of, InOrder}
-use Rattle.runs_sound.specs.Laws.{Deeper, Yields, DeeperInOrder, ExpressionsInOrder}
-use Rattle.runs_sound.proofs.classes.Types.{fits_grows, fits_same, same_sym}
-use Rattle.runs_sound.proofs.paths.Indices.{same_inside, region_alone}
-use Rattle.runs_sound.proofs.classes.Classes.{IsAlone, env_alone, subtype_fits}
+use Rattle.runs_sound.specs.Work.{Result, Prog, InOrder}
+use Rattle.runs_sound.specs.Laws.{Deeper, Yields, DeeperInOrder}
+use Rattle.runs_sound.proofs.classes.Types.{fits_grows}
+use Rattle.runs_sound.proofs.classes.Classes.{env_alone, subtype_fits}
 use Rattle.runs_sound.proofs.scopes.InScope.{paths_alone, index_in, typed_in}
 use Rattle.runs_sound.proofs.scopes.Frames.{frame_since, frame_env, within_left, within_right, within_since}
-use Rattle.runs_sound.proofs.work.Expressions.{speaks_read, order_unless, order_choose, order_trap, order_read, order_length, order_operation, local_index, field_order, element_order}
+use Rattle.runs_sound.proofs.work.Expressions.{order_unless, order_choose, order_length, order_operation, local_index, field_order, element_order}
 use Rattle.runs_sound.proofs.work.Making.{put, order_new_array}
 use Rattle.runs_sound.proofs.numbers.Ints.{neg_fits, number_fits}
 use Rattle.runs_sound.proofs.work.Calls.{call_order, create_order, construct_order}

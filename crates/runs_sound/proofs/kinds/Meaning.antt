@@ -1,13 +1,13 @@
 -- Where at a wrong kind is done what the meaning does there, the meaning that looks at kinds is the meaning.
-use Rattle.std.proofs.Common.{◌≡◌, ℕ, ◌+◌, ℤ, pos, zero, suc, Bool, true, false, ◌&&◌, List, [], ◌∷◌, map, reverse, refl, ap, ◌∙◌, Option, Some, None}
+use Rattle.std.proofs.Common.{◌≡◌, ℕ, ◌+◌, ℤ, pos, zero, suc, Bool, true, false, ◌&&◌, List, [], ◌∷◌, map, reverse, refl, ◌∙◌, Option, Some, None}
 use Rattle.lang_base.specs.declared.place.Place.{Place}
 use Rattle.lang_base.specs.Operators.{operands_of, unary_type}
 use Rattle.lang_typed.specs.Plain.{PlainProgram, TypedExpr, typed, TypedExprs, no_exprs, more_exprs, of_array, of_part, TypedStmt, statement, TypedStmts, no_stmts, more_stmts}
 use Rattle.lang_typed.specs.Plain.{ExprForm as form}
 use Rattle.lang_typed.specs.Plain.{StmtForm as stmt}
-use Rattle.lang_meaning.specs.Values.{Value, Int, Boolean, Null, Naming}
-use Rattle.lang_meaning.specs.Actions.{Frame, Task, Rest, Look, Enter, Exit, Answer}
-use Rattle.lang_meaning.specs.Core.{Result, Goes_on, Returns, Prog, Ret, Traps, Act, Makes, Again, Split, on, next_of, and_then, run}
+use Rattle.lang_meaning.specs.Values.{Value, Int, Boolean, Naming}
+use Rattle.lang_meaning.specs.Actions.{Frame, Rest, Look, Enter, Exit, Answer}
+use Rattle.lang_meaning.specs.Core.{Goes_on, Returns, Prog, Ret, Traps, Act, Makes, Again, Split, and_then, run}
 use Rattle.lang_meaning.specs.Counts.{number, truth, length_seen, unary, slot_value, text_of}
 use Rattle.lang_meaning.specs.Regions.{around, concrete, concrete_effect}
 use Rattle.lang_meaning.specs.Expressions.{Deeper, gives, none, operation, unless_null, read_cell, called, created, made_array, class_in, part_element, of_expr, of_exprs}
@@ -15,7 +15,7 @@ use Rattle.lang_meaning.specs.Statements.{with_value, write_cell, prints, begun,
 use Rattle.lang_meaning.specs.Asking.{meaning, reported, replied, ask}
 use Rattle.runs_program.specs.Steps.{named_by}
 use Rattle.runs_sound.specs.KindLaws.{KindsAreLookedAtAlone}
-use Rattle.runs_sound.specs.Kinds.{is_int, is_boolean, is_reference, is_of, are_operands, is_part, is_read, is_written, is_length, is_class, is_name, needs, answered, strict_use, strict_use_at, strict_part, strict_expr, strict_exprs, strict_stmt, strict_stmts, strict_meaning, strict_ask}
+use Rattle.runs_sound.specs.Kinds.{is_int, is_boolean, is_reference, is_of, are_operands, is_part, is_read, is_written, is_length, is_class, is_name, needs, answered, strict_use, strict_use_at, strict_expr, strict_exprs, strict_stmt, strict_stmts, strict_meaning, strict_ask}
 
 module _ {N M : Type 0} where
   same_needs : (c : Bool) (p : Prog N M) → needs (λ q. q) c p ≡ p

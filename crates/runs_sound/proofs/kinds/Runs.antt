@@ -1,6 +1,6 @@
 -- So is each task of a legal run from where it begins there.
 use Rattle.std.specs.Int.{w32}
-use Rattle.std.proofs.Common.{◌≡◌, ℕ, zero, suc, ℤ, FitsSigned, List, [], ◌∷◌, length, refl, sym, ap, subst, arith, Some, None, slice_get, slice_index_or, inl}
+use Rattle.std.proofs.Common.{◌≡◌, ℕ, zero, suc, ℤ, FitsSigned, List, [], ◌∷◌, refl, sym, ap, subst, arith, Some, None, slice_get, slice_index_or, inl}
 use Rattle.std.specs.Prelude.{All}
 use Rattle.std.proofs.lemmas.Bool.{false≢true}
 use Rattle.lang_base.specs.Matching.{Holds}
@@ -21,7 +21,7 @@ use Rattle.runs_sound.proofs.moments.Root.{first_good}
 use Rattle.runs_sound.specs.KindLaws.{RunsMeetNoWrongKind}
 use Rattle.runs_sound.specs.Kinds.{Wrong, strict_does}
 use Rattle.runs_sound.proofs.kinds.Tasks.{strict_tasks_in_order}
-use Rattle.std.proofs.Common.{⊎_elim, ◌∙◌, cond}
+use Rattle.std.proofs.Common.{⊎_elim, ◌∙◌}
 use Rattle.std.proofs.lemmas.Bool.{cases_Bool, cond-true, cond-false}
 use Rattle.lang_typed.specs.Effects.{Own as EffectOwn}
 use Rattle.lang_typed.specs.Scope.{Scope}

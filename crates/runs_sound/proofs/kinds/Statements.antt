@@ -20,8 +20,8 @@ use Rattle.lang_typed.specs.Typing.{Has, index_elem}
 use Rattle.lang_typed.specs.WellTyped.{WellTyped}
 use Rattle.lang_meaning.specs.Core.{Goes_on, Returns, next_of, and_then, Act}
 use Rattle.lang_meaning.specs.Counts.{length_seen, number, truth, slot_value, text_of}
-use Rattle.lang_meaning.specs.Expressions.{gives, none, unless_null, of_expr}
-use Rattle.lang_meaning.specs.Statements.{part_begun, part_taken_over, parts, with_value, of_stmt, of_stmts}
+use Rattle.lang_meaning.specs.Expressions.{gives, none, unless_null}
+use Rattle.lang_meaning.specs.Statements.{part_begun, part_taken_over, parts, with_value}
 use Rattle.runs_theory.specs.Actions.{Look, Rest, Exit}
 use Rattle.runs_theory.specs.Objects.{LocalRegion, Value, Int}
 use Rattle.runs_program.specs.Steps.{named_by}
@@ -31,7 +31,7 @@ use Rattle.runs_sound.specs.Accesses.{Bounds, Within}
 use Rattle.runs_sound.specs.Frames.{Frame, State, Since, PartFits, FrameFits}
 use Rattle.runs_sound.specs.Scopes.{PathInScope, TypeInScope, GoodScope}
 use Rattle.runs_sound.specs.Work.{Result, Prog, ReturnFits, Rounds, InOrder, without_latest}
-use Rattle.runs_sound.specs.Laws.{Deeper, Yields, Leaves, DeeperInOrder, ForkingInOrder}
+use Rattle.runs_sound.specs.Laws.{Deeper, Yields, Leaves, DeeperInOrder}
 use Rattle.runs_sound.proofs.classes.Types.{fits_grows}
 use Rattle.runs_sound.proofs.classes.Classes.{env_alone, subtype_fits}
 use Rattle.runs_sound.proofs.scopes.InScope.{good_type, index_in, typed_in}
@@ -46,7 +46,7 @@ use Rattle.runs_theory.specs.Objects.{Effect as RunEffect}
 use Rattle.runs_sound.proofs.work.Blocks.{good_block, frame_later, frame_block, frame_unblock, within_block, may_enter}
 use Rattle.runs_sound.proofs.scopes.Alike.{set_other, set_same, Alike, fits_alike, setting_back}
 use Rattle.runs_sound.proofs.work.Expressions.{order_choose}
-use Rattle.runs_sound.proofs.work.Typed.{type_alone, yields, expr_order}
+use Rattle.runs_sound.proofs.work.Typed.{type_alone, yields}
 use Rattle.runs_sound.proofs.work.Work.{since_now, since_since, since_after, order_then, order_on, order_post, order_ret}
 use Rattle.runs_sound.proofs.work.Parts.{good_part, placed_part}
 use Rattle.runs_sound.proofs.scopes.Wider.{wider_type}

@@ -1,14 +1,11 @@
 -- So are tasks to their end, at each depth of calls.
-use Rattle.std.proofs.Common.{arith, inl, ℕ, ◌∷◌, sym, subst, Some, None, zero, suc}
+use Rattle.std.proofs.Common.{ℕ, Some, None, zero, suc}
 use Rattle.lang_typed.specs.Plain.{PlainProgram}
 use Rattle.lang_typed.specs.WellTyped.{WellTyped}
-use Rattle.lang_meaning.specs.Expressions.{none}
-use Rattle.lang_meaning.specs.Statements.{begun, forks}
 use Rattle.runs_program.specs.Steps.{named_by}
 use Rattle.runs_sound.proofs.work.Entering.{body_good}
-use Rattle.runs_sound.specs.Accesses.{Bounds, InEachEntry}
-use Rattle.runs_sound.specs.Laws.{DeeperInOrder, scope_of, branch_bounds}
-use Rattle.runs_sound.proofs.work.Blocks.{frame_later}
+use Rattle.runs_sound.specs.Accesses.{Bounds}
+use Rattle.runs_sound.specs.Laws.{DeeperInOrder, scope_of}
 use Rattle.runs_sound.proofs.kinds.Statements.{strict_statements_in_order}
 use Rattle.runs_theory.specs.Objects.{Name, LocalRegion}
 use Rattle.runs_sound.specs.KindLaws.{TasksMeetNoWrongKind}

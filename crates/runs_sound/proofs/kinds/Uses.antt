@@ -1,5 +1,5 @@
 -- A use of a value or an answer of the right kind is in order as the meaning has it.
-use Rattle.std.proofs.Common.{◌≡◌, ◌+◌, inl, inr, ℕ, ℤ, pos, negsuc, Bool, true, false, cond, ◌&&◌, List, refl, sym, ap, ◌∙◌, subst, Option, Some, None}
+use Rattle.std.proofs.Common.{◌≡◌, inl, inr, ℕ, ℤ, pos, negsuc, Bool, true, false, cond, List, refl, sym, ap, subst, Option, Some, None}
 use Rattle.std.proofs.lemmas.Bool.{and_from, or_left, or_right}
 use Rattle.lang_base.specs.declared.op.Operands.{Operands}
 use Rattle.lang_base.specs.declared.op.Operands.TheVariants.{Ints, Same}
@@ -8,15 +8,15 @@ use Rattle.lang_base.specs.declared.value.Trap.TheVariants as trap
 use Rattle.lang_base.specs.Matching.{Env}
 use Rattle.lang_base.specs.declared.region.Rpl.{Rpl}
 use Rattle.lang_base.specs.Types.{PlainType, int, boolean, void, null, class, array}
-use Rattle.lang_typed.specs.Plain.{PlainProgram, PlainMember}
-use Rattle.lang_typed.specs.Scope.{constructor_of, member_at}
+use Rattle.lang_typed.specs.Plain.{PlainProgram}
+use Rattle.lang_typed.specs.Scope.{constructor_of}
 use Rattle.lang_typed.specs.Typing.{IsReference, Takes}
-use Rattle.lang_meaning.specs.Core.{Ret, Traps, Act, Makes, Again, Split, on}
+use Rattle.lang_meaning.specs.Core.{Ret, Traps, Act, Makes, Again, Split}
 use Rattle.lang_meaning.specs.Counts.{name_made, part_place, slot_value}
-use Rattle.lang_meaning.specs.Expressions.{gives, unless_null, part_element, entered, called, created, new_object, made_array}
+use Rattle.lang_meaning.specs.Expressions.{gives, unless_null, part_element, called, created, new_object, made_array}
 use Rattle.lang_meaning.specs.Regions.{around, concrete, is_long, some_long}
 use Rattle.lang_meaning.specs.Values.{Naming}
-use Rattle.runs_theory.specs.Actions.{Own, Read, Write, Look, New, Answer, Went, Got, Out, Class, Length, Named}
+use Rattle.runs_theory.specs.Actions.{Own, Read, Write, Look, New, Answer, Went, Got, Out}
 use Rattle.runs_theory.specs.Objects.{Name, LocalRegion, Region, Thing, Value, Int, Boolean, Null, Object}
 use Rattle.runs_theory.proofs.events.Things.{same_some}
 use Rattle.runs_sound.specs.Settings.{Setting, env_of}
@@ -24,8 +24,8 @@ use Rattle.runs_sound.specs.Shapes.{Shape, object, elements, Shapes, IsNullOr, F
 use Rattle.runs_sound.specs.Accesses.{Bounds}
 use Rattle.runs_sound.specs.Frames.{Frame, State, PartFits}
 use Rattle.runs_sound.specs.Laws.{Deeper}
-use Rattle.runs_sound.specs.Work.{Result, Prog, Moves, ReadFits, WriteFits, LookFits, Answers, After, InOrder}
-use Rattle.runs_sound.specs.Kinds.{Wrong, is_int, is_boolean, is_reference, is_of, is_part, are_operands, is_read, is_written, is_length, is_class, is_name, needs, answered, strict_use}
+use Rattle.runs_sound.specs.Work.{Result, Prog, Moves, ReadFits, WriteFits, LookFits, Answers, InOrder}
+use Rattle.runs_sound.specs.Kinds.{Wrong, is_reference, is_of, is_part, are_operands, is_read, is_written, is_length, is_class, is_name, needs, answered, strict_use}
 
 -- a value of a type is of its kind
 pub kind_fits : (P : PlainProgram) (S : Shapes) (env : Env) (t : PlainType) (v : Value) → FitsIn P S env t v → is_of t v ≡ true
