@@ -50,7 +50,7 @@ after refuse (refused refusal) next = refuse refusal
 
 infixl 10 ◌>>=◌
 abbrev pub ◌>>=◌ : Answer → (Option TypedExpr × Found → Answer) → Answer
-given >>= next = after refused given (λ t found. next (t, found))
+first >>= next = after refused first (λ t found. next (t, found))
 
 -- the same with what several expressions give
 abbrev pub after_all : {A : Type 0} → (Refusal → A) → AllAnswer → (List (Option TypedExpr) → Found → A) → A
@@ -61,6 +61,10 @@ after_all refuse (one_refused refusal) next = refuse refusal
 infixl 10 ◌>>◌
 abbrev pub ◌>>◌ : Option Refusal → Answer → Answer
 reported_one >> rest = option_map_or refused reported_one rest
+
+-- goes on with what there is, or else otherwise
+abbrev pub given : {X A : Type 0} → Option X → (X → A) → A → A
+given there next otherwise = option_map_or next there otherwise
 
 -- goes on with what was looked up
 abbrev pub looked_up : {A : Type 0} → Result A Refusal → (A → Answer) → Answer
@@ -75,13 +79,12 @@ use_reported env before args actuals declared partial hold place =
 -- a call of a method through a receiver
 abbrev pub type_call_of : Env → TypedExpr → ℕ → MethodRow → List Rpl → ReadArgs → List (Option TypedExpr) → Place → Found → Answer
 type_call_of env e class row owned args actuals place found =
-    option_map_or
-    (λ regions.
-    use_reported env (args_noted args row.regions place) (owned ++ regions) (map type_in actuals) row.params (is_partial_call owned row)
-    (all_hold (given_in env) (owned ++ regions) row.given) place
-    >> gives (Some (called env e class row owned regions actuals place)) (with_call (table_of env) found row (owned ++ regions)))
-    (args_given args.written args.paths row.regions)
-    (refused (unknown_reported (args_noted args row.regions place) (shapes_fit (headers_of (table_of env)) (map type_in actuals) row.params) place))
+    let before = args_noted args row.regions place in
+    given (args_given args.written args.paths row.regions) (λ regions. do
+      let whole = owned ++ regions
+      use_reported env before whole (map type_in actuals) row.params (is_partial_call owned row) (all_hold (given_in env) whole row.given) place
+      gives (Some (called env e class row owned regions actuals place)) (with_call (table_of env) found row whole))
+    (refused (unknown_reported before (shapes_fit (headers_of (table_of env)) (map type_in actuals) row.params) place))
 
 -- a call on what gives a type; what fits everywhere has each method, where the actuals are values
 abbrev pub type_call : Env → Option TypedExpr → ℕ → ReadArgs → List (Option TypedExpr) → Place → Found → Answer
@@ -94,23 +97,23 @@ abbrev pub type_creation_of : Env → ℕ → ReadArgs → List (Option TypedExp
 type_creation_of env at args actuals place found =
     let params = params_in (headers_of (table_of env)) at in
     let formals = formals_of (table_of env) at in
-    option_map_or
-    (λ regions.
-    use_reported env (args_noted args params place) regions (map type_in actuals) formals false (all_hold (given_in env) regions (given_of (table_of env) at)) place
-    >> gives (Some (typed place (ty.class at regions) (form.create (nodes_at place actuals))))
-    (with_constructor (table_of env) found (constructor_of (table_of env) at) regions))
-    (args_given args.written args.paths params)
-    (refused (unknown_reported (args_noted args params place) (shapes_fit (headers_of (table_of env)) (map type_in actuals) formals) place))
+    let before = args_noted args params place in
+    given (args_given args.written args.paths params) (λ regions. do
+      use_reported env before regions (map type_in actuals) formals false (all_hold (given_in env) regions (given_of (table_of env) at)) place
+      gives (Some (typed place (ty.class at regions) (form.create (nodes_at place actuals)))) (with_constructor (table_of env) found (constructor_of (table_of env) at) regions))
+    (refused (unknown_reported before (shapes_fit (headers_of (table_of env)) (map type_in actuals) formals) place))
 
 -- the creation of an object of a class that is named
 abbrev pub type_creation : Env → Named → ReadArgs → List (Option TypedExpr) → Place → Found → Answer
 type_creation env class args actuals place found =
-    option_map_or (λ at. type_creation_of env at args actuals place found) (class_of (headers_of (table_of env)) class.name) (refused (fault kind.Unknown class.place))
+    given (class_of (headers_of (table_of env)) class.name) (λ at. type_creation_of env at args actuals place found) (refused (fault kind.Unknown class.place))
 
 -- the creation of an array, whose length is this
 abbrev pub type_array : Env → PlainIndex → BaseTree → Option RplTree → Place → Option TypedExpr → Result TypedExpr Refusal
 type_array env around base rpl place len = created place (node_at place len) (created_array env around (front_of env around base) (type_in len) rpl place)
 
+-- the steps of a clause in order: the first that refuses is the fault. The length of a part, and a part whose element is read,
+-- aren't read themselves
 abbrev mutual
   pub type_expr : Env → PlainExpr → Found → Answer
   type_expr env (expression place form) f = type_form env place form f
@@ -122,16 +125,17 @@ abbrev mutual
   type_form env place this f = answer (Ok (typed place (this_type_of env) (form.local 0))) f
   type_form env place (local name) f = answer (local_typed (local_of env name) place) f
   type_form env place (field of name) f =
-      option_map_or (λ row. gives (Some (typed place ty.int (form.part_length row.slot))) f) (measured env of name) (do
+      given (measured env of name) (λ row. gives (Some (typed place ty.int (form.part_length row.slot))) f) (do
         (t, g) ← type_expr env of f
         read_field env t name place g)
   type_form env place (element array index) f =
-      option_map_or (λ row. do
+      given (part_of env array) (λ row. do
         (i, g) ← type_expr env index f
-        read_part row i place g) (part_of env array) (do
-          (t, g) ← type_expr env array f
-          (i, h) ← type_expr env index g
-          read_element env t index i place h)
+        read_part row i place g)
+      (do
+        (t, g) ← type_expr env array f
+        (i, h) ← type_expr env index g
+        read_element env t index i place h)
   type_form env place (unary op arg) f = do
     (t, g) ← type_expr env arg f
     answer (unary_typed op t place) g
@@ -160,10 +164,12 @@ abbrev mutual
 -- what is assigned to, which isn't read: a field or an element
 abbrev pub target_form : Env → Place → ExprForm → Found → TargetAnswer
 target_form env place (field of name) f =
-    option_map_or (λ row. misses (fault kind.Type place)) (measured env of name)
+    given (measured env of name)
+    (λ row. misses (fault kind.Type place))
     (after misses (type_expr env of f) (λ t g. aimed (field_target env t name place) g))
 target_form env place (element array index) f =
-    option_map_or (λ row. after misses (type_expr env index f) (λ i g. aimed (part_target row i place) g)) (part_of env array)
+    given (part_of env array)
+    (λ row. after misses (type_expr env index f) (λ i g. aimed (part_target row i place) g))
     (after misses (type_expr env array f) (λ t g. after misses (type_expr env index g) (λ i h. aimed (element_target env t index i place) h)))
 target_form env place form f = misses (fault kind.Type place)
 
