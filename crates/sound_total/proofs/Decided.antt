@@ -6,17 +6,24 @@ use Rattle.std.proofs.lemmas.Bool.Decides.{Decides-and, Decides-or, Decides-not,
 use Rattle.std.proofs.lemmas.List.Elements.{All-nil, All-cons, All-head, All-tail}
 use Rattle.std.proofs.lemmas.List.Kept.{AllPairs-cons}
 use Rattle.std.proofs.lemmas.Map.Made.{is_member-Decides}
+use Rattle.std.specs.Bool.{Decides}
 use Rattle.std.specs.Set.{is_member}
 
 -- there is a test of it
 abbrev pub Decided : Type 0 → Type 0
 Decided P = (b : Bool) × (IsTrue b ↔ P)
 
+pub true_is : {P : Type 0} → P → Decides true P
+true_is p = (λ _. p, λ _. refl)
+
+pub false_is : {P : Type 0} → ¬ P → Decides false P
+false_is never = (λ t. absurd (false≢true t), λ p. absurd (never p))
+
 pub holds : {P : Type 0} → P → Decided P
-holds p = (true, (λ _. p, λ _. refl))
+holds p = (true, true_is p)
 
 pub fails : {P : Type 0} → ¬ P → Decided P
-fails never = (false, (λ t. absurd (false≢true t), λ p. absurd (never p)))
+fails never = (false, false_is never)
 
 pub alike : {P Q : Type 0} → (P → Q) → (Q → P) → Decided P → Decided Q
 alike to from d = (d.0, (λ t. to (d.1.0 t), λ q. d.1.1 (from q)))

@@ -29,8 +29,8 @@ use Rattle.body_check.specs.Walks.{Walk, Verdict, refused}
 use Rattle.body_check.proofs.Noting.{noted_reported}
 use Rattle.sound_total.proofs.Decided.{Decided, tested}
 use Rattle.sound_total.proofs.Expressions.{judged}
+use Rattle.sound_total.proofs.Fitting.{fits_decided}
 use Rattle.sound_total.proofs.Targets.{target_judged}
-use Rattle.sound_total.proofs.Uses.{fits_decided}
 
 -- each plain type is that of a type of the code
 abbrev pub of_plain : PlainType → Ty

@@ -1,5 +1,6 @@
 pub mod Bodies
 pub mod BodiesKept
+pub mod Cases
 pub mod Clean
 pub mod Decided
 pub mod Expressions
