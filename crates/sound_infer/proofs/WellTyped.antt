@@ -1,4 +1,4 @@
--- A well-typed program is well typed with its inferred summaries.
+-- A well-typed program is well typed with what is kept of its summaries, where that covers what is done.
 use Rattle.std.proofs.Common.{◌≡◌, ◌∙◌, ⊎_elim, inl, inr, ℕ, Bool, false, List, ◌++◌, map, Some, ap, sym, subst, slice_get}
 use Rattle.std.specs.Prelude.{All, IsTrue, slice_index_or}
 use Rattle.std.specs.Option.{option_and_then}
@@ -15,7 +15,7 @@ use Rattle.lang_typed.specs.WellTyped.{GoodMain, WellTyped}
 use Rattle.body_infer.specs.declared.kept.Kept.{Kept}
 use Rattle.body_infer.specs.Covered.{done_written}
 use Rattle.body_infer.specs.Doing.{seen_as, effects_of_all}
-use Rattle.body_infer.specs.PostFixpoint.{IsPostFixpoint, IsInferred, seen_below}
+use Rattle.body_infer.specs.PostFixpoint.{IsPostFixpoint, seen_below}
 use Rattle.body_infer.specs.Kept.{Keeping, SaysOfEach, summary_kept, members_kept, program_kept}
 use Rattle.body_infer.specs.Passes.{IsOverride}
 use Rattle.body_infer.specs.Walked.{Agree}
@@ -199,5 +199,5 @@ module _ (P : PlainProgram) (S : Keeping) (wt : WellTyped P) (says : SaysOfEach 
     without_nd = wt.without_nd;
   }
 
-pub inferred_well_typed : (P : PlainProgram) (S : Keeping) → WellTyped P → IsInferred P S → WellTyped (program_inferred S P)
-inferred_well_typed P S wt i = well_typed_there P S wt i.says i.post_fixpoint
+pub kept_well_typed : (P : PlainProgram) (S : Keeping) → WellTyped P → SaysOfEach P S → IsPostFixpoint P S → WellTyped (program_inferred S P)
+kept_well_typed = well_typed_there

@@ -8,9 +8,9 @@ use Rattle.lang_typed.specs.Effects.{Own, as_effects, after_block}
 use Rattle.lang_typed.specs.Statements.{AllPass, declared_as}
 use Rattle.lang_typed.specs.Table.{body_scope}
 use Rattle.lang_typed.specs.WellTyped.{WellTyped}
-use Rattle.body_infer.specs.Kept.{Keeping, program_kept}
+use Rattle.body_infer.specs.Kept.{Keeping, SaysOfEach, program_kept}
 use Rattle.body_infer.specs.Doing.{effects_of_all, part_of, with_parts}
-use Rattle.body_infer.specs.PostFixpoint.{IsInferred}
+use Rattle.body_infer.specs.PostFixpoint.{IsInferred, IsPostFixpoint}
 
 -- with each atomic block entered by what it does in this program
 abbrev mutual
@@ -51,6 +51,10 @@ program_inferred S P = program_entered (program_kept S P)
 abbrev pub EffectsAreThose : Type 0
 EffectsAreThose = (P : PlainProgram) → WellTyped P → (L : Scope) (ss : TypedStmts) (effects : List Own) → AllPass P L ss effects → effects_of_all P L ss ≡ effects
 
--- a well-typed program is well typed with its inferred summaries
+-- a well-typed program is well typed with whatever summaries, of those that it has, cover what is done by them
+abbrev pub PostFixpointsAreWellTyped : Type 0
+PostFixpointsAreWellTyped = (P : PlainProgram) (S : Keeping) → WellTyped P → SaysOfEach P S → IsPostFixpoint P S → WellTyped (program_inferred S P)
+
+-- so it is with its inferred summaries, which are the least of these
 abbrev pub InferredIsWellTyped : Type 0
 InferredIsWellTyped = (P : PlainProgram) (S : Keeping) → WellTyped P → IsInferred P S → WellTyped (program_inferred S P)
