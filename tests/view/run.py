@@ -5,9 +5,8 @@
 
 PROGRAM is the path of the program dpj. For each example and a few texts besides, and for a few seeds, the events are made again on a heap
 (replaying.py): each read and each length has to be what was written, and what was printed and how the run ended what `run` writes with the same
-seed; folded to their tasks they have to be the schedule that `trace` writes. The page has to hold these events and the text, and the pages in
-examples/ have to be those that are written now. Other calls are on scripts in place of the program. In a browser the pages are tried by
-tests/slow/pages.py. Writes a line for each failure, and then `N passed, N failed`.
+seed; folded to their tasks they have to be the schedule that `trace` writes. The page has to hold these events and the text. Other calls are on scripts in place of the
+program. In a browser the pages are tried by tests/slow/pages.py. Writes a line for each failure, and then `N passed, N failed`.
 """
 import concurrent.futures
 import json
@@ -49,28 +48,6 @@ TEXTS = {
 }  # fmt: skip
 REFUSED = "class Main {\n  int main(int n) { return m; }\n}\n"
 LONG = "class Main { int x; int main(int n) { while (0 == 0) { this.x = this.x + 1; } return 0; } }\n"
-
-# A text that is one of events, and changes after which it is none.
-EVENTS = """dpj-events 1
-arg 0 steps 10 cells 10
-events 9
-1 0 new int[2]#1 at 1:1
-2 0 write int[]#1[0] = 5 at 1:2
-3 0 fork 1 at 1:3
-4 0 begin 1 at 1:3
-5 1 read int[]#1[0] = 5 at 1:4
-6 1 look int[]#1 = 2 at 1:5
-7 1 end
-8 0 join at 1:3
-9 0 end 5
-result 5
-"""
-CHANGES = [
-    ("= 5 at 1:4", "= 4 at 1:4"), ("= 5 at 1:4", "= true at 1:4"), ("[0] = 5 at 1:4", "[1] = 5 at 1:4"), ("[0] = 5 at 1:4", "[2] = 0 at 1:4"),
-    ("[0] = 5 at 1:4", "[0] out at 1:4"), ("[0] = 5 at 1:2", "[2] = 5 at 1:2"), ("= 2 at 1:5", "= 3 at 1:5"), ("= 2 at 1:5", "at 1:5"), ("#1 at 1:1", "#2 at 1:1"),
-    ("fork 1", "fork 2"), ("begin 1", "begin 2"), ("5 1 read", "5 2 read"), ("5 1 read", "6 1 read"), ("7 1 end\n8 0 join at 1:3", "7 0 join at 1:3\n8 1 end"),
-    ("result 5", "result 6"), ("result 5", "limit"), ("events 9", "events 8"), ("look int[]#1", "look Main#1"), ("7 1 end", "7 1 end at 1:1"), (" at 1:1", ""),
-]  # fmt: skip
 
 
 class Tally:
@@ -141,35 +118,12 @@ def try_run(program, name, text, settings, seed):
     ]
 
 
-def try_changes(tally):
-    """What is no run is seen to be none."""
-    tally.sees("a text of events", replayed(EVENTS).output, "result 5\n")
-    for old, new in CHANGES:
-        try:
-            replayed(EVENTS.replace(old, new, 1))
-            tally.sees(f"with {new} in place of {old}", "accepted", "wrong")
-        except Wrong:
-            tally.passed += 1
-
-
 def try_runs(tally, program):
     with concurrent.futures.ThreadPoolExecutor(os.cpu_count()) as pool:
         jobs = [pool.submit(try_run, program, *subject, seed) for subject in subjects() for seed in SEEDS]
         for job in jobs:
             for sight in job.result():
                 tally.sees(*sight)
-
-
-def try_examples(tally, program, room):
-    """The pages in examples/ are those that are written now."""
-    pages = sorted((TOP / "examples").glob("view-*.html"))
-    tally.sees("there are pages", len(pages) >= 3, True)
-    for page in pages:
-        text, = (TOP / "examples").rglob(f"{page.stem.removeprefix('view-')}.dpj")
-        settings = json.loads(DATA.search(page.read_text(encoding="utf-8"))[1])["settings"]
-        status = called(program, text, *settings, f"--output={room / page.name}")[2]
-        words = f"./dpj view {text.relative_to(TOP)} {' '.join(settings)} --output={page.relative_to(TOP)}"
-        tally.sees(f"{page.name}, written anew by {words}", (status, (room / page.name).read_bytes() == page.read_bytes()), (0, True))
 
 
 def try_files(tally, program, room):
@@ -221,9 +175,8 @@ def main(words):
         print(__doc__.strip())
         return 0 if words else 1
     program, tally = pathlib.Path(words[0]).resolve(), Tally()
-    try_changes(tally)
     try_runs(tally, program)
-    for one in (try_examples, try_files, try_calls):
+    for one in (try_files, try_calls):
         with tempfile.TemporaryDirectory() as room:
             one(tally, program, pathlib.Path(room).resolve())
     print(f"{tally.passed} passed, {tally.failed} failed")

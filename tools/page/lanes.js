@@ -14,7 +14,7 @@ class Lanes {
     this.graph = document.getElementById("graph");
     this.heads = document.getElementById("heads");
     this.texts = document.getElementById("texts");
-    this.width = run.columns.length <= 12 ? 26 : run.columns.length <= 40 ? 20 : run.columns.length <= 100 ? 15 : 11;
+    this.width = run.lanes.length <= 12 ? 26 : run.lanes.length <= 40 ? 20 : run.lanes.length <= 100 ? 15 : 11;
     this.graph.classList.toggle("small", this.width < 15);
     this.bands = bandsOf(run);
     this.scroller.addEventListener("scroll", () => this.soon());
@@ -44,7 +44,7 @@ class Lanes {
   // Where things are in the view as it is scrolled now.
   measure() {
     const { clientWidth, clientHeight } = this.scroller;
-    const all = 2 * EDGE + this.run.columns.length * this.width;
+    const all = 2 * EDGE + this.run.lanes.length * this.width;
     const least = clientWidth < 480 ? NARROW_TEXT : WIDE_TEXT;
     this.shown = Math.min(all, Math.max(clientWidth - least, this.width + 2 * EDGE));
     const text = clientWidth - this.shown;
@@ -56,12 +56,12 @@ class Lanes {
     this.high = clientHeight - HEAD;
     this.firstRow = Math.max(0, Math.floor(this.top / ROW) - 1);
     this.lastRow = Math.min(this.rows.length - 1, Math.ceil((this.top + this.high) / ROW));
-    this.firstColumn = Math.max(0, Math.floor((this.left - EDGE) / this.width) - 1);
-    this.lastColumn = Math.min(this.run.columns.length - 1, Math.ceil((this.left + this.shown) / this.width));
+    this.firstLane = Math.max(0, Math.floor((this.left - EDGE) / this.width) - 1);
+    this.lastLane = Math.min(this.run.lanes.length - 1, Math.ceil((this.left + this.shown) / this.width));
   }
 
-  x(column) {
-    return EDGE + (column + 0.5) * this.width - this.left;
+  x(lane) {
+    return EDGE + (lane + 0.5) * this.width - this.left;
   }
 
   y(row) {
@@ -78,8 +78,7 @@ class Lanes {
     const at = this.asked();
     const parts = [this.stripes(at)];
     for (const band of this.bands) parts.push(this.band(band));
-    for (let column = this.firstColumn; column <= this.lastColumn; column += 1)
-      for (const task of this.run.columns[column]) if (this.isInView(task)) parts.push(this.lane(task, at));
+    for (let lane = this.firstLane; lane <= this.lastLane; lane += 1) parts.push(this.lane(this.run.tasks[this.run.lanes[lane]], at));
     const marks = [];
     for (let number = this.firstRow; number <= this.lastRow; number += 1) this.drawRow(this.rows[number], number, at, parts, marks);
     this.graph.setAttribute("width", this.shown);
@@ -107,13 +106,9 @@ class Lanes {
     return row.fold ? this.order.slice(row.first, row.last + 1).every((index) => at.dims(index)) : at.dims(this.order[row.first]);
   }
 
-  isInView(task) {
-    return (task.begin < 0 || this.row(task.begin) <= this.lastRow) && this.row(task.join < 0 ? task.end : task.join) >= this.firstRow;
-  }
-
   // A task's line from its begin to its end, thin where it waits, and dotted from there to the join.
   lane(task, at) {
-    const x = this.x(task.column);
+    const x = this.x(task.lane);
     const start = task.begin < 0 ? 0 : this.row(task.begin), end = this.row(task.end), parts = [];
     const line = (from, to, how) => {
       if (to >= this.firstRow && from <= this.lastRow && to > from) {
@@ -136,17 +131,17 @@ class Lanes {
 
   band({ task, first, last, block }) {
     const from = this.row(first), to = this.row(last);
-    const { column } = this.run.tasks[task];
-    if (to < this.firstRow || from > this.lastRow || column < this.firstColumn || column > this.lastColumn) return "";
+    const lane = this.run.tasks[task].lane;
+    if (to < this.firstRow || from > this.lastRow || lane < this.firstLane || lane > this.lastLane) return "";
     const wide = Math.max(this.width - 4, 9), top = Math.max(this.y(from) - ROW / 2 + 2, -ROW), bottom = Math.min(this.y(to) + ROW / 2 - 2, this.high + ROW);
-    const shape = `x="${this.x(column) - wide / 2}" y="${top}" width="${wide}" height="${bottom - top}" rx="5"`;
+    const shape = `x="${this.x(lane) - wide / 2}" y="${top}" width="${wide}" height="${bottom - top}" rx="5"`;
     const isClash = this.run.blocks[block].clash;
     return `<rect class="band" ${shape}/>` + (isClash ? `<rect class="hatch" ${shape}/>` : "");
   }
 
   drawRow(row, number, at, parts, marks) {
     const event = this.run.events[this.order[row.first]];
-    const x = this.x(this.run.tasks[event.task].column), y = this.y(number);
+    const x = this.x(this.run.tasks[event.task].lane), y = this.y(number);
     if (event.kind === "begin") parts.push(this.fork(x, y, this.run.tasks[event.began]));
     if (event.group) for (const piece of this.join(x, y, event.group)) parts.push(piece);
     const classes = ["mark", row.fold ? "fold" : event.kind, this.isDim(row, at) ? "dim" : "", at.chosen === event.index ? "chosen" : ""];
@@ -157,28 +152,24 @@ class Lanes {
   }
 
   fork(x, y, child) {
-    const to = this.x(child.column);
+    const to = this.x(child.lane);
     return `<path class="line forks" d="M${x} ${y}H${Math.max(x, to - CURVE)}Q${to} ${y} ${to} ${y + CURVE}"/>`;
   }
 
   *join(x, y, group) {
     for (const child of group.children) {
-      const { column } = this.run.tasks[child], from = this.x(column);
-      if (column < this.firstColumn || (column > this.lastColumn && child !== group.children.at(-1))) continue;
+      const lane = this.run.tasks[child].lane, from = this.x(lane);
+      if (lane < this.firstLane || (lane > this.lastLane && child !== group.children.at(-1))) continue;
       yield `<path class="line forks" d="M${from} ${y - CURVE}Q${from} ${y} ${from - CURVE} ${y}H${x}"/>`;
     }
   }
 
-  // Over each column the task that is there at this step.
   drawHeads(at) {
-    const each = String(this.run.tasks.length - 1).length * 7 + 4 > this.width ? 4 : 1, parts = [];
-    const row = at.event ? this.rowOf[at.event.index] : 0, own = at.event ? this.run.tasks[at.event.task].column : 0;
-    for (let column = this.firstColumn; column <= this.lastColumn; column += 1) {
-      const task = this.run.columns[column].findLast((it) => it.begin < 0 || this.row(it.begin) <= row), x = this.x(column);
-      if (!task || this.row(task.join < 0 ? task.end : task.join) < row || x < 6 || x > this.shown - 6) continue;
-      const isOwn = task.number === (at.event?.task ?? 0);
-      if (isOwn || each === 1 || (column % each === 0 && Math.abs(column - own) > 2))
-        parts.push(`<text x="${x}" y="17"${isOwn ? ' class="own"' : ""}>${task.number}</text>`);
+    const each = String(this.run.tasks.length - 1).length * 7 + 4 > this.width ? 5 : 1, parts = [];
+    const own = at.event ? this.run.tasks[at.event.task].lane : -each;
+    for (let lane = this.firstLane; lane <= this.lastLane; lane += 1) {
+      const number = this.run.lanes[lane], isOwn = lane === own;
+      if ((lane % each === 0 && this.x(lane) < this.shown - 6 && (each === 1 || Math.abs(lane - own) > 2)) || isOwn) parts.push(`<text x="${this.x(lane)}" y="17"${isOwn ? ' class="own"' : ""}>${number}</text>`);
     }
     this.heads.setAttribute("width", this.shown);
     this.heads.innerHTML = parts.join("");
@@ -219,10 +210,10 @@ class Lanes {
   // Scrolls so far that an event is in view.
   reveal(event) {
     this.measure();
-    const top = this.rowOf[event.index] * ROW, left = this.run.tasks[event.began ?? event.task].column * this.width;
+    const top = this.rowOf[event.index] * ROW, lane = this.run.tasks[event.task].lane * this.width;
     const { scroller } = this, high = scroller.clientHeight - HEAD, wide = this.shown;
     if (top < scroller.scrollTop + ROW || top > scroller.scrollTop + high - 2 * ROW) scroller.scrollTop = top - high / 3;
-    if (left < scroller.scrollLeft || left > scroller.scrollLeft + wide - 2 * this.width) scroller.scrollLeft = left - wide / 2;
+    if (lane < scroller.scrollLeft || lane > scroller.scrollLeft + wide - 2 * this.width) scroller.scrollLeft = lane - wide / 2;
   }
 }
 

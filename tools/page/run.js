@@ -111,24 +111,16 @@ class Run {
         }
   }
 
-  // Each task's lane stands in a column: right of the task that has begun it, behind all that its earlier siblings begin. Constructs that one task
-  // makes one after another share columns, so what stands in one column is never there at one time.
+  // Each task gets a lane, right of the task that has begun it, behind those of the branches before it.
   placeLanes() {
-    const widths = new Uint32Array(this.tasks.length);
-    for (const task of this.tasks.toReversed()) {
-      const wide = task.groups.map((group) => group.children.reduce((sum, child) => sum + widths[child], 0));
-      widths[task.number] = 1 + wide.reduce((most, each) => Math.max(most, each), 0);
-    }
-    this.columns = Array.from({ length: widths[0] }, () => []);
-    for (const task of this.tasks) {
-      this.columns[task.column].push(task);
-      for (const group of task.groups) {
-        let column = task.column + 1;
-        for (const child of group.children) {
-          this.tasks[child].column = column;
-          column += widths[child];
-        }
-      }
+    this.lanes = [];
+    const waiting = [0];
+    while (waiting.length) {
+      const task = this.tasks[waiting.pop()];
+      task.lane = this.lanes.length;
+      this.lanes.push(task.number);
+      const children = task.groups.flatMap((group) => group.children);
+      while (children.length) waiting.push(children.pop());
     }
   }
 
@@ -171,7 +163,7 @@ class Run {
 
 function newTask(number, parent) {
   return {
-    number, parent: parent ? parent.number : -1, depth: parent ? parent.depth + 1 : 0, begin: -1, end: -1, join: -1, column: 0, events: 0,
+    number, parent: parent ? parent.number : -1, depth: parent ? parent.depth + 1 : 0, begin: -1, end: -1, join: -1, lane: 0, events: 0,
     groups: [], group: null, of: null, prints: [], inside: parent ? parent.inside : -1, entries: 0, trapped: false,
   };
 }

@@ -15,11 +15,11 @@ class Source {
       const row = document.createElement("li");
       row.innerHTML = htmlOf(tokens, null);
       row.id = `line-${number + 1}`;
-      row.style.setProperty("--indent", /^ */.exec(tokens[0]?.text ?? "")[0].length);
       return row;
     });
     place.querySelector("ol").replaceChildren(...this.rows);
     place.style.setProperty("--digits", String(this.rows.length).length);
+    this.gutter = 8 * String(this.rows.length).length + 34;
     this.lit = null;
     new ResizeObserver(() => this.lit !== null && this.reveal(this.rows[this.lit])).observe(place);
   }
@@ -42,6 +42,10 @@ class Source {
     const { place } = this, top = row.offsetTop, margin = row.offsetHeight * 2;
     if (top < place.scrollTop + margin || top + row.offsetHeight > place.scrollTop + place.clientHeight - margin)
       place.scrollTop = top - place.clientHeight / 3;
+    const mark = row.querySelector("mark"), gutter = this.gutter;
+    if (!mark) return;
+    const right = mark.offsetLeft + mark.offsetWidth + 24 - place.clientWidth;
+    if (right > place.scrollLeft || mark.offsetLeft < place.scrollLeft + gutter) place.scrollLeft = Math.min(right, mark.offsetLeft - gutter - 8);
   }
 }
 
