@@ -91,7 +91,7 @@ one_row : (a b : ℕ) → a ∷ [] ≡ b ∷ [] → a ≡ b
 one_row a b e = cc
 
 pub row_is : (q : Picks) → Means tree (program q) → q.row ≡ right.row
-row_is q m = one_row q.the second row (m.classes 1 sub_tree (sub_made q) refl refl).rows
+row_is q m = one_row q.row right.row (m.classes 1 sub_tree (sub_made q) refl refl).rows
 
 -- where a run begins
 -- (no other name begins so)
