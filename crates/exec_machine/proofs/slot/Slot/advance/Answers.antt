@@ -24,4 +24,4 @@ returns-clause-stands c = λ k t g s.
     let way : OnItsWay (plain_code c.args.code.now) k c.deliver.new.self.task t =
     subst (λ o. StandsWith (plain_code c.args.code.now) k c.deliver.new.self.task o t) c.in_ok-deliver.ensures.given (c.deliver.ensures.stands k t g s) in
     subst (λ o. StandsWith (plain_code c.args.code.now) k c.leg.new.self o t) (sym c.in_ok-deliver.ensures.given)
-    (legged (plain_code c.args.code.now) k c.deliver.new.self.task c.leg.new.self t way c.leg.ensures.way c.leg.ensures.number c.leg.ensures.ends c.leg.ensures.paced)
+    (legged (plain_code c.args.code.now) k c.deliver.new.self.task c.leg.new.self t way c.leg.ensures.running c.leg.ensures.number c.leg.ensures.ends c.leg.ensures.paced)
