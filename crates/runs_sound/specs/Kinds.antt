@@ -1,5 +1,5 @@
--- The meaning again, which looks at kinds: what a value or an answer is used for is done where it is of the kind that this use needs. What is
--- done where it isn't is left open: it is given, as `wrong`, together with what the meaning does there.
+-- The meaning again, which looks at kinds: each use of a value or an answer is made where it is of the kind that this use needs. What is done
+-- where it isn't is left open: `wrong`, which is given what the meaning does there.
 use Rattle.std.specs.Prelude.{ℕ, zero, suc, ◌+◌, ℤ, pos, Bool, true, false, cond, ◌&&◌, ◌||◌, List, [], ◌∷◌, map, reverse, Option, Some, None}
 use Rattle.lang_base.specs.declared.op.BinaryOp.{BinaryOp}
 use Rattle.lang_base.specs.declared.op.Operands.{Operands}

@@ -1,7 +1,7 @@
 //! The laws of well-typed programs, each the clause of a function that does nothing.
 
 ghost use Rattle.runs_sound.specs.Laws.{BranchesInOrder, BranchesQuiet, CallsEnterWhatTheySee, ExpressionsInOrder, ForkingInOrder, IterationsQuiet, NdBranchesQuiet, NdBranchesSeparate, NdIterationsQuiet, NdIterationsSeparate, RootInOrder, TasksInOrder};
-ghost use Rattle.runs_sound.specs.KindLaws.{ExpressionsMeetNoWrongKind, KindsAreLookedAtAlone, RunsMeetNoWrongKind, TasksMeetNoWrongKind};
+ghost use Rattle.runs_sound.specs.KindLaws.{KindsAreLookedAtAlone, RunsMeetNoWrongKind};
 ghost use Rattle.runs_sound.specs.RunLaws.{ConflictsAreGuarded, ConflictsAreLevelled, EntriesAreLet, NamesAreKnownByAnyRule, NdForksAreOutside, RunsAreFree, RunsAreSound};
 
 /// Each expression of a well-typed program is in order. A call enters the class that it sees, which is that of its object's type or one
@@ -20,15 +20,6 @@ pub fn law_statements()
     ensures root { RootInOrder }
 {}
 
-/// None meets a value or an answer of a wrong kind: the meaning that looks at kinds is in order, whatever is done at a wrong one. That
-/// meaning is the other, where at a wrong kind is done what the other does there.
-pub fn law_kinds()
-    ensures expressions { ExpressionsMeetNoWrongKind }
-    ensures tasks { TasksMeetNoWrongKind }
-    ensures runs { RunsMeetNoWrongKind }
-    ensures meaning { KindsAreLookedAtAlone }
-{}
-
 /// Branches and iterations of deterministic constructs whose effects don't clash touch no cell in a way that shows, and those of
 /// nd constructs do so in atomic blocks alone: regions that these speak of are apart, but for those that both touch in atomic blocks.
 pub fn law_quiet()
@@ -45,6 +36,13 @@ pub fn law_quiet()
 /// unordered events that conflict stand inside atomic blocks, on a cell of an atomic region.
 pub fn law_sound()
     ensures { RunsAreSound }
+{}
+
+/// No run of a well-typed program meets a value or an answer of a wrong kind: the meaning that looks at kinds replies in it as the meaning, whatever
+/// is done at a wrong one. And where at a wrong kind is done what the meaning does there, both are one.
+pub fn law_kinds()
+    ensures runs { RunsMeetNoWrongKind }
+    ensures meaning { KindsAreLookedAtAlone }
 {}
 
 /// So no legal run of a program without nd constructs has two unordered events that conflict; and of each program those that do stand inside

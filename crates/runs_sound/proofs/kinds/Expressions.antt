@@ -37,7 +37,6 @@ use Rattle.runs_sound.proofs.work.Typed.{type_alone, Next, yields, expr_order}
 use Rattle.std.proofs.lemmas.Bool.{and_from}
 use Rattle.lang_base.specs.Operators.{operands_of}
 use Rattle.lang_typed.specs.Plain.{ExprForm as form}
-use Rattle.runs_sound.specs.KindLaws.{ExpressionsMeetNoWrongKind}
 use Rattle.runs_sound.specs.Kinds.{Wrong, is_read, is_length, is_class, is_name, strict_expr, strict_exprs}
 use Rattle.runs_sound.proofs.kinds.Uses.{kind_fits, kind_as, operands_fit, part_kinds, IsRead, IsNew, SeesArray, SeesObject, read_answered, new_answered, length_answered, class_answered, order_needs, order_answered, order_use, first_of_part, first_call, first_new, first_new_array}
 
@@ -172,6 +171,3 @@ module _ (wrong : Wrong Name LocalRegion) (P : PlainProgram) (wt : WellTyped P) 
               (subtype_fits P wt h1.shapes (env_of g) (env_alone L.given (env_of g) (frame_env ff)) refl sub (type_alone L (type_of e) (typed_in P wt L good h)) v fv),
           fits,
         )))
-
-pub strict_expressions_in_order : ExpressionsMeetNoWrongKind
-strict_expressions_in_order wrong P wt b dp dd L e E h good g st f ff w = strict_order wrong P wt b dp dd L good g h (Yields P L g e st f) st f ff w (yields P L g e st f)

@@ -120,7 +120,7 @@ module _ {N M : Type 0} (names : Naming N M) (P : PlainProgram) (dp : Option (De
     same_stmts no_stmts f = refl
     same_stmts (more_stmts s ss) f = λ i. and_then (same_stmt s f i) (λ v g. same_stmts ss g i)
 
-same_meaning : {N M : Type 0} (names : Naming N M) (P : PlainProgram) (d : ℕ) (ss : TypedStmts) (f : Frame N M) → strict_meaning (λ q. q) names P d ss f ≡ meaning names P d ss f
+pub same_meaning : {N M : Type 0} (names : Naming N M) (P : PlainProgram) (d : ℕ) (ss : TypedStmts) (f : Frame N M) → strict_meaning (λ q. q) names P d ss f ≡ meaning names P d ss f
 unfolding strict_meaning meaning
 same_meaning names P zero ss f = same_stmts names P None ss f
 same_meaning names P (suc d) ss f = (λ i. strict_stmts (λ q. q) names P (Some (λ rs g. same_meaning names P d rs g i)) ss f) ∙ same_stmts names P (Some (meaning names P d)) ss f

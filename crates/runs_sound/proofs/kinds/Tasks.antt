@@ -8,8 +8,18 @@ use Rattle.runs_sound.specs.Accesses.{Bounds}
 use Rattle.runs_sound.specs.Laws.{DeeperInOrder, scope_of}
 use Rattle.runs_sound.proofs.kinds.Statements.{strict_statements_in_order}
 use Rattle.runs_theory.specs.Objects.{Name, LocalRegion}
-use Rattle.runs_sound.specs.KindLaws.{TasksMeetNoWrongKind}
 use Rattle.runs_sound.specs.Kinds.{Wrong, strict_meaning}
+use Rattle.std.proofs.Common.{List, ℕ}
+use Rattle.lang_typed.specs.Effects.{Own}
+use Rattle.lang_typed.specs.Plain.{TypedStmts}
+use Rattle.lang_typed.specs.Scope.{Scope}
+use Rattle.lang_typed.specs.Statements.{AllPass}
+use Rattle.runs_sound.specs.Accesses.{Within}
+use Rattle.runs_sound.specs.Frames.{Frame, State, FrameFits}
+use Rattle.runs_sound.specs.Laws.{Leaves}
+use Rattle.runs_sound.specs.Scopes.{GoodScope}
+use Rattle.runs_sound.specs.Settings.{Setting}
+use Rattle.runs_sound.specs.Work.{InOrder}
 
 -- at each depth of calls, by recursion on it
 module _ (wrong : Wrong Name LocalRegion) (P : PlainProgram) (wt : WellTyped P) (b : Bounds) where
@@ -22,7 +32,9 @@ module _ (wrong : Wrong Name LocalRegion) (P : PlainProgram) (wt : WellTyped P) 
       strict_statements_in_order wrong P wt b (Some (strict_meaning wrong (named_by b.path) P left)) (strict_bodies_in_order left) (scope_of P wt n m there) m.body (wt.members n m there).effects
       (wt.members n m there).passes (body_good P wt n m there) g st f ff w
 
-pub strict_tasks_in_order : TasksMeetNoWrongKind
+pub strict_tasks_in_order : (wrong : Wrong Name LocalRegion) (P : PlainProgram) (wt : WellTyped P) → (b : Bounds) →
+    (L : Scope) (ss : TypedStmts) (E : List Own) → AllPass P L ss E → GoodScope L → (left : ℕ) (g : Setting) (st : State) (f : Frame) →
+    FrameFits P b.path st g L f → Within b st.entries g E → InOrder P b (Leaves P b L g ss st) st (strict_meaning wrong (named_by b.path) P left ss f)
 unfolding strict_meaning
 strict_tasks_in_order wrong P wt b L ss E p good zero g st f ff w = strict_statements_in_order wrong P wt b None tt L ss E p good g st f ff w
 strict_tasks_in_order wrong P wt b L ss E p good (suc left) g st f ff w =
