@@ -25,7 +25,7 @@ use Rattle.syntax_means.specs.Paths.{Around, ElemMeans, HeadMeans, root_path}
 use Rattle.body_infer.specs.declared.kept.Kept.{Kept}
 use Rattle.body_infer.specs.declared.kept.Kept.TheVariants as kept
 use Rattle.body_infer.specs.Kept.{Keeping, SaysOfEach, summary_kept}
-use Rattle.sound_infer.specs.Written.{SaysWhatIsKept, class_without, member_without}
+use Rattle.sound_infer.specs.Written.{HasItemsOf, HasWrittenItems, IsItemOf, SaysWhatIsKept, class_without, member_without}
 
 -- elements of a list
 
@@ -45,44 +45,30 @@ first_or_later {X} y xs x c = by c.0 c.1 c.2
 is_first : {X : Type 0} (y x : X) (xs : List X) → y ≡ x → Contains (y ∷ xs) x
 is_first y x xs e = subst (Contains (y ∷ xs)) e (here y xs)
 
-zip_find : {X Y : Type 0} (R : X → Y → Type 0) (xs : List X) (ys : List Y) (y : Y) → AllZip R xs ys → Contains ys y → (x : X) × R x y
+zip_find : {X Y : Type 0} (R : X → Y → Type 0) (xs : List X) (ys : List Y) (y : Y) → AllZip R xs ys → Contains ys y → (x : X) × R x y × Contains xs x
 zip_find R [] [] y h c = let l = c.1 in absurd (omega (arith, l))
 zip_find R [] (z ∷ ys) y h c = absurd h
 zip_find R (x ∷ xs) [] y h c = absurd h
-zip_find R (x ∷ xs) (z ∷ ys) y h c = ⊎_elim (λ e. (x, subst (R x) e h.0)) (λ more. zip_find R xs ys y h.1 more) (first_or_later z ys y c)
+zip_find R (x ∷ xs) (z ∷ ys) y h c = ⊎_elim (λ e. (x, subst (R x) e h.0, here x xs)) (λ more. (let w = zip_find R xs ys y h.1 more in (w.0, w.1, later x xs w.0 w.2))) (first_or_later z ys y c)
 
-module _ (A : Around) where
-  -- an item that means the effect, and one for each of these
+module _ (A : Around) (old : Option SummaryTree) where
+  -- an item of the summary that means the effect, and one for each of these
   abbrev Writable : Effect → Type 0
-  Writable e = (item : Item) × ItemMeans A e.access item e
+  Writable e = (item : Item) × ItemMeans A e.access item e × IsItemOf old item
 
   abbrev AllWritable : List Effect → Type 0
   AllWritable [] = Unit {0}
   AllWritable (e ∷ es) = Writable e × AllWritable es
 
-  writable_in : (access : Access) (item : Item) (e : Effect) → ItemMeans A access item e → Writable e
-  writable_in access item e m = (item, subst (λ a. ItemMeans A a item e) (sym (ap (λ (d : Effect). d.access) m.is)) m)
+  writable_in : (access : Access) (item : Item) (e : Effect) → ItemMeans A access item e → IsItemOf old item → Writable e
+  writable_in access item e m of = (item, subst (λ a. ItemMeans A a item e) (sym (ap (λ (d : Effect). d.access) m.is)) m, of)
 
   each_writable : (es : List Effect) → ((e : Effect) → Contains es e → Writable e) → AllWritable es
   each_writable [] each = tt
   each_writable (e ∷ es) each = (each e (here e es), each_writable es (λ d c. each d (later e es d c)))
 
-  all_writable : {old : Option SummaryTree} {es : List Effect} → SummaryMeans A old es → AllWritable es
-  all_writable SummaryMeans.left_out = (
-    (
-      record { atomic = false; rpl = record { place = record { line = 0; col = 0 }; head = head.Root; elems = elem.Star ∷ [] } },
-      record { path = record { start = root_path; begins = HeadMeans.at_root; elems = Star ∷ []; goes_on = (ElemMeans.a_star, tt); is = refl }; is = refl },
-    ),
-    tt,
-  )
-  all_writable {es = es} (SummaryMeans.written {summary = summary} reads writes rs ws same) =
-      each_writable es (λ e c.
-      ⊎_elim (λ r. (let w = zip_find (ItemMeans A Read) summary.reads reads e rs r in writable_in Read w.0 e w.1))
-      (λ r. (let w = zip_find (ItemMeans A Write) summary.writes writes e ws r in writable_in Write w.0 e w.1))
-      (Contains-append_cases reads writes e ((same e).0 c)))
-
   read_writable : (e : Effect) → Writable e → Writable (record e { access = Read })
-  read_writable e w = (w.0, record { path = w.1.path; is = ap (λ (d : Effect). let read : Effect = record d { access = Read } in read) w.1.is })
+  read_writable e w = (w.0, record { path = w.1.path; is = ap (λ (d : Effect). let read : Effect = record d { access = Read } in read) w.1.is }, w.2)
 
   kept_writable : (ks : List Kept) (es : List Effect) → AllWritable es → AllWritable (summary_kept ks es)
   kept_writable [] es h = tt
@@ -99,9 +85,10 @@ module _ (A : Around) where
     reads_mean : AllZip (ItemMeans A Read) summary.reads reads
     writes_mean : AllZip (ItemMeans A Write) summary.writes writes
     same : SameEffects es (reads ++ writes)
+    of : (item : Item) → Contains (summary.reads ++ summary.writes) item → IsItemOf old item
 
-  with_read : (e : Effect) (es : List Effect) (item : Item) → ItemMeans A Read item e → Written es → Written (e ∷ es)
-  with_read e es item m w = record {
+  with_read : (e : Effect) (es : List Effect) (item : Item) → ItemMeans A Read item e → IsItemOf old item → Written es → Written (e ∷ es)
+  with_read e es item m is_of w = record {
     summary = record (Written.summary w) { reads = item ∷ (Written.summary w).reads };
     reads = e ∷ w.reads;
     writes = w.writes;
@@ -111,10 +98,13 @@ module _ (A : Around) where
       λ c. ⊎_elim (λ q. is_first e d (w.reads ++ w.writes) q) (λ more. later e (w.reads ++ w.writes) d ((Written.same w d).0 more)) (first_or_later e es d c),
       λ c. ⊎_elim (λ q. is_first e d es q) (λ more. later e es d ((Written.same w d).1 more)) (first_or_later e (w.reads ++ w.writes) d c),
     );
+    of = λ i c.
+        let was = Written.summary w in
+        ⊎_elim (λ q. subst (IsItemOf old) q is_of) (λ more. Written.of w i more) (first_or_later item (was.reads ++ was.writes) i c);
   }
 
-  with_write : (e : Effect) (es : List Effect) (item : Item) → ItemMeans A Write item e → Written es → Written (e ∷ es)
-  with_write e es item m w = record {
+  with_write : (e : Effect) (es : List Effect) (item : Item) → ItemMeans A Write item e → IsItemOf old item → Written es → Written (e ∷ es)
+  with_write e es item m is_of w = record {
     summary = record (Written.summary w) { writes = item ∷ (Written.summary w).writes };
     reads = w.reads;
     writes = e ∷ w.writes;
@@ -129,20 +119,48 @@ module _ (A : Around) where
           (λ r. ⊎_elim (λ q. is_first e d es q) (λ more. later e es d ((Written.same w d).1 (Contains-append_right w.reads w.writes d more))) (first_or_later e w.writes d r))
           (Contains-append_cases w.reads (e ∷ w.writes) d c),
     );
+    of = λ i c.
+        let was = Written.summary w in
+        ⊎_elim (λ r. Written.of w i (Contains-append_left was.reads was.writes i r))
+        (λ r. ⊎_elim (λ q. subst (IsItemOf old) q is_of) (λ more. Written.of w i (Contains-append_right was.reads was.writes i more)) (first_or_later item was.writes i r))
+        (Contains-append_cases was.reads (item ∷ was.writes) i c);
   }
 
-  with_item : (e : Effect) (es : List Effect) (item : Item) (access : Access) → ItemMeans A access item e → Written es → Written (e ∷ es)
-  with_item e es item Read m w = with_read e es item m w
-  with_item e es item Write m w = with_write e es item m w
+  with_item : (e : Effect) (es : List Effect) (item : Item) (access : Access) → ItemMeans A access item e → IsItemOf old item → Written es → Written (e ∷ es)
+  with_item e es item Read m is_of w = with_read e es item m is_of w
+  with_item e es item Write m is_of w = with_write e es item m is_of w
 
   write : (es : List Effect) → AllWritable es → Written es
-  write [] h = record { summary = record { reads = []; writes = [] }; reads = []; writes = []; reads_mean = tt; writes_mean = tt; same = λ d. (λ c. c, λ c. c) }
-  write (e ∷ es) h = with_item e es h.0.0 e.access h.0.1 (write es h.1)
+  write [] h = record { summary = record { reads = []; writes = [] }; reads = []; writes = []; reads_mean = tt; writes_mean = tt; same = λ d. (λ c. c, λ c. c); of = λ item c. (let l = c.1 in absurd (omega (arith, l))) }
+  write (e ∷ es) h = with_item e es h.0.0 e.access h.0.1 h.0.2 (write es h.1)
 
-  pub summary_for : (old : Option SummaryTree) (es : List Effect) (ks : List Kept) → SummaryMeans A old es → (s : Option SummaryTree) × SummaryMeans A s (summary_kept ks es)
-  summary_for old es ks m =
-      let w = write (summary_kept ks es) (kept_writable ks es (all_writable m)) in
-      (Some (Written.summary w), SummaryMeans.written w.reads w.writes w.reads_mean w.writes_mean (Written.same w))
+-- the effects of a summary have its items
+all_writable : (A : Around) (old : Option SummaryTree) (es : List Effect) → SummaryMeans A old es → AllWritable A old es
+all_writable A old es SummaryMeans.left_out = (
+  (
+    record { atomic = false; rpl = record { place = record { line = 0; col = 0 }; head = head.Root; elems = elem.Star ∷ [] } },
+    record { path = record { start = root_path; begins = HeadMeans.at_root; elems = Star ∷ []; goes_on = (ElemMeans.a_star, tt); is = refl }; is = refl },
+    (refl, refl, refl),
+  ),
+  tt,
+)
+all_writable A old es (SummaryMeans.written {summary = summary} reads writes rs ws same) =
+    each_writable A (Some summary) es (λ e c.
+    ⊎_elim
+    (λ r. (let w = zip_find (ItemMeans A Read) summary.reads reads e rs r in
+    writable_in A (Some summary) Read w.0 e w.1 (Contains-append_left summary.reads summary.writes w.0 w.2)))
+    (λ r. (let w = zip_find (ItemMeans A Write) summary.writes writes e ws r in
+    writable_in A (Some summary) Write w.0 e w.1 (Contains-append_right summary.reads summary.writes w.0 w.2)))
+    (Contains-append_cases reads writes e ((same e).0 c)))
+
+pub summary_for : (A : Around) (old : Option SummaryTree) (es : List Effect) (ks : List Kept) → SummaryMeans A old es →
+    (s : Option SummaryTree) × SummaryMeans A s (summary_kept ks es) × HasItemsOf old s
+summary_for A old es ks m =
+    let w = write A old (summary_kept ks es) (kept_writable A old ks es (all_writable A old es m)) in (
+      Some (Written.summary w),
+      SummaryMeans.written w.reads w.writes w.reads_mean w.writes_mean (Written.same w),
+      λ summary e item c. Written.of w item (subst (λ (t : SummaryTree). Contains (t.reads ++ t.writes) item) (sym (same_Some (Written.summary w) summary e)) c),
+    )
 
 -- a tree with these summaries of its methods and constructors, by their numbers
 
@@ -226,31 +244,40 @@ module _ (tree : Program) (P : PlainProgram) (S : Keeping) (means : Means tree P
       (subst (λ (x : PlainMember). SummaryMeans (in_method tree P class' own') s (summary_kept ks x.summary)) (same_Some m m' (sym f ∙ f'))
       (subst (λ x. SummaryMeans (in_method tree P class' x) s (summary_kept ks m.summary)) o (subst (λ x. SummaryMeans (in_method tree P x own) s (summary_kept ks m.summary)) k says)))
 
-  choose : (n : ℕ) → (s : Option SummaryTree) × Chosen n s
+  abbrev OfItems : ℕ → Option SummaryTree → Type 0
+  OfItems n s = (own : OwnMethod) → slice_get (all_methods tree) n ≡ Some own → HasItemsOf own.method.summary s
+
+  no_items : (n : ℕ) → OfItems n None
+  no_items n own e = λ summary q. absurd (none-some summary q)
+
+  choose : (n : ℕ) → (s : Option SummaryTree) × Chosen n s × OfItems n s
   choose n = by (slice_get (all_methods tree) n) (member_at P n) (slice_get S n) refl refl refl
     where
-      by : (a : Option OwnMethod) (b : Option PlainMember) (c : Option (List Kept)) → slice_get (all_methods tree) n ≡ a → member_at P n ≡ b → slice_get S n ≡ c → (s : Option SummaryTree) × Chosen n s
-      by None b c e f g = (None, λ own class m ks e' st f' g'. absurd (none-some own (sym e ∙ e')))
-      by (Some own) None c e f g = (None, λ own class m ks e' st f' g'. absurd (none-some m (sym f ∙ f')))
-      by (Some own) (Some m) None e f g = (None, λ own class m ks e' st f' g'. absurd (none-some ks (sym g ∙ g')))
+      by : (a : Option OwnMethod) (b : Option PlainMember) (c : Option (List Kept)) → slice_get (all_methods tree) n ≡ a → member_at P n ≡ b → slice_get S n ≡ c →
+          (s : Option SummaryTree) × Chosen n s × OfItems n s
+      by None b c e f g = (None, λ own class m ks e' st f' g'. absurd (none-some own (sym e ∙ e')), no_items n)
+      by (Some own) None c e f g = (None, λ own class m ks e' st f' g'. absurd (none-some m (sym f ∙ f')), no_items n)
+      by (Some own) (Some m) None e f g = (None, λ own class m ks e' st f' g'. absurd (none-some ks (sym g ∙ g')), no_items n)
       by (Some own) (Some m) (Some ks) e f g =
           let h = means.members n own m e f in
           let s = summary_for (in_method tree P h.class own) own.method.summary m.summary ks h.summary in
-          (s.0, chosen_same n s.0 own h.class m ks e h.stands f g s.1)
+          (s.0, chosen_same n s.0 own h.class m ks e h.stands f g s.1, λ other at. subst (λ (o : OwnMethod). HasItemsOf o.method.summary s.0) (same_Some own other (sym e ∙ at)) s.2)
 
-  pub can_be_written : (new : Program) × SaysWhatIsKept tree new P S
+  pub can_be_written : (new : Program) × SaysWhatIsKept tree new P S × HasWrittenItems tree new
   can_be_written =
-      let f = λ (n : ℕ). (choose n).0 in (
-        record tree { classes = classes_with f 0 tree.classes },
+      let f = λ (n : ℕ). (choose n).0 in
+      let new : Program = record tree { classes = classes_with f 0 tree.classes } in
+      let said = λ (n : ℕ) (own other : OwnMethod) (is : slice_get (all_methods tree) n ≡ Some own) (at : slice_get (all_methods new) n ≡ Some other).
+      (let zero_more : 0 + n ≡ n = omega arith in
+      method_at f 0 n (all_methods tree) own other is (ap (λ xs. slice_get xs n) (sym (methods_of f 0 0 tree.classes)) ∙ at) ∙ ap f zero_more) in (
+        new,
         record {
           same = ap (λ ks. record tree { classes = ks }) (classes_same f 0 tree.classes);
           says = λ n own other class m ks is at stands here keeps.
-              let all : methods_from 0 (classes_with f 0 tree.classes) ≡ methods_with f 0 (all_methods tree) = methods_of f 0 0 tree.classes in
-              let zero_more : 0 + n ≡ n = omega arith in
-              let said : other.method.summary ≡ f n = method_at f 0 n (all_methods tree) own other is (ap (λ xs. slice_get xs n) (sym all) ∙ at) ∙ ap f zero_more in
-              subst (λ s. SummaryMeans (in_method tree P class own) s (summary_kept ks m.summary)) (sym said) ((choose n).1 own class m ks is stands here keeps);
+              subst (λ s. SummaryMeans (in_method tree P class own) s (summary_kept ks m.summary)) (sym (said n own other is at)) ((choose n).1 own class m ks is stands here keeps);
         },
+        λ n own other is at. subst (HasItemsOf own.method.summary) (sym (said n own other is at)) ((choose n).2 own is),
       )
 
-pub kept_can_be_written : (tree : Program) (P : PlainProgram) (S : Keeping) → SaysOfEach P S → Means tree P → (new : Program) × SaysWhatIsKept tree new P S
+pub kept_can_be_written : (tree : Program) (P : PlainProgram) (S : Keeping) → SaysOfEach P S → Means tree P → (new : Program) × SaysWhatIsKept tree new P S × HasWrittenItems tree new
 kept_can_be_written tree P S says means = can_be_written tree P S means
