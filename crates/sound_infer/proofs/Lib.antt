@@ -9,3 +9,4 @@ pub mod Bodies
 pub mod Kept
 pub mod WellTyped
 pub mod Lines
+pub mod written
