@@ -41,7 +41,7 @@ pub record SaysWhatIsKept (tree new : Program) (P : PlainProgram) (S : Keeping) 
       slice_get (all_methods new) n ≡ Some other → slice_get tree.classes own.class ≡ Some class → member_at P n ≡ Some m → slice_get S n ≡ Some ks →
       SummaryMeans (in_method tree P class own) other.method.summary (summary_kept ks m.summary)
 
--- an item of a summary; where none is written, of `Root:*`
+-- an item of a summary, or `Root:*` where none is written
 abbrev pub IsItemOf : Option SummaryTree → Item → Type 0
 IsItemOf None item = (item.atomic ≡ false) × (item.rpl.head ≡ head.Root) × (item.rpl.elems ≡ elem.Star ∷ [])
 IsItemOf (Some summary) item = Contains (summary.reads ++ summary.writes) item
