@@ -7,8 +7,11 @@ use Rattle.syntax_tree.specs.declared.class.Program.{Program}
 use Rattle.syntax_means.specs.Accepts.{Accepts}
 use Rattle.syntax_means.specs.Declares.{names_in}
 use Rattle.body_infer.specs.Lines.{lines_of}
+use Rattle.body_infer.specs.PostFixpoint.{IsInferred}
 use Rattle.sound_infer.specs.Laws.{program_inferred}
 use Rattle.sound_infer.proofs.Lines.{same_lines}
+use Rattle.sound_infer.proofs.written.Choosing.{kept_can_be_written}
+use Rattle.sound_infer.proofs.written.Programs.{kept_is_accepted}
 use Rattle.tool_words.specs.Jobs.{job}
 use Rattle.tool_words.specs.Reports.{report_of, status_of}
 use Rattle.tool_words.specs.declared.command.Command.{Command}
@@ -136,6 +139,8 @@ module _ (keeps : KeepsGuarantee) (words : List (List ℕ)) (read left before af
           kept = told.kept;
           inferred = told.inferred;
           well_typed = keeps.summaries text place typed told.kept accepted told.inferred;
+          written = kept_can_be_written meant.0 typed told.kept (IsInferred.says told.inferred) (Accepts.means meant.1);
+          accepted = λ other new says has. kept_is_accepted text other meant.0 new typed told.kept (IsInferred.says told.inferred) (IsInferred.post_fixpoint told.inferred) says meant.1 has;
           reported = subst (λ n. IsReported (Effects (lines_of (program_inferred told.kept typed) n)) before after status) named
               (verdict_reported (Effects (lines_of (program_inferred told.kept typed) told.names))
               (ap (λ (a : Answered). a.verdict) told.tells ∙ ap Effects (sym (same_lines told.kept typed told.names))));

@@ -5,12 +5,13 @@ use Rattle.lang_base.specs.declared.outcome.Outcome.{Outcome}
 use Rattle.lang_typed.specs.Plain.{PlainProgram}
 use Rattle.lang_typed.specs.WellTyped.{WellTyped}
 use Rattle.syntax_tree.specs.declared.class.Program.{Program}
-use Rattle.syntax_means.specs.Accepts.{Accepts}
+use Rattle.syntax_means.specs.Accepts.{Accepts, HasTree}
 use Rattle.syntax_means.specs.Declares.{names_in}
 use Rattle.body_infer.specs.PostFixpoint.{IsInferred}
 use Rattle.body_infer.specs.Kept.{Keeping}
 use Rattle.body_infer.specs.Lines.{lines_of}
 use Rattle.sound_infer.specs.Laws.{program_inferred}
+use Rattle.sound_infer.specs.Written.{HasWrittenItems, SaysWhatIsKept}
 use Rattle.runs_theorem.specs.Inside.{ComesOutElidedInside}
 use Rattle.runs_theorem.specs.Guarantee.{elision}
 use Rattle.runs_theorem.specs.Reduced.{ComesOutReduced}
@@ -64,11 +65,14 @@ pub record ReportsRun (job : Job) (text : List ℕ) (typed : PlainProgram) (well
   pub comes : ComesOutBy typed well_typed (limits_of job) job.arg made.machine.schedule outcome
   pub reported : IsReported (verdict_of job text made.machine.schedule made.rounds outcome) before after status
 
--- the lines are reported of the inferred summaries, with which the program is well typed
+-- the lines are reported of the inferred summaries, with which the program is well typed; with summaries that say so in place of
+-- the written ones, of which there are some, a text is accepted as that program
 pub record ReportsSummaries (tree : Program) (typed : PlainProgram) (before after : Option (List ℕ)) (status : Status) : Type 0 where
   pub kept : Keeping
   pub inferred : IsInferred typed kept
   pub well_typed : WellTyped (program_inferred kept typed)
+  pub written : (new : Program) × SaysWhatIsKept tree new typed kept × HasWrittenItems tree new
+  pub accepted : (other : List ℕ) (new : Program) → SaysWhatIsKept tree new typed kept → HasTree other new → Accepts other new (program_inferred kept typed)
   pub reported : IsReported (Effects (lines_of (program_inferred kept typed) (names_in tree))) before after status
 
 -- a run, or an elision, is asked of a program without nd constructs
