@@ -7,4 +7,5 @@ pub mod Playing
 pub mod Ends
 pub mod Begins
 pub mod Opening
+pub mod Telling
 mod Aways

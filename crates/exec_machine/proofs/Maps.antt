@@ -2,7 +2,7 @@
 use Rattle.std.proofs.Common.{◌≡◌, ◌≢◌, ℕ, refl, sym, ap, ◌∙◌, Option, Some, None, cond, subst, IsSome}
 use Rattle.std.specs.Ordering.{nat_cmp}
 use Rattle.std.specs.Cmp.{nat_cmp_total}
-use Rattle.std.specs.FinMap.{FinMap, get, insert, get-insert}
+use Rattle.std.specs.FinMap.{FinMap, get, insert, remove, get-insert, get-remove}
 use Rattle.std.specs.BTreeMap as tree
 use Rattle.std.specs.BTreeMap.{WritesThrough}
 use Rattle.std.specs.declared.collections.BTreeMap.{BTreeMap}
@@ -20,6 +20,9 @@ module _ {A : Type 0} where
 
 pub got : (m : FinMap nat_cmp Slot) (k : ℕ) (w : Slot) → get (insert m k w) k ≡ Some w
 got m k w = get-insert nat_cmp_total m k w k ∙ ap (λ b. cond b (Some w) (get m k)) (itself k)
+
+pub gone : (m : FinMap nat_cmp Slot) (k : ℕ) → get (remove m k) k ≡ None
+gone m k = get-remove nat_cmp_total m k k ∙ ap (λ b. cond b None (get m k)) (itself k)
 
 -- a slot that the map has, or hasn't
 pub of_found : (m : BTreeMap ℕ Slot Global) (k : ℕ) (t : Slot) (slots : FinMap nat_cmp Slot) (P : Slot → Type 0) → Some t ≡ tree.get nat_cmp m k

@@ -5,3 +5,4 @@ pub mod Premise
 pub mod Away
 pub mod Keeping
 pub mod Events
+pub mod Telling

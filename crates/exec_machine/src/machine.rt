@@ -5,6 +5,7 @@ ghost use Rattle.exec_world.specs.Ready.{IsReady, NoneReady, IsGreatestReady, No
 ghost use Rattle.exec_machine.specs.Keeping.{IsReplayed, IsAfter, WhyHaltedAt, GreedilyOn, HasEnded, HaltsGreedily};
 ghost use Rattle.exec_machine.specs.Premise.{CanProgress};
 
+use crate::event_machine::EventMachine;
 use crate::halted::Halted;
 use crate::run::Run;
 use crate::start::start;
@@ -140,6 +141,22 @@ impl Machine {
         ensures { self.new ≡ self.old }
     {
         self.run.slots.prepare(rt, &self.code, threads, tasks);
+    }
+
+    /// The same machine, which has made no event, and keeps its events from now on.
+    pub fn with_events(self) -> EventMachine
+        requires nothing { self.schedule ≡ [] }
+        ensures played { result.played ≡ self }
+        ensures nothing { result.made ≡ [] }
+    {
+        let Machine {
+            code,
+            limits,
+            argument,
+            run,
+            alloc,
+        } = self;
+        EventMachine::new(code, limits, argument, run, alloc)
     }
 
     /// How the run came out, once it has finished.

@@ -5,17 +5,20 @@ use Rattle.lang_base.specs.declared.outcome.Outcome.{Outcome}
 use Rattle.lang_typed.specs.Plain.{PlainProgram}
 use Rattle.lang_typed.specs.WellTyped.{WellTyped}
 use Rattle.syntax_tree.specs.declared.class.Program.{Program}
-use Rattle.syntax_means.specs.Accepts.{Accepts, HasTree}
+use Rattle.syntax_means.specs.Accepts.{Accepts}
 use Rattle.syntax_means.specs.Declares.{names_in}
 use Rattle.body_infer.specs.PostFixpoint.{IsInferred}
 use Rattle.body_infer.specs.Kept.{Keeping}
 use Rattle.body_infer.specs.Lines.{lines_of}
 use Rattle.sound_infer.specs.Laws.{program_inferred}
-use Rattle.sound_infer.specs.Written.{HasWrittenItems, SaysWhatIsKept}
 use Rattle.runs_theorem.specs.Inside.{ComesOutElidedInside}
 use Rattle.runs_theorem.specs.Guarantee.{elision}
 use Rattle.runs_theorem.specs.Reduced.{ComesOutReduced}
+use Rattle.exec_machine.specs.declared.made_event.MadeEvent.{MadeEvent}
+use Rattle.exec_run.specs.Events.{AreEvents}
 use Rattle.exec_run.specs.declared.history.record.Record.{Record}
+use Rattle.exec_run.specs.declared.showing.Shown.TheVariants.{Made}
+use Rattle.tool_front.specs.Judging.{field_names_in}
 use Rattle.tool_trace.specs.Reading.{IsTrace}
 use Rattle.tool_trace.specs.declared.reading.Trace.{Trace}
 use Rattle.tool_words.specs.Jobs.{job as job_of}
@@ -26,7 +29,7 @@ use Rattle.tool_words.specs.declared.verdict.Status.{Status}
 use Rattle.tool_words.specs.declared.verdict.Status.TheVariants as ended
 use Rattle.tool_words.specs.declared.verdict.Verdict.{Verdict}
 use Rattle.tool_words.specs.declared.verdict.Verdict.TheVariants.{Ran, Effects}
-use Rattle.tool_top.specs.Answer.{asks_run, limits_of, verdict_of}
+use Rattle.tool_top.specs.Answer.{asks_run, limits_of, shown_verdict, verdict_of}
 use Rattle.tool_top.specs.Call.{Appends, IsTextOf}
 use Rattle.tool_top.specs.Replaying.{program_of}
 
@@ -65,14 +68,23 @@ pub record ReportsRun (job : Job) (text : List ℕ) (typed : PlainProgram) (well
   pub comes : ComesOutBy typed well_typed (limits_of job) job.arg made.machine.schedule outcome
   pub reported : IsReported (verdict_of job text made.machine.schedule made.rounds outcome) before after status
 
--- the lines are reported of the inferred summaries, with which the program is well typed; with summaries that say so in place of
--- the written ones, of which there are some, a text is accepted as that program
+-- a run is recorded, on the job's argument and within its limits, and what is reported is how it came out and the events that its schedule makes,
+-- told with the names of the tree
+pub record ReportsEvents (job : Job) (tree : Program) (typed : PlainProgram) (well_typed : WellTyped typed) (before after : Option (List ℕ)) (status : Status) (recorded : Option Record) : Type 0 where
+  pub made : Record
+  pub is : recorded ≡ Some made
+  pub outcome : Outcome
+  pub comes : ComesOutBy typed well_typed (limits_of job) job.arg made.machine.schedule outcome
+  pub elided : typed.uses_nd ≡ false → outcome ≡ elision_for job typed
+  pub events : List MadeEvent
+  pub are_events : AreEvents typed (limits_of job) job.arg made.machine.schedule (Made events)
+  pub reported : IsReported (shown_verdict job (record { program = typed; names = names_in tree; fields = field_names_in tree }) events outcome) before after status
+
+-- the lines are reported of the inferred summaries, with which the program is well typed
 pub record ReportsSummaries (tree : Program) (typed : PlainProgram) (before after : Option (List ℕ)) (status : Status) : Type 0 where
   pub kept : Keeping
   pub inferred : IsInferred typed kept
   pub well_typed : WellTyped (program_inferred kept typed)
-  pub written : (new : Program) × SaysWhatIsKept tree new typed kept × HasWrittenItems tree new
-  pub accepted : (other : List ℕ) (new : Program) → SaysWhatIsKept tree new typed kept → HasTree other new → Accepts other new (program_inferred kept typed)
   pub reported : IsReported (Effects (lines_of (program_inferred kept typed) (names_in tree))) before after status
 
 -- a run, or an elision, is asked of a program without nd constructs
@@ -80,7 +92,7 @@ abbrev pub AsksElision : Job → PlainProgram → Type 0
 AsksElision job typed = ((asks_run job.command ≡ true) × (typed.uses_nd ≡ false)) ⊎ (job.command ≡ command.Elide)
 
 -- There is a text that the job is on, and a well-typed program that it means, and by this is reported what is asked: a run of a program without nd constructs
--- by its serial elision, whatever the workers and their order; of every program by the run that is recorded; and its effects by
+-- by its serial elision, whatever the workers and their order; of every program by the run that is recorded, or by its events; and its effects by
 -- summaries that may stand in place of the written ones.
 pub record ReportsProgram (job : Job) (read left before after : Option (List ℕ)) (status : Status) (recorded : Option Record) : Type 0 where
   pub text : List ℕ
@@ -90,6 +102,7 @@ pub record ReportsProgram (job : Job) (read left before after : Option (List ℕ
   pub accepts : Accepts text tree typed
   pub elided : AsksElision job typed → ReportsElision job text typed before after status
   pub run : asks_run job.command ≡ true → ReportsRun job text typed accepts.well_typed before after status recorded
+  pub events : job.command ≡ command.Events → ReportsEvents job tree typed accepts.well_typed before after status recorded
   pub summaries : job.command ≡ command.Effects → ReportsSummaries tree typed before after status
 
 -- so where words give a job, but for a replay

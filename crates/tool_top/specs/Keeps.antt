@@ -19,7 +19,12 @@ use Rattle.exec_run.specs.Replays.{IsFollowed}
 use Rattle.exec_run.specs.Run.{ComesOut}
 use Rattle.exec_run.specs.declared.replaying.Replayed.TheVariants.{Halted}
 use Rattle.exec_run.specs.declared.replaying.Replayed.TheVariants as replayed
-use Rattle.tool_front.specs.Front.{AreNames}
+use Rattle.exec_run.specs.Events.{AreEvents}
+use Rattle.exec_run.specs.declared.showing.Shown.{Shown}
+use Rattle.exec_run.specs.declared.showing.Shown.TheVariants.{Made, Unfit}
+use Rattle.exec_run.specs.declared.showing.Shown.TheVariants as shown
+use Rattle.tool_front.specs.Front.{AreFieldNames, AreNames}
+use Rattle.tool_front.specs.Judging.{field_names_in}
 use Rattle.tool_trace.specs.Reading.{AreLimits}
 use Rattle.tool_words.specs.declared.job.Job.{Job}
 use Rattle.tool_words.specs.declared.verdict.Verdict.TheVariants.{Ran}
@@ -45,6 +50,17 @@ pub record FollowsReduced (typed : PlainProgram) (well_typed : WellTyped typed) 
   pub comes : ComesOutBy typed well_typed limits argument schedule made.outcome
   pub elided : typed.uses_nd ≡ false → made.outcome ≡ elision typed limits argument
 
+-- a run that was made is reduced, inside nd constructs too, and without them it comes out as the elision
+pub record MadeReduced (job : Job) (typed : PlainProgram) (well_typed : WellTyped typed) (made : Recorded) : Type 0 where
+  pub comes : ComesOutBy typed well_typed (limits_of job) job.arg made.record.machine.schedule made.outcome
+  pub elided : typed.uses_nd ≡ false → made.outcome ≡ elision_for job typed
+
+-- a schedule makes its events, and neither a number is unfit nor can the run not go on
+abbrev pub IsMade : Shown → Type 0
+IsMade (Made events) = Unit {0}
+IsMade (Unfit at) = ⊥
+IsMade shown.Halted = ⊥
+
 -- a run in the job's mode comes out, and so does the run in which the greatest ready task always goes on
 pub record GoesOn (job : Job) (typed : PlainProgram) : Type 0 where
   pub runs : IsRunBy job.mode typed (limits_of job) job.arg job.workers None → ⊥
@@ -56,6 +72,7 @@ pub record GoesOn (job : Job) (typed : PlainProgram) : Type 0 where
 pub record KeepsGuarantee : Type 0 where
   pub means : (text : List ℕ) (place : Place) (typed : PlainProgram) → IsAcceptedAs text place typed → (tree : Program) × Accepts text tree typed
   pub names : (text : List ℕ) (names : ProgramNames) (tree : Program) → length text ≤ max_text → AreNames text names → HasTree text tree → names ≡ names_in tree
+  pub fields : (text : List ℕ) (fields : List (List (List ℕ))) (tree : Program) → AreFieldNames text fields → HasTree text tree → fields ≡ field_names_in tree
   pub typed_well : (text : List ℕ) (place : Place) (typed : PlainProgram) → IsAcceptedAs text place typed → WellTyped typed
   pub goes_on : (job : Job) (text : List ℕ) (place : Place) (typed : PlainProgram) → IsWithin job → IsAcceptedAs text place typed → GoesOn job typed
   -- also by a schedule, as far as it can be followed
@@ -67,6 +84,11 @@ pub record KeepsGuarantee : Type 0 where
       → typed.uses_nd ≡ false → IsRan job text typed answered → TellsElision job text typed answered
   pub reduce : (job : Job) (text : List ℕ) (place : Place) (typed : PlainProgram) (answered : Answered) → IsWithin job → IsAcceptedAs text place typed
       → IsRan job text typed answered → (well_typed : WellTyped typed) → TellsReduced job text typed well_typed answered
+  -- so of a run whose events are told, and its schedule makes them
+  pub made : (job : Job) (text : List ℕ) (place : Place) (typed : PlainProgram) (made : Recorded) → IsWithin job → IsAcceptedAs text place typed
+      → IsRunBy job.mode typed (limits_of job) job.arg job.workers (Some made) → (well_typed : WellTyped typed) → MadeReduced job typed well_typed made
+  pub shows : (job : Job) (text : List ℕ) (place : Place) (typed : PlainProgram) (made : Recorded) (shown : Shown) → IsWithin job → IsAcceptedAs text place typed
+      → IsRunBy job.mode typed (limits_of job) job.arg job.workers (Some made) → AreEvents typed (limits_of job) job.arg made.record.machine.schedule shown → IsMade shown
   pub elide : (job : Job) (text : List ℕ) (place : Place) (typed : PlainProgram) (answered : Answered) → IsWithin job → IsAcceptedAs text place typed
       → IsElided job typed answered → answered ≡ only (Ran (elision_for job typed))
   pub greedy : (job : Job) (text : List ℕ) (place : Place) (typed : PlainProgram) (outcome : Outcome) → IsWithin job → IsAcceptedAs text place typed

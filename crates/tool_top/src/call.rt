@@ -192,7 +192,7 @@ fn answer_text<R: Threads + Wait + Sync, G: Gate + Sync>(
 {
     match job.command {
         Command::Replay => replayed(alloc, text),
-        Command::Demo | Command::Run | Command::Trace | Command::Cost => {
+        Command::Demo | Command::Run | Command::Trace | Command::Events | Command::Cost => {
             answer_by_run(rt, alloc, job, text, gate)
         }
         _ => answer_without_run(alloc, job, text),

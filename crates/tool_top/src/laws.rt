@@ -45,6 +45,8 @@ pub fn promise()
     law_passed();
     law_inferred();
     law_means();
+    law_steps();
+    law_code_progress();
 }
 
 /// The refusal `schedule` of a replay is at the first number by which the run of the source can't go on: its task isn't ready in the run that

@@ -22,4 +22,4 @@ mod writing;
 pub use laws::law_readings;
 pub use reading::{Trace, TraceStop, read_trace};
 pub use runs::{Run, trace_line};
-pub use writing::trace_text;
+pub use writing::{events_line, settings_line, trace_text};
