@@ -2,10 +2,10 @@
 use Rattle.std.proofs.Common.{◌≡◌, ◌≢◌, ℕ, ◌+◌, ◌<◌, ◌≤◌, refl, sym, ap, subst, ◌∙◌, Option, Some, None, Bool, true, false, cond, arith, true≢false}
 use Rattle.std.specs.Ordering.{nat_cmp, eq_by_cmp}
 use Rattle.std.specs.Cmp.{nat_cmp_total, Equal-is, tied_itself}
-use Rattle.std.specs.FinMap.{get, insert, remove, empty, get-insert, get-remove, get-empty, nat_cmp-IsAntisymmetric}
+use Rattle.std.specs.FinMap.{FinMap, get, insert, remove, empty, get-insert, get-remove, get-empty, nat_cmp-IsAntisymmetric}
 use Rattle.exec_tasks.specs.declared.task.Task.{Task}
 use Rattle.exec_tasks.specs.Tree.{Tasks, changed, changed_to, OfEach, OfTask, OfOrigin, IsNumbered, fresh, next_origin}
-use Rattle.exec_tasks.proofs.Maps.{same_tasks}
+use Rattle.exec_tasks.proofs.Maps.{same_maps}
 
 -- the test of numbers by which a map finds, and what it tells
 pub same_number : (q k : ℕ) → eq_by_cmp nat_cmp q k ≡ true → q ≡ k
@@ -21,15 +21,16 @@ other_number q k apart = other (eq_by_cmp nat_cmp q k) refl
     other true e = absurd (apart (same_number q k e))
     other false e = refl
 
-pub get_inserted : (tasks : Tasks) (k : ℕ) (t : Task) → get (insert tasks k t) k ≡ Some t
-get_inserted tasks k t = get-insert nat_cmp_total tasks k t k ∙ ap (λ b. cond b (Some t) (get tasks k)) (itself k)
+module _ {A : Type 0} where
+  pub get_inserted : (m : FinMap nat_cmp A) (k : ℕ) (t : A) → get (insert m k t) k ≡ Some t
+  get_inserted m k t = get-insert nat_cmp_total m k t k ∙ ap (λ b. cond b (Some t) (get m k)) (itself k)
 
-pub get_beside : (tasks : Tasks) (k q : ℕ) (t : Task) → q ≢ k → get (insert tasks k t) q ≡ get tasks q
-get_beside tasks k q t apart = get-insert nat_cmp_total tasks k t q ∙ ap (λ b. cond b (Some t) (get tasks q)) (other_number q k apart)
+  pub get_beside : (m : FinMap nat_cmp A) (k q : ℕ) (t : A) → q ≢ k → get (insert m k t) q ≡ get m q
+  get_beside m k q t apart = get-insert nat_cmp_total m k t q ∙ ap (λ b. cond b (Some t) (get m q)) (other_number q k apart)
 
 pub taken_back : (tasks : Tasks) (k : ℕ) (t : Task) → get tasks k ≡ None → remove (insert tasks k t) k ≡ tasks
 taken_back tasks k t absent =
-    same_tasks (remove (insert tasks k t) k) tasks (λ q. get-remove nat_cmp_total (insert tasks k t) k q ∙ at q (eq_by_cmp nat_cmp q k) refl)
+    same_maps (remove (insert tasks k t) k) tasks (λ q. get-remove nat_cmp_total (insert tasks k t) k q ∙ at q (eq_by_cmp nat_cmp q k) refl)
   where
     at : (q : ℕ) (b : Bool) → eq_by_cmp nat_cmp q k ≡ b → cond b None (get (insert tasks k t) q) ≡ get tasks q
     at q true e = sym absent ∙ ap (get tasks) (sym (same_number q k e))

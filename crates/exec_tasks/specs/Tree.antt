@@ -171,11 +171,6 @@ pub data IsPath (tasks : Tasks) : ℕ → List PathStep → Type 0 where
   step : (n : ℕ) (origin : Origin) (steps : List PathStep) → origin_of (get tasks n) ≡ Some origin → IsPath tasks origin.parent steps
       → IsPath tasks n (steps ++ origin.step ∷ [])
 
--- the task is the last with a number below the bound
-pub record IsLastBelow (tasks : Tasks) (bound n : ℕ) : Type 0 where
-  pub below : n < bound
-  pub last : (q : ℕ) → n < q → q < bound → get tasks q ≡ None
-
 -- the greatest number below a bound of a task that can go on
 pub record IsGreatestReady (tasks : Tasks) (bound n : ℕ) : Type 0 where
   pub goes_on : IsTrue (ready (get tasks n))

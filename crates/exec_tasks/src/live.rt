@@ -2,28 +2,28 @@ ghost use Rattle.std.specs.Prelude.{◌≡◌, ◌<◌, IsTrue, IfOk, OnOk, OnEr
 ghost use Rattle.std.specs.Option.{option_copied};
 ghost use Rattle.std.specs.FinMap.{empty, get, insert, remove};
 ghost use Rattle.exec_tasks.specs.Join.{JoinsTo};
+ghost use Rattle.exec_tasks.specs.Numbered.{IsLastBelow};
 ghost use Rattle.exec_tasks.specs.Scope.{with_branch, with_end};
-ghost use Rattle.exec_tasks.specs.Tree.{CanBegin, CanJoin, origin_of, printed_task, ready, IsLastBelow, IsGreatestReady, NoneReady, changed, forked_task, with_scope, joined_task, ends_in};
+ghost use Rattle.exec_tasks.specs.Tree.{CanBegin, CanJoin, origin_of, printed_task, ready, IsGreatestReady, NoneReady, changed, forked_task, with_scope, joined_task, ends_in};
 
 use crate::closed::Closed;
 use crate::end::Joined;
-use crate::kept::Kept;
+use crate::numbered::Numbered;
 use crate::scope::Scope;
 use crate::task::{Origin, State, Task};
 use lang_base::NoMemory;
 use std::alloc::Global;
-use std::collections::BTreeMap;
 use std::marker::Model;
 
 /// The live tasks. A contract sees a finite map from their numbers.
 #[derive(Drop)]
 pub struct Live {
-    tasks: BTreeMap<u32, Kept<Task>>,
+    tasks: Numbered<Task>,
     alloc: Global,
 }
 
 impl Model for Live {
-    ghost use Rattle.std.specs.FinMap.{from_entries, code};
+    ghost use Rattle.std.specs.FinMap.{code};
     ghost use Rattle.std.specs.Coded.{coded_ℕ};
     ghost use Rattle.exec_tasks.specs.Tree.{Tasks};
     ghost use Rattle.exec_tasks.specs.contracts.task.Task as task;
@@ -32,7 +32,7 @@ impl Model for Live {
 
     ghost coded = { code coded_ℕ task.the_row.coded };
 
-    ghost view = { λ t. from_entries t.tasks.entries };
+    ghost view = { λ t. t.tasks };
 }
 
 impl Live {
@@ -40,7 +40,7 @@ impl Live {
         ensures { result ≡ empty }
     {
         Live {
-            tasks: BTreeMap::new(alloc),
+            tasks: Numbered::new(alloc),
             alloc,
         }
     }
@@ -48,10 +48,7 @@ impl Live {
     pub fn get(&self, number: u32) -> Option<&Task>
         ensures { option_copied result ≡ get self.now number }
     {
-        match self.tasks.get(&number) {
-            Some(task) => Some(task.get()),
-            None => None,
-        }
+        self.tasks.get(number)
     }
 
     /// Where a live task came from: None for the root.
@@ -64,14 +61,23 @@ impl Live {
         }
     }
 
-    /// The task with the greatest number below a bound, with its number.
+    fn is_ready(&self, number: u32) -> bool
+        ensures { result ≡ ready (get self.now number) }
+    {
+        match self.get(number) {
+            None => false,
+            Some(task) => task.state.is_ready(),
+        }
+    }
+
+    /// The greatest number below a bound of a task, and whether that can go on.
     fn last_below(&self, bound: u32) -> Option<(u32, bool)>
         ensures last { IfSome result (λ found. IsLastBelow self.now bound found.0) }
         ensures ready { IfSome result (λ found. found.1 ≡ ready (get self.now found.0)) }
         ensures absent { IfNone result ((q : ℕ) → q < bound → get self.now q ≡ None) }
     {
-        let (number, task) = self.tasks.range(..bound).next_back()?;
-        Some((*number, task.get().state.is_ready()))
+        let number = self.tasks.last_below(bound)?;
+        Some((number, self.is_ready(number)))
     }
 
     /// The greatest number below a bound of a task that can go on.
@@ -92,28 +98,23 @@ impl Live {
         ensures ok { OnOk result (self.new ≡ insert self.old number task) }
         ensures err { OnErr result (self.new ≡ self.old) }
     {
-        let _ = self.tasks.insert(number, Kept::new(self.alloc, task)?)?;
-        Ok(())
+        self.tasks.insert(number, task)
     }
 
     pub fn remove(&mut self, number: u32) -> Option<Task>
         ensures task { result ≡ get self.old number }
         ensures removed { self.new ≡ remove self.old number }
     {
-        let Some(task) = self.tasks.remove(&number) else {
-            return None;
-        };
-        Some(task.into_inner())
+        self.tasks.remove(number)
     }
 
     /// Opens a scope of a task.
     pub fn fork(&mut self, number: u32, count: u32)
         ensures { self.new ≡ changed self.old number (forked_task count) }
     {
-        let Some(task) = self.tasks.get_mut(&number) else {
+        let Some(task) = self.tasks.get_mut(number) else {
             return;
         };
-        let task = task.get_mut();
         task.forks = task.forks.saturating_add(1);
         task.state = State::Forked(Scope::open(self.alloc, count));
     }
@@ -124,10 +125,9 @@ impl Live {
         ensures ok { OnOk result (self.new ≡ changed self.old number (with_scope with_branch)) }
         ensures err { OnErr result (self.new ≡ self.old) }
     {
-        let Some(task) = self.tasks.get_mut(&number) else {
+        let Some(task) = self.tasks.get_mut(number) else {
             unreachable!()
         };
-        let task = task.get_mut();
         task.state.begin()?;
         Ok(())
     }
@@ -136,10 +136,9 @@ impl Live {
     pub fn end(&mut self, number: u32, branch: u32, how: Closed)
         ensures { self.new ≡ changed self.old number (with_scope (λ scope. with_end scope branch how)) }
     {
-        let Some(task) = self.tasks.get_mut(&number) else {
+        let Some(task) = self.tasks.get_mut(number) else {
             return;
         };
-        let task = task.get_mut();
         task.state.end(branch, how);
     }
 
@@ -150,10 +149,9 @@ impl Live {
         ensures joined { OnOk result (self.new ≡ changed self.old number joined_task) }
         ensures err { OnErr result (self.new ≡ self.old) }
     {
-        let Some(task) = self.tasks.get_mut(&number) else {
+        let Some(task) = self.tasks.get_mut(number) else {
             unreachable!()
         };
-        let task = task.get_mut();
         let joined = task.join(self.alloc)?;
         Ok(joined)
     }
@@ -163,10 +161,9 @@ impl Live {
         ensures ok { OnOk result (self.new ≡ changed self.old number (printed_task bytes.now)) }
         ensures err { OnErr result (self.new ≡ self.old) }
     {
-        let Some(task) = self.tasks.get_mut(&number) else {
+        let Some(task) = self.tasks.get_mut(number) else {
             return Ok(());
         };
-        let task = task.get_mut();
         task.out.extend(bytes)?;
         Ok(())
     }

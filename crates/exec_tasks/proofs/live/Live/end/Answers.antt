@@ -7,14 +7,11 @@ use Rattle.exec_tasks.proofs.live.Live.end.Goals as goal
 
 pub returns-in_default : goal.returns-in_default
 returns-in_default c =
-    not_written c.self.inside.tasks c.get_mut.follows.lender-at-none c.args.number (with_scope
-    (λ scope. with_end scope c.args.branch c.args.how)) c.in_default.ensures.value c.get_mut.follows.holds-at-none
+    not_written c.self.inside.tasks c.args.number (with_scope (λ scope. with_end scope c.args.branch c.args.how)) c.in_default.ensures.value
     ∙ ap (λ (tasks : Tasks). changed tasks c.args.number (with_scope (λ scope. with_end scope c.args.branch c.args.how))) c.self.view_is
 
 pub returns : goal.returns
 returns c =
-    written c.self.inside.tasks c.get_mut.follows.lender c.args.number _ c.in-Some.task.now (with_scope
-    (λ scope. with_end scope c.args.branch c.args.how)) c.in-Some.ensures.value c.get_mut.follows.holds
-    (ap (λ state. record { origin = c.get_mut-task.result.now.origin; forks = c.get_mut-task.result.now.forks; out = c.get_mut-task.result.now.out; state = state }) c.end.ensures
-    ∙ ap (with_scope (λ scope. with_end scope c.args.branch c.args.how)) c.get_mut-task.ensures.value)
+    written c.self.inside.tasks c.args.number _ c.in-Some.task.now (with_scope (λ scope. with_end scope c.args.branch c.args.how)) c.in-Some.ensures.value
+    (ap (λ state. record c.in-Some.task.now { state = state }) c.end.ensures)
     ∙ ap (λ (tasks : Tasks). changed tasks c.args.number (with_scope (λ scope. with_end scope c.args.branch c.args.how))) c.self.view_is

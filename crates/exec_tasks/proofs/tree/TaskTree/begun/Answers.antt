@@ -1,5 +1,5 @@
 -- No task from the count on.
-use Rattle.std.proofs.Common.{◌≡◌, ◌≤◌, ℕ, subst, sym, None}
+use Rattle.std.proofs.Common.{◌≡◌, ◌≤◌, ℕ, subst, None}
 use Rattle.exec_tasks.specs.Tree.{Tree, task_at}
 use Rattle.exec_tasks.proofs.Numbers.{absent_from}
 use Rattle.exec_tasks.proofs.tree.TaskTree.begun.Goals as goal
