@@ -7,7 +7,6 @@ pub mod Joining
 pub mod Keeping
 pub mod Moments
 pub mod Never
-pub mod Root
 pub mod Sound
 pub mod There
 pub mod Whole

@@ -2,6 +2,7 @@
 pub mod Blocks
 pub mod Calls
 pub mod Cobegins
+pub mod Counting
 pub mod Entering
 pub mod Expressions
 pub mod Forking
@@ -11,8 +12,6 @@ pub mod NdFree
 pub mod PartForks
 pub mod Parts
 pub mod Regions
-pub mod Statements
-pub mod Tasks
 pub mod Typed
 pub mod Walks
 pub mod Work

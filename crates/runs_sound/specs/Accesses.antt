@@ -1,5 +1,5 @@
 -- Accesses of cells, and which of them an effect, the effects of a task and the entries of atomic blocks speak of.
-use Rattle.std.specs.Prelude.{◌≡◌, ◌⊎◌, ℕ, ℤ, pos, Bool, true, false, ◌||◌, int_lt, List, [], ◌∷◌, ◌++◌}
+use Rattle.std.specs.Prelude.{◌≡◌, ◌⊎◌, ◌≤◌, ℕ, ℤ, pos, Bool, true, false, ◌||◌, int_lt, List, [], ◌∷◌, ◌++◌}
 use Rattle.std.specs.Int.{w32, int_wrapping_add}
 use Rattle.lang_base.specs.declared.effect.Effect.{Effect as PathEffect}
 use Rattle.lang_base.specs.declared.elems.Elem.{Elem}
@@ -85,25 +85,38 @@ pub record Bounds : Type 0 where
   pub inside : Bool
   pub member_nd_free : ℕ → Bool
 
-abbrev pub is_entered : List (List Effect) → Bool
+-- an entry of a block by a task: the effects, and how many local regions the task had made
+pub record Entry : Type 0 where
+  pub effects : List Effect
+  pub made : ℕ
+
+abbrev pub is_entered : List Entry → Bool
 is_entered [] = false
 is_entered (E ∷ Es) = true
 
 -- where it stands inside blocks with these entries
-abbrev pub is_guarded : Bounds → List (List Effect) → Bool
+abbrev pub is_guarded : Bounds → List Entry → Bool
 is_guarded b entries = b.inside || is_entered entries
 
-abbrev pub InEachEntry : Path → List (List Effect) → Access → Type 0
-InEachEntry p [] a = Unit {0}
-InEachEntry p (E ∷ Es) a = (LiesInEntry E a ⊎ InOwnRegion p a.region) × InEachEntry p Es a
+-- the region begins with a local region that this task has made after so many others
+pub record InLaterRegion (p : Path) (others : ℕ) (r : List Elem) : Type 0 where
+  pub count : ℕ
+  pub later : others ≤ count
+  pub rest : List Elem
+  pub is : r ≡ Local (local_code (Made p count)).0 (local_code (Made p count)).1 ∷ rest
 
--- the access lies in the task's effects and in those of each block that it stands inside, or in a local region made inside
-pub record Allowed (b : Bounds) (entries : List (List Effect)) (a : Access) : Type 0 where
+abbrev pub InEachEntry : Path → List Entry → Access → Type 0
+InEachEntry p [] a = Unit {0}
+InEachEntry p (E ∷ Es) a = (LiesInEntry E.effects a ⊎ InLaterRegion p E.made a.region) × InEachEntry p Es a
+
+-- the access lies in the task's effects, or in a local region of its own; and in those of each block that it stands inside, or in a local region that
+-- the task has made inside it
+pub record Allowed (b : Bounds) (entries : List Entry) (a : Access) : Type 0 where
   pub effects : LiesIn b.setting b.effects a ⊎ InOwnRegion b.path a.region
   pub blocks : InEachEntry b.path entries a
 
 -- what these effects speak of, in this setting, is allowed, also inside further blocks
-abbrev pub Within : Bounds → List (List Effect) → Setting → List Own → Type 0
+abbrev pub Within : Bounds → List Entry → Setting → List Own → Type 0
 Within b entries g E = (a : Access) → (is_guarded b entries ≡ true → a.guarded ≡ true) → LiesIn g E a → Allowed b entries a
 
 -- what an effect with which a block is entered does to its region
@@ -111,6 +124,6 @@ abbrev pub entered : Effect → Access
 entered e = record { object = record { maker = []; count = 0 }; index = pos 0; write = is_write e.access; guarded = true; region = elems_of e.region; of_cell = false }
 
 -- a block may be entered so: each effect is allowed
-abbrev pub MayEnterWith : Bounds → List (List Effect) → List Effect → Type 0
+abbrev pub MayEnterWith : Bounds → List Entry → List Effect → Type 0
 MayEnterWith b entries [] = Unit {0}
 MayEnterWith b entries (e ∷ E) = Allowed b entries (entered e) × MayEnterWith b entries E

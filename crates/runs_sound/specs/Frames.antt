@@ -7,19 +7,20 @@ use Rattle.lang_typed.specs.Plain.{PlainProgram}
 use Rattle.lang_typed.specs.Scope.{Local, variable, frozen, constant, part, reserved, Scope}
 use Rattle.lang_meaning.specs.Actions.{Frame as FrameOf}
 use Rattle.lang_meaning.specs.Counts.{number, slot_value}
-use Rattle.runs_theory.specs.Objects.{Path, Name, LocalRegion, Made, Unmade, Value, Effect}
+use Rattle.runs_theory.specs.Objects.{Path, Name, LocalRegion, Made, Unmade, Value}
+use Rattle.runs_sound.specs.Accesses.{Entry}
 use Rattle.runs_sound.specs.Settings.{Setting, env_of, ArePlain, EndAtomic}
 use Rattle.runs_sound.specs.Shapes.{Shapes, Grows, FitsIn}
 
 abbrev pub Frame : Type 0
 Frame = FrameOf Name LocalRegion
 
--- where a task stands: what has been made, how many local regions it has made itself, and the effects of the entries of the
--- blocks that it stands inside by its own entries, the latest first
+-- where a task stands: what has been made, how many local regions it has made itself, and its own entries of the blocks that it stands inside, the
+-- latest first
 pub record State : Type 0 where
   pub shapes : Shapes
   pub made : ℕ
-  pub entries : List (List Effect)
+  pub entries : List Entry
 
 -- later, inside the same blocks
 pub record Since (s t : State) : Type 0 where

@@ -1,5 +1,6 @@
 pub mod Accesses
 pub mod Branches
+pub mod Counting
 pub mod Frames
 pub mod KindLaws
 pub mod Kinds

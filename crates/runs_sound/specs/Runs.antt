@@ -7,10 +7,12 @@ use Rattle.lang_base.specs.Types.{PlainType}
 use Rattle.lang_typed.specs.Plain.{PlainProgram}
 use Rattle.lang_typed.specs.Scope.{Scope}
 use Rattle.runs_theory.specs.Actions.{Program, Task, Branches, Own, Action, Do, Fork, Begin, Join, End, Answer}
-use Rattle.runs_theory.specs.Objects.{Path, Name, Thing, Effect}
-use Rattle.runs_theory.specs.Runs.{Event, Run, Upto, mine, count, Begun, thing_of, value_in}
+use Rattle.runs_theory.specs.Objects.{Path, Name, Thing}
+use Rattle.runs_theory.specs.Runs.{Event, Run, Upto, mine, answers, count, Begun, thing_of, value_in}
 use Rattle.runs_sound.specs.Shapes.{Shape, Shapes, Grows, FitsIn, CellAt, Describes}
-use Rattle.runs_sound.specs.Accesses.{Bounds}
+use Rattle.runs_program.specs.Steps.{named_by}
+use Rattle.runs_sound.specs.Accesses.{Bounds, Entry}
+use Rattle.runs_sound.specs.Counting.{regions_made}
 use Rattle.runs_sound.specs.Frames.{State}
 use Rattle.runs_sound.specs.Branches.{Forks}
 use Rattle.runs_sound.specs.Laws.{branch_bounds}
@@ -22,23 +24,23 @@ pub record HeapFits (P : PlainProgram) (Q : Program) (R : Run) (S : Shapes) : Ty
   pub cells : (n : Name) (s : Shape) (t : Thing) (k : ℕ) (env : Env) (ty : PlainType) (a : Rpl) → S n ≡ Some s → thing_of Q R n ≡ Some t → CellAt P s (pos k) env ty a →
       FitsIn P S env ty (value_in R t (record { object = n; slot = k }))
 
--- the effects of the entries of the blocks that a task stands inside after these events of its own, the latest first; an end
--- leaves them all
-abbrev pub entries_then : Action → List (List Effect) → List (List Effect)
-entries_then (Do o) entries = entries_after o entries
-entries_then (End x) entries = []
-entries_then (Fork ts) entries = entries
-entries_then (Begin i) entries = entries
-entries_then Join entries = entries
+-- the entries of the blocks that a task stands inside after these events of its own, the latest first, where it has made so many local regions
+-- after its answers; an end leaves them all
+abbrev pub entries_then : ℕ → Action → List Entry → List Entry
+entries_then made (Do o) entries = entries_after made o entries
+entries_then made (End x) entries = []
+entries_then made (Fork ts) entries = entries
+entries_then made (Begin i) entries = entries
+entries_then made Join entries = entries
 
-abbrev pub own_entries : Run → List (List Effect)
-own_entries [] = []
-own_entries (e ∷ es) = entries_then e.act (own_entries es)
+abbrev pub own_entries : (List Answer → ℕ) → Run → List Entry
+own_entries made [] = []
+own_entries made (e ∷ es) = entries_then (made (answers es)) e.act (own_entries made es)
 
 -- an action that is in order where the task stands after these events of its own, and an answer that fits there
-pub record ActedInOrder (P : PlainProgram) (b : Bounds) (S : Shapes) (es : Run) (o : Own) (x : Answer) : Type 0 where
+pub record ActedInOrder (P : PlainProgram) (b : Bounds) (made : List Answer → ℕ) (S : Shapes) (es : Run) (o : Own) (x : Answer) : Type 0 where
   pub state : State
-  pub entries : state.entries ≡ own_entries es
+  pub entries : state.entries ≡ own_entries made es
   pub moves : Moves P b state o
   pub after : State
   pub comes : After o state after
@@ -47,9 +49,10 @@ pub record ActedInOrder (P : PlainProgram) (b : Bounds) (S : Shapes) (es : Run) 
 
 -- branches that are in order at their fork, which stands after these events of its task; and what each keeps to, and the scope in which it
 -- begins
-pub record ForkedInOrder (P : PlainProgram) (b : Bounds) (branch : ℕ → Bounds) (scope : ℕ → Scope) (S : Shapes) (es : Run) (number : ℕ) (ts : Branches) : Type 0 where
+pub record ForkedInOrder (P : PlainProgram) (b : Bounds) (made : List Answer → ℕ) (branch : ℕ → Bounds) (scope : ℕ → Scope) (S : Shapes) (es : Run)
+    (number : ℕ) (ts : Branches) : Type 0 where
   pub state : State
-  pub entries : state.entries ≡ own_entries es
+  pub entries : state.entries ≡ own_entries made es
   pub forks : Forks P b state ts.kind ts.tasks
   pub grown : Grows state.shapes S
   pub kept : (i : ℕ) → branch i ≡ branch_bounds b state forks (number, i)
@@ -61,8 +64,11 @@ pub record KeepsTo (P : PlainProgram) (Q : Program) (main : Bounds) (R : Run) : 
   pub heap : HeapFits P Q R shapes
   pub bounds : Path → Bounds
   pub scopes : Path → Scope
+  -- how many local regions it has made after its answers, where it enters a block next
+  pub made : Path → List Answer → ℕ
+  pub counts : (p : Path) (t : Task) → Begun Q R p t → (got : List Answer) → made p got ≡ regions_made (named_by p) P t got
   pub root : bounds [] ≡ main
   pub named : (p : Path) (t : Task) → Begun Q R p t → (bounds p).path ≡ p
   pub forks : (f : Event) (F : Run) (ts : Branches) → Upto (f ∷ F) R → f.act ≡ Fork ts →
-      ForkedInOrder P (bounds f.path) (λ i. bounds ((count F f.path, i) ∷ f.path)) (λ i. scopes ((count F f.path, i) ∷ f.path)) shapes (mine F f.path) (count F f.path) ts
-  pub acts : (y : Event) (Y : Run) (o : Own) → Upto (y ∷ Y) R → y.act ≡ Do o → ActedInOrder P (bounds y.path) shapes (mine Y y.path) o y.ans
+      ForkedInOrder P (bounds f.path) (made f.path) (λ i. bounds ((count F f.path, i) ∷ f.path)) (λ i. scopes ((count F f.path, i) ∷ f.path)) shapes (mine F f.path) (count F f.path) ts
+  pub acts : (y : Event) (Y : Run) (o : Own) → Upto (y ∷ Y) R → y.act ≡ Do o → ActedInOrder P (bounds y.path) (made y.path) shapes (mine Y y.path) o y.ans

@@ -1,5 +1,5 @@
 -- When the work of a task is in order: each of its actions, whatever fitting answers it gets.
-use Rattle.std.specs.Prelude.{◌≡◌, ◌<◌, ◌^◌, ℕ, suc, ℤ, Bool, true, false, List, [], ◌∷◌, Option, Some, None}
+use Rattle.std.specs.Prelude.{◌≡◌, ◌<◌, ◌≤◌, ◌^◌, ℕ, suc, ℤ, Bool, true, false, List, [], ◌∷◌, Option, Some, None}
 use Rattle.lang_base.specs.declared.elems.Elem.{Elem}
 use Rattle.lang_base.specs.declared.region.Rpl.{Rpl}
 use Rattle.lang_base.specs.Matching.{Env, put_in}
@@ -9,10 +9,10 @@ use Rattle.lang_typed.specs.Scope.{Scope}
 use Rattle.lang_meaning.specs.Core.{Result as ResultOf, Goes_on, Returns, Prog as ProgOf, Ret, Traps, Act, Makes, Again, Split}
 use Rattle.lang_meaning.specs.Counts.{Brought as BroughtOf}
 use Rattle.runs_theory.specs.Actions.{Own, Rest, Read, Write, Look, New, Print, Enter, Exit, Answer, Went, Got, Out, Class, Length, Named, Joined, Fell}
-use Rattle.runs_theory.specs.Objects.{Path, Name, LocalRegion, Made, Value, Effect}
+use Rattle.runs_theory.specs.Objects.{Path, Name, LocalRegion, Made, Value}
 use Rattle.runs_sound.specs.Settings.{Setting, env_of}
 use Rattle.runs_sound.specs.Shapes.{Shape, object, elements, Shapes, Grows, FitsIn, CellAt, Describes}
-use Rattle.runs_sound.specs.Accesses.{Access, Bounds, is_guarded, Allowed, MayEnterWith}
+use Rattle.runs_sound.specs.Accesses.{Access, Bounds, Entry, is_guarded, Allowed, MayEnterWith}
 use Rattle.runs_sound.specs.Frames.{Frame, State, Since, FrameFits}
 use Rattle.runs_sound.specs.Branches.{Forks, Brings}
 
@@ -95,31 +95,38 @@ Answers P b st (Print bytes) m x h = x ≡ Went
 Answers P b st (Enter effects) m x h = x ≡ Went
 Answers P b st Exit m x h = x ≡ Went
 
-abbrev pub without_latest : List (List Effect) → List (List Effect)
+abbrev pub without_latest : List Entry → List Entry
 without_latest [] = []
 without_latest (E ∷ Es) = Es
 
-abbrev pub entries_after : Own → List (List Effect) → List (List Effect)
-entries_after (Enter effects) entries = effects ∷ entries
-entries_after Exit entries = without_latest entries
-entries_after Rest entries = entries
-entries_after (Read n i) entries = entries
-entries_after (Write n i v) entries = entries
-entries_after (Look n) entries = entries
-entries_after (New thing constructor) entries = entries
-entries_after (Print bytes) entries = entries
+-- after an action of a task that had made so many local regions
+abbrev pub entries_after : ℕ → Own → List Entry → List Entry
+entries_after made (Enter effects) entries = record { effects = effects; made = made } ∷ entries
+entries_after made Exit entries = without_latest entries
+entries_after made Rest entries = entries
+entries_after made (Read n i) entries = entries
+entries_after made (Write n i v) entries = entries
+entries_after made (Look n) entries = entries
+entries_after made (New thing constructor) entries = entries
+entries_after made (Print bytes) entries = entries
 
 -- the task stands there after an action of its own; other tasks may have made more
 pub record After (o : Own) (s t : State) : Type 0 where
   pub grows : Grows s.shapes t.shapes
   pub made : t.made ≡ s.made
-  pub entries : t.entries ≡ entries_after o s.entries
+  pub entries : t.entries ≡ entries_after s.made o s.entries
 
--- and after it has made a local region
+-- at each of these entries it had made at most so many local regions
+abbrev pub EnteredBefore : ℕ → List Entry → Type 0
+EnteredBefore made [] = Unit {0}
+EnteredBefore made (E ∷ Es) = (E.made ≤ made) × EnteredBefore made Es
+
+-- and after it has made a local region, later than it made these entries
 pub record AfterMaking (s t : State) : Type 0 where
   pub grows : Grows s.shapes t.shapes
   pub made : t.made ≡ suc s.made
   pub entries : t.entries ≡ s.entries
+  pub before : EnteredBefore s.made s.entries
 
 -- a value that fits the type of what a `return` gives
 abbrev pub ReturnFits : PlainProgram → Shapes → Setting → Option PlainType → Value → Type 0

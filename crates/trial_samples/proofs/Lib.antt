@@ -3,6 +3,7 @@ mod Every
 mod Flow
 mod Main
 mod Objects
+mod Regions
 mod Runs
 mod Small
 mod Typed

@@ -1,4 +1,5 @@
 pub mod Constructs
 pub mod Laws
+pub mod Regions
 pub mod Sample
 pub mod trees

@@ -2,6 +2,7 @@
 
 ghost use Rattle.trial_samples.specs.Constructs.{HasEvery};
 ghost use Rattle.trial_samples.specs.Laws.{SampleIsElided, SampleRuns};
+ghost use Rattle.trial_samples.specs.Regions.{OnlyLaterAreInside};
 ghost use Rattle.trial_samples.specs.Sample.{sample};
 ghost use Rattle.trial_samples.specs.trees.Details.{DetailsMean};
 ghost use Rattle.trial_samples.specs.trees.Laws.{OtherMeans, RowsMean, SampleMeans, WrongAreRefused, WrongOthersAreRefused};
@@ -13,12 +14,13 @@ use runs_sound::laws::law_sound;
 use runs_theorem::laws::law_reduction;
 
 /// There is a program with every construct of the language that is well typed, and a whole run of it that the laws of well-typed
-/// programs speak of, with conflicts that atomic blocks order.
+/// programs speak of, with conflicts that atomic blocks order. Of the local regions of a task those that it made before a block aren't made inside.
 pub fn law_sample()
     ensures well_typed { WellTyped sample }
     ensures every { HasEvery sample }
     ensures elided { SampleIsElided }
     ensures runs { SampleRuns }
+    ensures regions { OnlyLaterAreInside }
 {
     law_steps();
     law_sound();

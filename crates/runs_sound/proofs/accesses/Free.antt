@@ -34,14 +34,14 @@ pub record Lies (b : Bounds) (a : Access) : Type 0 where
   pub effects : LiesIn b.setting b.effects a ⊎ InOwnRegion b.path a.region
   pub inside : b.inside ≡ true → a.guarded ≡ true
 
-abbrev pub access : {P : PlainProgram} {b : Bounds} {S : Shapes} {es : Run} {n : Name} {i : ℤ} {write : Bool} → Accessed P b S es n i write → Access
-access {b = b} {n = n} {i = i} {write = write} h = access_of b h.state n i write (put_in h.reaches.cell.env h.reaches.cell.rpl).elems
+abbrev pub access : {P : PlainProgram} {k : Kept} {S : Shapes} {es : Run} {n : Name} {i : ℤ} {write : Bool} → Accessed P k S es n i write → Access
+access {k = k} {n = n} {i = i} {write = write} h = access_of k.bounds h.state n i write (put_in h.reaches.cell.env h.reaches.cell.rpl).elems
 
-pub access_lies : {P : PlainProgram} {b : Bounds} {S : Shapes} {es : Run} {n : Name} {i : ℤ} {write : Bool} (h : Accessed P b S es n i write) → Lies b (access h)
-access_lies {b = b} h = record { effects = h.reaches.allowed.effects; inside = λ e. or_left b.inside _ e }
+pub access_lies : {P : PlainProgram} {k : Kept} {S : Shapes} {es : Run} {n : Name} {i : ℤ} {write : Bool} (h : Accessed P k S es n i write) → Lies k.bounds (access h)
+access_lies {k = k} h = record { effects = h.reaches.allowed.effects; inside = λ e. or_left k.bounds.inside _ e }
 
 -- accesses of one cell
-pub one_place : {P : PlainProgram} {b c : Bounds} {S : Shapes} {es fs : Run} {n : Name} {i : ℤ} {w v : Bool} (h : Accessed P b S es n i w) (k : Accessed P c S fs n i v) → (w || v) ≡ true →
+pub one_place : {P : PlainProgram} {b c : Kept} {S : Shapes} {es fs : Run} {n : Name} {i : ℤ} {w v : Bool} (h : Accessed P b S es n i w) (k : Accessed P c S fs n i v) → (w || v) ≡ true →
     Meet (access h) (access k)
 one_place {P = P} {n = n} {i = i} h k e =
     let s = same_some (h.grown n h.reaches.cell.shape h.reaches.cell.is) (k.grown n k.reaches.cell.shape k.reaches.cell.is) in
@@ -59,7 +59,7 @@ module _ (P : PlainProgram) (arg : ℤ) {N : ℕ} {R : Run} (l : Faithful (stepp
   Q = stepped P arg
 
   -- what is said of a fork
-  pub fork_sound : (q : Path) (u : ℕ × ℕ) (f : ForkAt R q u) → ForkedAt P (s.keeping q).bounds (branches_of P Q s.keeping q (count f.before q)) s.shapes (mine f.before q) f.tasks
+  pub fork_sound : (q : Path) (u : ℕ × ℕ) (f : ForkAt R q u) → ForkedAt P (s.keeping q) (branches_of P Q s.keeping q (count f.before q)) s.shapes (mine f.before q) f.tasks
   fork_sound q u f = subst (λ c. EventOk P Q (s.keeping q) (branches_of P Q s.keeping q) s.shapes f.before q c) f.act
       (subst (λ x. EventOk P Q (s.keeping x) (branches_of P Q s.keeping x) s.shapes f.before x f.event.act) f.path (s.events f.event f.before f.stands))
 
@@ -67,14 +67,14 @@ module _ (P : PlainProgram) (arg : ℤ) {N : ℕ} {R : Run} (l : Faithful (stepp
   one_up : (q : Path) (u : ℕ × ℕ) (f : ForkAt R q u) (a : Access) → Lies (s.keeping (u ∷ q)).bounds a → Lies (s.keeping q).bounds a
   one_up q u f a h = record { effects = ⊎_elim (λ k. (within k).effects) (λ k. inr (further k)) up.effects; inside = λ e. guarded (or_left b.inside _ e) }
     where
-      ok : ForkedAt P (s.keeping q).bounds (branches_of P Q s.keeping q (count f.before q)) s.shapes (mine f.before q) f.tasks
+      ok : ForkedAt P (s.keeping q) (branches_of P Q s.keeping q (count f.before q)) s.shapes (mine f.before q) f.tasks
       ok = fork_sound q u f
 
       b : Bounds
       b = (s.keeping q).bounds
 
       branch : Bounds
-      branch = (branch_kept (s.keeping q).bounds ok.state ok.forks (count f.before q) u.1).bounds
+      branch = (branch_kept (s.keeping q) ok.state ok.forks (count f.before q) u.1).bounds
 
       up : Lies branch a
       up = subst (λ (k : Kept). Lies k.bounds a) (ap (λ n. s.keeping ((n, u.1) ∷ q)) (sym f.number) ∙ ok.kept u.1) h
@@ -142,7 +142,7 @@ module _ (P : PlainProgram) (arg : ℤ) {N : ℕ} {R : Run} (l : Faithful (stepp
       there : slice_get f.tasks.tasks n.v.1 ≡ Some g.task
       there = let t : ◌≡◌ {A = Action} (Fork g.tasks) (Fork f.tasks) = tasks_same in let q : g.tasks ≡ f.tasks = cc in ap (λ (b : Branches). slice_get b.tasks n.v.1) (sym q) ∙ g.is_there
 
-      ok : ForkedAt P (s.keeping n.above).bounds (branches_of P Q s.keeping n.above (count f.before n.above)) s.shapes (mine f.before n.above) f.tasks
+      ok : ForkedAt P (s.keeping n.above) (branches_of P Q s.keeping n.above (count f.before n.above)) s.shapes (mine f.before n.above) f.tasks
       ok = fork_sound n.above n.u f
 
       b : Bounds
@@ -191,10 +191,10 @@ module _ (P : PlainProgram) (arg : ℤ) {N : ℕ} {R : Run} (l : Faithful (stepp
       (lies_up n.below_p (n.u ∷ n.above) hx n.p_is a (subst (λ p. Lies (s.keeping p).bounds a) n.p_is la)).effects
       (lies_up n.below_q (n.v ∷ n.above) hy n.q_is c (subst (λ p. Lies (s.keeping p).bounds c) n.q_is lc)).effects m
 
-  read_ok : {X : Run} {x : Event} → Upto (x ∷ X) R → (c : Cell) → Reads c x → Accessed P (s.keeping x.path).bounds s.shapes (mine X x.path) c.object (pos c.slot) false
+  read_ok : {X : Run} {x : Event} → Upto (x ∷ X) R → (c : Cell) → Reads c x → Accessed P (s.keeping x.path) s.shapes (mine X x.path) c.object (pos c.slot) false
   read_ok {X} {x} h c r = subst (λ z. EventOk P Q (s.keeping x.path) (branches_of P Q s.keeping x.path) s.shapes X x.path z) r.act (s.events x X h)
 
-  write_ok : {X : Run} {x : Event} → Upto (x ∷ X) R → (c : Cell) → Writes c x → Accessed P (s.keeping x.path).bounds s.shapes (mine X x.path) c.object (pos c.slot) true
+  write_ok : {X : Run} {x : Event} → Upto (x ∷ X) R → (c : Cell) → Writes c x → Accessed P (s.keeping x.path) s.shapes (mine X x.path) c.object (pos c.slot) true
   write_ok {X} {x} h c w = subst (λ z. EventOk P Q (s.keeping x.path) (branches_of P Q s.keeping x.path) s.shapes X x.path z) w.act (s.events x X h)
 
   -- the accesses of a conflict
@@ -202,8 +202,8 @@ module _ (P : PlainProgram) (arg : ℤ) {N : ℕ} {R : Run} (l : Faithful (stepp
     pub cell : Cell
     pub left : Bool
     pub right : Bool
-    pub first : Accessed P (s.keeping x.path).bounds s.shapes (mine X x.path) cell.object (pos cell.slot) left
-    pub second : Accessed P (s.keeping y.path).bounds s.shapes (mine Y y.path) cell.object (pos cell.slot) right
+    pub first : Accessed P (s.keeping x.path) s.shapes (mine X x.path) cell.object (pos cell.slot) left
+    pub second : Accessed P (s.keeping y.path) s.shapes (mine Y y.path) cell.object (pos cell.slot) right
     pub write : (left || right) ≡ true
 
   pub clash_of : {X Y : Run} {x y : Event} → Upto (x ∷ X) R → Upto (y ∷ Y) R → Conflict x y → Clash X x Y y

@@ -27,7 +27,7 @@ use Rattle.runs_theory.proofs.events.Upto.{upto_tail, upto_trans}
 use Rattle.runs_theory.proofs.runs.Written.{legal_faithful}
 use Rattle.runs_program.specs.Interfering.{interferes, lets}
 use Rattle.runs_program.specs.Steps.{stepped}
-use Rattle.runs_sound.specs.Accesses.{Access, InOwnRegion, LiesIn, MayEnterWith, as_path, entered, is_entered, is_guarded, unguarded}
+use Rattle.runs_sound.specs.Accesses.{Access, Entry, InOwnRegion, LiesIn, MayEnterWith, as_path, entered, is_entered, is_guarded, unguarded}
 use Rattle.runs_sound.specs.Branches.{MayMeet, Meet}
 use Rattle.runs_sound.specs.RunLaws.{ConflictsAreLevelled, EntriesAreLet}
 use Rattle.runs_sound.specs.Settings.{elems_of}
@@ -40,11 +40,11 @@ use Rattle.runs_sound.proofs.moments.Sound.{EnteredAt, EventOk, ForkedAt, Kept, 
 use Rattle.runs_sound.proofs.moments.Whole.{sound}
 
 -- where a task stands inside no entry it has none
-none_held : (Es : List (List Effect)) → hold_of Es ≡ Out_of → is_entered Es ≡ false
+none_held : (Es : List Entry) → hold_of Es ≡ Out_of → is_entered Es ≡ false
 none_held [] h = refl
 none_held (E ∷ Es) h = absurd (entered_once (hold_of Es) h)
   where
-    entered_once : (k : Hold) → own_hold (Enter E) k ≡ Out_of → ⊥
+    entered_once : (k : Hold) → own_hold (Enter E.effects) k ≡ Out_of → ⊥
     entered_once Out_of e = cc
     entered_once (In_block n F) e = cc
 
@@ -157,7 +157,7 @@ module _ (P : PlainProgram) (arg : ℤ) {N : ℕ} {R : Run} (l : Faithful (stepp
   nd_outside : (q : Path) (u : ℕ × ℕ) (t : Task) → Begun Q R q t → (f : ForkAt R q u) → f.tasks.kind ≡ Nondeterministic → above R (u ∷ q) ≡ Outside
   nd_outside q u t b f kind = go (cases_Bool (is_guarded (s.keeping q).bounds ok.state.entries))
     where
-      ok : ForkedAt P (s.keeping q).bounds (branches_of P Q s.keeping q (count f.before q)) s.shapes (mine f.before q) f.tasks
+      ok : ForkedAt P (s.keeping q) (branches_of P Q s.keeping q (count f.before q)) s.shapes (mine f.before q) f.tasks
       ok = fork_sound P arg l s q u f
 
       go : (is_guarded (s.keeping q).bounds ok.state.entries ≡ true) ⊎ (is_guarded (s.keeping q).bounds ok.state.entries ≡ false) → above R (u ∷ q) ≡ Outside
@@ -252,12 +252,12 @@ module _ (P : PlainProgram) (arg : ℤ) {N : ℕ} {R : Run} (l : Faithful (stepp
     same_tasks : fork_y.tasks ≡ fork_x.tasks
     same_tasks = let k : ◌≡◌ {A = Action} (Fork fork_y.tasks) (Fork fork_x.tasks) = sym fork_y.act ∙ ap (λ (e : Event). e.act) (sym same_fork.0) ∙ fork_x.act in cc
 
-    abbrev ok : ForkedAt P (s.keeping n.above).bounds (branches_of P Q s.keeping n.above (count fork_x.before n.above)) s.shapes (mine fork_x.before n.above) fork_x.tasks
+    abbrev ok : ForkedAt P (s.keeping n.above) (branches_of P Q s.keeping n.above (count fork_x.before n.above)) s.shapes (mine fork_x.before n.above) fork_x.tasks
     ok = fork_sound P arg l s n.above n.u fork_x
 
     -- what an entry says of effects that aren't on local regions lies in what the branch may do
-    each_says : (w : ℕ × ℕ) (m : Bool) (p : Path) → s.keeping (w ∷ n.above) ≡ branch_kept (s.keeping n.above).bounds ok.state ok.forks (count fork_x.before n.above) w.1 →
-        ((e : Effect) → Lie p (entered e) → Lie (w ∷ n.above) (seen m (entered e))) → (entries : List (List Effect)) (E : List Effect) → MayEnterWith (s.keeping p).bounds entries E →
+    each_says : (w : ℕ × ℕ) (m : Bool) (p : Path) → s.keeping (w ∷ n.above) ≡ branch_kept (s.keeping n.above) ok.state ok.forks (count fork_x.before n.above) w.1 →
+        ((e : Effect) → Lie p (entered e) → Lie (w ∷ n.above) (seen m (entered e))) → (entries : List Entry) (E : List Effect) → MayEnterWith (s.keeping p).bounds entries E →
         EachKept (λ e. LiesIn (ok.forks.setting w.1) (ok.forks.effects w.1) (seen m (entered e))) E
     each_says w m p kept lies entries [] h = tt
     each_says w m p kept lies entries (e ∷ E) h = (λ k. one k (lies e h.0.effects), each_says w m p kept lies entries E h.1)

@@ -5,7 +5,7 @@ use Rattle.std.proofs.lemmas.List.{reverse-reverse}
 use Rattle.lang_typed.specs.Plain.{PlainProgram}
 use Rattle.lang_typed.specs.Scope.{Scope}
 use Rattle.lang_typed.specs.WellTyped.{WellTyped}
-use Rattle.lang_meaning.specs.Asking.{ask, replied, reported}
+use Rattle.lang_meaning.specs.Asking.{ask, does, replied, reported}
 use Rattle.lang_meaning.specs.Core.{run}
 use Rattle.lang_meaning.specs.Statements.{begun}
 use Rattle.runs_reduction.proofs.shifts.Rules.{faithful_rule}
@@ -20,17 +20,26 @@ use Rattle.runs_program.specs.Steps.{named_by, stepped}
 use Rattle.runs_sound.specs.Accesses.{Bounds}
 use Rattle.runs_sound.specs.KindLaws.{RunsMeetNoWrongKind}
 use Rattle.runs_sound.specs.Kinds.{Wrong, strict_ask, strict_does}
-use Rattle.runs_sound.proofs.kinds.Alike.{impossible_moves, to_the_impossible, alike_meaning}
-use Rattle.runs_sound.proofs.kinds.Branching.{looking, none_yet, not_itself}
-use Rattle.runs_sound.proofs.kinds.Meaning.{kinds_are_looked_at_alone}
+use Rattle.runs_sound.proofs.kinds.Alike.{Alike, alike_meaning, alike_nd_free, impossible_moves, to_the_impossible}
+use Rattle.runs_sound.proofs.kinds.Meaning.{kinds_are_looked_at_alone, same_meaning}
 use Rattle.runs_sound.proofs.kinds.Together.{AsksImpossible, Together, together_same, reply_together}
-use Rattle.runs_sound.proofs.kinds.Whole.{Whole, whole}
-use Rattle.runs_sound.proofs.moments.Acting.{answers_on}
+use Rattle.runs_sound.proofs.moments.Branching.{KeepsNdFree, looking, none_yet, not_itself}
+use Rattle.runs_sound.proofs.work.NdFree.{Back}
+use Rattle.runs_sound.proofs.moments.Acting.{answers_on, counts_as}
 use Rattle.runs_sound.proofs.moments.Carried.{NewTask, begun_cases}
 use Rattle.runs_sound.proofs.moments.Moments.{Goes, Here, MayDo, Moment, Replies, at, forked, reported_on}
-use Rattle.runs_sound.proofs.moments.Sound.{Sound, Stands, branches_of}
+use Rattle.runs_sound.proofs.moments.Whole.{WholeOf, strict_whole}
+use Rattle.runs_sound.proofs.moments.Sound.{asks_counting, Stands, branches_of}
 
-begun_so : (P : PlainProgram) (arg : ℤ) {R : Run} {p : Path} {t : Task} → Begun (stepped P arg) R p t → Begun (looking P arg) R p t
+-- what asks for the impossible stops there
+looks_alike : (P : PlainProgram) (b : Bounds) (t : Task) → Alike (strict_does to_the_impossible (named_by b.path) P t) (does (named_by b.path) P t)
+looks_alike P b t = subst (λ q. Alike (strict_does to_the_impossible (named_by b.path) P t) q) (same_meaning (named_by b.path) P t.frame.left t.work.stmts (begun t.work.takes t.frame))
+    (alike_meaning (λ q. q) (named_by b.path) P t.frame.left t.work.stmts (begun t.work.takes t.frame))
+
+free : (P : PlainProgram) → KeepsNdFree to_the_impossible P
+free P b c t h = alike_nd_free P b [] (Back [] c) (looks_alike P b t) h
+
+begun_so : (P : PlainProgram) (arg : ℤ) {R : Run} {p : Path} {t : Task} → Begun (stepped P arg) R p t → Begun (looking to_the_impossible P arg) R p t
 begun_so P arg (root e k) = root e k
 begun_so P arg (branch q u F f ts B g e fs fp fn fa there gs gp ga gn) = branch q u F f ts B g e fs fp fn fa there gs gp ga gn
 
@@ -65,22 +74,34 @@ at_first wrong P p t d =
 
 module _ (P : PlainProgram) (wt : WellTyped P) (arg : ℤ) (small : FitsSigned w32 arg) where
   record Agreed (R : Run) : Type 0 where
-    faithful : Faithful (looking P arg) R
+    faithful : Faithful (looking to_the_impossible P arg) R
     together : (wrong : Wrong Name LocalRegion) (p : Path) (t : Task) → Begun (stepped P arg) R p t → (d : ℕ) → Together d (after to_the_impossible P (mine R p) p t) (after wrong P (mine R p) p t)
 
   module _ {R : Run} (l : Faithful (stepped P arg) R) (a : Agreed R) where
     possible : (p : Path) (t : Task) → Begun (stepped P arg) R p t → AsksImpossible (strict_ask to_the_impossible (named_by p) P t (answers (mine R p))) → ⊥
+    unfolding strict_ask
     possible p t b h = go stand.depth refl stand.goes
       where
-        s : Sound P (looking P arg) (length R) R
-        s = (whole P wt arg small (length R) R a.faithful l (omega arith)).holds
+        w : WholeOf P wt arg (looking to_the_impossible P arg) (λ q t. strict_does to_the_impossible (named_by q) P t) (length R) R
+        w = strict_whole to_the_impossible P wt arg small (free P) (length R) R a.faithful l (omega arith)
 
-        stand : Stands P (looking P arg) (length R) R (s.keeping p) (branches_of P (looking P arg) s.keeping p) s.shapes p t
-        stand = s.tasks p t (begun_so P arg b)
+        stand : Stands P (looking to_the_impossible P arg) (length R) R (w.holds.keeping p) (branches_of P (looking to_the_impossible P arg) w.holds.keeping p) w.holds.shapes p t
+        stand = w.holds.tasks p t (begun_so P arg b)
 
-        go : (n : ℕ) → stand.depth ≡ n → Goes P (s.keeping p).bounds (s.keeping p).scope t.work.copies n stand.moment (after to_the_impossible P (mine R p) p t) → ⊥
+        counted : (r : Reply) → strict_ask to_the_impossible (named_by p) P t (answers (mine R p)) ≡ r → AsksImpossible r → AsksImpossible (asks_counting (w.holds.keeping p) (answers (mine R p)))
+        counted (Next n (Do o)) e i =
+            let c = counts_as (w.holds.keeping p) p t (λ q t. strict_does to_the_impossible (named_by q) P t) stand.path stand.task (w.works p) (answers (mine R p)) n (Do o) e in
+            subst AsksImpossible (sym c.1) i
+        counted (Next n (Fork ts)) e i = absurd i
+        counted (Next n (Begin b)) e i = absurd i
+        counted (Next n Join) e i = absurd i
+        counted (Next n (End x)) e i = absurd i
+        counted Over e i = absurd i
+        counted Unknown e i = absurd i
+
+        go : (n : ℕ) → stand.depth ≡ n → Goes P (w.holds.keeping p).bounds (w.holds.keeping p).scope t.work.copies n stand.moment (λ xs. asks_counting (w.holds.keeping p) (reverse xs ++ answers (mine R p))) → ⊥
         go zero q z = let e = stand.enough in absurd (omega (arith, e, q))
-        go (suc d) q z = refused P (s.keeping p).bounds (s.keeping p).scope t.work.copies _ stand.moment (after to_the_impossible P (mine R p) p t) _ h z
+        go (suc d) q z = refused P (w.holds.keeping p).bounds (w.holds.keeping p).scope t.work.copies _ stand.moment (λ xs. asks_counting (w.holds.keeping p) (reverse xs ++ answers (mine R p))) _ (counted _ refl h) z
 
     -- so it replies as any other, and goes on together with it
     replies_so : (wrong : Wrong Name LocalRegion) (p : Path) (t : Task) (b : Begun (stepped P arg) R p t) (d : ℕ) →
@@ -93,7 +114,7 @@ module _ (P : PlainProgram) (wt : WellTyped P) (arg : ℤ) (small : FitsSigned w
 
   -- one event more
   module _ {R : Run} {e : Event} (l : Faithful (stepped P arg) (e ∷ R)) (a : Agreed R) where
-    follows : Follows (looking P arg) R e
+    follows : Follows (looking to_the_impossible P arg) R e
     follows = record { task = l.0.task; begun = begun_so P arg l.0.begun; asks = as_meant l.1 a e.path l.0.task l.0.begun ∙ l.0.asks; right = l.0.right }
 
     going : (wrong : Wrong Name LocalRegion) (p : Path) (t : Task) → Begun (stepped P arg) R p t → (d : ℕ) → (e.path ≡ p) ⊎ (e.path ≡ p → ⊥) →
@@ -103,12 +124,12 @@ module _ (P : PlainProgram) (wt : WellTyped P) (arg : ℤ) (small : FitsSigned w
         ((replies_so l.1 a wrong p t b d).1 e.ans))
     going wrong p t b d (inr ne) = subst (λ es. Together d (after to_the_impossible P es p t) (after wrong P es p t)) (sym (mine_other e R p ne)) (a.together wrong p t b d)
 
-    w : Whole P wt arg small (length (e ∷ R)) R
-    w = whole P wt arg small (length (e ∷ R)) R a.faithful l.1 (omega arith)
+    w : WholeOf P wt arg (looking to_the_impossible P arg) (λ q t. strict_does to_the_impossible (named_by q) P t) (length (e ∷ R)) R
+    w = strict_whole to_the_impossible P wt arg small (free P) (length (e ∷ R)) R a.faithful l.1 (omega arith)
 
     fresh : (wrong : Wrong Name LocalRegion) (p : Path) (t : Task) → NewTask R e p t → (d : ℕ) → Together d (after to_the_impossible P (mine (e ∷ R) p) p t) (after wrong P (mine (e ∷ R) p) p t)
     fresh wrong p t n d = subst (λ es. Together d (after to_the_impossible P es p t) (after wrong P es p t))
-        (sym (mine_other e R p (λ x. not_itself e.path n.u (x ∙ n.is)) ∙ none_yet P wt arg a.faithful l.1 w.holds follows (omega arith) w.members p t n (mine R p) refl)) (at_first wrong P p t d)
+        (sym (mine_other e R p (λ x. not_itself e.path n.u (x ∙ n.is)) ∙ none_yet to_the_impossible P wt arg (free P) a.faithful l.1 w.holds follows (omega arith) w.members w.works p t n (mine R p) refl)) (at_first wrong P p t d)
 
   agreed : (R : Run) → Faithful (stepped P arg) R → Agreed R
   agreed [] l = record { faithful = tt; together = λ wrong p t b d. subst (λ es. Together d (after to_the_impossible P es p t) (after wrong P es p t)) (sym (mine_nil p)) (at_first wrong P p t d) }

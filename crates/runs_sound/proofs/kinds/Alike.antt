@@ -77,10 +77,10 @@ alike_then {j = j} {k = k} a h = alike_on a go
 
 -- a program without forks where none may be stays so
 pub alike_nd_free : (P : PlainProgram) (b : Bounds) (E : Entries) (Q : Entries → Result → Type 0) {p q : Prog} → Alike p q → IsNdFree P b E Q q → IsNdFree P b E Q p
-alike_nd_free P b E Q stops c = (tt, λ x s. tt)
+alike_nd_free P b E Q stops c = (tt, λ m x s. tt)
 alike_nd_free P b E Q ret c = c
 alike_nd_free P b E Q traps c = tt
-alike_nd_free P b E Q (act a) c = (c.0, λ x s. alike_nd_free P b _ Q (a x) (c.1 x s))
+alike_nd_free P b E Q (act a) c = (c.0, λ m x s. alike_nd_free P b _ Q (a x) (c.1 m x s))
 alike_nd_free P b E Q (makes a) c = λ m. alike_nd_free P b E Q (a m) (c m)
 alike_nd_free P b E Q (again t s k) c =
     (c.0, λ g small. alike_nd_free P b E _ (t g) (c.1 g small), λ g small. alike_nd_free P b E _ (s g) (c.2 g small), λ r may small. alike_nd_free P b E Q (k r) (c.3 r may small), c.4)

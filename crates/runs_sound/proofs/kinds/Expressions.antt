@@ -1,4 +1,4 @@
--- Each expression of a well-typed program is in order by the meaning that looks at kinds: by recursion on its typing.
+-- Each expression of a well-typed program is in order, by the meaning that looks at kinds: by recursion on its typing.
 use Rattle.std.proofs.Common.{◌≡◌, inl, inr, ◌+◌, pos, true, false, List, [], ◌∷◌, ◌++◌, map, reverse, refl, sym, ap, ◌∙◌, subst, Option, append_assoc}
 use Rattle.std.specs.List.{AllZip}
 use Rattle.std.proofs.lemmas.List.{reverse-append, append-nil}
@@ -6,7 +6,7 @@ use Rattle.lang_base.specs.Regions.{substituted}
 use Rattle.lang_base.specs.Types.{PlainType, int, boolean, class, array, type_with, path_at}
 use Rattle.lang_typed.specs.Effects.{does, uses, reads}
 use Rattle.lang_typed.specs.Effects.{Own as EffectOwn}
-use Rattle.lang_typed.specs.Plain.{PlainProgram, TypedExpr, typed, type_of, TypedExprs}
+use Rattle.lang_typed.specs.Plain.{PlainProgram, TypedExpr, type_of, TypedExprs}
 use Rattle.lang_typed.specs.Scope.{Scope, constant, variable, frozen, part}
 use Rattle.lang_typed.specs.Typing.{Has, literal_int, literal_boolean, literal_null, read_local, read_field, read_element, length_of_array, call_method, create_object, construct_object, make_array, negative, negation, operation, conjunction, disjunction, length_of_part, read_part}
 use Rattle.lang_typed.specs.Typing.{Fit}
@@ -33,10 +33,9 @@ use Rattle.runs_sound.proofs.work.Making.{put, order_new_array}
 use Rattle.runs_sound.proofs.numbers.Ints.{neg_fits, number_fits}
 use Rattle.runs_sound.proofs.work.Calls.{call_order, create_order, construct_order}
 use Rattle.runs_sound.proofs.work.Work.{since_now, since_since, order_then, order_ret}
-use Rattle.runs_sound.proofs.work.Typed.{type_alone, Next, yields, expr_order}
+use Rattle.runs_sound.proofs.work.Typed.{type_alone, part_order, Next, yields}
 use Rattle.std.proofs.lemmas.Bool.{and_from}
 use Rattle.lang_base.specs.Operators.{operands_of}
-use Rattle.lang_typed.specs.Plain.{ExprForm as form}
 use Rattle.runs_sound.specs.Kinds.{Wrong, is_read, is_length, is_class, is_name, strict_expr, strict_exprs}
 use Rattle.runs_sound.proofs.kinds.Uses.{kind_fits, kind_as, operands_fit, part_kinds, IsRead, IsNew, SeesArray, SeesObject, read_answered, new_answered, length_answered, class_answered, order_needs, order_answered, order_use, first_of_part, first_call, first_new, first_new_array}
 
@@ -152,10 +151,8 @@ module _ (wrong : Wrong Name LocalRegion) (P : PlainProgram) (wt : WellTyped P) 
         (λ h1 v s fv ix. order_needs P b wrong R h1 _ _
         (and_from _ _ (kind_as P h1.shapes (env_of g) int v ty fv) (part_kinds P h1.shapes g f.values k t a ((frame_since s ff).each k (part t a) e)))
         (order_answered P b wrong R h1 IsRead is_read (read_answered P b h1) _ (first_of_part P b IsRead at k (number v) f _ (λ n p. tt))
-        -- as an element of the part at a literal
-        (expr_order P wt b dp dd L good g (read_part {at = at} {i = typed at int (form.int (number v))} e (literal_int (number_fits P h1.shapes (env_of g) (type_of i) v fv)) refl) R h1 f
-        (frame_since s ff) (within_since b s g (uses k (reads a) ∷ []) (within_right b st.entries g E _ w))
-        (λ u x s2 fx jx. next u x (since_since s s2) fx (number x, refl)))))
+        (part_order P b R h1 at f g k t a (number v) ((frame_since s ff).each k (part t a) e) (within_since b s g (uses k (reads a) ∷ []) (within_right b st.entries g E _ w))
+        (λ x u s2 fx. next u x (since_since s s2) fx (number x, refl)))))
 
     strict_actuals : {es : TypedExprs} {ts : List PlainType} {E : List EffectOwn} → Fit P L es ts E →
         (R : State → Result → Type 0) (st : State) (f : Frame) → FrameFits P b.path st g L f → Within b st.entries g E →

@@ -52,7 +52,7 @@ module _ {N M : Type 0} where
 
 module _ {N M : Type 0} (names : Naming N M) (P : PlainProgram) (dp : Option (Deeper N M)) where
   mutual
-    same_expr : (e : TypedExpr) (f : Frame N M) → strict_expr (λ q. q) names P dp e f ≡ of_expr names P dp e f
+    pub same_expr : (e : TypedExpr) (f : Frame N M) → strict_expr (λ q. q) names P dp e f ≡ of_expr names P dp e f
     same_expr (typed at t (form.int k)) f = refl
     same_expr (typed at t (form.boolean b)) f = refl
     same_expr (typed at t form.null) f = refl

@@ -1,6 +1,6 @@
--- So is the root, from the start.
+-- The root is in order from the start, by the meaning that looks at kinds.
 use Rattle.std.specs.Int.{w32}
-use Rattle.std.proofs.Common.{◌≡◌, ℕ, zero, suc, ℤ, FitsSigned, List, [], ◌∷◌, refl, sym, subst, arith, Some, None, slice_get, slice_index_or, inl}
+use Rattle.std.proofs.Common.{◌≡◌, ℕ, zero, suc, ℤ, FitsSigned, List, [], ◌∷◌, length, refl, sym, ap, subst, arith, Some, None, slice_get, slice_index_or, inl}
 use Rattle.std.specs.Prelude.{All}
 use Rattle.std.proofs.lemmas.Bool.{false≢true}
 use Rattle.lang_base.specs.Matching.{Holds}
@@ -17,11 +17,20 @@ use Rattle.runs_sound.specs.Frames.{FrameFits}
 use Rattle.runs_sound.specs.Work.{InOrder}
 use Rattle.runs_sound.specs.Laws.{Leaves, start, main_scope, main_bounds}
 use Rattle.runs_sound.proofs.work.Entering.{body_good, entered_fits}
-use Rattle.runs_sound.proofs.moments.Root.{first_good}
 use Rattle.runs_sound.specs.Kinds.{Wrong, strict_does}
 use Rattle.runs_sound.proofs.kinds.Tasks.{strict_tasks_in_order}
 use Rattle.lang_meaning.specs.Elision.{root_task}
 use Rattle.runs_theory.specs.Objects.{Name, LocalRegion}
+
+pub first_good : (P : PlainProgram) (wt : WellTyped P) → GoodObject P P.main_class []
+first_good P wt = record {
+  class = wt.main.class;
+  is = wt.main.class_is;
+  arity = sym (ap length wt.main.no_class_params);
+  plain = λ p. refl;
+  atomic = subst (λ z. EndAtomic P.region_names z []) (sym wt.main.no_class_params) (λ p h. absurd (false≢true h));
+  given = subst (λ z. All (Holds (class_env [])) z) (sym wt.main.nothing_given_of_class) (λ k c l. absurd (omega (arith, l)));
+}
 
 module _ (P : PlainProgram) (wt : WellTyped P) (arg : ℤ) (small : FitsSigned w32 arg) where
   -- the only formal is an int
@@ -35,9 +44,9 @@ module _ (P : PlainProgram) (wt : WellTyped P) (arg : ℤ) (small : FitsSigned w
 
   first_frame : FrameFits P [] (start P) (class_setting []) (main_scope P wt) (entered (named_by []) wt.main.member (Object first_name ∷ Int arg ∷ []) [] 499)
   first_frame =
-      entered_fits P wt P.main_member wt.main.member wt.main.member_is [] (start P) [] [] 499 (subst (λ c. GoodObject P c []) (sym wt.main.own) (first_good P wt arg small)) (λ p. refl)
+      entered_fits P wt P.main_member wt.main.member wt.main.member_is [] (start P) [] [] 499 (subst (λ c. GoodObject P c []) (sym wt.main.own) (first_good P wt)) (λ p. refl)
       (subst (λ z. EndAtomic P.region_names z []) (sym wt.main.no_params) (λ p h. absurd (false≢true h)))
-      (subst (λ z. All (Holds (class_env [])) z) (sym wt.main.nothing_given) (λ k c l. absurd (omega (arith, l)))) first_name P.main_class [] refl (first_good P wt arg small)
+      (subst (λ z. All (Holds (class_env [])) z) (sym wt.main.nothing_given) (λ k c l. absurd (omega (arith, l)))) first_name P.main_class [] refl (first_good P wt)
       (subst (λ c. Is P P.main_class [] c []) (sym wt.main.own) same) (Int arg ∷ []) (formal wt.main.member.formals wt.main.formals)
 
 pub strict_root_in_order : (wrong : Wrong Name LocalRegion) (P : PlainProgram) (wt : WellTyped P) (arg : ℤ) → FitsSigned w32 arg →

@@ -27,7 +27,7 @@ use Rattle.runs_theory.specs.Objects.{LocalRegion, Value, Int}
 use Rattle.runs_program.specs.Steps.{named_by}
 use Rattle.runs_sound.specs.Settings.{with_number, Setting, env_of}
 use Rattle.runs_sound.specs.Shapes.{Shapes, FitsIn, Grows}
-use Rattle.runs_sound.specs.Accesses.{Bounds, Within}
+use Rattle.runs_sound.specs.Accesses.{Bounds, Entry, Within}
 use Rattle.runs_sound.specs.Frames.{Frame, State, Since, PartFits, FrameFits}
 use Rattle.runs_sound.specs.Scopes.{PathInScope, TypeInScope, GoodScope}
 use Rattle.runs_sound.specs.Work.{Result, Prog, ReturnFits, Rounds, InOrder, without_latest}
@@ -42,7 +42,6 @@ use Rattle.runs_sound.proofs.scopes.Frames.{old_later, frame_since, frame_env, w
 use Rattle.runs_sound.proofs.scopes.Locals.{frame_outside, frame_store, frame_declare, frame_leave, good_declare, number_alike, lies_general}
 use Rattle.lang_meaning.specs.Regions.{around, concrete_effect}
 use Rattle.lang_typed.specs.Scope.{in_atomic_block}
-use Rattle.runs_theory.specs.Objects.{Effect as RunEffect}
 use Rattle.runs_sound.proofs.work.Blocks.{good_block, frame_later, frame_block, frame_unblock, within_block, may_enter}
 use Rattle.runs_sound.proofs.scopes.Alike.{set_other, set_same, Alike, fits_alike, setting_back}
 use Rattle.runs_sound.proofs.work.Expressions.{order_choose}
@@ -90,7 +89,7 @@ module _ (wrong : Wrong Name LocalRegion) (P : PlainProgram) (wt : WellTyped P) 
   looped L g st u (Returns v) y = y
 
   -- after the body of an atomic block
-  leaves_block : (L : Scope) (g : Setting) (c : Bool) (st u : State) (Es : List RunEffect) → Grows st.shapes u.shapes → st.made ≤ u.made →
+  leaves_block : (L : Scope) (g : Setting) (c : Bool) (st u : State) (Es : Entry) → Grows st.shapes u.shapes → st.made ≤ u.made →
       u.entries ≡ Es ∷ st.entries →
       (h : State) (r : Result) → Left P b (in_atomic_block L) g c u h r →
       InOrder P b (Left P b L g true st) h (next_of (λ v k. Act Exit (λ c. gives none k)) r)
@@ -129,11 +128,11 @@ module _ (wrong : Wrong Name LocalRegion) (P : PlainProgram) (wt : WellTyped P) 
 
   -- after the making of local regions
   abbrev Renewed : Scope → Setting → List ℕ → State → Frame → State → Result → Type 0
-  Renewed L g rs st f h (Goes_on v e) = (made : ℕ → LocalRegion) × Since st h × NewRegions b.path rs g.made made f e × FrameFits P b.path h (with_made made g) L e
+  Renewed L g rs st f h (Goes_on v e) = (made : ℕ → LocalRegion) × Since st h × NewRegions b.path h.entries rs g.made made f e × FrameFits P b.path h (with_made made g) L e
   Renewed L g rs st f h (Returns v) = ⊥
 
   renewed : (L : Scope) (g : Setting) (rs : List ℕ) (st : State) (f : Frame) (R : State → Result → Type 0) (j : Value → Frame → Prog) →
-      ((h : State) (made : ℕ → LocalRegion) (e : Frame) → Since st h → NewRegions b.path rs g.made made f e → FrameFits P b.path h (with_made made g) L e → InOrder P b R h (j none e)) →
+      ((h : State) (made : ℕ → LocalRegion) (e : Frame) → Since st h → NewRegions b.path h.entries rs g.made made f e → FrameFits P b.path h (with_made made g) L e → InOrder P b R h (j none e)) →
       (h : State) (r : Result) → Renewed L g rs st f h r → InOrder P b R h (next_of (λ u c. j none c) r)
   renewed L g rs st f R j k h (Goes_on u c) y = k h y.0 c y.1 y.2 y.3
   renewed L g rs st f R j k h (Returns v) y = absurd y
@@ -281,14 +280,14 @@ module _ (wrong : Wrong Name LocalRegion) (P : PlainProgram) (wt : WellTyped P) 
             (subst (λ z. Within b z g (after_block E)) (sym after.entries) w),
         λ y u enters ans'.
             (let s : Since st h = since_after Rest refl after in
-            let e : u.entries ≡ map (concrete_effect (named_by b.path) (around f)) entry ∷ st.entries = enters.entries ∙ ap
-            (λ z. map (concrete_effect (named_by b.path) (around f)) entry ∷ z) s.entries in
+            let block : Entry = record { effects = map (concrete_effect (named_by b.path) (around f)) entry; made = h.made } in
+            let e : u.entries ≡ block ∷ st.entries = enters.entries ∙ ap (λ z. block ∷ z) s.entries in
             let grown : Grows st.shapes u.shapes = (λ n z i. enters.grows n z (s.grows n z i)) in
             let made : st.made ≤ u.made = (let m = s.made in let n = enters.made in omega (arith, m, n)) in
             order_on P b (Left P b (in_atomic_block L) g (all_complete ss) u) (Left P b L g true st) (next_of (λ v k. Act Exit (λ c. gives none k)))
-            (leaves_block L g (all_complete ss) st u (map (concrete_effect (named_by b.path) (around f)) entry) grown made e) (strict_stmts wrong (named_by b.path) P dp ss f) u
+            (leaves_block L g (all_complete ss) st u block grown made e) (strict_stmts wrong (named_by b.path) P dp ss f) u
             (strict_orders_of p (good_block L good) (placed_block outer L pl) g u f (frame_block L (frame_later grown made ff))
-            (subst (λ z. Within b z g E) (sym e) (within_block P b L g st f ff entry E st.entries se scoped w)))),
+            (subst (λ z. Within b z g E) (sym e) (within_block P b L g st f ff h.made entry E st.entries se scoped w)))),
       ),
     )
       where

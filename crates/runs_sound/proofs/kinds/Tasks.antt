@@ -1,4 +1,4 @@
--- So are tasks to their end, at each depth of calls.
+-- Tasks are in order to their end, at each depth of calls, by the meaning that looks at kinds.
 use Rattle.std.proofs.Common.{ℕ, Some, None, zero, suc}
 use Rattle.lang_typed.specs.Plain.{PlainProgram}
 use Rattle.lang_typed.specs.WellTyped.{WellTyped}

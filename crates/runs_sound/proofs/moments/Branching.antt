@@ -1,8 +1,7 @@
 -- One more event at a fork, a begin, a join or an end: branches begin where their fork says, and a join brings what their ends fit.
-use Rattle.std.proofs.Common.{◌≡◌, ◌≢◌, ◌<◌, ◌≤◌, ◌+◌, ⊎_elim, inl, inr, ℕ, zero, suc, ℤ, Bool, true, false, cond, ◌&&◌, ◌==◌, List, [], ◌∷◌, ◌++◌, map, length, reverse, refl, sym, ap, ◌∙◌, subst, arith, Option, Some, None, slice_get, append-nil}
+use Rattle.std.proofs.Common.{◌≡◌, ◌≢◌, ◌<◌, ◌≤◌, ◌+◌, ⊎_elim, inl, inr, ℕ, zero, suc, ℤ, Bool, true, false, cond, ◌&&◌, ◌==◌, List, [], ◌∷◌, ◌++◌, map, length, reverse, refl, sym, ap, ◌∙◌, subst, arith, Option, Some, None, slice_get, slice_index_or}
 use Rattle.std.specs.Prelude.{All, Contains}
 use Rattle.std.proofs.lemmas.Bool.{false≢true, or_cases, cond-true, cond-false, and_from, and_parts, eq-eqb, eqb-true, false_from_ne_true}
-use Rattle.std.proofs.lemmas.List.{reverse-reverse}
 use Rattle.lang_base.specs.declared.place.Place.{Place}
 use Rattle.lang_base.specs.declared.value.Trap.{Trap}
 use Rattle.lang_typed.specs.declared.stmt.Forking.{Forking}
@@ -10,13 +9,13 @@ use Rattle.lang_typed.specs.Plain.{PlainProgram}
 use Rattle.lang_typed.specs.Scope.{Scope, variable}
 use Rattle.lang_typed.specs.Statements.{IsVariable}
 use Rattle.lang_typed.specs.WellTyped.{WellTyped}
-use Rattle.lang_meaning.specs.Asking.{ask, does, ended, replied, reported}
+use Rattle.lang_meaning.specs.Asking.{does, ended, replied, reported}
 use Rattle.lang_meaning.specs.Core.{Goes_on, Returns, run}
 use Rattle.lang_meaning.specs.Counts.{brought, assigned, slot_value}
 use Rattle.lang_meaning.specs.Outcomes.{first_trap, all_locals, joined_or}
 use Rattle.lang_meaning.specs.Statements.{begun}
 use Rattle.lang_meaning.proofs.Tasks.{asks_disciplined}
-use Rattle.runs_theory.specs.Actions.{Program, Task, Branches, Action, Do, Fork, Begin, Join, End, Ending, Returned, Assigned, Answer}
+use Rattle.runs_theory.specs.Actions.{Program, Task, Branches, Action, Do, Fork, Begin, Join, End, Ending, Next, Returned, Assigned, Answer}
 use Rattle.runs_theory.specs.Meaning.{Disciplined}
 use Rattle.runs_theory.specs.Objects.{Path, same_path, Name, LocalRegion, Value, Null}
 use Rattle.runs_theory.specs.Runs.{Event, Run, Upto, now, later, made_by, mine, answers, count, Ended, Follows, Faithful, Right, Joins}
@@ -32,15 +31,17 @@ use Rattle.runs_sound.specs.Branches.{BranchFits, Forks, Brings}
 use Rattle.runs_sound.specs.Laws.{Leaves, branch_bounds}
 use Rattle.runs_sound.specs.Runs.{entries_then, own_entries}
 use Rattle.runs_sound.specs.Soundness.{EndFits}
-use Rattle.runs_sound.specs.Work.{Result, ReturnFits}
-use Rattle.runs_sound.proofs.moments.Acting.{held_by, Now, now_asked, own_stands, own_step, same_things, same_shaped, old_cells, stand, replies, WroteFits}
+use Rattle.runs_sound.specs.Work.{Prog, Result, ReturnFits}
+use Rattle.runs_sound.proofs.moments.Acting.{counts_as, counts_at_first, entries_now, made_now, held_by, Now, now_asked, own_stands, own_step, same_things, same_shaped, old_cells, stand, replies, WroteFits}
 use Rattle.runs_sound.proofs.work.NdFree.{MustBeNdFree, Back, NdFreeFork, IsNdFree, task_nd_free}
 use Rattle.runs_sound.proofs.moments.Carried.{end_grows, Agrees, agrees_self, agrees_task, NewTask, Step}
-use Rattle.runs_sound.proofs.moments.Moments.{Moment, at, forked, state_of, having_left, MayDo, Comes, Goes, goes_same, reported_on}
+use Rattle.runs_sound.proofs.moments.Moments.{Moment, at, forked, state_of, having_left, MayDo, Comes, Tells, Goes, reported_on}
 use Rattle.runs_sound.proofs.moments.Joining.{all_returned}
-use Rattle.runs_sound.proofs.moments.Sound.{Kept, branch_kept, ForkedAt, EventOk, ActOk, AtFork, IsAt, Stands, branches_of, Sound}
-use Rattle.runs_sound.proofs.work.Tasks.{branches_in_order}
-use Rattle.runs_sound.proofs.work.Walks.{task_goes}
+use Rattle.runs_sound.proofs.moments.Sound.{Kept, asks_counting, made_of, branch_kept, ForkedAt, EventOk, ActOk, AtFork, IsAt, Stands, branches_of, Sound}
+use Rattle.runs_sound.specs.Kinds.{Wrong, strict_ask, strict_does}
+use Rattle.runs_sound.proofs.kinds.Tasks.{strict_tasks_in_order}
+use Rattle.runs_sound.proofs.work.Blocks.{frame_later}
+use Rattle.runs_sound.proofs.work.Walks.{work_goes}
 
 -- the locals that a branch ends with
 assigned_in : (xs : List ℕ) (vs : List Value) (x : ℕ) (v : Value) → Contains (assigned xs vs) (x, v) → Contains xs x × (v ≡ slot_value vs x)
@@ -69,19 +70,20 @@ branch_ends P b L t st below no_root none vs h (Goes_on v f) y =
     )
 
 -- what the branches of a new fork keep to
-abbrev pub extended : (Path → Kept) → Path → ℕ → (ℕ → Kept) → Path → Kept
+abbrev extended : (Path → Kept) → Path → ℕ → (ℕ → Kept) → Path → Kept
 extended K p n B [] = K []
 extended K p n B (u ∷ q) = cond ((u.0 == n) && same_path q p) (B u.1) (K (u ∷ q))
 
-pub extended_here : (K : Path → Kept) (p : Path) (n : ℕ) (B : ℕ → Kept) (i : ℕ) → extended K p n B ((n, i) ∷ p) ≡ B i
+extended_here : (K : Path → Kept) (p : Path) (n : ℕ) (B : ℕ → Kept) (i : ℕ) → extended K p n B ((n, i) ∷ p) ≡ B i
 extended_here K p n B i = cond-true ((n == n) && same_path p p) (B i) (K ((n, i) ∷ p)) (and_from _ _ (eq-eqb n n refl) (test_same p p refl))
 
-extended_never : (K : Path → Kept) (p : Path) (n : ℕ) (B : ℕ → Kept) (m : ℕ → Bool) → ((q : Path) → (K q).bounds.member_nd_free ≡ m) → ((i : ℕ) → (B i).bounds.member_nd_free ≡ m) → (q : Path) →
-    (extended K p n B q).bounds.member_nd_free ≡ m
-extended_never K p n B m h k [] = h []
-extended_never K p n B m h k (u ∷ q) = by ((u.0 == n) && same_path q p)
+-- what each task has in common, branches of a new fork have
+extended_all : {A : Type 0} (part : Kept → A) (K : Path → Kept) (p : Path) (n : ℕ) (B : ℕ → Kept) (m : A) → ((q : Path) → part (K q) ≡ m) → ((i : ℕ) → part (B i) ≡ m) → (q : Path) →
+    part (extended K p n B q) ≡ m
+extended_all part K p n B m h k [] = h []
+extended_all part K p n B m h k (u ∷ q) = by ((u.0 == n) && same_path q p)
   where
-    by : (c : Bool) → (cond c (B u.1) (K (u ∷ q))).bounds.member_nd_free ≡ m
+    by : (c : Bool) → part (cond c (B u.1) (K (u ∷ q))) ≡ m
     by true = k u.1
     by false = h (u ∷ q)
 
@@ -101,23 +103,33 @@ stepped_disciplined P arg = record {
   joins = λ p t got since ts a l. (0, (asks_disciplined (named_by p) P t).joins got since ts a l);
 }
 
--- a task that has made nothing yet, by its work
-pub asks_at_first : (P : PlainProgram) (b : Bounds) (L : Scope) (t : Task) (p : Path) → b.path ≡ p → (st : State) (d : ℕ) →
-    Goes P b L t.work.copies d (at st) (λ xs. replied t.work (run (reported (named_by b.path)) (does (named_by b.path) P t) (reported_on 0 0 xs))) →
-    Goes P b L t.work.copies d (at st) (λ xs. ask (named_by p) P t (reverse xs ++ []))
-unfolding ask
-asks_at_first P b L t p e st d g = subst (λ q. Goes P b L t.work.copies d (at st) (λ xs. ask (named_by q) P t (reverse xs ++ []))) e
-    (goes_same P b L t.work.copies d (at st) _ _
-    (λ xs. ap (λ ys. replied t.work (run (reported (named_by b.path)) (does (named_by b.path) P t) (reported_on 0 0 ys)))
-    (sym (ap (λ ys. reverse ys) (append-nil (reverse xs)) ∙ reverse-reverse xs))) g)
+index_there : {A : Type 0} (xs : List A) (n : ℕ) (other x : A) → slice_get xs n ≡ Some x → slice_index_or xs n other ≡ x
+index_there [] n other x e = absurd (let k : None ≡ Some x = e in cc)
+index_there (y ∷ xs) zero other x e = let k : Some y ≡ Some x = e in cc
+index_there (y ∷ xs) (suc n) other x e = index_there xs n other x e
 
-not_itself : (p : Path) (u : ℕ × ℕ) → p ≡ u ∷ p → ⊥
+pub not_itself : (p : Path) (u : ℕ × ℕ) → p ≡ u ∷ p → ⊥
 not_itself p u e = let n = ap length e in omega (arith, n)
 
-module _ (P : PlainProgram) (wt : WellTyped P) (arg : ℤ) {N : ℕ} {R : Run} {e : Event} (l : Faithful (stepped P arg) R) (s : Sound P (stepped P arg) N R) (a : Follows (stepped P arg) R e)
-    (room : length (e ∷ R) ≤ N) (members : (p : Path) → (s.keeping p).bounds.member_nd_free ≡ wt.member_nd_free) where
+-- the program whose tasks look at kinds, and do this at a wrong one
+abbrev pub looking : Wrong Name LocalRegion → PlainProgram → ℤ → Program
+looking wrong P arg = record {
+  meaning = λ p t got. strict_ask wrong (named_by p) P t got;
+  root = (stepped P arg).root;
+  object = (stepped P arg).object;
+  rule = (stepped P arg).rule;
+}
+
+-- that forks no nd construct either where it mustn't
+abbrev pub KeepsNdFree : Wrong Name LocalRegion → PlainProgram → Type 0
+KeepsNdFree wrong P = (b : Bounds) (c : Bool) (t : Task) → IsNdFree P b [] (Back [] c) (does (named_by b.path) P t) → IsNdFree P b [] (Back [] c) (strict_does wrong (named_by b.path) P t)
+
+module _ (wrong : Wrong Name LocalRegion) (P : PlainProgram) (wt : WellTyped P) (arg : ℤ) (free : KeepsNdFree wrong P) {N : ℕ} {R : Run} {e : Event} (l : Faithful (looking wrong P arg) R) (lenient : Faithful (stepped P arg) R) (s : Sound P (looking wrong P arg) N R)
+    (a : Follows (looking wrong P arg) R e)
+    (room : length (e ∷ R) ≤ N) (members : (p : Path) → (s.keeping p).bounds.member_nd_free ≡ wt.member_nd_free)
+    (works : (p : Path) → (s.keeping p).work ≡ (λ q t. strict_does wrong (named_by q) P t)) where
   abbrev Q : Program
-  Q = stepped P arg
+  Q = looking wrong P arg
 
   abbrev bounds : Bounds
   bounds = (s.keeping e.path).bounds
@@ -129,15 +141,16 @@ module _ (P : PlainProgram) (wt : WellTyped P) (arg : ℤ) {N : ℕ} {R : Run} {
   GoesOn d h = Goes P bounds scope a.task.work.copies d h (λ xs. replies P Q l s a room (e.ans ∷ xs))
 
   -- what stays at an event that is no action of a task's own
-  still_there : (K : Path → Kept) → Agrees P Q R s.keeping K → ((m : ℕ → Bool) → ((p : Path) → (s.keeping p).bounds.member_nd_free ≡ m) → (p : Path) → (K p).bounds.member_nd_free ≡ m) → made_by e.act ≡ [] → WroteFits P Q l s a room →
+  still_there : (K : Path → Kept) → Agrees P Q R s.keeping K → ((m : ℕ → Bool) → ((p : Path) → (s.keeping p).bounds.member_nd_free ≡ m) → (p : Path) → (K p).bounds.member_nd_free ≡ m) → ((m : Path → Task → Prog) → ((p : Path) → (s.keeping p).work ≡ m) → (p : Path) → (K p).work ≡ m) → made_by e.act ≡ [] → WroteFits P Q l s a room →
       EventOk P Q (K e.path) (branches_of P Q K e.path) s.shapes R e.path e.act → ActOk P (K e.path) s.shapes R e.path e.act e.ans → Stands P Q N (e ∷ R) (K e.path) (branches_of P Q K e.path) s.shapes e.path a.task →
       ((q : Path) (z : Task) → NewTask R e q z → Stands P Q N (e ∷ R) (K q) (branches_of P Q K q) s.shapes q z) → Step P Q N R e a.task s
-  still_there K agrees never none wrote ok acted own new = record {
+  still_there K agrees never work none wrote ok acted own new = record {
     shapes = s.shapes;
     grows = λ n z q. q;
     keeping = K;
     agrees = agrees;
     never = never;
+    work = work;
     things = same_things P Q l s a room;
     shaped = same_shaped P Q l s a room none;
     cells = old_cells P Q l s a room wrote;
@@ -147,16 +160,17 @@ module _ (P : PlainProgram) (wt : WellTyped P) (arg : ℤ) {N : ℕ} {R : Run} {
     new = new;
   }
 
-  fork_step : (d : ℕ) → suc N ≤ d + length (e ∷ R) → (st : State) → Grows st.shapes s.shapes → st.entries ≡ own_entries (mine R e.path) → (ts : Branches) → e.act ≡ Fork ts →
+  fork_step : (d : ℕ) → suc N ≤ d + length (e ∷ R) → (st : State) → Grows st.shapes s.shapes → st.entries ≡ entries_now P Q l s a room → (ts : Branches) → e.act ≡ Fork ts →
       (forks : Forks P bounds st ts.kind ts.tasks) → NdFreeFork P (s.keeping e.path).bounds st.entries ts.kind ts.tasks → GoesOn d (forked st ts.kind ts.tasks forks 0) → Step P Q N R e a.task s
   fork_step d en st grown entered ts act forks nd_free goes =
-      still_there K agrees (λ m h p. extended_never s.keeping e.path (count R e.path) new_kept m h (λ i. h e.path) p) (ap made_by act) (λ c w z env ty r q cell. absurd (let k : Fork ts ≡ Do _ = sym act ∙ w.act in cc))
+      still_there K agrees (λ m h p. extended_all (λ k. k.bounds.member_nd_free) s.keeping e.path (count R e.path) new_kept m h (λ i. h e.path) p)
+      (λ m h p. extended_all (λ k. k.work) s.keeping e.path (count R e.path) new_kept m h (λ i. h e.path) p) (ap made_by act) (λ c w z env ty r q cell. absurd (let k : Fork ts ≡ Do _ = sym act ∙ w.act in cc))
       (subst (λ c. EventOk P Q (K e.path) (branches_of P Q K e.path) s.shapes R e.path c) (sym act)
       (subst (λ (k : Kept). EventOk P Q k (branches_of P Q K e.path) s.shapes R e.path (Fork ts)) (sym same)
-      (record { state = st; forks = forks; nd_free = nd_free; grown = grown; held = held_by (mine R e.path) entered; entered = entered; kept = λ i. extended_here s.keeping e.path (count R e.path) new_kept i })))
+      (record { state = st; forks = forks; nd_free = nd_free; grown = grown; held = held_by (made_of (s.keeping e.path)) (mine R e.path) entered; entered = entered; kept = λ i. extended_here s.keeping e.path (count R e.path) new_kept i })))
       (subst (λ c. ActOk P (K e.path) s.shapes R e.path c e.ans) (sym act) tt)
       (subst (λ (k : Kept). Stands P Q N (e ∷ R) k (branches_of P Q K e.path) s.shapes e.path a.task) (sym same)
-      (own_stands P Q l s a room d en (forked st ts.kind ts.tasks forks 0) goes s.shapes grown (entered ∙ sym (ap (λ c. entries_then c (own_entries (mine R e.path))) act)) (branches_of P Q K e.path) (record {
+      (own_stands P Q l s a room d en (forked st ts.kind ts.tasks forks 0) goes s.shapes grown (entered ∙ sym (ap (λ c. entries_then (made_now P Q l s a room) c (entries_now P Q l s a room)) act)) (branches_of P Q K e.path) (record {
         before = R;
         event = e;
         stands = now;
@@ -168,7 +182,7 @@ module _ (P : PlainProgram) (wt : WellTyped P) (arg : ℤ) {N : ℕ} {R : Run} {
       (λ q z n. absurd (let k : Fork ts ≡ Begin _ = sym act ∙ n.act in cc))
     where
       new_kept : ℕ → Kept
-      new_kept = branch_kept bounds st forks (count R e.path)
+      new_kept = branch_kept (s.keeping e.path) st forks (count R e.path)
 
       K : Path → Kept
       K = extended s.keeping e.path (count R e.path) new_kept
@@ -180,12 +194,12 @@ module _ (P : PlainProgram) (wt : WellTyped P) (arg : ℤ) {N : ℕ} {R : Run} {
       same = agrees_task P Q agrees e.path a.task a.begun
 
   -- a branch that begins
-  none_yet : (q : Path) (z : Task) → NewTask R e q z → (es : Run) → mine R q ≡ es → es ≡ []
+  pub none_yet : (q : Path) (z : Task) → NewTask R e q z → (es : Run) → mine R q ≡ es → es ≡ []
   none_yet q z n [] h = refl
   none_yet q z n (y ∷ es) h =
       let f = found R q (subst (λ ys. Upto (y ∷ es) ys) (sym h) now) in
-      let b = follows_at Q f.stands l in
-      let k = own_fork Q (stepped_disciplined P arg) y.path e.path n.u b.begun (f.path ∙ n.is) in
+      let b = follows_at (stepped P arg) f.stands lenient in
+      let k = own_fork (stepped P arg) (stepped_disciplined P arg) y.path e.path n.u b.begun (f.path ∙ n.is) in
       let c : count k.began e.path < count R e.path = number_of e.path (upto_trans k.begin_stands (upto_tail f.stands)) k.begin_path in
       let m = k.begin_number in
       let m' = n.number in
@@ -196,19 +210,21 @@ module _ (P : PlainProgram) (wt : WellTyped P) (arg : ℤ) {N : ℕ} {R : Run} {
     path = ap (λ p. v ∷ p) (stand P Q l s a room).path ∙ sym q_is;
     moment = at h;
     grown = λ x y w. w;
-    entered = sym (ap own_entries nothing);
+    task = task_is;
+    entered = sym (ap (own_entries (made_of (branch_kept (s.keeping e.path) ok.state ok.forks (count n.before e.path) n.u.1))) nothing);
     is_at = tt;
     depth = suc N;
     enough = omega arith;
-    goes = subst (λ es. Goes P bb (ok.forks.scope n.u.1) z.work.copies (suc N) (at h) (λ xs. Q.meaning q z (reverse xs ++ answers es))) (sym nothing)
-        (asks_at_first P bb (ok.forks.scope n.u.1) z q (ap (λ p. v ∷ p) (stand P Q l s a room).path ∙ sym q_is) h (suc N)
-        (task_goes P bb (ok.forks.scope n.u.1) z.work.copies (Leaves P bb (ok.forks.scope n.u.1) (ok.forks.setting n.u.1) z.work.stmts h) (Back [] nd_free.0) z h
-        (branches_in_order P wt bounds ok.state n.tasks.kind n.tasks.tasks ok.forks v z n.there h ok.grown refl)
-        nd_free.1 refl
+    goes = subst (λ es. Goes P bb (ok.forks.scope n.u.1) z.work.copies (suc N) (at h) (λ xs. asks_counting (branch_kept (s.keeping e.path) ok.state ok.forks (count n.before e.path) n.u.1) (reverse xs ++ answers es))) (sym nothing)
+        (counts_at_first P (branch_kept (s.keeping e.path) ok.state ok.forks (count n.before e.path) n.u.1) z (λ q t. strict_does wrong (named_by q) P t) task_is (works e.path) z.work.copies h (suc N)
+        (work_goes P bb (ok.forks.scope n.u.1) z.work.copies (Leaves P bb (ok.forks.scope n.u.1) (ok.forks.setting n.u.1) z.work.stmts h) (Back [] nd_free.0) z (strict_does wrong (named_by bb.path) P z) h
+        (strict_tasks_in_order wrong P wt bb (ok.forks.scope n.u.1) z.work.stmts (ok.forks.effects n.u.1) fits.passes fits.scope z.frame.left (ok.forks.setting n.u.1) h (begun z.work.takes z.frame)
+        (frame_later ok.grown (omega arith) (fits.fits v.0)) (λ x gu lies. record { effects = inl lies; blocks = tt }))
+        (free bb nd_free.0 z nd_free.1) refl refl
         (branch_ends P bb (ok.forks.scope n.u.1) z h is_below fits.is_branch fits.no_return fits.copies) (suc N)));
   })
     where
-      ok : ForkedAt P (s.keeping e.path).bounds (branches_of P Q s.keeping e.path (count n.before e.path)) s.shapes (mine n.before e.path) n.tasks
+      ok : ForkedAt P (s.keeping e.path) (branches_of P Q s.keeping e.path (count n.before e.path)) s.shapes (mine n.before e.path) n.tasks
       ok = subst (λ c. EventOk P Q (s.keeping e.path) (branches_of P Q s.keeping e.path) s.shapes n.before e.path c) n.fork_act
           (subst (λ x. EventOk P Q (s.keeping x) (branches_of P Q s.keeping x) s.shapes n.before x n.fork.act) n.path (s.events n.fork n.before n.stands))
 
@@ -235,6 +251,9 @@ module _ (P : PlainProgram) (wt : WellTyped P) (arg : ℤ) {N : ℕ} {R : Run} {
       nd_free = (let c = ok.nd_free.1 n.u.1 z n.there in
           task_nd_free P bb wt (sym (members e.path)) (named_by bb.path) z.frame.left c.passes c.members [] (λ x. c.nd_free (must x)) c.few (begun z.work.takes z.frame) c.small)
 
+      task_is : slice_index_or n.tasks.tasks n.u.1 (s.keeping e.path).task ≡ z
+      task_is = index_there n.tasks.tasks n.u.1 (s.keeping e.path).task z n.there
+
       q_is : q ≡ v ∷ e.path
       q_is = n.is ∙ ap (λ m. (m, n.u.1) ∷ e.path) (sym n.fork_number)
 
@@ -242,13 +261,13 @@ module _ (P : PlainProgram) (wt : WellTyped P) (arg : ℤ) {N : ℕ} {R : Run} {
       nothing = mine_other e R q (λ x. not_itself e.path n.u (x ∙ n.is)) ∙ none_yet q z n (mine R q) refl
 
   begin_step : (d : ℕ) → suc N ≤ d + length (e ∷ R) → (st : State) (forking : Forking) (ts : List Task) (forks : Forks P (s.keeping e.path).bounds st forking ts) (n : ℕ) → Grows st.shapes s.shapes →
-      st.entries ≡ own_entries (mine R e.path) → AtFork P Q R e.path (s.keeping e.path).bounds (branches_of P Q s.keeping e.path) st forking ts forks n → (i : ℕ) → e.act ≡ Begin i →
+      st.entries ≡ entries_now P Q l s a room → AtFork P Q R e.path (s.keeping e.path) (branches_of P Q s.keeping e.path) st forking ts forks n → (i : ℕ) → e.act ≡ Begin i →
       GoesOn d (forked st forking ts forks (suc n)) → Step P Q N R e a.task s
   begin_step d en st forking ts forks n grown entered af i act goes =
-      still_there s.keeping (agrees_self P Q R s.keeping) (λ m h. h) (ap made_by act) (λ c w z env ty r q cell. absurd (let k : Begin i ≡ Do _ = sym act ∙ w.act in cc))
+      still_there s.keeping (agrees_self P Q R s.keeping) (λ m h. h) (λ m h. h) (ap made_by act) (λ c w z env ty r q cell. absurd (let k : Begin i ≡ Do _ = sym act ∙ w.act in cc))
       (subst (λ c. EventOk P Q (s.keeping e.path) (branches_of P Q s.keeping e.path) s.shapes R e.path c) (sym act) tt)
       (subst (λ c. ActOk P (s.keeping e.path) s.shapes R e.path c e.ans) (sym act) tt)
-      (own_stands P Q l s a room d en (forked st forking ts forks (suc n)) goes s.shapes grown (entered ∙ sym (ap (λ c. entries_then c (own_entries (mine R e.path))) act)) (branches_of P Q s.keeping e.path) (record {
+      (own_stands P Q l s a room d en (forked st forking ts forks (suc n)) goes s.shapes grown (entered ∙ sym (ap (λ c. entries_then (made_now P Q l s a room) c (entries_now P Q l s a room)) act)) (branches_of P Q s.keeping e.path) (record {
         before = af.before;
         event = af.event;
         stands = later af.stands;
@@ -262,29 +281,29 @@ module _ (P : PlainProgram) (wt : WellTyped P) (arg : ℤ) {N : ℕ} {R : Run} {
   end_step : (d : ℕ) → suc N ≤ d + length (e ∷ R) → (st : State) → Grows st.shapes s.shapes → (x : Ending) → e.act ≡ End x →
       EndFits P (s.keeping e.path).bounds (s.keeping e.path).scope a.task.work.copies st.shapes x → GoesOn d (at (having_left st)) → Step P Q N R e a.task s
   end_step d en st grown x act fits goes =
-      still_there s.keeping (agrees_self P Q R s.keeping) (λ m h. h) (ap made_by act) (λ c w z env ty r q cell. absurd (let k : End x ≡ Do _ = sym act ∙ w.act in cc))
+      still_there s.keeping (agrees_self P Q R s.keeping) (λ m h. h) (λ m h. h) (ap made_by act) (λ c w z env ty r q cell. absurd (let k : End x ≡ Do _ = sym act ∙ w.act in cc))
       (subst (λ c. EventOk P Q (s.keeping e.path) (branches_of P Q s.keeping e.path) s.shapes R e.path c) (sym act)
       (a.task, a.begun, end_grows P bounds scope a.task.work.copies st.shapes s.shapes grown x fits))
       (subst (λ c. ActOk P (s.keeping e.path) s.shapes R e.path c e.ans) (sym act) tt)
-      (own_stands P Q l s a room d en (at (having_left st)) goes s.shapes grown (sym (ap (λ c. entries_then c (own_entries (mine R e.path))) act)) (branches_of P Q s.keeping e.path) tt)
+      (own_stands P Q l s a room d en (at (having_left st)) goes s.shapes grown (sym (ap (λ c. entries_then (made_now P Q l s a room) c (entries_now P Q l s a room)) act)) (branches_of P Q s.keeping e.path) tt)
       (λ q z n. absurd (let k : End x ≡ Begin _ = sym act ∙ n.act in cc))
 
   join_step : (d : ℕ) → suc N ≤ d + length (e ∷ R) → (st : State) (forking : Forking) (ts : List Task) (forks : Forks P (s.keeping e.path).bounds st forking ts) (n : ℕ) → Grows st.shapes s.shapes →
-      st.entries ≡ own_entries (mine R e.path) → AtFork P Q R e.path (s.keeping e.path).bounds (branches_of P Q s.keeping e.path) st forking ts forks n → e.act ≡ Join → n ≡ length ts →
+      st.entries ≡ entries_now P Q l s a room → AtFork P Q R e.path (s.keeping e.path) (branches_of P Q s.keeping e.path) st forking ts forks n → e.act ≡ Join → n ≡ length ts →
       ((u : State) → Since st u → u.made ≡ st.made → Brings P (s.keeping e.path).bounds st forking ts forks u (brought e.ans) → GoesOn d (at u)) → Joins R e.path e.ans → Step P Q N R e a.task s
   join_step d en st forking ts forks n grown entered af act all goes j =
-      still_there s.keeping (agrees_self P Q R s.keeping) (λ m h. h) (ap made_by act) (λ c w z env ty r q cell. absurd (let k : Join ≡ Do _ = sym act ∙ w.act in cc))
+      still_there s.keeping (agrees_self P Q R s.keeping) (λ m h. h) (λ m h. h) (ap made_by act) (λ c w z env ty r q cell. absurd (let k : Join ≡ Do _ = sym act ∙ w.act in cc))
       (subst (λ c. EventOk P Q (s.keeping e.path) (branches_of P Q s.keeping e.path) s.shapes R e.path c) (sym act) tt)
       (subst (λ c. ActOk P (s.keeping e.path) s.shapes R e.path c e.ans) (sym act) tt)
       (own_stands P Q l s a room d en (at u) (goes u (record { grows = grown; made = omega arith; entries = refl }) refl (subst (λ x. Brings P bounds st forking ts forks u (brought x)) (sym j.answer) (brings (first_trap j.ends))))
-      s.shapes (λ x y w. w) (entered ∙ sym (ap (λ c. entries_then c (own_entries (mine R e.path))) act)) (branches_of P Q s.keeping e.path) tt)
+      s.shapes (λ x y w. w) (entered ∙ sym (ap (λ c. entries_then (made_now P Q l s a room) c (entries_now P Q l s a room)) act)) (branches_of P Q s.keeping e.path) tt)
       (λ q z m. absurd (let k : Join ≡ Begin _ = sym act ∙ m.act in cc))
     where
       u : State
       u = record { shapes = s.shapes; made = st.made; entries = st.entries }
 
       one : (j.fork ≡ af.event) × (j.before ≡ af.before)
-      one = one_fork Q (stepped_disciplined P arg) e.path (record { kind = forking; tasks = ts }) l af.stands af.path af.act now (af.number ∙ ap (λ m. suc (count af.before e.path + m)) all) j
+      one = one_fork (stepped P arg) (stepped_disciplined P arg) e.path (record { kind = forking; tasks = ts }) lenient af.stands af.path af.act now (af.number ∙ ap (λ m. suc (count af.before e.path + m)) all) j
 
       number : count j.before e.path ≡ count af.before e.path
       number = ap (λ Y. count Y e.path) one.1
@@ -293,28 +312,36 @@ module _ (P : PlainProgram) (wt : WellTyped P) (arg : ℤ) {N : ℕ} {R : Run} {
       ended_there v x q there = j.ended v x (q ∙ sym number) there
 
       brings : (o : Option (Trap × Place)) → Brings P bounds st forking ts forks u (brought {N = Name} {M = LocalRegion} (joined_or o (all_locals j.ends)))
-      brings None = all_returned P Q s e.path af.before af.event af.stands af.path (record { kind = forking; tasks = ts }) af.act st forks af.kept j.ends ended_there
+      brings None = all_returned P Q s e.path af.before af.event af.stands af.path (record { kind = forking; tasks = ts }) af.act st forks (λ i. ap (λ (k : Kept). k.bounds) (af.kept i)) (λ i. ap (λ (k : Kept). k.scope) (af.kept i)) j.ends ended_there
       brings (Some fell) = tt
 
-  pub next_step : Step P Q N R e a.task s
-  next_step = by w.moment w.grown w.entered w.is_at e.act refl w.may w.then a.right
-    where
-      w : Now P Q l s a room
-      w = now_asked P Q l s a room
+  meant : replied a.task.work (run (reported (named_by e.path)) (strict_does wrong (named_by e.path) P a.task) (reported_on 0 0 (reverse (answers (mine R e.path))))) ≡ Next e.turns e.act
+  unfolding strict_ask
+  meant = a.asks
 
-      by : (m : Moment P (s.keeping e.path).bounds) → Grows (state_of m).shapes s.shapes → (state_of m).entries ≡ own_entries (mine R e.path) →
-          IsAt P Q R e.path (s.keeping e.path).bounds (branches_of P Q s.keeping e.path) m → (c : Action) → e.act ≡ c →
+  pub next_step : Step P Q N R e a.task s
+  next_step = by w.moment w.grown w.entered w.is_at e.act refl w.may w.tells w.then a.right
+    where
+      counted : (m : ℕ) × (asks_counting (s.keeping e.path) (answers (mine R e.path)) ≡ Next m e.act)
+      counted = counts_as (s.keeping e.path) e.path a.task (λ q t. strict_does wrong (named_by q) P t) (stand P Q l s a room).path (stand P Q l s a room).task (works e.path) (answers (mine R e.path)) e.turns e.act meant
+
+      w : Now P Q l s a room
+      w = now_asked P Q l s a room counted.0 counted.1
+
+      by : (m : Moment P (s.keeping e.path).bounds) → Grows (state_of m).shapes s.shapes → (state_of m).entries ≡ entries_now P Q l s a room →
+          IsAt P Q R e.path (s.keeping e.path) (branches_of P Q s.keeping e.path) m → (c : Action) → e.act ≡ c →
           (may : MayDo P (s.keeping e.path).bounds (s.keeping e.path).scope a.task.work.copies m c) →
+          Tells P (s.keeping e.path).bounds (s.keeping e.path).scope a.task.work.copies m c (made_now P Q l s a room) →
           ((x : Answer) (h : Moment P (s.keeping e.path).bounds) → Comes P (s.keeping e.path).bounds (s.keeping e.path).scope a.task.work.copies m c may x h →
           Goes P (s.keeping e.path).bounds (s.keeping e.path).scope a.task.work.copies w.depth h (λ xs. replies P Q l s a room (x ∷ xs))) → Right Q R e.path c e.ans → Step P Q N R e a.task s
-      by (at st) g h i (Do o) q m then r = own_step P Q l s a room w.depth w.enough st g h o q m.0 m.1 then r
-      by (at st) g h i (Fork ts) q m then r = fork_step w.depth w.enough st g h ts q m.0 m.1 (then e.ans (forked st ts.kind ts.tasks m.0 0) refl)
-      by (at st) g h i (Begin n) q m then r = absurd m
-      by (at st) g h i Join q m then r = absurd m
-      by (at st) g h i (End x) q m then r = end_step w.depth w.enough st g x q m (then e.ans (at (having_left st)) refl)
-      by (forked st forking ts forks n) g h i (Begin b) q m then r = begin_step w.depth w.enough st forking ts forks n g h i b q (then e.ans (forked st forking ts forks (suc n)) refl)
-      by (forked st forking ts forks n) g h i Join q m then r =
+      by (at st) g h i (Do o) q m t then r = own_step P Q l s a room w.depth w.enough st g h o t q m.0 m.1 then r
+      by (at st) g h i (Fork ts) q m t then r = fork_step w.depth w.enough st g h ts q m.0 m.1 (then e.ans (forked st ts.kind ts.tasks m.0 0) refl)
+      by (at st) g h i (Begin n) q m t then r = absurd m
+      by (at st) g h i Join q m t then r = absurd m
+      by (at st) g h i (End x) q m t then r = end_step w.depth w.enough st g x q m (then e.ans (at (having_left st)) refl)
+      by (forked st forking ts forks n) g h i (Begin b) q m t then r = begin_step w.depth w.enough st forking ts forks n g h i b q (then e.ans (forked st forking ts forks (suc n)) refl)
+      by (forked st forking ts forks n) g h i Join q m t then r =
           join_step w.depth w.enough st forking ts forks n g h i q m (λ u since same brings. then e.ans (at u) (u, refl, since, same, brings)) r
-      by (forked st forking ts forks n) g h i (Do o) q m then r = absurd m
-      by (forked st forking ts forks n) g h i (Fork us) q m then r = absurd m
-      by (forked st forking ts forks n) g h i (End x) q m then r = absurd m
+      by (forked st forking ts forks n) g h i (Do o) q m t then r = absurd m
+      by (forked st forking ts forks n) g h i (Fork us) q m t then r = absurd m
+      by (forked st forking ts forks n) g h i (End x) q m t then r = absurd m

@@ -17,8 +17,9 @@ use Rattle.runs_sound.specs.Accesses.{Bounds}
 use Rattle.std.specs.Prelude.{Bool}
 use Rattle.runs_sound.specs.Runs.{own_entries}
 use Rattle.runs_sound.specs.Soundness.{EndFits}
+use Rattle.runs_sound.specs.Work.{Prog}
 use Rattle.runs_sound.proofs.moments.Moments.{Moment, at, forked, state_of, Goes}
-use Rattle.runs_sound.proofs.moments.Sound.{Kept, Accessed, OwnOk, EventOk, ActOk, IsAt, Stands, branches_of, Sound}
+use Rattle.runs_sound.proofs.moments.Sound.{Kept, asks_counting, made_of, Accessed, OwnOk, EventOk, ActOk, IsAt, Stands, branches_of, Sound}
 use Rattle.runs_sound.proofs.classes.Types.{fits_grows}
 
 pub grows_grows : {S T U : Shapes} → Grows S T → Grows T U → Grows S U
@@ -29,8 +30,8 @@ end_grows P b L copies S T g (Assigned ls) h = (h.0, h.1, λ x v c. (let z = h.2
 end_grows P b L copies S T g (Returned v) h = h
 end_grows P b L copies S T g (Trapped trap place) h = h
 
-accessed_grows : {P : PlainProgram} {b : Bounds} {S T : Shapes} {es : Run} {n : Name} {i : ℤ} {write : Bool} → Grows S T → Accessed P b S es n i write → Accessed P b T es n i write
-accessed_grows g a = record { state = a.state; reaches = a.reaches; grown = grows_grows a.grown g; held = a.held }
+accessed_grows : {P : PlainProgram} {k : Kept} {S T : Shapes} {es : Run} {n : Name} {i : ℤ} {write : Bool} → Grows S T → Accessed P k S es n i write → Accessed P k T es n i write
+accessed_grows g a = record { state = a.state; reaches = a.reaches; grown = grows_grows a.grown g; held = a.held; entered = a.entered }
 
 -- a branch that begins at a begin: of a fork that stands there
 pub record NewTask (R : Run) (e : Event) (q : Path) (t : Task) : Type 0 where
@@ -102,10 +103,10 @@ module _ (P : PlainProgram) (Q : Program) where
   act_later k S T Y p g Join x h = tt
   act_later k S T Y p g (End y) x h = tt
 
-  is_at_later : (R : Run) (e : Event) (q : Path) (b : Bounds) (B C : ℕ → ℕ → Kept) → (e.path ≡ q → ⊥) → ((n i : ℕ) → n < count R q → C n i ≡ B n i) → (m : Moment P b) →
-      IsAt P Q R q b B m → IsAt P Q (e ∷ R) q b C m
-  is_at_later R e q b B C ne c (at st) h = tt
-  is_at_later R e q b B C ne c (forked st forking ts forks n) h = record {
+  is_at_later : (R : Run) (e : Event) (q : Path) (k : Kept) (B C : ℕ → ℕ → Kept) → (e.path ≡ q → ⊥) → ((n i : ℕ) → n < count R q → C n i ≡ B n i) → (m : Moment P k.bounds) →
+      IsAt P Q R q k B m → IsAt P Q (e ∷ R) q k C m
+  is_at_later R e q k B C ne c (at st) h = tt
+  is_at_later R e q k B C ne c (forked st forking ts forks n) h = record {
     before = h.before;
     event = h.event;
     stands = later h.stands;
@@ -120,13 +121,14 @@ module _ (P : PlainProgram) (Q : Program) where
       Stands P Q N R k B S q t → Stands P Q N (e ∷ R) k C T q t
   stands_later N R e k B C S T q t ne g c s = record {
     path = s.path;
+    task = s.task;
     moment = s.moment;
     grown = grows_grows s.grown g;
-    entered = subst (λ es. (state_of s.moment).entries ≡ own_entries es) (sym (mine_other e R q ne)) s.entered;
-    is_at = is_at_later R e q k.bounds B C ne c s.moment s.is_at;
+    entered = subst (λ es. (state_of s.moment).entries ≡ own_entries (made_of k) es) (sym (mine_other e R q ne)) s.entered;
+    is_at = is_at_later R e q k B C ne c s.moment s.is_at;
     depth = s.depth;
     enough = let l = s.enough in omega (arith, l);
-    goes = subst (λ es. Goes P k.bounds k.scope t.work.copies s.depth s.moment (λ xs. Q.meaning q t (reverse xs ++ answers es))) (sym (mine_other e R q ne)) s.goes;
+    goes = subst (λ es. Goes P k.bounds k.scope t.work.copies s.depth s.moment (λ xs. asks_counting k (reverse xs ++ answers es))) (sym (mine_other e R q ne)) s.goes;
   }
 
   -- who has begun then
@@ -170,6 +172,7 @@ module _ (P : PlainProgram) (Q : Program) where
     pub keeping : Path → Kept
     pub agrees : Agrees R s.keeping keeping
     pub never : (m : ℕ → Bool) → ((p : Path) → (s.keeping p).bounds.member_nd_free ≡ m) → (p : Path) → (keeping p).bounds.member_nd_free ≡ m
+    pub work : (m : Path → Task → Prog) → ((p : Path) → (s.keeping p).work ≡ m) → (p : Path) → (keeping p).work ≡ m
     pub things : (n : Name) (z : Shape) → shapes n ≡ Some z → (u : Thing) × (thing_of Q (e ∷ R) n ≡ Some u) × Describes P z u
     pub shaped : (n : Name) (u : Thing) → thing_of Q (e ∷ R) n ≡ Some u → (z : Shape) × (shapes n ≡ Some z)
     pub cells : (n : Name) (z : Shape) (u : Thing) (k : ℕ) (env : Env) (ty : PlainType) (a : Rpl) → shapes n ≡ Some z → thing_of Q (e ∷ R) n ≡ Some u → CellAt P z (pos k) env ty a →

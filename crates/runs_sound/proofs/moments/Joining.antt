@@ -16,8 +16,9 @@ use Rattle.runs_sound.specs.Shapes.{Shapes, FitsIn}
 use Rattle.runs_sound.specs.Accesses.{Bounds}
 use Rattle.runs_sound.specs.Frames.{State}
 use Rattle.runs_sound.specs.Branches.{Forks, Returned as ReturnedOf}
+use Rattle.runs_sound.specs.Laws.{branch_bounds}
 use Rattle.runs_sound.specs.Soundness.{EndFits}
-use Rattle.runs_sound.proofs.moments.Sound.{Kept, branch_kept, EventOk, branches_of, Sound}
+use Rattle.runs_sound.proofs.moments.Sound.{EventOk, branches_of, Sound}
 
 -- a local that a join brings is one that a branch ends with
 brought_by : (ends : List Ending) (x : ℕ) (v : Value) → Contains (all_locals ends) (x, v) → (i : ℕ) × (y : Ending) × (slice_get ends i ≡ Some y) × Contains (locals_of y) (x, v)
@@ -75,7 +76,8 @@ joined_at S st = record { shapes = S; made = st.made; entries = st.entries }
 
 -- a fork of a run, and branches of it that have ended there
 module _ (P : PlainProgram) (Q : Program) {N : ℕ} {R : Run} (s : Sound P Q N R) (p : Path) (F : Run) (f : Event) (stands : Upto (f ∷ F) R) (path : f.path ≡ p) (ts : Branches) (act : f.act ≡ Fork ts)
-    (st : State) (forks : Forks P (s.keeping p).bounds st ts.kind ts.tasks) (kept : (i : ℕ) → s.keeping ((count F p, i) ∷ p) ≡ branch_kept (s.keeping p).bounds st forks (count F p) i) where
+    (st : State) (forks : Forks P (s.keeping p).bounds st ts.kind ts.tasks) (kept : (i : ℕ) → (s.keeping ((count F p, i) ∷ p)).bounds ≡ branch_bounds (s.keeping p).bounds st forks (count F p, i))
+    (scopes : (i : ℕ) → (s.keeping ((count F p, i) ∷ p)).scope ≡ forks.scope i) where
   returned : (i : ℕ) (y : Ending) → Ended R ((count F p, i) ∷ p) y → (x : ℕ) (v : Value) → Contains (locals_of y) (x, v) →
       ReturnedOf P (s.keeping p).bounds st ts.kind ts.tasks forks (joined_at s.shapes st) x v
   returned i y over x v c =
@@ -92,8 +94,8 @@ module _ (P : PlainProgram) (Q : Program) {N : ℕ} {R : Run} (s : Sound P Q N R
         is = ap (λ (b : Branches). slice_get b.tasks i) (sym is) ∙ g.there;
         copied = local.0;
         ty = local.1;
-        local = subst (λ (k : Kept). k.scope.local x ≡ Some (variable local.1)) (kept i) local.2;
-        fits = subst (λ (k : Kept). FitsIn P s.shapes (env_of k.bounds.setting) local.1 v) (kept i) local.3;
+        local = subst (λ (L : Scope). L.local x ≡ Some (variable local.1)) (scopes i) local.2;
+        fits = subst (λ (b : Bounds). FitsIn P s.shapes (env_of b.setting) local.1 v) (kept i) local.3;
       }
 
   pub all_returned : (ends : List Ending) → ((u : ℕ × ℕ) (x : Ending) → u.0 ≡ count F p → slice_get ends u.1 ≡ Some x → Ended R (u ∷ p) x) → (x : ℕ) (v : Value) → Contains (all_locals ends) (x, v) →

@@ -1,31 +1,47 @@
 -- What is said of whole runs, read off what holds of them.
-use Rattle.std.proofs.Common.{◌≡◌, ℕ, ℤ, FitsSigned, ◌∷◌, length, refl, sym, ap, subst, arith, length-append, Option, Some, None, slice_get}
+use Rattle.std.proofs.Common.{◌≡◌, ◌∙◌, ℕ, ℤ, FitsSigned, List, ◌∷◌, length, reverse, refl, sym, ap, subst, arith, length-append, Option, Some, None, slice_get}
 use Rattle.std.specs.Int.{w32}
 use Rattle.lang_base.specs.declared.place.Place.{Place}
 use Rattle.lang_base.specs.declared.value.Trap.{Trap}
 use Rattle.lang_typed.specs.Plain.{PlainProgram}
 use Rattle.lang_typed.specs.WellTyped.{WellTyped}
+use Rattle.lang_meaning.specs.Asking.{does, replied}
+use Rattle.lang_meaning.specs.Core.{run}
 use Rattle.lang_meaning.specs.Outcomes.{first_trap, all_locals, joined_or}
 use Rattle.runs_reduction.proofs.shifts.Rules.{faithful_rule}
-use Rattle.runs_theory.specs.Actions.{Ending}
+use Rattle.runs_theory.specs.Actions.{Answer, Ending, Task}
 use Rattle.runs_theory.specs.Blocks.{with_rule}
-use Rattle.runs_theory.specs.Runs.{Ended, Event, Faithful, Joins, Right, Run, Upto, count, mine}
+use Rattle.runs_theory.specs.Objects.{Path}
+use Rattle.runs_theory.specs.Runs.{Begun, Ended, Event, Faithful, Joins, Right, Run, Upto, count, mine}
 use Rattle.runs_theory.proofs.runs.Faithful.{follows_at}
 use Rattle.runs_theory.proofs.events.Things.{same_some}
 use Rattle.runs_theory.proofs.events.Upto.{upto_tail, upto_trans}
 use Rattle.runs_theory.proofs.runs.Written.{legal_faithful}
 use Rattle.runs_program.specs.Interfering.{lets}
-use Rattle.runs_program.specs.Steps.{stepped}
+use Rattle.runs_program.specs.Steps.{named_by, stepped}
+use Rattle.runs_sound.specs.Counting.{counting, number_of, regions_made}
 use Rattle.runs_sound.specs.Laws.{main_bounds}
 use Rattle.runs_sound.specs.RunLaws.{RunsAreSound}
 use Rattle.runs_sound.specs.Runs.{ForkedInOrder, KeepsTo}
 use Rattle.runs_sound.specs.Shapes.{Describes}
 use Rattle.runs_sound.specs.Soundness.{IsSound, JoinFits, JoinsFitting}
+use Rattle.runs_sound.specs.Work.{Prog}
 use Rattle.runs_sound.proofs.accesses.Guarding.{conflict_is_atomic}
 use Rattle.runs_sound.proofs.moments.Joining.{all_returned, joined_at}
+use Rattle.runs_sound.proofs.moments.Moments.{reported_on}
 use Rattle.runs_sound.proofs.accesses.Lying.{access_lies_throughout}
-use Rattle.runs_sound.proofs.moments.Sound.{ActOk, EventOk, Kept, Sound, branch_kept, branches_of}
+use Rattle.runs_sound.proofs.moments.Sound.{ActOk, EventOk, Kept, Sound, branches_of, made_of}
 use Rattle.runs_sound.proofs.moments.Whole.{Whole, whole}
+
+-- how many local regions a task has made is told by its answers
+made_as : (P : PlainProgram) (arg : ℤ) {N : ℕ} {R : Run} (s : Sound P (stepped P arg) N R) (p : Path) (t : Task) → Begun (stepped P arg) R p t →
+    (s.keeping p).work ≡ (λ q t. does (named_by q) P t) → (got : List Answer) → made_of (s.keeping p) got ≡ regions_made (named_by p) P t got
+unfolding regions_made
+made_as P arg s p t b work got =
+    let stand = s.tasks p t b in
+    ap (λ q. number_of (replied (s.keeping p).task.work (run (counting (named_by q)) ((s.keeping p).work q (s.keeping p).task) (reported_on 0 0 (reverse got))))) stand.path
+    ∙ ap (λ (u : Task). number_of (replied u.work (run (counting (named_by p)) ((s.keeping p).work p u) (reported_on 0 0 (reverse got))))) stand.task
+    ∙ ap (λ (w : Path → Task → Prog). number_of (replied t.work (run (counting (named_by p)) (w p t) (reported_on 0 0 (reverse got))))) work
 
 -- a run whose events are asked for and answered rightly, whichever blocks wait
 module _ (P : PlainProgram) (wt : WellTyped P) (arg : ℤ) (small : FitsSigned w32 arg) (R : Run) (l : Faithful (stepped P arg) R) where
@@ -45,6 +61,8 @@ module _ (P : PlainProgram) (wt : WellTyped P) (arg : ℤ) (small : FitsSigned w
     };
     bounds = λ p. (s.keeping p).bounds;
     scopes = λ p. (s.keeping p).scope;
+    made = λ p. made_of (s.keeping p);
+    counts = λ p t b got. made_as P arg s p t b (w.works p) got;
     root = ap (λ (k : Kept). k.bounds) w.root;
     named = λ p t b. (s.tasks p t b).path;
     forks = λ f F ts u act. (let ok = subst (λ c. EventOk P (stepped P arg) (s.keeping f.path) (branches_of P (stepped P arg) s.keeping f.path) s.shapes F f.path c) act (s.events f F u) in
@@ -61,13 +79,10 @@ module _ (P : PlainProgram) (wt : WellTyped P) (arg : ℤ) (small : FitsSigned w
 
   -- a join is answered by what the ends of its branches fit
   module _ (y : Event) (Y : Run) (u : Upto (y ∷ Y) R) (j : Joins Y y.path y.ans) where
-    forked : ForkedInOrder P (s.keeping y.path).bounds (λ i. (s.keeping ((count j.before y.path, i) ∷ y.path)).bounds) (λ i. (s.keeping ((count j.before y.path, i) ∷ y.path)).scope) s.shapes
+    forked : ForkedInOrder P (s.keeping y.path).bounds (made_of (s.keeping y.path)) (λ i. (s.keeping ((count j.before y.path, i) ∷ y.path)).bounds) (λ i. (s.keeping ((count j.before y.path, i) ∷ y.path)).scope) s.shapes
         (mine j.before y.path) (count j.before y.path) j.tasks
-    forked = subst (λ p. ForkedInOrder P (s.keeping p).bounds (λ i. (s.keeping ((count j.before p, i) ∷ p)).bounds) (λ i. (s.keeping ((count j.before p, i) ∷ p)).scope) s.shapes (mine j.before p) (count j.before p) j.tasks)
+    forked = subst (λ p. ForkedInOrder P (s.keeping p).bounds (made_of (s.keeping p)) (λ i. (s.keeping ((count j.before p, i) ∷ p)).bounds) (λ i. (s.keeping ((count j.before p, i) ∷ p)).scope) s.shapes (mine j.before p) (count j.before p) j.tasks)
         j.path (kept_to.forks j.fork j.before j.tasks (upto_trans j.stands (upto_tail u)) j.act)
-
-    kept : (i : ℕ) → s.keeping ((count j.before y.path, i) ∷ y.path) ≡ branch_kept (s.keeping y.path).bounds forked.state forked.forks (count j.before y.path) i
-    kept i = let b = forked.kept i in let c = forked.scopes i in λ t. record { bounds = b t; scope = c t }
 
     ended : (v : ℕ × ℕ) (x : Ending) → v.0 ≡ count j.before y.path → slice_get j.ends v.1 ≡ Some x → Ended R (v ∷ y.path) x
     ended v x e there =
@@ -76,10 +91,10 @@ module _ (P : PlainProgram) (wt : WellTyped P) (arg : ℤ) (small : FitsSigned w
 
     fits : (o : Option (Trap × Place)) → JoinFits P (s.keeping y.path).bounds forked.state j.tasks.kind j.tasks.tasks forked.forks
         (joined_at s.shapes forked.state) (joined_or o (all_locals j.ends))
-    fits None = all_returned P (stepped P arg) s y.path j.before j.fork (upto_trans j.stands (upto_tail u)) j.path j.tasks j.act forked.state forked.forks kept j.ends ended
+    fits None = all_returned P (stepped P arg) s y.path j.before j.fork (upto_trans j.stands (upto_tail u)) j.path j.tasks j.act forked.state forked.forks forked.kept forked.scopes j.ends ended
     fits (Some fell) = tt
 
-    joins_fitting : JoinsFitting P (λ p. (s.keeping p).bounds) (λ p. (s.keeping p).scope) s.shapes Y y.path y.ans
+    joins_fitting : JoinsFitting P (λ p. (s.keeping p).bounds) (λ p. made_of (s.keeping p)) (λ p. (s.keeping p).scope) s.shapes Y y.path y.ans
     joins_fitting = record {
       before = j.before;
       fork = j.fork;

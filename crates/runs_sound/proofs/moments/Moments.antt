@@ -8,11 +8,12 @@ use Rattle.lang_meaning.specs.Asking.{most_turns, Reported as ReportedOf, asked,
 use Rattle.lang_meaning.specs.Core.{Out as OutOf, Done, Trapped as Fallen, Stopped, Lost, bind}
 use Rattle.lang_meaning.specs.Counts.{brought}
 use Rattle.lang_meaning.proofs.Turns.{most_pos, turned_if}
-use Rattle.runs_theory.specs.Actions.{Task, Own, Rest, Action, Do, Fork, Begin, Join, End, Ending, Trapped, Answer, Reply, Next, Over, Unknown}
+use Rattle.runs_theory.specs.Actions.{Task, Own, Rest, Read, Write, Look, New, Print, Enter, Exit, Action, Do, Fork, Begin, Join, End, Ending, Trapped, Answer, Reply, Next, Over, Unknown}
 use Rattle.runs_theory.specs.Objects.{Name, LocalRegion}
 use Rattle.runs_sound.specs.Accesses.{Bounds}
 use Rattle.runs_sound.specs.Frames.{State, Since}
 use Rattle.runs_sound.specs.Branches.{Forks, Brings}
+use Rattle.runs_sound.specs.Counting.{acts_counting}
 use Rattle.runs_sound.specs.Soundness.{EndFits}
 use Rattle.runs_sound.specs.Work.{Brought, Moves, Answers, After}
 use Rattle.runs_sound.proofs.work.NdFree.{NdFreeFork, MayLeave}
@@ -113,14 +114,44 @@ module _ (P : PlainProgram) (b : Bounds) (L : Scope) (copies : List ℕ) where
     still : {g : Moment P b} → Quietly g g
     making : {st : State} (n : ℕ) → Quietly (at st) (at (having_made n st))
 
-  pub record Goes_to (rest : Moment P b → Replies → Type 0) (g : Moment P b) (m : Replies) (a : Action) : Type 0 where
+  -- at an entry it is told how many local regions it has made
+  abbrev pub Told : State → Own → ℕ → Type 0
+  Told st (Enter E) n = n ≡ st.made
+  Told st Exit n = Unit {0}
+  Told st Rest n = Unit {0}
+  Told st (Read c i) n = Unit {0}
+  Told st (Write c i v) n = Unit {0}
+  Told st (Look c) n = Unit {0}
+  Told st (New t c) n = Unit {0}
+  Told st (Print bytes) n = Unit {0}
+
+  told_made : (st : State) (o : Own) → Told st o st.made
+  told_made st (Enter E) = refl
+  told_made st Exit = tt
+  told_made st Rest = tt
+  told_made st (Read c i) = tt
+  told_made st (Write c i v) = tt
+  told_made st (Look c) = tt
+  told_made st (New t c) = tt
+  told_made st (Print bytes) = tt
+
+  abbrev pub Tells : Moment P b → Action → ℕ → Type 0
+  Tells (at st) (Do o) n = Told st o n
+  Tells (at st) (Fork ts) n = Unit {0}
+  Tells (at st) (Begin i) n = Unit {0}
+  Tells (at st) Join n = Unit {0}
+  Tells (at st) (End x) n = Unit {0}
+  Tells (forked st forking ts forks k) a n = Unit {0}
+
+  pub record Goes_to (rest : Moment P b → Replies → Type 0) (g : Moment P b) (m : Replies) (n : ℕ) (a : Action) : Type 0 where
     pub moment : Moment P b
     pub quietly : Quietly g moment
     pub may : MayDo moment a
+    pub tells : Tells moment a n
     pub then : (x : Answer) (h : Moment P b) → Comes moment a may x h → rest h (λ xs. m (x ∷ xs))
 
   abbrev pub Here : (Moment P b → Replies → Type 0) → Moment P b → Replies → Reply → Type 0
-  Here rest g m (Next n a) = Goes_to rest g m a
+  Here rest g m (Next n a) = Goes_to rest g m n a
   Here rest g m Over = Unit {0}
   Here rest g m Unknown = Unit {0}
 
@@ -135,7 +166,7 @@ module _ (P : PlainProgram) (b : Bounds) (L : Scope) (copies : List ℕ) where
     where
       go : (r : Reply) → ((h : Moment P b) (a c : Replies) → ((xs : List Answer) → a xs ≡ c xs) → Goes d h a → Goes d h c) → Here (λ h k. Goes d h k) g m r →
           Here (λ h k. Goes d h k) g k r
-      go (Next n a) same z = record { moment = z.moment; quietly = z.quietly; may = z.may; then = λ x h c. same h (λ xs. m (x ∷ xs)) (λ xs. k (x ∷ xs)) (λ xs. e (x ∷ xs)) (z.then x h c) }
+      go (Next n a) same z = record { moment = z.moment; quietly = z.quietly; may = z.may; tells = z.tells; then = λ x h c. same h (λ xs. m (x ∷ xs)) (λ xs. k (x ∷ xs)) (λ xs. e (x ∷ xs)) (z.then x h c) }
       go Over same z = tt
       go Unknown same z = tt
 
@@ -153,7 +184,7 @@ module _ (P : PlainProgram) (b : Bounds) (L : Scope) (copies : List ℕ) where
       from (making k) = making k
 
       go : (r : Reply) → Here (λ h k. Goes d h k) (at (having_made n st)) m r → Here (λ h k. Goes d h k) (at st) m r
-      go (Next k a) z = record { moment = z.moment; quietly = from z.quietly; may = z.may; then = z.then }
+      go (Next k a) z = record { moment = z.moment; quietly = from z.quietly; may = z.may; tells = z.tells; then = z.then }
       go Over z = tt
       go Unknown z = tt
 
@@ -172,7 +203,7 @@ module _ (P : PlainProgram) (b : Bounds) (L : Scope) (copies : List ℕ) where
     where
       go : (d t : ℕ) → Goes d (at st) (λ xs. ending x t xs)
       go zero t = tt
-      go (suc d) t = record { moment = at st; quietly = still; may = fits; then = λ y h c. goes_over d h }
+      go (suc d) t = record { moment = at st; quietly = still; may = fits; tells = tt; then = λ y h c. goes_over d h }
 
   -- from a state that the next event is answered in, to what follows it
   stands_in : {n : ℕ} (d t : ℕ) (st : State) {u : State} {h : Moment P b} (k : Reported → Reply) → h ≡ at u → u.made ≡ st.made → most_turns * suc d + (most_turns - t) < n → Good n (at u) k →
@@ -181,15 +212,16 @@ module _ (P : PlainProgram) (b : Bounds) (L : Scope) (copies : List ℕ) where
       subst (λ z. Goes d z (λ xs. k (reported_on 0 st.made xs))) (sym e) (subst (λ y. Goes d (at u) (λ xs. k (reported_on 0 y xs))) m (s.from d 0 most_pos (room_falls n d t r)))
 
   pub good_own : {V : Type 0} {n : ℕ} (st : State) (o : Own) (k : Answer → Reported → Out V) (K : V → Reported → Reply) (m : Moves P b st o) → MayLeave o st.entries →
-      ((x : Answer) (u : State) → After o st u → Answers P b st o m x u → Good n (at u) (λ w. finish (k x w) K)) → Good n (at st) (λ w. finish (bind (asked (Do o) w) k) K)
+      ((x : Answer) (u : State) → After o st u → Answers P b st o m x u → Good n (at u) (λ w. finish (k x w) K)) → Good n (at st) (λ w. finish (bind (acts_counting o w w.to_come) k) K)
   good_own {V} {n} st o k K m leaves more = record { from = go }
     where
-      go : (d t : ℕ) → t < most_turns → most_turns * d + (most_turns - t) < n → Goes d (at st) (λ xs. finish (bind (asked (Do o) (reported_on t st.made xs)) k) K)
+      go : (d t : ℕ) → t < most_turns → most_turns * d + (most_turns - t) < n → Goes d (at st) (λ xs. finish (bind (acts_counting o (reported_on t st.made xs) xs) k) K)
       go zero t l r = tt
       go (suc d) t l r = record {
         moment = at st;
         quietly = still;
         may = (m, leaves);
+        tells = told_made st o;
         then = λ x h c. stands_in d t st (λ w. finish (k x w) K) c.1 c.2.made r (more x c.0 c.2 c.3);
       }
 
@@ -205,6 +237,7 @@ module _ (P : PlainProgram) (b : Bounds) (L : Scope) (copies : List ℕ) where
         moment = at st;
         quietly = still;
         may = (tt, tt);
+        tells = tt;
         then = λ x h c. subst (λ z. Goes d z (λ xs. finish (k (reported_on 0 st.made xs)) K)) (sym c.1) (subst (λ y. Goes d (at c.0) (λ xs. finish (k (reported_on 0 y xs)) K)) c.2.made
             ((s c.0 (since_after Rest refl c.2) c.2.made).from d 0 most_pos (omega arith)));
       }
@@ -227,6 +260,7 @@ module _ (P : PlainProgram) (b : Bounds) (L : Scope) (copies : List ℕ) where
         moment = forked st forking ts forks i;
         quietly = still;
         may = omega arith;
+        tells = tt;
         then = λ x h c. stands_in d t st (λ w. finish (k (brought x) w) K) c.1 c.3 r (more (brought x) c.0 c.2 c.4);
       }
   good_begins {V} {n} st forking ts forks i (suc j) k K e more =
@@ -240,6 +274,7 @@ module _ (P : PlainProgram) (b : Bounds) (L : Scope) (copies : List ℕ) where
         moment = forked st forking ts forks i;
         quietly = still;
         may = tt;
+        tells = tt;
         then = λ x h c. subst (λ z. Goes d z (λ xs. finish (bind (begins_then (suc i) j reported_join (reported_on 0 st.made xs)) k) K)) (sym c) (s.from d 0 most_pos (room_falls n d t r));
       }
 
@@ -255,5 +290,6 @@ module _ (P : PlainProgram) (b : Bounds) (L : Scope) (copies : List ℕ) where
         moment = at st;
         quietly = still;
         may = (forks, nd_free);
+        tells = tt;
         then = λ x h c. subst (λ z. Goes d z (λ xs. finish (bind (begins_then 0 (length ts) reported_join (reported_on 0 st.made xs)) k) K)) (sym c) (s.from d 0 most_pos (room_falls n d t r));
       }

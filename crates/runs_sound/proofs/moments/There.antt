@@ -3,6 +3,8 @@ use Rattle.std.proofs.Common.{◌≡◌, ◌∙◌, ℕ, zero, suc, ℤ, FitsSig
 use Rattle.std.specs.Int.{w32}
 use Rattle.lang_typed.specs.Plain.{PlainProgram}
 use Rattle.lang_typed.specs.WellTyped.{WellTyped}
+use Rattle.lang_meaning.specs.Asking.{ask, does, replied, reported}
+use Rattle.lang_meaning.specs.Core.{run}
 use Rattle.runs_reduction.proofs.shifts.Rules.{begun_rule, faithful_rule, reply_rule}
 use Rattle.runs_theory.specs.Actions.{Answer, Do, Enter, Exit, Look, Named, New, Next, Own, Print, Program, Read, Reply, Rest, Task, Went, Write}
 use Rattle.runs_theory.specs.Blocks.{with_rule}
@@ -10,22 +12,26 @@ use Rattle.runs_theory.specs.Objects.{Name, Path, Thing, size, slot_of}
 use Rattle.runs_theory.specs.Runs.{Begun, Faithful, Run, answered_by, answers, made, mine, read_at, reply, seen, thing_of, wrote_at}
 use Rattle.runs_theory.proofs.runs.Written.{legal_faithful}
 use Rattle.runs_program.specs.Interfering.{lets}
-use Rattle.runs_program.specs.Steps.{stepped}
+use Rattle.runs_program.specs.Steps.{named_by, stepped}
 use Rattle.runs_sound.specs.Frames.{State}
 use Rattle.runs_sound.specs.RunLaws.{NamesAreKnownByAnyRule}
 use Rattle.runs_sound.specs.Shapes.{Grows, Shape}
 use Rattle.runs_sound.specs.Work.{Moves}
-use Rattle.runs_sound.proofs.moments.Moments.{Goes, Here, MayDo, Moment, Quietly, at, forked, making, state_of, still}
-use Rattle.runs_sound.proofs.moments.Sound.{Kept, Sound, Stands, branches_of}
-use Rattle.runs_sound.proofs.moments.Whole.{sound}
+use Rattle.runs_sound.proofs.moments.Acting.{counts_as}
+use Rattle.runs_sound.proofs.moments.Moments.{Goes, Here, MayDo, Moment, Quietly, at, forked, making, reported_on, state_of, still}
+use Rattle.runs_sound.proofs.moments.Sound.{Kept, asks_counting, Sound, Stands, branches_of}
+use Rattle.runs_sound.proofs.moments.Whole.{Whole, whole}
 
 module _ (P : PlainProgram) (wt : WellTyped P) (arg : ℤ) (small : FitsSigned w32 arg) {R : Run} (l : Faithful (stepped P arg) R) (p : Path) (t : Task)
     (b : Begun (stepped P arg) R p t) (o : Own) (turns : ℕ) (asks : (stepped P arg).meaning p t (answers (mine R p)) ≡ Next turns (Do o)) where
   abbrev Q : Program
   Q = stepped P arg
 
-  s : Sound P Q (length R) R
-  s = sound P wt arg small (length R) R l (omega arith)
+  abbrev w : Whole P wt arg small (length R) R
+  w = whole P wt arg small (length R) R l (omega arith)
+
+  abbrev s : Sound P Q (length R) R
+  s = w.holds
 
   abbrev k : Kept
   k = s.keeping p
@@ -34,7 +40,14 @@ module _ (P : PlainProgram) (wt : WellTyped P) (arg : ℤ) (small : FitsSigned w
   stand = s.tasks p t b
 
   abbrev replies : List Answer → Reply
-  replies xs = Q.meaning p t (reverse xs ++ answers (mine R p))
+  replies xs = asks_counting k (reverse xs ++ answers (mine R p))
+
+  meant : replied t.work (run (reported (named_by p)) (does (named_by p) P t) (reported_on 0 0 (reverse (answers (mine R p))))) ≡ Next turns (Do o)
+  unfolding ask
+  meant = asks
+
+  counted : (m : ℕ) × (asks_counting k (answers (mine R p)) ≡ Next m (Do o))
+  counted = counts_as k p t (λ q t. does (named_by q) P t) stand.path stand.task (w.works p) (answers (mine R p)) turns (Do o) meant
 
   -- what it does next is in order
   record Moving : Type 0 where
@@ -59,7 +72,7 @@ module _ (P : PlainProgram) (wt : WellTyped P) (arg : ℤ) (small : FitsSigned w
       deep : (n : ℕ) → stand.depth ≡ n → Goes P k.bounds k.scope t.work.copies n stand.moment replies → Moving
       deep zero q z = let n = stand.enough in absurd (omega (arith, n, q))
       deep (suc d) q z =
-          let w = subst (λ r. Here P k.bounds k.scope t.work.copies (λ h m. Goes P k.bounds k.scope t.work.copies d h m) stand.moment replies r) asks z in
+          let w = subst (λ r. Here P k.bounds k.scope t.work.copies (λ h m. Goes P k.bounds k.scope t.work.copies d h m) stand.moment replies r) counted.1 z in
           at_moment w.moment w.quietly w.may
 
   thing_there : (n : Name) (shape : Shape) → s.shapes n ≡ Some shape → (t : Thing) × (thing_of Q R n ≡ Some t)

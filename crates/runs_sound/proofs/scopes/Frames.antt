@@ -15,11 +15,11 @@ use Rattle.lang_typed.specs.Scope.{Scope, variable, frozen, constant, part, rese
 use Rattle.lang_typed.specs.Scope.{Local as ScopeLocal}
 use Rattle.lang_meaning.specs.Counts.{slot_value}
 use Rattle.lang_meaning.specs.Regions.{around, part_of, head_region, concrete}
-use Rattle.runs_theory.specs.Objects.{Path, LocalRegion, Made, Unmade, Value, Effect, Region}
+use Rattle.runs_theory.specs.Objects.{Path, LocalRegion, Made, Unmade, Value, Region}
 use Rattle.runs_program.specs.Steps.{named_by}
 use Rattle.runs_sound.specs.Settings.{local_code, elem_of, elems_of, Setting, env_of}
 use Rattle.runs_sound.specs.Shapes.{Shapes, Grows}
-use Rattle.runs_sound.specs.Accesses.{Access, LiesIn, Bounds, Within}
+use Rattle.runs_sound.specs.Accesses.{Access, LiesIn, Bounds, Entry, Within}
 use Rattle.runs_sound.specs.Frames.{Frame, State, Since, IsOld, LocalFits, FrameFits}
 use Rattle.runs_sound.specs.Scopes.{InScope, PathInScope}
 use Rattle.runs_sound.proofs.scopes.Codes.{setting_env}
@@ -70,10 +70,10 @@ pub lies_right : (g : Setting) (E F : List EffectOwn) (a : Access) → LiesIn g 
 lies_right g [] F a h = h
 lies_right g (o ∷ E) F a h = inr (lies_right g E F a h)
 
-pub within_left : (b : Bounds) (entries : List (List Effect)) (g : Setting) (E F : List EffectOwn) → Within b entries g (E ++ F) → Within b entries g E
+pub within_left : (b : Bounds) (entries : List Entry) (g : Setting) (E F : List EffectOwn) → Within b entries g (E ++ F) → Within b entries g E
 within_left b entries g E F w a u h = w a u (lies_left g E F a h)
 
-pub within_right : (b : Bounds) (entries : List (List Effect)) (g : Setting) (E F : List EffectOwn) → Within b entries g (E ++ F) → Within b entries g F
+pub within_right : (b : Bounds) (entries : List Entry) (g : Setting) (E F : List EffectOwn) → Within b entries g (E ++ F) → Within b entries g F
 within_right b entries g E F w a u h = w a u (lies_right g E F a h)
 
 pub within_since : (b : Bounds) {s t : State} → Since s t → (g : Setting) (E : List EffectOwn) → Within b s.entries g E → Within b t.entries g E

@@ -14,11 +14,10 @@ use Rattle.lang_typed.specs.Scope.{Scope, in_atomic_block}
 use Rattle.lang_typed.specs.Statements.{SameEffects}
 use Rattle.lang_meaning.specs.Regions.{around, concrete, concrete_effect}
 use Rattle.runs_theory.specs.Objects.{Path}
-use Rattle.runs_theory.specs.Objects.{Effect as RunEffect}
 use Rattle.runs_program.specs.Steps.{named_by}
 use Rattle.runs_sound.specs.Settings.{Setting, env_of}
 use Rattle.runs_sound.specs.Shapes.{Grows}
-use Rattle.runs_sound.specs.Accesses.{Access, at_root, Speaks, Covers, LiesIn, as_path, LiesInEntry, Bounds, Allowed, Within, entered, MayEnterWith}
+use Rattle.runs_sound.specs.Accesses.{Access, at_root, Speaks, Covers, LiesIn, as_path, LiesInEntry, Bounds, Entry, Allowed, Within, entered, MayEnterWith}
 use Rattle.runs_sound.specs.Frames.{Frame, State, FrameFits}
 use Rattle.runs_sound.specs.Scopes.{PathInScope, GoodScope}
 use Rattle.runs_sound.proofs.paths.Including.{put_root}
@@ -118,10 +117,10 @@ module _ (P : PlainProgram) (b : Bounds) (L : Scope) (g : Setting) (st : State) 
   lies_marked (o ∷ E) a u h = elim h [ inl c ↦ inl (mark_covers o a u c) | inr r ↦ inr (lies_marked E a u r) ]
 
   -- what the body does is allowed inside the block
-  pub within_block : (entry : List Effect) (E : List EffectOwn) (entries : List (List RunEffect)) → SameEffects entry (as_effects (after_block E)) →
+  pub within_block : (made : ℕ) (entry : List Effect) (E : List EffectOwn) (entries : List Entry) → SameEffects entry (as_effects (after_block E)) →
       All (λ o. PathInScope L 0 (effect_of o).rpl) (after_block E) →
-      Within b entries g (after_block E) → Within b (map (concrete_effect (named_by b.path) (around f)) entry ∷ entries) g E
-  within_block entry E entries se s w a gu l =
+      Within b entries g (after_block E) → Within b (record { effects = map (concrete_effect (named_by b.path) (around f)) entry; made = made } ∷ entries) g E
+  within_block made entry E entries se s w a gu l =
       let u = gu (or_right b.inside true refl) in
       let h = lies_marked E a u l in
       let allowed = w a (λ z. u) h in
@@ -149,12 +148,12 @@ module _ (P : PlainProgram) (b : Bounds) (L : Scope) (g : Setting) (st : State) 
   entry_lies (o ∷ E) s zero e d l q = inl (subst (λ z. Covers g o (at_entry z)) q (entry_covers o (All-head (λ o. PathInScope L 0 (effect_of o).rpl) o E s)))
   entry_lies (o ∷ E) s (suc k) e d l q = inr (entry_lies E (All-tail (λ o. PathInScope L 0 (effect_of o).rpl) o E s) k e d (omega (arith, l)) q)
 
-  each_entered : (entries : List (List RunEffect)) (F : List Effect) → ((e : Effect) → Contains F e → Allowed b entries (at_entry e)) →
+  each_entered : (entries : List Entry) (F : List Effect) → ((e : Effect) → Contains F e → Allowed b entries (at_entry e)) →
       MayEnterWith b entries (map (concrete_effect (named_by b.path) (around f)) F)
   each_entered entries [] h = tt
   each_entered entries (e ∷ F) h = (h e (0, omega arith, refl), each_entered entries F (λ d c. h d (suc c.0, (let l = c.1 in omega (arith, l)), c.2)))
 
-  pub may_enter : (entry : List Effect) (E : List EffectOwn) (entries : List (List RunEffect)) → SameEffects entry (as_effects (after_block E)) →
+  pub may_enter : (entry : List Effect) (E : List EffectOwn) (entries : List Entry) → SameEffects entry (as_effects (after_block E)) →
       All (λ o. PathInScope L 0 (effect_of o).rpl) (after_block E) → Within b entries g (after_block E) →
       MayEnterWith b entries (map (concrete_effect (named_by b.path) (around f)) entry)
   may_enter entry E entries se s w = each_entered entries entry

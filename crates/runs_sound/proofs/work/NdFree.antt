@@ -31,8 +31,8 @@ use Rattle.lang_meaning.specs.Statements.{branch_of, tasks_of, with_value, write
 use Rattle.lang_meaning.specs.Asking.{meaning}
 use Rattle.lang_meaning.specs.Values.{Naming}
 use Rattle.runs_theory.specs.Actions.{Answer, Own, Rest, Read, Write, Look, New, Print, Enter, Exit, Task}
-use Rattle.runs_theory.specs.Objects.{Name, LocalRegion, Value, Int, Object, Region, Effect}
-use Rattle.runs_sound.specs.Accesses.{Bounds, is_guarded}
+use Rattle.runs_theory.specs.Objects.{Name, LocalRegion, Value, Int, Object, Region}
+use Rattle.runs_sound.specs.Accesses.{Bounds, Entry, is_guarded}
 use Rattle.runs_sound.specs.Frames.{Frame}
 use Rattle.runs_sound.specs.Laws.{Deeper}
 use Rattle.runs_sound.specs.Work.{Result, Prog, Brought, entries_after}
@@ -41,7 +41,7 @@ use Rattle.runs_sound.proofs.numbers.Ints.{zero_fits, add_fits}
 use Rattle.runs_sound.proofs.numbers.Small.{IsSmall, AreSmall, SmallResult, SmallAnswer, SmallBrought, small_name, small_unary, small_operated, small_nil, small_cons, small_set, small_reverse, small_padded, small_copied, small_begun, many_branches, FewIn, FewInAll, FewInBranches, HasFew, many_tasks, few_counted}
 
 abbrev pub Entries : Type 0
-Entries = List (List Effect)
+Entries = List Entry
 
 -- no nd construct may stand here: the program has none; or the task stands inside a block with these entries of its own
 abbrev pub MustBeNdFree : PlainProgram → Bounds → Entries → Type 0
@@ -89,7 +89,7 @@ MayLeave (Enter effects) Es = Unit {0}
 abbrev pub IsNdFree : PlainProgram → Bounds → Entries → (Entries → Result → Type 0) → Prog → Type 0
 IsNdFree P b E Q (Ret r) = Q E r
 IsNdFree P b E Q (Traps trap p) = Unit {0}
-IsNdFree P b E Q (Act o k) = MayLeave o E × ((x : Answer) → SmallAnswer x → IsNdFree P b (entries_after o E) Q (k x))
+IsNdFree P b E Q (Act o k) = MayLeave o E × ((made : ℕ) (x : Answer) → SmallAnswer x → IsNdFree P b (entries_after made o E) Q (k x))
 IsNdFree P b E Q (Makes k) = (m : LocalRegion) → IsNdFree P b E Q (k m)
 IsNdFree P b E Q (Again t s f k) =
     (c : Bool) × ((g : Frame) → AreSmall g.values → IsNdFree P b E (Back E c) (t g)) × ((g : Frame) → AreSmall g.values → IsNdFree P b E (Back E c) (s g))
@@ -121,7 +121,7 @@ module _ (P : PlainProgram) (b : Bounds) where
   nd_free_on : (E : Entries) (Q R : Entries → Result → Type 0) (p : Prog) (j : Result → Prog) → NdFree E Q p → ((F : Entries) (r : Result) → Q F r → NdFree F R (j r)) → NdFree E R (on p j)
   nd_free_on E Q R (Ret r) j s h = h E r s
   nd_free_on E Q R (Traps trap p) j s h = tt
-  nd_free_on E Q R (Act o k) j s h = (s.0, λ x a. nd_free_on (entries_after o E) Q R (k x) j (s.1 x a) h)
+  nd_free_on E Q R (Act o k) j s h = (s.0, λ m x a. nd_free_on (entries_after m o E) Q R (k x) j (s.1 m x a) h)
   nd_free_on E Q R (Makes k) j s h = λ m. nd_free_on E Q R (k m) j (s m) h
   nd_free_on E Q R (Again t u f k) j s h = (s.0, s.1, s.2, λ r z a. nd_free_on E Q R (k r) j (s.3 r z a) h, s.4)
   nd_free_on E Q R (Split forking ts bs k) j s h = (s.0, λ x a. nd_free_on E Q R (k x) j (s.1 x a) h)
@@ -146,7 +146,7 @@ module _ (P : PlainProgram) (b : Bounds) where
   nd_free_post : (E : Entries) (Q R : Entries → Result → Type 0) (p : Prog) → ((F : Entries) (r : Result) → Q F r → R F r) → NdFree E Q p → NdFree E R p
   nd_free_post E Q R (Ret r) h s = h E r s
   nd_free_post E Q R (Traps trap p) h s = tt
-  nd_free_post E Q R (Act o k) h s = (s.0, λ x a. nd_free_post (entries_after o E) Q R (k x) h (s.1 x a))
+  nd_free_post E Q R (Act o k) h s = (s.0, λ m x a. nd_free_post (entries_after m o E) Q R (k x) h (s.1 m x a))
   nd_free_post E Q R (Makes k) h s = λ m. nd_free_post E Q R (k m) h (s m)
   nd_free_post E Q R (Again t u f k) h s = (s.0, s.1, s.2, λ r z a. nd_free_post E Q R (k r) h (s.3 r z a), s.4)
   nd_free_post E Q R (Split forking ts bs k) h s = (s.0, λ x a. nd_free_post E Q R (k x) h (s.1 x a))
@@ -182,10 +182,10 @@ module _ (P : PlainProgram) (b : Bounds) where
     nd_free_unless at v k h = nd_free_or E (Back E c) (reference v) _ _ tt (λ n e. h n)
 
     nd_free_read : (at : Place) (n : Name) (j : ℤ) (f : Frame) → AreSmall f.values → NdFree E (Back E c) (read_cell at n j f)
-    nd_free_read at n j f fs = (tt, λ a as'. nd_free_or E (Back E c) (value_read a) _ _ tt (λ v e. (refl, tt, (as'.read v e, fs))))
+    nd_free_read at n j f fs = (tt, λ made a as'. nd_free_or E (Back E c) (value_read a) _ _ tt (λ v e. (refl, tt, (as'.read v e, fs))))
 
     nd_free_write : (at : Place) (n : Name) (j : ℤ) (v : Value) (f : Frame) → AreSmall f.values → NdFree E (Back E c) (write_cell at n j v f)
-    nd_free_write at n j v f fs = (tt, λ a as'. nd_free_if E (Back E c) (is_out a) _ _ tt (refl, tt, (zero_fits, fs)))
+    nd_free_write at n j v f fs = (tt, λ made a as'. nd_free_if E (Back E c) (is_out a) _ _ tt (refl, tt, (zero_fits, fs)))
 
     nd_free_part : (at : Place) (k : ℕ) (j : ℤ) (f : Frame) (g : Name → ℤ → Prog) → ((n : Name) (p : ℤ) → NdFree E (Back E c) (g n p)) → NdFree E (Back E c) (part_element at k j f g)
     nd_free_part at k j f g h = nd_free_or E (Back E c) (part_place k j f.values) _ _ tt (λ p e. nd_free_unless at (slot_value f.values k) _ (λ n. h n p))
@@ -213,7 +213,7 @@ module _ (P : PlainProgram) (b : Bounds) where
     nd_free_called E (Some deeper) h at c r stays own n vs small f fs =
         nd_free_if E (Back E false) (some_long own) _ _ tt (
           tt,
-          λ a as'. nd_free_enter E deeper h (class_entered (parent_of P) (length P.classes) c (class_seen a)) r
+          λ made a as'. nd_free_enter E deeper h (class_entered (parent_of P) (length P.classes) c (class_seen a)) r
               (λ must m e. stays must (class_entered (parent_of P) (length P.classes) c (class_seen a)).0 m (entered_below P c (class_seen a)) e) (Object n ∷ vs) (small_cons (Object n) vs zero_fits small) own f fs,
         )
 
@@ -228,7 +228,7 @@ module _ (P : PlainProgram) (b : Bounds) where
     nd_free_made E None h at c n never regions vs small f fs = tt
     nd_free_made E (Some deeper) h at c n never regions vs small f fs = (
       tt,
-      λ a as'. nd_free_or E (Back E false) (member_at P n) _ _ (refl, tt, (small_name a, fs))
+      λ made a as'. nd_free_or E (Back E false) (member_at P n) _ _ (refl, tt, (small_name a, fs))
           (λ m there. nd_free_body E f _ (λ r. gives (name_made a) f) (λ v g. (refl, tt, (small_name a, fs))) (λ v vs'. (refl, tt, (small_name a, fs)))
           (h n m there E never _ (small_padded m.slots (name_made a ∷ vs) (small_cons (name_made a) vs (small_name a) small)))),
     )
@@ -236,12 +236,12 @@ module _ (P : PlainProgram) (b : Bounds) where
     nd_free_created : (E : Entries) (at : Place) (c : ℕ) → (MustBeNdFree P b E → (n : ℕ) → constructor_of P c ≡ Some n → IsTrue (b.member_nd_free n)) → (regions : List Region) (vs : List Value) → AreSmall vs → (f : Frame) → AreSmall f.values
         → NdFree E (Back E false) (created names P dp at c regions vs f)
     nd_free_created E at c never regions vs small f fs =
-        nd_free_if E (Back E false) (some_long regions) _ _ tt (nd_free_or E (Back E false) (constructor_of P c) _ _ (tt, λ a as'. (refl, tt, (small_name a, fs)))
+        nd_free_if E (Back E false) (some_long regions) _ _ tt (nd_free_or E (Back E false) (constructor_of P c) _ _ (tt, λ made a as'. (refl, tt, (small_name a, fs)))
         (λ n e. nd_free_made E dp dh at c n (λ must. never must n e) regions vs small f fs))
 
     nd_free_array : (E : Entries) (at : Place) (t : PlainType) (k : ℤ) (f : Frame) → AreSmall f.values → NdFree E (Back E false) (made_array names at t k f)
     nd_free_array E at (ty.array t a named) (negsuc k) f fs = tt
-    nd_free_array E at (ty.array t a named) (pos k) f fs = nd_free_if E (Back E false) (is_long (concrete names (around f) a)) _ _ tt (tt, λ x as'. (refl, tt, (small_name x, fs)))
+    nd_free_array E at (ty.array t a named) (pos k) f fs = nd_free_if E (Back E false) (is_long (concrete names (around f) a)) _ _ tt (tt, λ made x as'. (refl, tt, (small_name x, fs)))
     nd_free_array E at ty.int k f fs = (refl, tt, (zero_fits, fs))
     nd_free_array E at ty.boolean k f fs = (refl, tt, (zero_fits, fs))
     nd_free_array E at ty.void k f fs = (refl, tt, (zero_fits, fs))
@@ -261,7 +261,7 @@ module _ (P : PlainProgram) (b : Bounds) where
         nd_free_expr (read_field {at = at} {k = k} h te fe rd eq) f fs = nd_free_then E (Back E false) _ _ (nd_free_expr h f fs) (λ v g vs gs. nd_free_unless E false at v _ (λ n. nd_free_read E false at n (pos k) g gs))
         nd_free_expr (read_element {at = at} ha te hi ti rg eq) f fs =
             nd_free_then E (Back E false) _ _ (nd_free_expr ha f fs) (λ v g vs gs. nd_free_then E (Back E false) _ _ (nd_free_expr hi g gs) (λ u h us hs. nd_free_unless E false at v _ (λ n. nd_free_read E false at n (number u) h hs)))
-        nd_free_expr (length_of_array {at = at} h te) f fs = nd_free_then E (Back E false) _ _ (nd_free_expr h f fs) (λ v g vs gs. nd_free_unless E false at v _ (λ n. (tt, λ x as'. (refl, tt, (as'.seen, gs)))))
+        nd_free_expr (length_of_array {at = at} h te) f fs = nd_free_then E (Back E false) _ _ (nd_free_expr h f fs) (λ v g vs gs. nd_free_unless E false at v _ (λ n. (tt, λ made x as'. (refl, tt, (as'.seen, gs)))))
         nd_free_expr (call_method {at = at} {c = c} {r = r} {regions = regions} h te rwa mb ab ga fu kn rd ft stays eq) f fs =
             nd_free_then E (Back E false) _ _ (nd_free_expr h f fs) (λ v g v_small gs. nd_free_exprs ft g gs [] small_nil _ (λ vs h vs_small hs.
             nd_free_unless E false at v _ (λ n. nd_free_called E dp dh at c r (λ must d m below e. never m (stays (nd_free must) d m below e)) (map (concrete names (around h)) regions) n (reverse vs)
@@ -341,8 +341,8 @@ module _ (P : PlainProgram) (b : Bounds) where
     may_return (Some t) = true
 
     -- the block is left as it was entered
-    left : (E : Entries) (F : List Effect) (c : Bool) (G : Entries) (r : Result) → Back (F ∷ E) false G r → NdFree G (Back E c) (next_of (λ v g. Act Exit (λ a. gives none g)) r)
-    left E F c G (Goes_on v g) z = subst (λ H. NdFree H (Back E c) (Act Exit (λ a. gives none g))) (sym z.0) (tt, λ a as'. (refl, tt, (zero_fits, z.2.1)))
+    left : (E : Entries) (F : Entry) (c : Bool) (G : Entries) (r : Result) → Back (F ∷ E) false G r → NdFree G (Back E c) (next_of (λ v g. Act Exit (λ a. gives none g)) r)
+    left E F c G (Goes_on v g) z = subst (λ H. NdFree H (Back E c) (Act Exit (λ a. gives none g))) (sym z.0) (tt, λ made a as'. (refl, tt, (zero_fits, z.2.1)))
     left E F c G (Returns v) z = absurd (false≢true z.1)
 
     mutual
@@ -368,11 +368,11 @@ module _ (P : PlainProgram) (b : Bounds) where
           (may_return L.result, λ g gs. any_return E (may_return L.result) _ (nd_free_expr L m E c h g gs), λ g gs. nd_free_single p m E c w g gs, λ r z a. (refl, z, a), fs)
       nd_free_stmt {L} (return_nothing e) m E c w f fs = (refl, ap may_return e, zero_fits)
       nd_free_stmt {L} (return_value k h sub) m E c w f fs = nd_free_then E _ _ _ (nd_free_expr L m E c h f fs) (λ v g vs gs. (refl, ap may_return k, vs))
-      nd_free_stmt {L} (print_int h ty) m E c w f fs = nd_free_then E _ _ _ (nd_free_expr L m E c h f fs) (λ v g vs gs. (tt, λ a as'. (refl, tt, (zero_fits, gs))))
-      nd_free_stmt {L} (print_boolean h ty) m E c w f fs = nd_free_then E _ _ _ (nd_free_expr L m E c h f fs) (λ v g vs gs. (tt, λ a as'. (refl, tt, (zero_fits, gs))))
-      nd_free_stmt print_text m E c w f fs = (tt, λ a as'. (refl, tt, (zero_fits, fs)))
+      nd_free_stmt {L} (print_int h ty) m E c w f fs = nd_free_then E _ _ _ (nd_free_expr L m E c h f fs) (λ v g vs gs. (tt, λ made a as'. (refl, tt, (zero_fits, gs))))
+      nd_free_stmt {L} (print_boolean h ty) m E c w f fs = nd_free_then E _ _ _ (nd_free_expr L m E c h f fs) (λ v g vs gs. (tt, λ made a as'. (refl, tt, (zero_fits, gs))))
+      nd_free_stmt print_text m E c w f fs = (tt, λ made a as'. (refl, tt, (zero_fits, fs)))
       nd_free_stmt {L} (atomic {ss = ss} p se) m E c w f fs =
-          (tt, λ a as'. (tt, λ x xs. nd_free_on (_ ∷ E) (Back (_ ∷ E) false) (Back E (may_return L.result)) _ _ (nd_free_stmts p m (_ ∷ E) (λ z. refl) w f fs) (left E _ (may_return L.result))))
+          (tt, λ made a as'. (tt, λ more x xs. nd_free_on (_ ∷ E) (Back (_ ∷ E) false) (Back E (may_return L.result)) _ _ (nd_free_stmts p m (_ ∷ E) (λ z. refl) w f fs) (left E _ (may_return L.result))))
       nd_free_stmt {L} (cobegin {at = at} {forking = forking} {bs = bs} nd_free p nc) m E c w f fs =
           nd_free_cobegin E (may_return L.result) dp at forking bs f fs (λ must. nd_free (c must)) (nd_free_tasks E p c m (λ x. (w x).1) f fs) (λ x. (w x).0)
       nd_free_stmt {L} (foreach {at = at} {forking = forking} {x = x} {s = s} nd_free hs ts hc tc free p ic) m E c w f fs =
@@ -383,7 +383,7 @@ module _ (P : PlainProgram) (b : Bounds) where
           (λ u h us hs. let filled : AreSmall (with_value h (k + 3) u).values = small_set h.values (k + 3) u hs us in
           nd_free_unless E (may_return L.result) at (slot_value (with_value h (k + 3) u).values k) _ (λ n. (
             tt,
-            λ a as'.
+            λ made a as'.
                 let all : AreSmall (with_value (with_value h (k + 3) u) (k + 2) (Int (pos (length_seen a)))).values = small_set (with_value h (k + 3) u).values (k + 2) _ filled as'.seen in
                 nd_free_forks E (may_return L.result) dp at _ _ _ s _ _ _ all (all (k + 3)) (λ must. refl) p c m w,
           ))))

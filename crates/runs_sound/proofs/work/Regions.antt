@@ -22,13 +22,12 @@ use Rattle.lang_meaning.specs.Core.{Goes_on}
 use Rattle.lang_meaning.specs.Expressions.{none}
 use Rattle.lang_meaning.specs.Statements.{makes}
 use Rattle.runs_theory.specs.Objects.{Path, LocalRegion, Made, Unmade}
-use Rattle.runs_theory.specs.Objects.{Effect as RunEffect}
 use Rattle.runs_sound.specs.Settings.{local_code, Setting, env_of}
-use Rattle.runs_sound.specs.Accesses.{Access, Includes, Speaks, LiesIn, InOwnRegion, Bounds, InEachEntry, Within}
+use Rattle.runs_sound.specs.Accesses.{Access, Includes, Speaks, LiesIn, Bounds, Entry, InEachEntry, Within}
 use Rattle.runs_sound.specs.Accesses.{Covers as CoversAccess}
 use Rattle.runs_sound.specs.Frames.{Frame, State, Since, IsOld, FrameFits}
 use Rattle.runs_sound.specs.Scopes.{InScope, PathInScope, GoodScope}
-use Rattle.runs_sound.specs.Work.{Result, AfterMaking, InOrder}
+use Rattle.runs_sound.specs.Work.{Result, EnteredBefore, AfterMaking, InOrder}
 use Rattle.runs_sound.proofs.scopes.Alike.{Alike, setting_back, setting_alike, alike_holds, alike_includes, local_alike}
 use Rattle.runs_sound.proofs.scopes.Frames.{old_later, local_later}
 use Rattle.runs_sound.proofs.paths.Including.{covers_of, local_within}
@@ -169,13 +168,13 @@ module _ (P : PlainProgram) (p : Path) (L : Scope) (good : GoodScope L) where
           (cases_Bool (q == r))
 
 -- the frame has a region that the task has made
-abbrev pub IsMade : Path → (ℕ → LocalRegion) → Frame → ℕ → Type 0
-IsMade p made f r = (c : ℕ) × (made r ≡ Made p c) × (region_at f r ≡ Made p c)
+abbrev pub IsMade : Path → List Entry → (ℕ → LocalRegion) → Frame → ℕ → Type 0
+IsMade p entries made f r = (c : ℕ) × (made r ≡ Made p c) × (region_at f r ≡ Made p c) × EnteredBefore c entries
 
--- regions that have been made one after the other, and none else
-pub record NewRegions (p : Path) (rs : List ℕ) (old new : ℕ → LocalRegion) (f e : Frame) : Type 0 where
+-- regions that have been made one after the other, after these entries, and none else
+pub record NewRegions (p : Path) (entries : List Entry) (rs : List ℕ) (old new : ℕ → LocalRegion) (f e : Frame) : Type 0 where
   pub kept : (q : ℕ) → list_any (λ s. q == s) rs ≡ false → (new q ≡ old q) × (region_at e q ≡ region_at f q)
-  pub made : (q : ℕ) → list_any (λ s. q == s) rs ≡ true → IsMade p new e q
+  pub made : (q : ℕ) → list_any (λ s. q == s) rs ≡ true → IsMade p entries new e q
 
 or_parts : (x y : Bool) → (x || y) ≡ false → (x ≡ false) × (y ≡ false)
 or_parts false y e = (refl, e)
@@ -185,9 +184,9 @@ or_cases : (x y : Bool) → (x || y) ≡ true → (x ≡ true) ⊎ (y ≡ true)
 or_cases true y e = inl refl
 or_cases false y e = inr e
 
-new_more : (p : Path) (r c : ℕ) (rs : List ℕ) (old new : ℕ → LocalRegion) (f e : Frame) → r < length f.locals →
-    NewRegions p rs (made_at r (Made p c) old) new (with_region f r (Made p c)) e → NewRegions p (r ∷ rs) old new f e
-new_more p r c rs old new f e l n = record {
+new_more : (p : Path) (entries : List Entry) (r c : ℕ) (rs : List ℕ) (old new : ℕ → LocalRegion) (f e : Frame) → r < length f.locals → EnteredBefore c entries →
+    NewRegions p entries rs (made_at r (Made p c) old) new (with_region f r (Made p c)) e → NewRegions p entries (r ∷ rs) old new f e
+new_more p entries r c rs old new f e l before n = record {
   kept = λ q h. (let o = or_parts (q == r) _ h in let k = n.kept q o.1 in
       (k.0 ∙ at_other r (Made p c) old q o.0, k.1 ∙ get_or-set_other f.locals r q (Made p c) (Unmade q) (eqb-false q r o.0)));
   made = λ q h. ⊎_elim (λ t. n.made q t)
@@ -196,6 +195,7 @@ new_more p r c rs old new f e l n = record {
         k.0 ∙ at_same r (Made p c) old q s,
         k.1 ∙ (let i = eqb-true q r s in
             subst (λ z. region_at (with_region f r (Made p c)) z ≡ Made p c) (sym i) (get_or-set_same f.locals r (Made p c) (Unmade r) l)),
+        before,
       ))) (cases_Bool (list_any (λ s. q == s) rs));
 }
   where
@@ -206,7 +206,7 @@ module _ (P : PlainProgram) (b : Bounds) (L : Scope) (good : GoodScope L) where
   -- the making of regions is in order, where what follows is from the frame with them
   pub makes_order : (R : State → Result → Type 0) (rs : List ℕ) → All (λ r. (L.regions r ≡ false) × (r < L.local_regions)) rs →
       (st : State) (g : Setting) (f : Frame) → FrameFits P b.path st g L f →
-      ((h : State) (made : ℕ → LocalRegion) (e : Frame) → Since st h → NewRegions b.path rs g.made made f e → FrameFits P b.path h (with_made made g) L e → R h (Goes_on none e)) →
+      ((h : State) (made : ℕ → LocalRegion) (e : Frame) → Since st h → NewRegions b.path h.entries rs g.made made f e → FrameFits P b.path h (with_made made g) L e → R h (Goes_on none e)) →
       InOrder P b R st (makes rs f)
   unfolding InOrder
   makes_order R [] free st g f ff next = next st g.made f (since_now st) (record { kept = λ q h. (refl, refl); made = λ q h. absurd (false≢true h) }) ff
@@ -216,10 +216,11 @@ module _ (P : PlainProgram) (b : Bounds) (L : Scope) (good : GoodScope L) where
       makes_order R rs (All-tail (λ r. (L.regions r ≡ false) × (r < L.local_regions)) r rs free) h (with_made (made_at r (Made b.path st.made) g.made) g)
       (with_region f r (Made b.path st.made)) (frame_made P b.path L good st h g f r after first.0 first.1 ff)
       (λ u made e s2 n fe. next u made e (since_since s s2)
-      (new_more b.path r st.made rs g.made made f e (subst (λ z. r < z) (sym ff.local_regions) first.1) n) fe))
+      (new_more b.path u.entries r st.made rs g.made made f e (subst (λ z. r < z) (sym ff.local_regions) first.1)
+      (subst (EnteredBefore st.made) (sym (s2.entries ∙ after.entries)) after.before) n) fe))
 
 -- the frame fits the scope with them
-pub frame_regions : (P : PlainProgram) (p : Path) (st : State) (g : Setting) (L : Scope) (f e : Frame) (rs : List ℕ) (old : ℕ → LocalRegion) → NewRegions p rs old g.made f e →
+pub frame_regions : (P : PlainProgram) (p : Path) (st : State) (g : Setting) (L : Scope) (f e : Frame) (rs : List ℕ) (old : ℕ → LocalRegion) {entries : List Entry} → NewRegions p entries rs old g.made f e →
     FrameFits P p st g L e → FrameFits P p st g (with_regions rs L) e
 frame_regions P p st g L f e rs old n ff = record {
   regions = ff.regions;
@@ -262,8 +263,8 @@ none_new L (r ∷ rs) free q i =
     let n : (q == r) ≡ false = false_from_ne_true (q == r) (λ t. false≢true (sym first.0 ∙ ap L.regions (sym (eqb-true q r t)) ∙ i)) in
     ap (λ z. z || list_any (λ s. q == s) rs) n ∙ none_new L rs (All-tail (λ r. (L.regions r ≡ false) × (r < L.local_regions)) r rs free) q i
 
-pub new_alike : (L : Scope) (p : Path) (g : Setting) (made : ℕ → LocalRegion) (f e : Frame) (rs : List ℕ) →
-    All (λ r. (L.regions r ≡ false) × (r < L.local_regions)) rs → NewRegions p rs g.made made f e → Alike L g (with_made made g)
+pub new_alike : (L : Scope) (p : Path) {entries : List Entry} (g : Setting) (made : ℕ → LocalRegion) (f e : Frame) (rs : List ℕ) →
+    All (λ r. (L.regions r ≡ false) × (r < L.local_regions)) rs → NewRegions p entries rs g.made made f e → Alike L g (with_made made g)
 new_alike L p g made f e rs free n = made_alike L g made (λ q i. sym (n.kept q (none_new L rs free q i)).0)
 
 -- what effects speak of where they stand for what was made, they speak of outside, or it lies in a region of the task's own
@@ -274,16 +275,23 @@ begins_local h (one {x = y} {a = a} e s q) = (a, ap (λ z. z ∷ a) (local_withi
 begins_local h (stop q) = absurd (false≢true h)
 begins_local h (skip l q) = absurd (false≢true h)
 
-own_begins : (p : Path) (g : Setting) (c r : ℕ) (rest : List Elem) (a : Rpl) (region : List Elem) → a ≡ record { head = Root; elems = Local r 0 ∷ rest } → g.made r ≡ Made p c →
-    Includes (env_of g) a region → InOwnRegion p region
-own_begins p g c r rest a region is m h =
+-- a local region that the task has made since each of these entries
+record InNewRegion (p : Path) (entries : List Entry) (r : List Elem) : Type 0 where
+  count : ℕ
+  before : EnteredBefore count entries
+  rest : List Elem
+  is : r ≡ Local (local_code (Made p count)).0 (local_code (Made p count)).1 ∷ rest
+
+own_begins : (p : Path) (entries : List Entry) (g : Setting) (c r : ℕ) → EnteredBefore c entries → (rest : List Elem) (a : Rpl) (region : List Elem) → a ≡ record { head = Root; elems = Local r 0 ∷ rest } → g.made r ≡ Made p c →
+    Includes (env_of g) a region → InNewRegion p entries region
+own_begins p entries g c r before rest a region is m h =
     let code = ap local_code m in
     let first : Rpl = record { head = Root; elems = Local r 0 ∷ rest } in
     let z = begins_local refl (covers_of (env_of g) first region (subst (λ z. Includes (env_of g) z region) is h)) in
-    record { below = []; count = c; rest = z.0; is = z.1 ∙ (λ i. Local (code i).0 (code i).1 ∷ z.0) }
+    record { count = c; before = before; rest = z.0; is = z.1 ∙ (λ i. Local (code i).0 (code i).1 ∷ z.0) }
 
-module _ (L : Scope) (outer : ℕ → Bool) (placed : PlacedScope outer L) (p : Path) (g : Setting) (made : ℕ → LocalRegion) (f e : Frame) (rs : List ℕ)
-    (free : All (λ r. (L.regions r ≡ false) × (r < L.local_regions)) rs) (n : NewRegions p rs g.made made f e) where
+module _ (L : Scope) (outer : ℕ → Bool) (placed : PlacedScope outer L) (p : Path) (entries : List Entry) (g : Setting) (made : ℕ → LocalRegion) (f e : Frame) (rs : List ℕ)
+    (free : All (λ r. (L.regions r ≡ false) × (r < L.local_regions)) rs) (n : NewRegions p entries rs g.made made f e) where
   al : Alike L g (with_made made g)
   al = new_alike L p g made f e rs free n
 
@@ -297,10 +305,10 @@ module _ (L : Scope) (outer : ℕ → Bool) (placed : PlacedScope outer L) (p : 
   no_outer (Any ∷ a) s h = false≢true h
   no_outer (Star ∷ a) s h = false≢true h
 
-  speaks_own : (x : Effect) (a : Access) → PathPlaced outer (with_regions rs L) 0 x.rpl → begins_in rs x.rpl.elems ≡ true → Speaks (with_made made g) x a → InOwnRegion p a.region
+  speaks_own : (x : Effect) (a : Access) → PathPlaced outer (with_regions rs L) 0 x.rpl → begins_in rs x.rpl.elems ≡ true → Speaks (with_made made g) x a → InNewRegion p entries a.region
   speaks_own x a s h t = elim s [
     | inl q ↦ absurd (no_outer x.rpl.elems q h)
-    | inr q ↦ (let m = n.made q.0 (subst (λ z. begins_in rs (Rpl.elems z) ≡ true) q.2 h) in own_begins p (with_made made g) m.0 q.0 q.1 x.rpl a.region q.2 m.1 t.includes)
+    | inr q ↦ (let m = n.made q.0 (subst (λ z. begins_in rs (Rpl.elems z) ≡ true) q.2 h) in own_begins p entries (with_made made g) m.0 q.0 m.3 q.1 x.rpl a.region q.2 m.1 t.includes)
   ]
 
   speaks_outside : (x : Effect) (a : Access) → PathInScope L 0 x.rpl → Speaks (with_made made g) x a → Speaks g x a
@@ -315,12 +323,12 @@ module _ (L : Scope) (outer : ℕ → Bool) (placed : PlacedScope outer L) (p : 
   covers_outside (uses k x) a s c = (speaks_outside x a s c.0, c.1)
 
   covers_own : (o : EffectOwn) (a : Access) → PathPlaced outer (with_regions rs L) 0 (effect_of o).rpl → begins_in rs (effect_of o).rpl.elems ≡ true → CoversAccess (with_made made g) o a →
-      InOwnRegion p a.region
+      InNewRegion p entries a.region
   covers_own (does x) a s h c = speaks_own x a s h c
   covers_own (uses k x) a s h c = speaks_own x a s h c.0
 
   lies_regions : (F : List EffectOwn) (a : Access) → All (λ o. PathPlaced outer (with_regions rs L) 0 (effect_of o).rpl) F → LiesIn (with_made made g) F a →
-      LiesIn g (outside_regions rs F) a ⊎ InOwnRegion p a.region
+      LiesIn g (outside_regions rs F) a ⊎ InNewRegion p entries a.region
   lies_regions [] a s h = absurd h
   lies_regions (o ∷ F) a s h =
       let Placed : EffectOwn → Type 0 = λ o. PathPlaced outer (with_regions rs L) 0 (effect_of o).rpl in
@@ -335,20 +343,23 @@ module _ (L : Scope) (outer : ℕ → Bool) (placed : PlacedScope outer L) (p : 
       ])
       (cases_Bool (begins_in rs (effect_of o).rpl.elems))
     where
-      kept : (c : Bool) → LiesIn g (outside_regions rs F) a ⊎ InOwnRegion p a.region →
-          LiesIn g (cond c (o ∷ outside_regions rs F) (outside_regions rs F)) a ⊎ InOwnRegion p a.region
+      kept : (c : Bool) → LiesIn g (outside_regions rs F) a ⊎ InNewRegion p entries a.region →
+          LiesIn g (cond c (o ∷ outside_regions rs F) (outside_regions rs F)) a ⊎ InNewRegion p entries a.region
       kept true h = elim h [ inl l ↦ inl (inr l) | inr q ↦ inr q ]
       kept false h = h
 
-each_own : (p : Path) (entries : List (List RunEffect)) (a : Access) → InOwnRegion p a.region → InEachEntry p entries a
+each_own : (p : Path) (entries : List Entry) (a : Access) → InNewRegion p entries a.region → InEachEntry p entries a
 each_own p [] a h = tt
-each_own p (E ∷ entries) a h = (inr h, each_own p entries a h)
+each_own p (E ∷ entries) a h = (
+  inr (record { count = h.count; later = h.before.0; rest = h.rest; is = h.is }),
+  each_own p entries a (record { count = h.count; before = h.before.1; rest = h.rest; is = h.is }),
+)
 
 -- so it is allowed
-pub within_regions : (L : Scope) (outer : ℕ → Bool) → PlacedScope outer L → (b : Bounds) (entries : List (List RunEffect)) (g : Setting) (made : ℕ → LocalRegion) (f e : Frame)
-    (rs : List ℕ) → All (λ r. (L.regions r ≡ false) × (r < L.local_regions)) rs → NewRegions b.path rs g.made made f e → (F : List EffectOwn) →
+pub within_regions : (L : Scope) (outer : ℕ → Bool) → PlacedScope outer L → (b : Bounds) (entries : List Entry) (g : Setting) (made : ℕ → LocalRegion) (f e : Frame)
+    (rs : List ℕ) → All (λ r. (L.regions r ≡ false) × (r < L.local_regions)) rs → NewRegions b.path entries rs g.made made f e → (F : List EffectOwn) →
     All (λ o. PathPlaced outer (with_regions rs L) 0 (effect_of o).rpl) F → Within b entries g (outside_regions rs F) → Within b entries (with_made made g) F
-within_regions L outer placed b entries g made f e rs free n F s w a gu l = elim (lies_regions L outer placed b.path g made f e rs free n F a s l) [
+within_regions L outer placed b entries g made f e rs free n F s w a gu l = elim (lies_regions L outer placed b.path entries g made f e rs free n F a s l) [
   | inl h ↦ w a gu h
-  | inr h ↦ record { effects = inr h; blocks = each_own b.path entries a h }
+  | inr h ↦ record { effects = inr (record { below = []; count = h.count; rest = h.rest; is = h.is }); blocks = each_own b.path entries a h }
 ]

@@ -24,7 +24,7 @@ pub since_since : {s t u : State} → Since s t → Since t u → Since s u
 since_since a b = record { grows = λ n s e. b.grows n s (a.grows n s e); made = le_trans a.made b.made; entries = b.entries ∙ a.entries }
 
 -- an action that leaves the entries alone
-pub since_after : {s t : State} (o : Own) → entries_after o s.entries ≡ s.entries → After o s t → Since s t
+pub since_after : {s t : State} (o : Own) → entries_after s.made o s.entries ≡ s.entries → After o s t → Since s t
 since_after {s} {t} o e a = record { grows = a.grows; made = (let m : t.made ≡ s.made = a.made in omega (arith, m)); entries = a.entries ∙ e }
 
 module _ (P : PlainProgram) (b : Bounds) where

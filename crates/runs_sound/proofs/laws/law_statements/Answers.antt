@@ -1,6 +1,4 @@
-use Rattle.runs_sound.proofs.moments.Root.{root_in_order}
-use Rattle.runs_sound.proofs.work.Statements.{forking_in_order}
-use Rattle.runs_sound.proofs.work.Tasks.{tasks_in_order, branches_in_order}
+use Rattle.runs_sound.proofs.kinds.Meant.{branches_in_order, forking_in_order, root_in_order, tasks_in_order}
 use Rattle.runs_sound.proofs.laws.law_statements.Goals as goal
 
 pub returns : goal.returns
