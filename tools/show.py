@@ -8,8 +8,8 @@ a trap as FILE:LINE:COLUMN: refused: NAME or FILE:LINE:COLUMN: trap: NAME in pla
 
     command, file    the words; `-` is standard input
     status           what dpj ends with
-    verdict          accepted, refused, result, trap, limit, listing, effects, trace, cost, demo, usage, read-fault, write-fault, out-of-memory,
-                     no-program or killed
+    verdict          accepted, refused, result, trap, limit, listing, effects, trace, events, cost, demo, usage, read-fault, write-fault,
+                     out-of-memory, no-program or killed
     name             of a refusal or trap; of a limit `steps`, `cells` or both, where that is known
     line, column     its place, in line feeds and bytes from 1
     text             the line of that place
@@ -40,7 +40,7 @@ READ_FAULT, WRITE_FAULT = 5, 6
 WHY = pathlib.Path(__file__).resolve().parent / "why.py"
 # How long a reason may take, and the commands whose refusals are of a text of the language.
 REASON_SECONDS = 1
-REASONED = ("check", "run", "elide", "list", "effects", "trace", "cost")
+REASONED = ("check", "run", "elide", "list", "effects", "trace", "events", "cost")
 
 
 class Showing:

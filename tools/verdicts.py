@@ -8,7 +8,7 @@ RESULT = re.compile(rb"result (-?\d+)\n")
 FIGURES = re.compile(rb"steps \d+\ncells \d+\nevents \d+\ntasks \d+\nrounds \d+\n\Z")
 
 OF_STATUS = {1: "usage", 2: "refused", 3: "trap", 4: "limit", 5: "read-fault", 6: "write-fault", 7: "out-of-memory"}
-OF_COMMAND = {"check": "accepted", "list": "listing", "effects": "effects", "trace": "trace", "cost": "cost", "demo": "demo"}
+OF_COMMAND = {"check": "accepted", "list": "listing", "effects": "effects", "trace": "trace", "events": "events", "cost": "cost", "demo": "demo"}
 
 
 class Verdict:
@@ -33,8 +33,10 @@ class Verdict:
         elif self.kind == "result" and result:
             self.result = int(result[1])
             self.output = report.removesuffix(last)
-        elif self.kind == "cost" and result:
+        elif self.kind in ("cost", "events") and result:
             self.result = int(result[1])
+            self.output = report.removesuffix(last)
+        elif command == "events":
             self.output = report.removesuffix(last)
         elif command in ("list", "effects", "trace", "demo"):
             self.output = report

@@ -11,8 +11,9 @@ import sys
 from support.desk import Desk, Tally, program
 
 USAGE = "usage: dpj COMMAND [NAME=VALUE]...\n"
-COMMANDS = "check, why, run, elide, effects, list, trace, replay, cost, outcomes, demo, explain, help, version"
-OPTIONS = "--all, --json, --editor, --help, --version"
+COMMANDS = "check, why, run, elide, effects, list, trace, events, replay, cost, outcomes, view, demo, explain, help, version"
+WITH_ARG, WITH_WORKERS, WITH_SEED = "run, elide, trace, events, cost, outcomes, view", "run, trace, events, view, demo", "run, trace, events, view"
+OPTIONS = "--all, --output, --json, --editor, --help, --version"
 
 LISTS = 80
 
@@ -38,33 +39,41 @@ WRONG = [
     ("run arg=99999999999999999999999", "`arg=99999999999999999999999`: arg takes -2147483648 to 2147483647"),
     ("run mode=step", "`mode=step`: mode takes steps or rounds"),
     ("run Arg=5", "`Arg=5`: no setting is named `Arg`; did you mean `arg`?; the settings of run are workers, steps, cells, arg, mode, seed"),
-    ("demo arg=5", "`arg=5`: demo has no arg, but run, elide, trace, cost, outcomes; the settings of demo are workers, steps, cells, n"),
-    ("check arg=5", "`arg=5`: check has no arg, but run, elide, trace, cost, outcomes; check has no settings"),
-    ("elide workers=1", "`workers=1`: elide has no workers, but run, trace, demo; the settings of elide are steps, cells, arg"),
+    ("demo arg=5", f"`arg=5`: demo has no arg, but {WITH_ARG}; the settings of demo are workers, steps, cells, n"),
+    ("check arg=5", f"`arg=5`: check has no arg, but {WITH_ARG}; check has no settings"),
+    ("elide workers=1", f"`workers=1`: elide has no workers, but {WITH_WORKERS}; the settings of elide are steps, cells, arg"),
     ("run seed=4294967296", "`seed=4294967296`: seed takes 0 to 4294967295"),
     ("trace seed=-1", "`seed=-1`: seed takes 0 to 4294967295"),
-    ("elide seed=1", "`seed=1`: elide has no seed, but run, trace; the settings of elide are steps, cells, arg"),
+    ("elide seed=1", f"`seed=1`: elide has no seed, but {WITH_SEED}; the settings of elide are steps, cells, arg"),
     ("run seed=1 workers=2", "`workers=2`: seed goes with neither workers nor mode"),
     ("run mode=steps arg=3 seed=1", "`seed=1`: seed goes with neither workers nor mode"),
     ("trace workers=2 seed=1", "`seed=1`: seed goes with neither workers nor mode"),
-    ("cost workers=2", "`workers=2`: cost has no workers, but run, trace, demo; the settings of cost are steps, cells, arg"),
+    ("cost workers=2", f"`workers=2`: cost has no workers, but {WITH_WORKERS}; the settings of cost are steps, cells, arg"),
     ("run steps=5 steps=5", "`steps=5`: steps is set already"),
     ("check a.dpj b.dpj", "`b.dpj`: a second file; `a.dpj` is read already"),
     ("check - a.dpj", "`a.dpj`: a second file; `-` is read already"),
     ("demo a.dpj", "`a.dpj`: demo reads nothing; the settings of demo are workers, steps, cells, n"),
     ("help chekc", f"`chekc` is no command; did you mean `check`?; the commands are {COMMANDS}"),
-    ("why arg=5", "`arg=5`: why has no arg, but run, elide, trace, cost, outcomes; why has no settings"),
+    ("why arg=5", f"`arg=5`: why has no arg, but {WITH_ARG}; why has no settings"),
     ("why --editor a.dpj", "`--editor`: why has no --editor, but --json"),
     ("outcomes a.dpj 0", "`0`: there are 1 to 10000 seeds; a file with this name is ./0"),
     ("outcomes a.dpj 10001", "`10001`: there are 1 to 10000 seeds; a file with this name is ./10001"),
     ("outcomes 99999999999999999999999", "`99999999999999999999999`: there are 1 to 10000 seeds; a file with this name is ./99999999999999999999999"),
     ("outcomes a.dpj 5 6", "`6`: a second number; 5 seeds are wanted already"),
     ("outcomes a.dpj 05", "`05`: a second file; `a.dpj` is read already"),
-    ("outcomes a.dpj seed=1", "`seed=1`: outcomes has no seed, but run, trace; the settings of outcomes are steps, cells, arg"),
+    ("outcomes a.dpj seed=1", f"`seed=1`: outcomes has no seed, but {WITH_SEED}; the settings of outcomes are steps, cells, arg"),
     ("outcomes a.dpj arg=x", "`arg=x`: arg takes -2147483648 to 2147483647, in digits and without a leading 0"),
     ("outcomes --editor a.dpj", "`--editor`: outcomes has no --editor, but --json"),
     ("run --all a.dpj", "`--all`: run has no --all, but check"),
     ("--all why", "`--all`: why has no --all, but check"),
+    ("view mode=steps a.dpj", "`mode=steps`: view has no mode, but run; the settings of view are workers, steps, cells, arg, seed"),
+    ("view seed=1 workers=2", "`workers=2`: seed goes with neither workers nor mode"),
+    ("view --editor a.dpj", "`--editor`: view has no --editor, but --output=NAME"),
+    ("run --output=a.html a.dpj", "`--output=a.html`: run has no --output, but view"),
+    ("view --output a.dpj", "`--output`: a name follows, as in --output=run.html"),
+    ("view --output= a.dpj", "`--output=`: a name follows, as in --output=run.html"),
+    ("view --output=a --output=b", "`--output=b`: a second name; the page goes to a already"),
+    ("view --outptu=a", f"`--outptu=a`: no such option; did you mean `--output`?; the options are {OPTIONS}, and a file's name may begin with ./"),
     ("whi", f"`whi` is no command; did you mean `why`?; the commands are {COMMANDS}"),
     ("check --al", f"`--al`: no such option; did you mean `--all`?; the options are {OPTIONS}, and a file's name may begin with ./"),
     # The first of several faults is told.
@@ -78,6 +87,7 @@ RIGHT = [
     ("run arg=5 a.dpj workers=64", "[run]\n[arg=5]\n[workers=64]\nthe text\n"),
     ("run arg=-2147483648 steps=20000000 cells=16777216 mode=rounds -", "[run]\n[arg=-2147483648]\n[steps=20000000]\n[cells=16777216]\n[mode=rounds]\ninput\n"),
     ("run seed=4294967295 a.dpj arg=5", "[run]\n[seed=4294967295]\n[arg=5]\nthe text\n"),
+    ("events arg=-3", "[events]\n[arg=-3]\ninput\n"),
     ("trace seed=0 steps=9", "[trace]\n[seed=0]\n[steps=9]\ninput\n"),
     ("cost arg=5 cells=9 a.dpj", "[cost]\n[arg=5]\n[cells=9]\nthe text\n"),
     ("check", "[check]\ninput\n"),
@@ -123,6 +133,9 @@ def helped(tally):
     tally.equal("help outcomes", desk.run("help", "outcomes").out.splitlines()[:5], [
         "usage: dpj outcomes [FILE] [N] [NAME=VALUE]... [--json]", "", "  outcomes   runs it with seed=1 to seed=N, and counts what comes out", "",
         "  N=1..10000                   how many runs, a number by itself; 100 without it"])
+    tally.equal("help view", desk.run("help", "view").out.splitlines()[:5], [
+        "usage: dpj view [FILE] [NAME=VALUE]... [--output=NAME]", "", "  view   writes a page that shows a run", "",
+        "  --output=NAME                where the page goes, - for standard output; without it beside FILE"])
     tally.equal("help check", desk.run("help", "check").out, (
         "usage: dpj check [FILE] [--all] [--json | --editor]\n\n  check   checks a program: `accepted`, or its first fault\n\n"
         "  --all   every fault, each with the change after which it was found\n"))
@@ -134,12 +147,13 @@ def helped(tally):
         seen = desk.run(command, "--help")
         return seen.out.split()[:3], re.findall("faster|sooner|speed", seen.out, re.I), seen.screen, seen.status
 
-    tally.all_equal(of_command, {command: (["usage:", "dpj", command], [], "", 0) for command in COMMANDS.split(", ")[:11]})
+    tally.all_equal(of_command, {command: (["usage:", "dpj", command], [], "", 0) for command in COMMANDS.split(", ")[:-3]})
 
 
 KEYS = {
     "check": (), "list": (), "effects": (), "replay": (), "run": ("workers", "steps", "cells", "arg", "mode", "seed"), "elide": ("steps", "cells", "arg"),
-    "trace": ("workers", "steps", "cells", "arg", "seed"), "cost": ("steps", "cells", "arg"), "demo": ("workers", "steps", "cells", "n")}
+    "trace": ("workers", "steps", "cells", "arg", "seed"), "events": ("workers", "steps", "cells", "arg", "seed"), "cost": ("steps", "cells", "arg"),
+    "demo": ("workers", "steps", "cells", "n")}
 # Values of each key, those that it takes first.
 VALUES = {
     "workers": (["1", "2", "64"], ["0", "65", "01", "+1", "1x"]), "steps": (["1", "20000000"], ["0", "20000001", "", "-1"]),

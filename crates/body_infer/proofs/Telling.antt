@@ -1,16 +1,15 @@
 -- The lines of summaries, piece by piece.
 use Rattle.std.proofs.Common.{◌≡◌, ◌∙◌, ◌-◌, ◌≤◌, ℕ, List, [], ◌∷◌, ◌++◌, map, codes, refl, ap, sym, append_assoc, ◌⊎◌, inl, inr, length, arith}
 use Rattle.std.specs.List.{flat_map}
-use Rattle.std.specs.Prelude.{None, option_map, slice_get, slice_index_or, unwrap_or}
-use Rattle.std.proofs.lemmas.List.{get_or-append_right, length-map}
-use Rattle.std.proofs.lemmas.Option.{slice_get-map, unwrap_or-slice_get}
+use Rattle.std.specs.Prelude.{slice_index_or}
+use Rattle.std.proofs.lemmas.List.{get_or_past, length-append, length-map}
 use Rattle.lang_typed.specs.declared.program.RegionParam.{RegionParam}
 use Rattle.lang_typed.specs.declared.program.Member.{Member}
 use Rattle.lang_typed.specs.Names.{ProgramNames, named_member}
 use Rattle.lang_typed.specs.Plain.{plain_member}
 use Rattle.body_infer.specs.declared.kept.Kept.{Kept}
 use Rattle.body_infer.specs.Kept.{members_kept}
-use Rattle.body_infer.specs.Lines.{listed, lines_from}
+use Rattle.body_infer.specs.Lines.{all_params, listed, lines_from}
 
 -- texts after the first
 listed_more : (texts : List (List ℕ)) → flat_map (λ more. codes ", " ++ more) texts ≡ listed (codes ", ") texts
@@ -35,9 +34,9 @@ no_lines names (ks ∷ kept) (m ∷ members) (inl h) = absurd (omega arith)
 no_lines names (ks ∷ kept) (m ∷ members) (inr h) = absurd (omega arith)
 
 -- a number after all region parameters has no name
-pub no_param : (given own : List RegionParam) (names : List (List ℕ)) (n : ℕ) (d : List ℕ) → map (λ param. param.text) given ≡ names → length given ≤ n
-    → None ≡ slice_get own (n - length given) → d ≡ slice_index_or (names ++ map (λ param. param.text) own) n d
-no_param given own names n d is past none =
-    sym (get_or-append_right names (map (λ param. param.text) own) (length given) n d (sym (ap length is) ∙ length-map given (λ param. param.text)) past
-    ∙ sym (unwrap_or-slice_get (map (λ param. param.text) own) (n - length given) d)
-    ∙ ap (λ o. unwrap_or o d) (slice_get-map (λ param. param.text) own (n - length given) ∙ ap (option_map (λ param. param.text)) (sym none)))
+pub no_param : (given own : List RegionParam) (n : ℕ) (d : List ℕ) → length given ≤ n → length own ≤ n - length given → d ≡ slice_index_or (all_params given own) n d
+no_param given own n d past over =
+    let whole = length-append (map (λ param. param.text) given) (map (λ param. param.text) own) in
+    let first = length-map given (λ param. param.text) in
+    let last = length-map own (λ param. param.text) in
+    sym (get_or_past (all_params given own) n d (omega (arith, past, over, whole, first, last)))

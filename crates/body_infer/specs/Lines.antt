@@ -7,12 +7,13 @@ use Rattle.lang_base.specs.declared.effect.Access.{Access}
 use Rattle.lang_base.specs.declared.effect.Access.TheVariants.{Read, Write}
 use Rattle.lang_base.specs.declared.effect.Effect.{Effect}
 use Rattle.lang_base.specs.declared.elems.Elem.{Elem}
-use Rattle.lang_base.specs.declared.elems.Elem.TheVariants.{Name, At, Star}
+use Rattle.lang_base.specs.declared.elems.Elem.TheVariants.{Name, At, Star, Local}
 use Rattle.lang_base.specs.declared.elems.Index.TheVariants.{Literal}
 use Rattle.lang_base.specs.declared.region.Head.{Head}
 use Rattle.lang_base.specs.declared.region.Head.TheVariants.{Root, Param}
 use Rattle.lang_base.specs.declared.region.Rpl.{Rpl}
 use Rattle.lang_base.specs.Effects.{gathered, same_access}
+use Rattle.lang_typed.specs.declared.program.RegionParam.{RegionParam}
 use Rattle.lang_typed.specs.Names.{Named, ProgramNames}
 use Rattle.lang_typed.specs.Plain.{PlainMember, PlainProgram}
 
@@ -32,6 +33,7 @@ abbrev pub elem_text : ProgramNames → Elem → List ℕ
 elem_text names (Name number) = region_text names number
 elem_text names (At (Literal value)) = codes "[" ++ signed_decimal value ++ codes "]"
 elem_text names Star = codes "*"
+elem_text names (Local task count) = codes "local"
 elem_text names other = codes "[?]"
 
 -- the region parameters of a class
@@ -41,6 +43,10 @@ class_params names class = option_map_or (λ k. k.params) (slice_get names.class
 -- those that a member of a class has: those of its class, and then its own
 abbrev pub params_of : ProgramNames → ℕ → Named → List (List ℕ)
 params_of names class member = class_params names class ++ member.params
+
+-- those of a class, and then others
+abbrev pub all_params : List RegionParam → List RegionParam → List (List ℕ)
+all_params of_class own = map (λ param. param.text) of_class ++ map (λ param. param.text) own
 
 abbrev pub head_text : List (List ℕ) → Head → List ℕ
 head_text params Root = codes "Root"

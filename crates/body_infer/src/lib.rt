@@ -10,7 +10,7 @@
 //! The summaries are found by asking members until none rises, each again only where one has risen that its body calls or that
 //! overrides it (`settling`); passes over all members see that no more is asked for (`inferring`).
 //!
-//! `lines` writes exactly the lines that `specs/Lines.antt` says of the summaries that are left, and a program has one such summary
+//! `summary` writes effects as `specs/Lines.antt` says, those of a run too, and `lines` exactly the lines that `specs/Lines.antt` says of the summaries that are left, and a program has one such summary
 //! for each member (`laws::law_one_inferred`).
 #![tactic(auto)]
 
@@ -33,5 +33,5 @@ mod walk;
 
 pub use inferring::infer;
 pub use kept::Kept;
-pub use text::lines;
+pub use text::{class_name, lines, summary};
 pub use walk::Keeping;

@@ -3,7 +3,7 @@ ghost use Rattle.std.specs.Fmt.{signed_decimal};
 ghost use Rattle.lang_typed.specs.Names.{named_member, names_of};
 ghost use Rattle.lang_typed.specs.Plain.{plain_program, plain_member};
 ghost use Rattle.body_infer.specs.Kept.{program_kept, summary_kept};
-ghost use Rattle.body_infer.specs.Lines.{class_name, class_params, elem_text, head_text, item_text, items_of, line_of, lines_of, listed, mark_text, params_of, path_text, region_text, summary_text};
+ghost use Rattle.body_infer.specs.Lines.{all_params, class_name, class_params, elem_text, head_text, item_text, items_of, line_of, lines_of, listed, mark_text, path_text, region_text, summary_text};
 
 use crate::kept::Kept;
 use crate::walk::{Keeping, summary_kept};
@@ -36,27 +36,36 @@ fn line(
     out.extend(b".")?;
     out.extend(member.name.as_slice())?;
     let items = summary_kept(alloc, kept, &member.summary)?;
-    summary(alloc, program, member, &items, out)?;
+    let of_class = class_params(program, member.class.number);
+    summary(
+        alloc,
+        program,
+        of_class,
+        member.params.as_slice(),
+        &items,
+        out,
+    )?;
     out.extend(b"\n")
 }
 
-/// What a member of this name reads and writes.
-fn summary(
+/// What is read and written, by paths over the region parameters of a class and, after these, others.
+pub fn summary(
     alloc: Global,
     program: &Program,
-    member: &Member,
+    of_class: &[RegionParam],
+    own: &[RegionParam],
     items: &Items<Effect>,
     out: &mut Bytes,
 ) -> Result<(), NoMemory>
-    ensures { let names = names_of program.now in OnOk result (out.new ≡ out.old ++ summary_text names (params_of names member.now.class.number (named_member member.now)) items.now) }
+    ensures { OnOk result (out.new ≡ out.old ++ summary_text (names_of program.now) (all_params of_class.now own.now) items.now) }
 {
     if items.is_empty() {
         return out.extend(b" pure");
     }
     let reads = items_of(alloc, Access::Read, items)?;
     let writes = items_of(alloc, Access::Write, items)?;
-    list(alloc, program, member, b" reads ", &reads, out)?;
-    list(alloc, program, member, b" writes ", &writes, out)
+    list(alloc, program, of_class, own, b" reads ", &reads, out)?;
+    list(alloc, program, of_class, own, b" writes ", &writes, out)
 }
 
 /// The items of one access, in their order, each once.
@@ -76,17 +85,18 @@ fn items_of(alloc: Global, access: Access, items: &Items<Effect>) -> Result<Effe
 fn list(
     alloc: Global,
     program: &Program,
-    member: &Member,
+    of_class: &[RegionParam],
+    own: &[RegionParam],
     word: &[u8],
     items: &EffectSet,
     out: &mut Bytes,
 ) -> Result<(), NoMemory>
-    ensures { let names = names_of program.now in OnOk result (out.new ≡ out.old ++ listed word.now (map (item_text names (params_of names member.now.class.number (named_member member.now))) items.now)) }
+    ensures { OnOk result (out.new ≡ out.old ++ listed word.now (map (item_text (names_of program.now) (all_params of_class.now own.now)) items.now)) }
 {
     let mut between = word;
     for item in items.as_slice() {
         out.extend(between)?;
-        tell_item(alloc, program, member, item, out)?;
+        tell_item(alloc, program, of_class, own, item, out)?;
         between = b", ";
     }
     Ok(())
@@ -95,14 +105,15 @@ fn list(
 fn tell_item(
     alloc: Global,
     program: &Program,
-    member: &Member,
+    of_class: &[RegionParam],
+    own: &[RegionParam],
     item: &Effect,
     out: &mut Bytes,
 ) -> Result<(), NoMemory>
-    ensures { let names = names_of program.now in OnOk result (out.new ≡ out.old ++ item_text names (params_of names member.now.class.number (named_member member.now)) item.now) }
+    ensures { OnOk result (out.new ≡ out.old ++ item_text (names_of program.now) (all_params of_class.now own.now) item.now) }
 {
     out.extend(mark(item.atomic))?;
-    path(alloc, program, member, &item.rpl, out)
+    path(alloc, program, of_class, own, &item.rpl, out)
 }
 
 fn mark(atomic: bool) -> &'static [u8]
@@ -114,13 +125,14 @@ fn mark(atomic: bool) -> &'static [u8]
 fn path(
     alloc: Global,
     program: &Program,
-    member: &Member,
+    of_class: &[RegionParam],
+    own: &[RegionParam],
     rpl: &Rpl,
     out: &mut Bytes,
 ) -> Result<(), NoMemory>
-    ensures { let names = names_of program.now in OnOk result (out.new ≡ out.old ++ path_text names (params_of names member.now.class.number (named_member member.now)) rpl.now) }
+    ensures { OnOk result (out.new ≡ out.old ++ path_text (names_of program.now) (all_params of_class.now own.now) rpl.now) }
 {
-    out.extend(head(program, member, rpl.head))?;
+    out.extend(head(of_class, own, rpl.head))?;
     for elem in rpl.elems.as_slice() {
         out.extend(b":")?;
         element(alloc, program, *elem, out)?;
@@ -128,23 +140,22 @@ fn path(
     Ok(())
 }
 
-fn head<'a>(program: &'a Program, member: &'a Member, head: Head) -> &'a [u8]
-    ensures { let names = names_of program.now in result.now ≡ head_text (params_of names member.now.class.number (named_member member.now)) head }
+fn head<'a>(of_class: &'a [RegionParam], own: &'a [RegionParam], head: Head) -> &'a [u8]
+    ensures { result.now ≡ head_text (all_params of_class.now own.now) head }
 {
     match head {
         Head::Root => b"Root",
-        Head::Param(number) => param_name(program, member, number as usize),
+        Head::Param(number) => param_name(of_class, own, number as usize),
     }
 }
 
-/// The name of a region parameter: those of the class come first, and then the method's own.
-fn param_name<'a>(program: &'a Program, member: &'a Member, number: usize) -> &'a [u8]
-    ensures { let names = names_of program.now in result.now ≡ slice_index_or (params_of names member.now.class.number (named_member member.now)) number (codes "?") }
+/// The name of a region parameter: those of the class come first, and then the others.
+fn param_name<'a>(of_class: &'a [RegionParam], own: &'a [RegionParam], number: usize) -> &'a [u8]
+    ensures { result.now ≡ slice_index_or (all_params of_class.now own.now) number (codes "?") }
 {
-    let of_class = class_params(program, member.class.number);
     match of_class.get(number) {
         Some(param) => param.text.as_slice(),
-        None => match member.params.get(number - of_class.len()) {
+        None => match own.get(number - of_class.len()) {
             Some(param) => param.text.as_slice(),
             None => b"?",
         },
@@ -160,7 +171,8 @@ fn class_params(program: &Program, class: u32) -> &[RegionParam]
     }
 }
 
-fn class_name(program: &Program, class: u32) -> &[u8]
+/// The name of a class, and none where there is no class of this number.
+pub fn class_name(program: &Program, class: u32) -> &[u8]
     ensures { result.now ≡ class_name (names_of program.now) class }
 {
     match program.classes.get(class as usize) {
@@ -176,6 +188,7 @@ fn element(alloc: Global, program: &Program, elem: Elem, out: &mut Bytes) -> Res
         Elem::Name(number) => name(program, number, out),
         Elem::At(Index::Literal(value)) => index(alloc, value, out),
         Elem::Star => out.extend(b"*"),
+        Elem::Local(..) => out.extend(b"local"),
         _ => out.extend(b"[?]"),
     }
 }

@@ -1,4 +1,5 @@
 pub mod Delivering
+pub mod Stretches
 pub mod Maps
 pub mod Acting
 pub mod Tasks
@@ -7,4 +8,5 @@ pub mod Playing
 pub mod Ends
 pub mod Begins
 pub mod Opening
+pub mod Telling
 mod Aways

@@ -1,5 +1,5 @@
 -- From what a machine does at an event to the move of its run.
-use Rattle.std.proofs.Common.{arith, ◌≡◌, ◌≢◌, ◌<◌, ◌≤◌, ℕ, zero, suc, slice_get, length, List, [], ◌∷◌, ◌++◌, refl, sym, ap, subst, ◌∙◌, Option, Some, None, Bool, true, false, IsTrue, ◌↔◌}
+use Rattle.std.proofs.Common.{arith, ◌≡◌, ◌≢◌, ◌<◌, ◌≤◌, ℕ, zero, suc, slice_get, length, List, [], ◌∷◌, ◌++◌, refl, sym, ap, subst, ◌∙◌, Option, Some, None, Bool, true, false, IsTrue, ◌↔◌, Result, Ok, Err, OnOk}
 use Rattle.std.proofs.lemmas.List.{length-map}
 use Rattle.std.specs.FinMap.{FinMap, get, insert, remove}
 use Rattle.std.specs.Ordering.{nat_cmp}
@@ -19,7 +19,7 @@ use Rattle.exec_task.specs.declared.action.Action.TheVariants as action
 use Rattle.exec_task.specs.declared.action.Answer.{Answer}
 use Rattle.exec_task.specs.declared.action.Ending.{Ending}
 use Rattle.exec_world.specs.Costs.{Within}
-use Rattle.exec_world.specs.World.{Fits, answer_to, world_after}
+use Rattle.exec_world.specs.World.{Fits, answer_at, answer_to, world_after}
 use Rattle.exec_world.specs.declared.event.Event.{Event}
 use Rattle.exec_world.specs.declared.world.World.{World}
 use Rattle.exec_machine.specs.declared.run.Run.{Run}
@@ -27,18 +27,13 @@ use Rattle.exec_machine.specs.declared.slot.Slot.{Slot}
 use Rattle.exec_machine.specs.Running.{Running, front, answered, OfSlot, OnItsWay, StandsWith, StandsForOne, AllStand, IsFirst, at_start, Goes}
 use Rattle.exec_machine.specs.Replay.{Moment, NextOf, CanBeMade, StartsIn, HasStart, IsStuck, Moves, made, over, after, limited, with_task, with_branch, goes_on, outcome_after, begun}
 use Rattle.exec_machine.specs.Keeping.{Keeps, HasNext, CanStep, IsAt, Comes, made as made_so, over as over_so, with_answer}
+use Rattle.exec_machine.specs.Telling.{NextIn, IsMade, comes_within, comes_beyond, MakesIn, answer_in, at_limit}
 use Rattle.exec_machine.specs.Wants.{WantsRightly}
 use Rattle.exec_machine.proofs.Acting.{IsOrdinary, goes_further, counted}
+use Rattle.exec_machine.proofs.Maps.{got, gone}
 use Rattle.exec_machine.proofs.Tasks.{stand_put, stand_taken, beside, placed}
 
--- an event is the next of its task, which is kept so
-pub record NextIn (C : PlainCode) (m : Moment) (e : Event) (s : Slot) : Type 0 where
-  pub next : NextOf C m e.task e
-  pub number : s.task.number ≡ e.task
-  pub state : next.stands.state ≡ state_of s.task
-  pub made : next.stands.made ≡ s.task.made
-  pub turns : e.turns ≡ s.task.turns
-
+-- the event at which a task is kept is its next
 pub next_in : (C : PlainCode) (r : Run) (m : Moment) (e : Event) (s : Slot) → HasNext C r m e.task → get r.slots e.task ≡ Some s → IsAt C e s → NextIn C m e s
 next_in C r m e s h there at =
     let live = h.goes.live e.task h.ready in
@@ -89,16 +84,24 @@ module _ (code : Code) (L : Limits) (old new : Run) (m : Moment) (e : Event) whe
   finished : Keeps (plain_code code) old m → (x : NextOf (plain_code code) m e.task e) → CanBeMade (plain_code code) m.world e x.stands.state
       → (Within code old.world e → ⊥)
       → new ≡ record { world = old.world; slots = old.slots; schedule = old.schedule ++ e.task ∷ []; outcome = Some (limited L) }
-      → Moved code L m e.task new
-  finished keeps x can refused is = (
-    record { world = m.world; tasks = m.tasks; outcome = Some (limited L) },
-    over e x can (λ w. refused (subst (λ v. Within code v e) (sym keeps.world) w)) refl,
-    record {
-      world = ap (λ r. r.world) is ∙ keeps.world;
-      outcome = ap (λ r. r.outcome) is;
-      stand = subst (λ slots. AllStand (plain_code code) slots m.tasks) (sym (ap (λ r. r.slots) is)) keeps.stand;
-    },
-  )
+      → IsMade code L m e x new
+  finished keeps x can refused is = comes_beyond can (λ w. refused (subst (λ v. Within code v e) (sym keeps.world) w)) (record {
+    world = ap (λ r. r.world) is ∙ keeps.world;
+    outcome = ap (λ r. r.outcome) is;
+    stand = subst (λ slots. AllStand (plain_code code) slots m.tasks) (sym (ap (λ r. r.slots) is)) keeps.stand;
+  })
+
+  -- its slot has the answer
+  answer_kept : (slots : FinMap nat_cmp Slot) (s : Slot) (outcome : Option Outcome) → Keeps (plain_code code) old m
+      → new ≡ record {
+        world = world_after code old.world e;
+        slots = with_answer slots e.task s (answer_to old.world e);
+        schedule = old.schedule ++ e.task ∷ [];
+        outcome = outcome;
+      } → answer_in (get new.slots e.task) ≡ answer_to m.world e
+  answer_kept slots s outcome keeps is =
+      ap (λ (r : Run). answer_in (get r.slots e.task)) is ∙ ap answer_in (got slots e.task (record { task = s.task; pending = Some (answer_to old.world e) }))
+      ∙ ap (λ w. answer_to w e) keeps.world
 
   -- the halt that is answered is that of the task as it is kept
   halt_is : (s : Slot) (x : NextIn (plain_code code) m e s)
@@ -123,50 +126,47 @@ module _ (code : Code) (L : Limits) (old new : Run) (m : Moment) (e : Event) whe
       (on h (answer_to m.world e) ∙ further.1)
 
   -- an event after which the task goes on
-  pub went_on : (s : Slot) → HasNext (plain_code code) old m e.task → NextIn (plain_code code) m e s → Fits old.world e → IsOrdinary e.action
+  pub went_on : (s : Slot) → HasNext (plain_code code) old m e.task → (x : NextIn (plain_code code) m e s) → Fits old.world e → IsOrdinary e.action
       → Comes code L old e (with_answer old.slots e.task s (answer_to old.world e)) old.outcome new
-      → Moved code L m e.task new
+      → IsMade code L m e x.next new
   went_on s h x fits ord (over_so refused is) =
       finished h.keeps x.next (record { fits = subst (λ w. Fits w e) h.keeps.world fits; starts = ord.start (plain_code code) x.next.stands.state }) refused is
   went_on s h x fits ord (made_so within is) =
-      let n : Moment = after code m e x.next.stands.state x.next.stands.made in (
-        n,
-        made e x.next (record { fits = subst (λ w. Fits w e) h.keeps.world fits; starts = ord.start (plain_code code) x.next.stands.state })
-            (subst (λ v. Within code v e) h.keeps.world within) refl,
-        record {
-          world = ap (λ r. r.world) is ∙ ap (λ w. world_after code w e) h.keeps.world;
-          outcome = ap (λ r. r.outcome) is ∙ h.keeps.outcome ∙ h.unfinished ∙ sym (ord.out m.world (world_after code m.world e) e.task);
-          stand = subst (λ slots. AllStand (plain_code code) slots n.tasks) (sym (ap (λ r. r.slots) is))
-              (subst (λ tasks. AllStand (plain_code code) (with_answer old.slots e.task s (answer_to old.world e)) (with_task tasks e.task
-              (goes_on e.action (front (plain_code code) e.task e.turns x.next.stands.made x.next.stands.state) (answer_to m.world e))))
-              (sym (ord.branch (plain_code code) x.next.stands.state m.world.tree.begun m.tasks))
-              (stand_put (plain_code code) old.slots m.tasks e.task (record { task = s.task; pending = Some (answer_to old.world e) })
-              (goes_on e.action (front (plain_code code) e.task e.turns x.next.stands.made x.next.stands.state) (answer_to m.world e)) h.keeps.stand
-              (answered_here s h.keeps x fits ord.no_end ord.on)));
-        },
-      )
+      let n : Moment = after code m e x.next.stands.state x.next.stands.made in
+      comes_within (record { fits = subst (λ w. Fits w e) h.keeps.world fits; starts = ord.start (plain_code code) x.next.stands.state })
+      (subst (λ v. Within code v e) h.keeps.world within)
+      (record {
+        world = ap (λ r. r.world) is ∙ ap (λ w. world_after code w e) h.keeps.world;
+        outcome = ap (λ r. r.outcome) is ∙ h.keeps.outcome ∙ h.unfinished ∙ sym (ord.out m.world (world_after code m.world e) e.task);
+        stand = subst (λ slots. AllStand (plain_code code) slots n.tasks) (sym (ap (λ r. r.slots) is))
+            (subst (λ tasks. AllStand (plain_code code) (with_answer old.slots e.task s (answer_to old.world e)) (with_task tasks e.task
+            (goes_on e.action (front (plain_code code) e.task e.turns x.next.stands.made x.next.stands.state) (answer_to m.world e))))
+            (sym (ord.branch (plain_code code) x.next.stands.state m.world.tree.begun m.tasks))
+            (stand_put (plain_code code) old.slots m.tasks e.task (record { task = s.task; pending = Some (answer_to old.world e) })
+            (goes_on e.action (front (plain_code code) e.task e.turns x.next.stands.made x.next.stands.state) (answer_to m.world e)) h.keeps.stand
+            (answered_here s h.keeps x fits ord.no_end ord.on)));
+      }) (answer_kept old.slots s old.outcome h.keeps is)
 
   -- the end of a task
-  pub ended : (s : Slot) (y : Ending) → HasNext (plain_code code) old m e.task → NextIn (plain_code code) m e s → Fits old.world e → e.action ≡ action.End y
+  pub ended : (s : Slot) (y : Ending) → HasNext (plain_code code) old m e.task → (x : NextIn (plain_code code) m e s) → Fits old.world e → e.action ≡ action.End y
       → Comes code L old e (remove old.slots e.task) (outcome_after old.world (world_after code old.world e) e.task e.action) new
-      → Moved code L m e.task new
+      → IsMade code L m e x.next new
   ended s y h x fits act (over_so refused is) =
       finished h.keeps x.next (record { fits = subst (λ w. Fits w e) h.keeps.world fits; starts = subst (λ a. HasStart (plain_code code) x.next.stands.state a) (sym act) tt }) refused is
   ended s y h x fits act (made_so within is) =
-      let n : Moment = after code m e x.next.stands.state x.next.stands.made in (
-        n,
-        made e x.next
-            (record { fits = subst (λ w. Fits w e) h.keeps.world fits; starts = subst (λ a. HasStart (plain_code code) x.next.stands.state a) (sym act) tt })
-            (subst (λ v. Within code v e) h.keeps.world within) refl,
-        record {
-          world = ap (λ r. r.world) is ∙ ap (λ w. world_after code w e) h.keeps.world;
-          outcome = ap (λ r. r.outcome) is ∙ ap (λ w. outcome_after w (world_after code w e) e.task e.action) h.keeps.world;
-          stand = subst (λ slots. AllStand (plain_code code) slots n.tasks) (sym (ap (λ r. r.slots) is))
-              (subst (λ a. AllStand (plain_code code) (remove old.slots e.task) (with_task (with_branch (plain_code code) x.next.stands.state a m.world.tree.begun m.tasks)
-              e.task (goes_on a (front (plain_code code) e.task e.turns x.next.stands.made x.next.stands.state) (answer_to m.world e)))) (sym act)
-              (stand_taken (plain_code code) old.slots m.tasks e.task h.keeps.stand));
-        },
-      )
+      let n : Moment = after code m e x.next.stands.state x.next.stands.made in
+      comes_within
+      (record { fits = subst (λ w. Fits w e) h.keeps.world fits; starts = subst (λ a. HasStart (plain_code code) x.next.stands.state a) (sym act) tt })
+      (subst (λ v. Within code v e) h.keeps.world within)
+      (record {
+        world = ap (λ r. r.world) is ∙ ap (λ w. world_after code w e) h.keeps.world;
+        outcome = ap (λ r. r.outcome) is ∙ ap (λ w. outcome_after w (world_after code w e) e.task e.action) h.keeps.world;
+        stand = subst (λ slots. AllStand (plain_code code) slots n.tasks) (sym (ap (λ r. r.slots) is))
+            (subst (λ a. AllStand (plain_code code) (remove old.slots e.task) (with_task (with_branch (plain_code code) x.next.stands.state a m.world.tree.begun m.tasks)
+            e.task (goes_on a (front (plain_code code) e.task e.turns x.next.stands.made x.next.stands.state) (answer_to m.world e)))) (sym act)
+            (stand_taken (plain_code code) old.slots m.tasks e.task h.keeps.stand));
+      })
+      (ap (λ (r : Run). answer_in (get r.slots e.task)) is ∙ ap answer_in (gone old.slots e.task) ∙ sym (ap (λ a. answer_at m.world e.task a) act))
 
   -- a branch that has begun is beside the task that began it
   child_there : (s : Slot) (b : ℕ) (start : Start) (x : NextIn (plain_code code) m e s) → e.action ≡ action.Begin b
@@ -185,7 +185,7 @@ module _ (code : Code) (L : Limits) (old new : Run) (m : Moment) (e : Event) whe
       → slice_get (starts_at (plain_code code) (state_of s.task)) b ≡ Some (plain_start start) → e.task ≢ old.world.tree.begun
       → IsFirst old.world.tree.begun start child
       → Comes code L old e (with_answer (insert old.slots old.world.tree.begun child) e.task s (answer_to old.world e)) old.outcome new
-      → Moved code L m e.task new
+      → IsMade code L m e x.next new
   began s child b start can x fits act inside starts apart first (over_so refused is) =
       finished can.has_next.keeps x.next
       (record {
@@ -202,13 +202,13 @@ module _ (code : Code) (L : Limits) (old new : Run) (m : Moment) (e : Event) whe
       let starts_too : slice_get (starts_at C x.next.stands.state) b ≡ Some (plain_start start) =
       subst (λ z. slice_get (starts_at C z) b ≡ Some (plain_start start)) (sym x.state) starts in
       let n : Moment = after code m e x.next.stands.state x.next.stands.made in
-      let moves : Moves code L m e.task n =
-      made e x.next
-      (record {
+      let can_be : CanBeMade C m.world e x.next.stands.state =
+      record {
         fits = subst (λ w. Fits w e) keeps.world fits;
         starts = subst (λ a. HasStart C x.next.stands.state a) (sym act)
             (subst (λ z. StartsIn C (slice_get (starts_at C z) b)) (sym x.state) (subst (StartsIn C) (sym starts) inside));
-      }) (subst (λ v. Within code v e) keeps.world within) refl in
+      } in
+      let moves : Moves code L m e.task n = made e x.next can_be (subst (λ v. Within code v e) keeps.world within) refl in
       let goes : Goes C m.world.tree.begun (at_start (plain_start start)) =
       (can.later n moves).legs m.world.tree.begun (at_start (plain_start start)) (child_there s b start x act starts_too apart_too) in
       let branch : with_branch C x.next.stands.state e.action m.world.tree.begun m.tasks ≡ with_task m.tasks m.world.tree.begun (Some (at_start (plain_start start))) =
@@ -220,18 +220,16 @@ module _ (code : Code) (L : Limits) (old new : Run) (m : Moment) (e : Event) whe
       (with_task (with_task m.tasks m.world.tree.begun (Some (at_start (plain_start start)))) e.task (goes_on e.action h (answer_to m.world e))) =
       stand_put C (insert old.slots m.world.tree.begun child) (with_task m.tasks m.world.tree.begun (Some (at_start (plain_start start)))) e.task
       (record { task = s.task; pending = Some (answer_to old.world e) }) (goes_on e.action h (answer_to m.world e)) put
-      (answered_here s keeps x fits (no_end b act) (goes_as b act)) in (
-        n,
-        moves,
-        record {
-          world = ap (λ r. r.world) is ∙ ap (λ w. world_after code w e) keeps.world;
-          outcome = ap (λ r. r.outcome) is ∙ keeps.outcome ∙ can.has_next.unfinished ∙ sym (ap (outcome_after m.world (world_after code m.world e) e.task) act);
-          stand = subst (λ slots. AllStand C slots n.tasks) (sym (ap (λ r. r.slots) is))
-              (subst (λ q. AllStand C (with_answer (insert old.slots q child) e.task s (answer_to old.world e)) n.tasks) (sym next_is)
-              (subst (λ tasks. AllStand C (with_answer (insert old.slots m.world.tree.begun child) e.task s (answer_to old.world e))
-              (with_task tasks e.task (goes_on e.action h (answer_to m.world e)))) (sym branch) both));
-        },
-      )
+      (answered_here s keeps x fits (no_end b act) (goes_as b act)) in
+      comes_within can_be (subst (λ v. Within code v e) keeps.world within)
+      (record {
+        world = ap (λ r. r.world) is ∙ ap (λ w. world_after code w e) keeps.world;
+        outcome = ap (λ r. r.outcome) is ∙ keeps.outcome ∙ can.has_next.unfinished ∙ sym (ap (outcome_after m.world (world_after code m.world e) e.task) act);
+        stand = subst (λ slots. AllStand C slots n.tasks) (sym (ap (λ r. r.slots) is))
+            (subst (λ q. AllStand C (with_answer (insert old.slots q child) e.task s (answer_to old.world e)) n.tasks) (sym next_is)
+            (subst (λ tasks. AllStand C (with_answer (insert old.slots m.world.tree.begun child) e.task s (answer_to old.world e))
+            (with_task tasks e.task (goes_on e.action h (answer_to m.world e)))) (sym branch) both));
+      }) (answer_kept (insert old.slots old.world.tree.begun child) s old.outcome keeps is)
     where
       no_end : (b : ℕ) → e.action ≡ action.Begin b → (y : Ending) → e.action ≡ action.End y → ⊥
       no_end b is y is_end = cc
@@ -281,15 +279,28 @@ of_some o s P is holds = subst (λ x. OfSlot x P) is holds
 module _ (code : Code) (L : Limits) (old new : Run) (m : Moment) (e : Event) where
   pub moved_on : (o : Option Slot) → get old.slots e.task ≡ o → CanStep code L old m e.task → OfSlot o (IsAt (plain_code code) e) → Fits old.world e
       → IsOrdinary e.action
-      → OfSlot o (λ s. Comes code L old e (with_answer old.slots e.task s (answer_to old.world e)) old.outcome new) → Moved code L m e.task new
+      → OfSlot o (λ s. Comes code L old e (with_answer old.slots e.task s (answer_to old.world e)) old.outcome new) → MakesIn code L m e o new
   moved_on None is can at fits ord comes = absurd at
-  moved_on (Some s) is can at fits ord comes = went_on code L old new m e s can.has_next (next_in (plain_code code) old m e s can.has_next is at) fits ord comes
+  moved_on (Some s) is can at fits ord comes =
+      let x = next_in (plain_code code) old m e s can.has_next is at in (x, went_on code L old new m e s can.has_next x fits ord comes)
 
   pub moved_end : (o : Option Slot) → get old.slots e.task ≡ o → CanStep code L old m e.task → OfSlot o (IsAt (plain_code code) e) → Fits old.world e
       → (y : Ending) → e.action ≡ action.End y
-      → Comes code L old e (remove old.slots e.task) (outcome_after old.world (world_after code old.world e) e.task e.action) new → Moved code L m e.task new
+      → Comes code L old e (remove old.slots e.task) (outcome_after old.world (world_after code old.world e) e.task e.action) new → MakesIn code L m e o new
   moved_end None is can at fits y act comes = absurd at
-  moved_end (Some s) is can at fits y act comes = ended code L old new m e s y can.has_next (next_in (plain_code code) old m e s can.has_next is at) fits act comes
+  moved_end (Some s) is can at fits y act comes =
+      let x = next_in (plain_code code) old m e s can.has_next is at in (x, ended code L old new m e s y can.has_next x fits act comes)
+
+-- an event that was made moves the run
+pub moves_on : (code : Code) (L : Limits) (m : Moment) (e : Event) (new : Run) (o : Option Slot) → MakesIn code L m e o new → Moved code L m e.task new
+moves_on code L m e new None none = absurd none
+moves_on code L m e new (Some s) (x, comes_within can inside keeps gave) =
+    (after code m e x.next.stands.state x.next.stands.made, made e x.next can inside refl, keeps)
+moves_on code L m e new (Some s) (x, comes_beyond can refused keeps) = (at_limit L m, over e x.next can refused refl, keeps)
+
+pub on_ok : {T E : Type 0} (r : Result T E) (P Q : Type 0) → (P → Q) → OnOk r P → OnOk r Q
+on_ok (Ok x) P Q f p = f p
+on_ok (Err e) P Q f p = tt
 
 pub stuck_unfit : (code : Code) (L : Limits) (old : Run) (m : Moment) (e : Event) (o : Option Slot) → get old.slots e.task ≡ o → CanStep code L old m e.task
     → OfSlot o (IsAt (plain_code code) e) → (Fits old.world e → ⊥) → IsStuck (plain_code code) m e.task

@@ -5,18 +5,12 @@ use Rattle.lang_base.specs.declared.place.Place.{Place}
 use Rattle.code_instrs.specs.declared.code.Code.{Code}
 use Rattle.code_instrs.specs.Machine.{Level, State, On, Rested, Off, Nowhere}
 use Rattle.code_instrs.specs.Plain.{PlainCode, body_at, plain_code}
-use Rattle.exec_task.specs.declared.action.Answer.{Answer}
 use Rattle.exec_world.specs.Costs.{Within}
 use Rattle.exec_world.specs.World.{answer_to}
-use Rattle.exec_world.specs.declared.event.Event.{Event}
 use Rattle.exec_machine.specs.Replay.{Moment, NextOf, CanBeMade, Opens, after, limited}
-
 -- an event that was made: what its task was answered, and the place of the instruction at which the task stood, unless it was at
 -- its end
-pub record MadeEvent : Type 0 where
-  pub event : Event
-  pub answer : Answer
-  pub place : Option Place
+pub use Rattle.exec_machine.specs.declared.made_event.MadeEvent.{MadeEvent}
 
 abbrev pub place_in : PlainCode → Level ℕ (ℕ × ℕ) → Option Place
 place_in C g = option_map (λ l. l.place) (slice_get (body_at C g.body).lines g.at)

@@ -15,20 +15,31 @@
 //! What a task does up to its event, its leg, touches nothing but the task. So `prepare` takes many tasks towards their next events side
 //! by side, in threads, ahead of their steps; a contract sees the machine as it was.
 //!
+//! A machine keeps no event. `EventMachine` does, from the start on, each with its answer and with the place in the text where its task
+//! stood (`specs/Events.antt`).
+//!
 //! A step takes the time of the leg that its task makes and of what its event touches; `next_ready` and `ready_below` the logarithm
 //! of the live tasks, and the tasks that they pass over.
 #![tactic(auto)]
 
 mod answers;
 mod away;
+mod copies;
+mod event_machine;
 mod halted;
 mod machine;
+mod made_event;
 mod outcome;
+mod places;
 mod run;
+mod schedule;
 mod slot;
 mod slots;
 mod start;
 mod wants;
 
+pub use event_machine::EventMachine;
 pub use halted::Halted;
 pub use machine::{Machine, Stepped};
+pub use made_event::MadeEvent;
+pub use schedule::Schedule;

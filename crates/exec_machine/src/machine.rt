@@ -5,8 +5,10 @@ ghost use Rattle.exec_world.specs.Ready.{IsReady, NoneReady, IsGreatestReady, No
 ghost use Rattle.exec_machine.specs.Keeping.{IsReplayed, IsAfter, WhyHaltedAt, GreedilyOn, HasEnded, HaltsGreedily};
 ghost use Rattle.exec_machine.specs.Premise.{CanProgress};
 
+use crate::event_machine::EventMachine;
 use crate::halted::Halted;
 use crate::run::Run;
+use crate::schedule::Schedule;
 use crate::start::start;
 use code_instrs::Code;
 use lang_base::{Limits, NoMemory, Outcome};
@@ -142,6 +144,22 @@ impl Machine {
         self.run.slots.prepare(rt, &self.code, threads, tasks);
     }
 
+    /// The same machine, which has made no event, and keeps its events from now on.
+    pub fn with_events(self) -> EventMachine
+        requires nothing { self.schedule ≡ [] }
+        ensures played { result.played ≡ self }
+        ensures nothing { result.made ≡ [] }
+    {
+        let Machine {
+            code,
+            limits,
+            argument,
+            run,
+            alloc,
+        } = self;
+        EventMachine::new(code, limits, argument, run, alloc)
+    }
+
     /// How the run came out, once it has finished.
     pub fn outcome(&self) -> Option<&Outcome>
         ensures { option_copied result ≡ self.now.outcome }
@@ -156,11 +174,11 @@ impl Machine {
     }
 
     /// The tasks of all events, in their order. The machine is where they lead.
-    pub fn schedule(&self) -> &[u32]
+    pub fn schedule(&self) -> &Schedule
         ensures schedule { result.now ≡ self.now.schedule }
         ensures replayed { IsReplayed self.now }
     {
-        self.run.schedule.as_slice()
+        &self.run.schedule
     }
 
     /// The steps made so far, with that of the entry of `main`.

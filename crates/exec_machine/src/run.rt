@@ -11,16 +11,23 @@ ghost use Rattle.exec_machine.specs.Keeping.{Keeps, HasNext, CanStep, IsAt, WhyH
 ghost use Rattle.exec_machine.specs.Replay.{Moment, Moves, outcome_after, came_to};
 ghost use Rattle.exec_machine.specs.Wants.{WantsRightly};
 ghost use Rattle.exec_machine.specs.Running.{OfSlot, IsFirst};
+ghost use Rattle.exec_machine.specs.Events.{place_at};
+ghost use Rattle.exec_machine.specs.Telling.{Tells, MakesIn, answer_in, is_limit, met_limit};
 
+use crate::answers::copied as copied_answer;
+use crate::copies::copied;
 use crate::halted::Halted;
+use crate::made_event::MadeEvent;
 use crate::outcome::{came_to, limited};
+use crate::places::place_of;
+use crate::schedule::Schedule;
 use crate::slot::Slot;
 use crate::slots::Slots;
 use crate::wants::wants_at;
 use code_instrs::Code;
 use exec_task::{Action, Answer, Start, Task};
 use exec_world::{Event, Stop, World};
-use lang_base::{Bytes, Ending as Came, Items, Limits, NoMemory, Outcome, Plain};
+use lang_base::{Bytes, Ending as Came, Limits, NoMemory, Outcome, Place, Plain};
 use std::alloc::Global;
 
 /// What a machine changes.
@@ -29,7 +36,7 @@ pub struct Run {
     pub world: World,
     pub slots: Slots,
     /// The tasks of all events, in their order.
-    pub schedule: Items<u32>,
+    pub schedule: Schedule,
     pub outcome: Option<Outcome>,
 }
 
@@ -52,6 +59,60 @@ impl Run {
     {
         let event = self.next_event(alloc, code, task)?;
         self.make(alloc, code, limits, event)
+    }
+
+    /// Lets a ready task make its next event, as `step`, and tells it. It tells none where a limit is met by it. When memory runs out
+    /// the event may have been made.
+    pub fn tell(
+        &mut self,
+        alloc: Global,
+        code: &Code,
+        limits: Limits,
+        task: u32,
+    ) -> Result<Option<MadeEvent>, Halted>
+        requires few { All IsWidthBounded code.now.sites }
+        requires can { (m : Moment) × CanStep code.now limits self.old m task }
+        ensures tells { (m : Moment) → CanStep code.now limits self.old m task → IfOk result (Tells code.now limits m task self.new) }
+        ensures noted { OnOk result (self.new.schedule ≡ self.old.schedule ++ task ∷ []) }
+        ensures why { (m : Moment) → CanStep code.now limits self.old m task → IfErr result (WhyHalted (plain_code code.now) m task) }
+    {
+        let event = self.next_event(alloc, code, task)?;
+        let place = self.place(code, task);
+        let copy = copied(alloc, &event)?;
+        self.make(alloc, code, limits, event)?;
+        if met_limit(&self.outcome) {
+            return Ok(None);
+        }
+        let answer = self.answer_of(alloc, task)?;
+        Ok(Some(MadeEvent {
+            event: copy,
+            answer,
+            place,
+        }))
+    }
+
+    /// Where in the text a task stands, unless it is at its end.
+    fn place(&self, code: &Code, task: u32) -> Option<Place>
+        requires { OfSlot (get self.now.slots task) (λ slot. Unit {0}) }
+        ensures { OfSlot (get self.now.slots task) (λ slot. result ≡ place_at (plain_code code.now) (state_of slot.task)) }
+    {
+        let Some(slot) = self.slots.get(task) else {
+            unreachable!()
+        };
+        place_of(code, &slot.task)
+    }
+
+    /// What a task was answered that has made an event and not gone on.
+    fn answer_of(&self, alloc: Global, task: u32) -> Result<Answer, NoMemory>
+        ensures { IfOk result (λ answer. answer ≡ answer_in (get self.now.slots task)) }
+    {
+        let Some(slot) = self.slots.get(task) else {
+            return Ok(Answer::Went);
+        };
+        match &slot.pending {
+            Some(answer) => copied_answer(alloc, answer),
+            None => Ok(Answer::Went),
+        }
     }
 
     /// Takes a ready task to its next event. When memory runs out, it may be further on its way to it.
@@ -80,7 +141,7 @@ impl Run {
     ) -> Result<(), Halted>
         requires at { OfSlot (get self.old.slots event.task) (IsAt (plain_code code.now) event) }
         requires can { (m : Moment) × CanStep code.now limits self.old m event.task }
-        ensures moves { (m : Moment) → CanStep code.now limits self.old m event.task → OnOk result ((n : Moment) × Moves code.now limits m event.task n × Keeps (plain_code code.now) self.new n) }
+        ensures makes { (m : Moment) → CanStep code.now limits self.old m event.task → OnOk result (MakesIn code.now limits m event (get self.old.slots event.task) self.new) }
         ensures noted { OnOk result (self.new.schedule ≡ self.old.schedule ++ event.task ∷ []) }
         ensures why { (m : Moment) → CanStep code.now limits self.old m event.task → IfErr result (WhyHalted (plain_code code.now) m event.task) }
         ensures err { OnErr result (self.new ≡ self.old) }
@@ -111,7 +172,7 @@ impl Run {
         requires fits { Fits self.old.world event }
         requires at { OfSlot (get self.old.slots event.task) (IsAt (plain_code code.now) event) }
         requires can { (m : Moment) × CanStep code.now limits self.old m event.task }
-        ensures moves { (m : Moment) → CanStep code.now limits self.old m event.task → OnOk result ((n : Moment) × Moves code.now limits m event.task n × Keeps (plain_code code.now) self.new n) }
+        ensures makes { (m : Moment) → CanStep code.now limits self.old m event.task → OnOk result (MakesIn code.now limits m event (get self.old.slots event.task) self.new) }
         ensures noted { OnOk result (self.new.schedule ≡ self.old.schedule ++ event.task ∷ []) }
         ensures why { (m : Moment) → CanStep code.now limits self.old m event.task → IfErr result (WhyHalted (plain_code code.now) m event.task) }
         ensures err { OnErr result (self.new ≡ self.old) }
@@ -280,6 +341,25 @@ fn ending_of(action: &Action) -> Came
     match action {
         Action::End(ending) => came_to(ending),
         _ => unreachable!(),
+    }
+}
+
+/// Whether a run has met a limit that came out so.
+fn met_limit(outcome: &Option<Outcome>) -> bool
+    ensures { result ≡ met_limit outcome.now }
+{
+    match outcome {
+        Some(outcome) => is_limit(outcome.ending),
+        None => false,
+    }
+}
+
+fn is_limit(came: Came) -> bool
+    ensures { result ≡ is_limit came }
+{
+    match came {
+        Came::Limited => true,
+        Came::Done(_) | Came::Trapped(_, _) => false,
     }
 }
 

@@ -10,10 +10,9 @@ use crate::away::{Away, advance_each};
 use crate::slot::Slot;
 use code_instrs::Code;
 use exec_task::{Action, Answer};
-use exec_tasks::Kept;
+use exec_tasks::Numbered;
 use lang_base::NoMemory;
 use std::alloc::Global;
-use std::collections::BTreeMap;
 use std::marker::Model;
 use std::mem;
 use std::thread::Threads;
@@ -24,13 +23,13 @@ const MOST_AWAY: usize = 1024;
 /// The live tasks. A contract sees a finite map from their numbers.
 #[derive(Drop)]
 pub struct Slots {
-    map: BTreeMap<u32, Kept<Slot>>,
+    map: Numbered<Slot>,
     alloc: Global,
 }
 
 impl Model for Slots {
     ghost use Rattle.std.specs.Ordering.{nat_cmp};
-    ghost use Rattle.std.specs.FinMap.{FinMap, from_entries, code};
+    ghost use Rattle.std.specs.FinMap.{FinMap, code};
     ghost use Rattle.std.specs.Coded.{coded_ℕ};
     ghost use Rattle.exec_machine.specs.contracts.slot.Slot as slot;
     ghost use Rattle.exec_machine.specs.declared.slot.Slot.{Slot};
@@ -39,7 +38,7 @@ impl Model for Slots {
 
     ghost coded = { code coded_ℕ slot.the_row.coded };
 
-    ghost view = { λ s. from_entries s.map.entries };
+    ghost view = { λ s. s.map };
 }
 
 impl Slots {
@@ -47,7 +46,7 @@ impl Slots {
         ensures { result ≡ empty }
     {
         Slots {
-            map: BTreeMap::new(alloc),
+            map: Numbered::new(alloc),
             alloc,
         }
     }
@@ -55,24 +54,20 @@ impl Slots {
     pub fn get(&self, number: u32) -> Option<&Slot>
         ensures { option_copied result ≡ get self.now number }
     {
-        match self.map.get(&number) {
-            Some(slot) => Some(slot.get()),
-            None => None,
-        }
+        self.map.get(number)
     }
 
     pub fn insert(&mut self, number: u32, slot: Slot) -> Result<(), NoMemory>
         ensures ok { OnOk result (self.new ≡ insert self.old number slot) }
         ensures err { OnErr result (self.new ≡ self.old) }
     {
-        let _ = self.map.insert(number, Kept::new(self.alloc, slot)?)?;
-        Ok(())
+        self.map.insert(number, slot)
     }
 
     pub fn remove(&mut self, number: u32)
         ensures { self.new ≡ remove self.old number }
     {
-        let _ = self.map.remove(&number);
+        let _ = self.map.remove(number);
     }
 
     /// Takes a task to its next action.
@@ -82,10 +77,9 @@ impl Slots {
         ensures stand { (tasks : ℕ → Option Running) → AllGo (plain_code code.now) tasks → AllStand (plain_code code.now) self.old tasks → AllStand (plain_code code.now) self.new tasks }
         ensures at { IfOk result (λ action. OfSlot (get self.new number) (StandsAt (plain_code code.now) action)) }
     {
-        let Some(slot) = self.map.get_mut(&number) else {
+        let Some(slot) = self.map.get_mut(number) else {
             unreachable!()
         };
-        let slot = slot.get_mut();
         slot.advance(alloc, code)
     }
 
@@ -94,10 +88,9 @@ impl Slots {
         requires { OfSlot (get self.old number) (λ slot. Unit {0}) }
         ensures { OfSlot (get self.old number) (λ slot. self.new ≡ insert self.old number (record { task = slot.task; pending = Some answer })) }
     {
-        let Some(slot) = self.map.get_mut(&number) else {
+        let Some(slot) = self.map.get_mut(number) else {
             unreachable!()
         };
-        let slot = slot.get_mut();
         slot.pending = Some(answer);
     }
 
@@ -107,10 +100,9 @@ impl Slots {
         ensures was { get self.old number ≡ Some result }
         ensures put { self.new ≡ insert self.old number slot }
     {
-        let Some(place) = self.map.get_mut(&number) else {
+        let Some(place) = self.map.get_mut(number) else {
             unreachable!()
         };
-        let place = place.get_mut();
         mem::replace(place, slot)
     }
 

@@ -6,6 +6,7 @@ ghost use Rattle.exec_machine.specs.Running.{AllGo};
 
 use crate::outcome::limited;
 use crate::run::Run;
+use crate::schedule::Schedule;
 use crate::slot::Slot;
 use crate::slots::Slots;
 use code_instrs::Code;
@@ -30,7 +31,7 @@ pub fn start(alloc: Global, code: &Code, limits: Limits, argument: i32) -> Resul
     Ok(Run {
         world,
         slots,
-        schedule: Items::new(alloc),
+        schedule: Schedule::new(alloc),
         outcome,
     })
 }

@@ -1,5 +1,5 @@
 -- How a run comes out, over plain variables.
-use Rattle.std.proofs.Common.{arith, ◌-◌, ◌≡◌, ◌↔◌, ◌≤◌, ◌+◌, ℕ, ℤ, Bool, true, false, IsTrue, List, [], ◌∷◌, ◌++◌, length, All, Option, Some, None, IfOk, Result, Ok, Err, refl, sym, ap, ◌∙◌, subst}
+use Rattle.std.proofs.Common.{arith, ◌-◌, ◌≡◌, ◌↔◌, ◌≤◌, ◌+◌, ℕ, ℤ, Bool, false, IsTrue, List, [], ◌∷◌, ◌++◌, length, All, Option, Some, None, IfOk, Result, Ok, Err, refl, sym, ap, ◌∙◌, subst}
 use Rattle.std.proofs.lemmas.Bool.{false≢true}
 use Rattle.std.proofs.lemmas.List.{length-append}
 use Rattle.lang_base.specs.declared.memory.NoMemory.{NoMemory}
@@ -10,7 +10,7 @@ use Rattle.code_instrs.specs.declared.code.Site.{Site}
 use Rattle.code_instrs.specs.Plain.{plain_code}
 use Rattle.exec_task.specs.Halts.{IsWidthBounded}
 use Rattle.exec_machine.specs.Keeping.{Played, IsReplayed, GreedilyOn, here, further}
-use Rattle.exec_run.specs.Run.{IsRunOf, IsSameRun, HasNoRun, halted, never_begun, finished, IsOpened, opened, too_wide, IsFinished, IsRun}
+use Rattle.exec_run.specs.Run.{IsRunOf, IsSameRun, HasNoRun, halted, never_begun, IsOpened, opened, too_wide, IsFinished, IsRun}
 use Rattle.exec_run.specs.Run.{finished_so, unfinished_so, recorded_so, no_record}
 use Rattle.exec_run.specs.declared.recorded.Recorded.{Recorded}
 use Rattle.exec_run.specs.declared.workers.working.Worked.{Worked}

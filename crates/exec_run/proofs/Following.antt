@@ -1,5 +1,5 @@
 -- What a schedule comes to, over plain variables.
-use Rattle.std.proofs.Common.{◌≡◌, ◌+◌, arith, ℕ, ℤ, List, [], length, sum, Some, None, ap, sym, subst, ◌∙◌}
+use Rattle.std.proofs.Common.{◌≡◌, ◌+◌, arith, ℕ, ℤ, List, [], length, sum, None, ap, sym, subst, ◌∙◌}
 use Rattle.lang_base.specs.declared.outcome.Limits.{Limits}
 use Rattle.lang_typed.specs.Plain.{PlainProgram}
 use Rattle.code_instrs.specs.Plain.{plain_code}
@@ -8,7 +8,7 @@ use Rattle.exec_run.specs.declared.history.replaying.ReplayStop.TheVariants as s
 use Rattle.exec_machine.specs.Keeping.{IsReplayed, Played}
 use Rattle.exec_run.specs.Replays.{HasFollowed, IsFollowed, IsMadeBy, ran, unfit, halted}
 use Rattle.exec_run.specs.Replays.{too_wide as never_begun}
-use Rattle.exec_run.specs.Run.{IsOpened, IsRecordOf, IsRunOf, too_wide}
+use Rattle.exec_run.specs.Run.{IsOpened, IsRunOf, too_wide}
 use Rattle.exec_run.specs.declared.recorded.Recorded.{Recorded}
 use Rattle.exec_run.specs.declared.replaying.Replayed.TheVariants.{Ran, Unfit, Halted}
 
@@ -33,7 +33,7 @@ module _ (P : PlainProgram) (L : Limits) (argument : ℤ) (schedule : List ℕ) 
     counted = ap (λ (q : Played). length q.schedule) made.machine ∙ all_own (length p.schedule) r.record.own r.record.shares made.no_shares made.own;
   }) (ap (λ (q : Played). q.schedule) made.machine ∙ whole.is_at.is_schedule)
 
-  made_so : (count : ℕ) (p : Played) → HasMade m.code m.limits m.argument schedule count p → HasFollowed P L argument schedule count p
+  pub made_so : (count : ℕ) (p : Played) → HasMade m.code m.limits m.argument schedule count p → HasFollowed P L argument schedule count p
   made_so count p made = record {
     code = m.code;
     is_code = is.is_code;

@@ -1,4 +1,5 @@
 pub mod Coming
 pub mod Following
+pub mod Happening
 pub mod Rounded
 pub mod Seeded

@@ -1,5 +1,6 @@
 pub mod Run
 pub mod Replays
+pub mod Events
 pub mod Rounding
 pub mod Seeding
 pub mod desk

@@ -1,12 +1,11 @@
 -- How a run of a typed program comes out.
-use Rattle.std.specs.Prelude.{◌≡◌, ◌+◌, ◌⊎◌, ℕ, ℤ, All, [], length, sum, Option, Some, None}
+use Rattle.std.specs.Prelude.{◌≡◌, ◌+◌, ℕ, ℤ, All, [], length, sum, Option, Some, None}
 use Rattle.lang_base.specs.declared.outcome.Limits.{Limits}
 use Rattle.lang_base.specs.declared.outcome.Outcome.{Outcome}
 use Rattle.lang_typed.specs.Plain.{PlainProgram}
 use Rattle.code_instrs.specs.declared.code.Code.{Code}
 use Rattle.code_instrs.specs.Plain.{plain_code}
 use Rattle.code_scheme.specs.Whole.{compiled}
-use Rattle.exec_run.specs.declared.history.record.Record.{Record}
 use Rattle.exec_task.specs.Halts.{IsWidthBounded}
 use Rattle.exec_machine.specs.declared.halted.Halted.TheVariants.{Stuck}
 use Rattle.exec_machine.specs.Keeping.{Played, IsReplayed, HaltsGreedily, GreedilyOn, HasEnded}

@@ -45,7 +45,8 @@ use Rattle.exec_world.specs.Costs.{Within as MachineWithin, cells_of as machine_
 use Rattle.exec_world.specs.World.{at_start as world_at_start, with_heap, world_after, written_at}
 use Rattle.exec_world.specs.declared.event.Event.{Event as DeclaredEvent}
 use Rattle.exec_world.specs.declared.world.World.{World}
-use Rattle.exec_machine.specs.Events.{MadeEvent, Makes, MakesNext, makes, meets_limit, opens}
+use Rattle.exec_machine.specs.declared.made_event.MadeEvent.{MadeEvent}
+use Rattle.exec_machine.specs.Events.{Makes, MakesNext, makes, meets_limit, opens}
 use Rattle.exec_machine.specs.Replay.{Moment, NextOf, CanBeMade, Opens, LeadsTo, after, came_to, limited, number_given, opened, outcome_after}
 use Rattle.exec_machine.specs.Replay.{made as made_so, over as over_so, no_room as no_room_so}
 use Rattle.runs_simulation.specs.Alike.{AnswerAlike, EventAlike, EventsAlike, SightOf}

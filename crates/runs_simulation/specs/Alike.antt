@@ -24,7 +24,7 @@ use Rattle.exec_task.specs.declared.action.Answer.{Answer as DeclaredAnswer}
 use Rattle.exec_task.specs.declared.action.Answer.TheVariants as answer
 use Rattle.exec_task.specs.declared.action.Ending.{Ending as DeclaredEnding}
 use Rattle.exec_task.specs.declared.action.Ending.TheVariants as ending
-use Rattle.exec_machine.specs.Events.{MadeEvent}
+use Rattle.exec_machine.specs.declared.made_event.MadeEvent.{MadeEvent}
 
 -- the names of the objects, and the paths of the tasks, by their numbers
 pub record Sight : Type 0 where

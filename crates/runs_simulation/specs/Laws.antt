@@ -17,7 +17,8 @@ use Rattle.exec_task.specs.declared.action.Action.TheVariants as action
 use Rattle.exec_locks.specs.Locks.{HasEntry}
 use Rattle.exec_world.specs.Ready.{IsReady}
 use Rattle.exec_world.specs.declared.world.World.{World}
-use Rattle.exec_machine.specs.Events.{MadeEvent, Makes}
+use Rattle.exec_machine.specs.declared.made_event.MadeEvent.{MadeEvent}
+use Rattle.exec_machine.specs.Events.{Makes}
 use Rattle.exec_machine.specs.Replay.{IsStuck, LeadsTo, Moment}
 use Rattle.lang_meaning.specs.Reported.{reported}
 use Rattle.runs_simulation.specs.Alike.{EventsAlike, Sight, SightOf}

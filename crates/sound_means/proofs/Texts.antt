@@ -32,7 +32,8 @@ use Rattle.syntax_means.specs.Declares.{names_in}
 use Rattle.syntax_means.specs.Means.{Means}
 use Rattle.sound_lemmas.specs.Accepted.{IsAccepted, SmallHasRows}
 use Rattle.sound_bodies.specs.Laws.{AcceptedIsWellTyped}
-use Rattle.sound_means.specs.Laws.{AcceptedMeans, PassedMeans, NamesMean}
+use Rattle.sound_means.specs.Laws.{AcceptedMeans, FieldNamesMean, PassedMeans, NamesMean}
+use Rattle.tool_front.specs.Judging.{field_names_in}
 use Rattle.sound_means.proofs.Names.{names_alike}
 use Rattle.sound_means.proofs.Unambiguous.{unambiguous}
 
@@ -115,3 +116,12 @@ names_mean cutting written has_rows text names tree short are tree_of =
     (tree_of.names ∙ ap (names_with text []) same ∙ sym derived.names) in
     let is : IsAccepted program has.table has.bodies = passes has_rows text are.tokens are.end program has.table has.bodies short are.cut derived has.has_table has.checked in
     has.named_so ∙ names_alike program has.table has.bodies (written text are.tokens are.end program short are.cut derived) is ∙ ap names_in (sym one)
+
+pub field_names_mean : OneCutting → FieldNamesMean
+field_names_mean cutting text fields tree are tree_of =
+    let has = are.has_names in
+    let same = (cutting.tokens text tree_of.tokens are.tokens tree_of.end are.end tree_of.cut are.cut).0 in
+    let one : tree ≡ has.program =
+    tree_once text are.tokens tree has.program tree_of.list tree.names refl (subst (λ ts. MeanAll tree.names text ts tree_of.list) same tree_of.said) tree_of.derived has.derived
+    (tree_of.names ∙ ap (names_with text []) same ∙ sym has.derived.names) in
+    has.named_so ∙ ap field_names_in (sym one)

@@ -12,7 +12,8 @@ use Rattle.body_assembly.specs.Assembled.{PlainBody}
 use Rattle.syntax_laws.specs.Written.{IsWritten}
 use Rattle.sound_bodies.specs.Whole.{made_of}
 use Rattle.sound_lemmas.specs.Accepted.{IsAccepted}
-use Rattle.tool_front.specs.Front.{AreNames, IsPassed}
+use Rattle.tool_front.specs.Front.{AreFieldNames, AreNames, IsPassed}
+use Rattle.tool_front.specs.Judging.{field_names_in}
 
 -- the typed program that is made of an accepted one, of no more names than numbers, is what its tree means
 abbrev pub AcceptedMeans : Type 0
@@ -27,3 +28,7 @@ PassedMeans = (text : List ℕ) (place : Place) (typed : PlainProgram) → lengt
 -- and its names are those of the tree
 abbrev pub NamesMean : Type 0
 NamesMean = (text : List ℕ) (names : ProgramNames) (tree : Program) → length text ≤ 1048576 → AreNames text names → HasTree text tree → names ≡ names_in tree
+
+-- so are the names of the fields that each class declares itself
+abbrev pub FieldNamesMean : Type 0
+FieldNamesMean = (text : List ℕ) (fields : List (List (List ℕ))) (tree : Program) → AreFieldNames text fields → HasTree text tree → fields ≡ field_names_in tree

@@ -8,7 +8,7 @@ use Rattle.syntax_tree.specs.declared.class.Program.{Program}
 use Rattle.syntax_parse.specs.Program.{IsProgram, IsGrammarFault}
 use Rattle.lang_typed.specs.Names.{ProgramNames}
 use Rattle.lang_typed.specs.Plain.{PlainProgram}
-use Rattle.tool_front.specs.Judging.{HasNames, IsAccepted, IsFaulty}
+use Rattle.tool_front.specs.Judging.{HasNames, IsAccepted, IsFaulty, field_names_in}
 
 -- the tokens of a text derive a program, and it is accepted as this typed program
 pub record HasProgram (text : List ℕ) (tokens : List Token) (typed : PlainProgram) : Type 0 where
@@ -41,6 +41,18 @@ pub record AreNames (text : List ℕ) (names : ProgramNames) : Type 0 where
   pub end : Place
   pub cut : Cuts text tokens end
   pub has_named : HasNamed text tokens names
+
+-- the tokens of a text derive a program, and these are the names of the fields that each of its classes declares itself
+pub record HasFieldNames (text : List ℕ) (tokens : List Token) (fields : List (List (List ℕ))) : Type 0 where
+  pub program : Program
+  pub derived : IsProgram text tokens program
+  pub named_so : fields ≡ field_names_in program
+
+pub record AreFieldNames (text : List ℕ) (fields : List (List (List ℕ))) : Type 0 where
+  pub tokens : List Token
+  pub end : Place
+  pub cut : Cuts text tokens end
+  pub has_names : HasFieldNames text tokens fields
 
 -- the fault that is reported of the tokens of a text: that of their grammar, or that of the program that they derive
 pub data IsTokenFault (text : List ℕ) (tokens : List Token) (end : Place) (refusal : Refusal) : Type 0 where

@@ -1,11 +1,12 @@
 -- What becomes of a program after its grammar: it is accepted as a typed program, or refused for the first fault of its class
 -- table or of its bodies.
-use Rattle.std.specs.Prelude.{◌≡◌, List, map, Ok, Err}
+use Rattle.std.specs.Prelude.{◌≡◌, ℕ, List, map, Ok, Err}
 use Rattle.lang_base.specs.declared.refusal.Refusal.{Refusal}
 use Rattle.syntax_tree.specs.declared.class.Program.{Program}
 use Rattle.decl_table.specs.declared.table.Table.{Table}
 use Rattle.decl_classes.specs.Build.{HasTable, IsReported}
 use Rattle.body_check.specs.Keeping.{ProgramKeeps}
+use Rattle.syntax_means.specs.Declares.{own_fields, spelled}
 use Rattle.syntax_tree.specs.Nd.{program_uses_nd}
 use Rattle.lang_typed.specs.Names.{ProgramNames}
 use Rattle.lang_typed.specs.Plain.{PlainProgram}
@@ -36,6 +37,10 @@ pub record HasNames (program : Program) (names : ProgramNames) : Type 0 where
 pub data IsFaulty (program : Program) (refusal : Refusal) : Type 0 where
   of_table : IsReported program refusal → IsFaulty program refusal
   of_bodies : (table : Table) → HasTable program table → BodiesChecking program table (Err refusal) → IsFaulty program refusal
+
+-- of each class the names of the fields that it declares itself
+abbrev pub field_names_in : Program → List (List (List ℕ))
+field_names_in program = map (λ class. map (λ field. spelled program field.name) (own_fields class)) program.classes
 
 -- the typed program that a class table, the names of a text and what the checker made of its bodies are put together to
 abbrev pub typed_of : Passed → PlainProgram

@@ -6,6 +6,7 @@
 //! text. A program has one verdict at most (`one_judgement`).
 #![tactic(auto)]
 
+mod fields;
 mod laws;
 mod passing;
 

@@ -2,9 +2,10 @@ ghost use Rattle.std.specs.Prelude.{◌≡◌, ◌≤◌, length, IfOk, IfErr};
 ghost use Rattle.lang_base.specs.Refused.{IfRefused};
 ghost use Rattle.decl_headers.specs.Second.{AreCounted};
 ghost use Rattle.syntax_tokens.specs.Cutting.{StandInOrder};
-ghost use Rattle.tool_front.specs.Front.{AreNames, HasNamed, HasProgram, IsFault, IsPassed, IsTokenFault, first_place};
-ghost use Rattle.tool_front.specs.Judging.{HasNames, IsAccepted, IsFaulty, names_of_passed, typed_of};
+ghost use Rattle.tool_front.specs.Front.{AreFieldNames, AreNames, HasFieldNames, HasNamed, HasProgram, IsFault, IsPassed, IsTokenFault, first_place};
+ghost use Rattle.tool_front.specs.Judging.{field_names_in, HasNames, IsAccepted, IsFaulty, names_of_passed, typed_of};
 
+use crate::fields::field_names;
 use body_assembly::program;
 use body_check::{Accepted, check};
 use decl_classes::build;
@@ -23,6 +24,8 @@ pub struct Passed {
     pub names: Items<Bytes>,
     pub table: Table,
     pub checked: Accepted,
+    /// Of each class the names of the fields that it declares itself.
+    pub fields: Items<Items<Bytes>>,
     pub place: Place,
 }
 
@@ -51,6 +54,29 @@ impl Passed {
             checked.bodies,
         )
     }
+
+    /// The typed program, with the names of the fields that each class declares itself.
+    pub fn spelled(self, alloc: Global) -> Result<(Program, Items<Items<Bytes>>), NoMemory>
+        ensures typed { IfOk result (λ made. plain_program made.0 ≡ typed_of self) }
+        ensures named { IfOk result (λ made. names_of made.0 ≡ names_of_passed self) }
+        ensures fields { IfOk result (λ made. made.1 ≡ self.fields) }
+    {
+        let Passed {
+            names,
+            table,
+            checked,
+            fields,
+            ..
+        } = self;
+        let typed = program(
+            alloc,
+            names.as_slice(),
+            &table,
+            checked.uses_nd,
+            checked.bodies,
+        )?;
+        Ok((typed, fields))
+    }
 }
 
 /// The program of a text, or the text's first fault.
@@ -58,6 +84,7 @@ pub fn front(alloc: Global, text: &[u8]) -> Result<Passed, Stop>
     requires { length text.now ≤ 1048576 }
     ensures accepted { IfOk result (λ passed. IsPassed text.now passed.place (typed_of passed)) }
     ensures named { IfOk result (λ passed. AreNames text.now (names_of_passed passed)) }
+    ensures fields { IfOk result (λ passed. AreFieldNames text.now passed.fields) }
     ensures fault { IfErr result (λ stop. IfRefused stop (IsFault text.now)) }
 {
     let tokens = tokens(alloc, text)?;
@@ -70,6 +97,7 @@ fn judge_text(alloc: Global, text: &[u8], tokens: &Tokens) -> Result<Passed, Sto
     requires stand { StandInOrder text.now 0 tokens.now.list }
     ensures accepted { IfOk result (λ passed. HasProgram text.now tokens.now.list (typed_of passed)) }
     ensures named { IfOk result (λ passed. HasNamed text.now tokens.now.list (names_of_passed passed)) }
+    ensures fields { IfOk result (λ passed. HasFieldNames text.now tokens.now.list passed.fields) }
     ensures place { IfOk result (λ passed. passed.place ≡ first_place tokens.now.list tokens.now.end) }
     ensures fault { IfErr result (λ stop. IfRefused stop (IsTokenFault text.now tokens.now.list tokens.now.end)) }
 {
@@ -82,16 +110,19 @@ fn judge_program(alloc: Global, tree: Tree, place: Place) -> Result<Passed, Stop
     requires counted { AreCounted (length tree.names) tree.classes }
     ensures accepted { IfOk result (λ passed. IsAccepted tree (typed_of passed)) }
     ensures named { IfOk result (λ passed. HasNames tree (names_of_passed passed)) }
+    ensures fields { IfOk result (λ passed. passed.fields ≡ field_names_in tree) }
     ensures place { IfOk result (λ passed. passed.place ≡ place) }
     ensures fault { IfErr result (λ stop. IfRefused stop (IsFaulty tree)) }
 {
     let table = build(alloc, &tree)?;
     let checked = check(alloc, &tree, &table)?;
+    let fields = field_names(alloc, &tree)?;
     let Tree { names, .. } = tree;
     Ok(Passed {
         names,
         table,
         checked,
+        fields,
         place,
     })
 }

@@ -8,4 +8,6 @@ pub mod Owed
 pub mod Once
 pub mod Schedules
 pub mod Following
+pub mod Telling
+pub mod Rounds
 pub mod OnTraces

@@ -7,11 +7,9 @@ use Rattle.syntax_tree.specs.declared.class.Program.{Program}
 use Rattle.syntax_means.specs.Accepts.{Accepts}
 use Rattle.syntax_means.specs.Declares.{names_in}
 use Rattle.body_infer.specs.Lines.{lines_of}
-use Rattle.body_infer.specs.PostFixpoint.{IsInferred}
 use Rattle.sound_infer.specs.Laws.{program_inferred}
 use Rattle.sound_infer.proofs.Lines.{same_lines}
-use Rattle.sound_infer.proofs.written.Choosing.{kept_can_be_written}
-use Rattle.sound_infer.proofs.written.Programs.{kept_is_accepted}
+use Rattle.tool_front.specs.Judging.{field_names_in}
 use Rattle.tool_words.specs.Jobs.{job}
 use Rattle.tool_words.specs.Reports.{report_of, status_of}
 use Rattle.tool_words.specs.declared.command.Command.{Command}
@@ -22,9 +20,9 @@ use Rattle.tool_words.specs.declared.verdict.Status.TheVariants as ended
 use Rattle.tool_words.specs.declared.verdict.Verdict.{Verdict}
 use Rattle.tool_words.specs.declared.verdict.Verdict.TheVariants.{Ran, Effects, Usage}
 use Rattle.tool_top.specs.declared.answered.Answered.{Answered}
-use Rattle.tool_top.specs.Answer.{IsAnswer, IsAnswerOn, IsAcceptedAs, IsElided, IsRan, IsWithin, TellsEffects, asks_run, faulty, of_program, only, verdict_by, verdict_of, to_check, to_effects, to_elide, to_list, to_run, too_long}
+use Rattle.tool_top.specs.Answer.{IsAnswer, IsAnswerOn, IsAcceptedAs, IsElided, IsRan, IsShown, IsWithin, TellsEffects, asks_run, faulty, of_program, only, shown_verdict, verdict_by, verdict_of, to_check, to_effects, to_events, to_elide, to_list, to_run, too_long}
 use Rattle.tool_top.specs.Call.{AnswersBy, AnswersSome, Appends, IsAnswered, Tells, TellsOfVerdict}
-use Rattle.tool_top.specs.Guarantee.{AsksElision, IsReported, MustReport, ReportsElision, ReportsProgram, ReportsRun, ReportsSummaries, TellsOfProgram, elision_for}
+use Rattle.tool_top.specs.Guarantee.{AsksElision, IsReported, MustReport, MustTell, ReportsElision, ReportsEvents, ReportsProgram, ReportsRun, ReportsSummaries, TellsOfProgram, elision_for}
 use Rattle.tool_top.specs.Keeps.{KeepsGuarantee}
 use Rattle.tool_top.proofs.Ranges.{words_within}
 
@@ -46,6 +44,7 @@ asked_of_program command.Elide asked text answered never a = a
 asked_of_program command.«List» asked text answered never a = a
 asked_of_program command.Demo asked text answered never a = a
 asked_of_program command.Trace asked text answered never a = a
+asked_of_program command.Events asked text answered never a = a
 asked_of_program command.Effects asked text answered never a = a
 asked_of_program command.Cost asked text answered never a = a
 
@@ -81,6 +80,7 @@ module _ (keeps : KeepsGuarantee) (words : List (List ℕ)) (read left before af
         by : IsAnswerOn asked text typed tells.answered → IsRan asked text typed tells.answered
         by (to_run c is) = is
         by (to_check c is) = absurd (other command.Check c refl)
+        by (to_events c is) = absurd (other command.Events c refl)
         by (to_elide c is) = absurd (other command.Elide c refl)
         by (to_list c is) = absurd (other command.«List» c refl)
         by (to_effects c is) = absurd (other command.Effects c refl)
@@ -92,6 +92,7 @@ module _ (keeps : KeepsGuarantee) (words : List (List ℕ)) (read left before af
         by (to_elide c is) = is
         by (to_run c is) = absurd (true_false (sym c ∙ ap asks_run elide))
         by (to_check c is) = absurd (cc (sym elide ∙ c))
+        by (to_events c is) = absurd (cc (sym elide ∙ c))
         by (to_list c is) = absurd (cc (sym elide ∙ c))
         by (to_effects c is) = absurd (cc (sym elide ∙ c))
 
@@ -118,7 +119,44 @@ module _ (keeps : KeepsGuarantee) (words : List (List ℕ)) (read left before af
           is = tells.run_recorded ∙ ap (λ (a : Answered). a.recorded) known.is;
           outcome = known.made.outcome;
           comes = known.comes;
+          in_rounds = known.in_rounds;
           reported = verdict_reported (verdict_of asked text known.made.record.machine.schedule known.made.record.rounds known.made.outcome) (ap (λ (a : Answered). a.verdict) known.is);
+        }
+
+    shown_so : asked.command ≡ command.Events → IsShown asked text typed tells.answered
+    shown_so events = by on
+      where
+        by : IsAnswerOn asked text typed tells.answered → IsShown asked text typed tells.answered
+        by (to_events c is) = is
+        by (to_run c is) = absurd (true_false (sym c ∙ ap asks_run events))
+        by (to_check c is) = absurd (cc (sym events ∙ c))
+        by (to_elide c is) = absurd (cc (sym events ∙ c))
+        by (to_list c is) = absurd (cc (sym events ∙ c))
+        by (to_effects c is) = absurd (cc (sym events ∙ c))
+
+    owed_events : asked.command ≡ command.Events → ReportsEvents asked read left before after status recorded
+    owed_events events =
+        let shown = shown_so events in
+        let known = keeps.made asked text place typed shown.made within accepted shown.run meant.1.well_typed in
+        let named : shown.names ≡ names_in meant.0 = keeps.names text shown.names meant.0 accepted.0 shown.are_names meant.1.has_tree in
+        let spelled : shown.fields ≡ field_names_in meant.0 = keeps.fields text shown.fields meant.0 shown.are_fields meant.1.has_tree in
+        record {
+          text = text;
+          is_text = some.is_text;
+          tree = meant.0;
+          typed = typed;
+          accepts = meant.1;
+          made = shown.made.record;
+          is = tells.run_recorded ∙ ap (λ (a : Answered). a.recorded) shown.is;
+          outcome = shown.made.outcome;
+          comes = known.comes;
+          elided = known.elided;
+          events = shown.events;
+          are_events = known.told shown.events shown.are_events;
+          reported = verdict_reported (shown_verdict asked (record { program = typed; names = names_in meant.0; fields = field_names_in meant.0 }) shown.events shown.made.outcome)
+              (ap (λ (a : Answered). a.verdict) shown.is
+              ∙ ap (λ n. shown_verdict asked (record { program = typed; names = n; fields = shown.fields }) shown.events shown.made.outcome) named
+              ∙ ap (λ f. shown_verdict asked (record { program = typed; names = names_in meant.0; fields = f }) shown.events shown.made.outcome) spelled);
         }
 
     told_so : asked.command ≡ command.Effects → TellsEffects text typed tells.answered
@@ -128,6 +166,7 @@ module _ (keeps : KeepsGuarantee) (words : List (List ℕ)) (read left before af
         by (to_effects c is) = is
         by (to_run c is) = absurd (true_false (sym c ∙ ap asks_run effects))
         by (to_check c is) = absurd (cc (sym effects ∙ c))
+        by (to_events c is) = absurd (cc (sym effects ∙ c))
         by (to_elide c is) = absurd (cc (sym effects ∙ c))
         by (to_list c is) = absurd (cc (sym effects ∙ c))
 
@@ -139,8 +178,6 @@ module _ (keeps : KeepsGuarantee) (words : List (List ℕ)) (read left before af
           kept = told.kept;
           inferred = told.inferred;
           well_typed = keeps.summaries text place typed told.kept accepted told.inferred;
-          written = kept_can_be_written meant.0 typed told.kept (IsInferred.says told.inferred) (Accepts.means meant.1);
-          accepted = λ other new says has. kept_is_accepted text other meant.0 new typed told.kept (IsInferred.says told.inferred) (IsInferred.post_fixpoint told.inferred) says meant.1 has;
           reported = subst (λ n. IsReported (Effects (lines_of (program_inferred told.kept typed) n)) before after status) named
               (verdict_reported (Effects (lines_of (program_inferred told.kept typed) told.names))
               (ap (λ (a : Answered). a.verdict) told.tells ∙ ap Effects (sym (same_lines told.kept typed told.names))));
@@ -162,18 +199,30 @@ module _ (keeps : KeepsGuarantee) (words : List (List ℕ)) (read left before af
   not_refused : (answered : Answered) → answered ≡ tells.answered → status_of answered.verdict ≡ ended.Refused → ⊥
   not_refused answered same refused = subst TellsOfProgram (tells.status_reported ∙ ap (λ (a : Answered). status_of a.verdict) (sym same) ∙ refused) of_program_so
 
-  by_answer : {answered : Answered} → IsAnswer asked text answered → answered ≡ tells.answered → ReportsProgram asked read left before after status recorded
-  by_answer (too_long h) same = absurd (not_refused _ same refl)
-  by_answer (faulty refusal short fault) same = absurd (not_refused _ same refl)
-  by_answer (of_program place typed answered accepted on) same = owed_program place typed accepted (subst (λ a. IsAnswerOn asked text typed a) same on)
+  -- so the text is accepted, and this is owed to its program
+  of_accepted : {X : Type 0} → ((place : Place) (typed : PlainProgram) → IsAcceptedAs text place typed → IsAnswerOn asked text typed tells.answered → X) → X
+  of_accepted {X} owes = by (asked_of_program asked.command asked text tells.answered never some.answers) refl
+    where
+      by : {answered : Answered} → IsAnswer asked text answered → answered ≡ tells.answered → X
+      by (too_long h) same = absurd (not_refused _ same refl)
+      by (faulty refusal short fault) same = absurd (not_refused _ same refl)
+      by (of_program place typed answered accepted on) same = owes place typed accepted (subst (λ a. IsAnswerOn asked text typed a) same on)
 
   owed_so : ReportsProgram asked read left before after status recorded
-  owed_so = by_answer (asked_of_program asked.command asked text tells.answered never some.answers) refl
+  owed_so = of_accepted owed_program
+
+  events_so : asked.command ≡ command.Events → ReportsEvents asked read left before after status recorded
+  events_so events = of_accepted (λ place typed accepted on. owed_events place typed accepted on events)
 
 pub owed : KeepsGuarantee → (words : List (List ℕ)) (read left before after : Option (List ℕ)) (status : Status) (recorded : Option Record)
     → Tells words read left before after status recorded → TellsOfProgram status → MustReport words read left before after status recorded
 owed keeps words read left before after status recorded tells of_program_so asked said never =
     owed_so keeps words read left before after status recorded tells of_program_so asked said never
+
+pub owed_tale : KeepsGuarantee → (words : List (List ℕ)) (read left before after : Option (List ℕ)) (status : Status) (recorded : Option Record)
+    → Tells words read left before after status recorded → TellsOfProgram status → MustTell words read left before after status recorded
+owed_tale keeps words read left before after status recorded tells of_program_so asked said events =
+    events_so keeps words read left before after status recorded tells of_program_so asked said (λ replay. absurd (cc (sym events ∙ replay))) events
 
 -- a status that tells of a program tells of a verdict
 pub program_tells : (status : Status) → TellsOfProgram status → TellsOfVerdict status

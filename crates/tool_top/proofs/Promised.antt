@@ -1,5 +1,5 @@
 -- Answers of runs by the source alone, over plain variables.
-use Rattle.std.proofs.Common.{◌≡◌, ◌∙◌, ◌≤◌, ℕ, ℤ, FitsSigned, false, List, Some, None, ap, sym, refl, reverse, subst}
+use Rattle.std.proofs.Common.{◌≡◌, ◌∙◌, ◌≤◌, ℕ, ℤ, FitsSigned, false, List, [], length, Some, None, ap, sym, refl, reverse, subst, arith}
 use Rattle.std.specs.Int.{w32}
 use Rattle.lang_base.specs.declared.outcome.Limits.{Limits}
 use Rattle.lang_base.specs.declared.outcome.Outcome.{Outcome}
@@ -20,7 +20,16 @@ use Rattle.exec_machine.specs.declared.halted.Halted.TheVariants as halt
 use Rattle.exec_run.specs.rounds.Rounds.{BreaksOff, at_once, within as in_turn}
 use Rattle.exec_run.specs.Run.{ComesOut, HasNoRun, IsElision, IsRunOf, finished, halted, never_begun, no_record, recorded_so, stuck, unfinished}
 use Rattle.exec_run.specs.Run.{not_at_all as never}
+use Rattle.exec_progress.specs.Progress.{CodeMakesProgress}
+use Rattle.exec_run.specs.Events.{AreEvents}
+use Rattle.exec_run.specs.declared.showing.Shown.{Shown}
 use Rattle.exec_run.specs.Replays.{IsFollowed}
+use Rattle.runs_program.specs.Laws.{EachKeeps}
+use Rattle.runs_simulation.specs.Laws.{EventForEvent, MachinesRecord, SomeTaskIsReady}
+use Rattle.runs_theorem.specs.Readiness.{MachinesAreReadyAsTheirRuns}
+use Rattle.tool_top.proofs.Following.{right_not_wrong}
+use Rattle.tool_top.proofs.Rounds.{rounds_in_source}
+use Rattle.tool_top.proofs.Telling.{told_events}
 use Rattle.exec_run.specs.declared.replaying.Replayed.TheVariants as replayed
 use Rattle.tool_trace.specs.Reading.{AreLimits}
 use Rattle.code_instrs.specs.Plain.{plain_code}
@@ -36,9 +45,10 @@ use Rattle.tool_words.specs.declared.job.Job.{Job}
 use Rattle.tool_words.specs.declared.verdict.Verdict.TheVariants.{Ran}
 use Rattle.tool_top.specs.declared.answered.Answered.{Answered}
 use Rattle.tool_top.specs.Answer.{IsAcceptedAs, IsElided, IsRan, IsRunBy, IsWithin, limits_of, only, verdict_of}
-use Rattle.sound_means.specs.Laws.{NamesMean, PassedMeans}
+use Rattle.sound_means.specs.Laws.{FieldNamesMean, NamesMean, PassedMeans}
 use Rattle.tool_top.specs.Guarantee.{ComesOutBy, elision_for}
-use Rattle.tool_top.specs.Keeps.{FollowsReduced, GoesOn, KeepsGuarantee, TellsElision, TellsReduced}
+use Rattle.tool_top.specs.Refusing.{RefusalsAreRight}
+use Rattle.tool_top.specs.Keeps.{FollowsReduced, GoesOn, IsMade, KeepsGuarantee, MadeReduced, TellsElision, TellsReduced}
 
 module _ (typed : PlainProgram) (keeps : Keeps typed) (L : Limits) (argument : ℤ) (few : L.steps ≤ 20000000) (fits : FitsSigned w32 argument) where
   few_steps : (p : Played) → IsRunOf typed L argument p → p.limits.steps ≤ 20000000
@@ -133,9 +143,9 @@ made_run mode.Rounds typed L argument workers r (by_rounds _ p is alone) =
 made_run (mode.Seeded seed) typed L argument workers r (by_seed _ p is alone) =
     (subst (λ q. IsRunOf typed L argument q) (sym alone.machine) is.is_run, ap (λ (q : Played). q.outcome) alone.machine ∙ alone.came)
 
-pub keeps_guarantee : MachinesComeOutAsElided → GreedyMachinesElide → MachinesAreReduced → MachinesElideInside → MachinesAreNotStuck → MachinesMakeProgress → PassedKeeps → InferredIsWellTyped → PassedMeans → NamesMean
-    → KeepsGuarantee
-keeps_guarantee machines greedy reduce inside never_stuck goes passed with_inferred means naming = record { means = λ text place typed accepted. means text place typed accepted.0 accepted.1; names = naming; typed_well = typed_well; goes_on = goes_further; follows = follows; replay = replay; run = run; reduce = reduces; elide = elide; greedy = greedily; summaries = summaries }
+pub keeps_guarantee : MachinesComeOutAsElided → GreedyMachinesElide → MachinesAreReduced → MachinesElideInside → MachinesAreNotStuck → MachinesMakeProgress → PassedKeeps → InferredIsWellTyped → PassedMeans → NamesMean → FieldNamesMean → EachKeeps → CodeMakesProgress
+    → MachinesRecord → EventForEvent → RefusalsAreRight → SomeTaskIsReady → MachinesAreReadyAsTheirRuns → KeepsGuarantee
+keeps_guarantee machines greedy reduce inside never_stuck goes passed with_inferred means naming spelling each going records alike refusals some_ready as_runs = record { means = λ text place typed accepted. means text place typed accepted.0 accepted.1; names = naming; fields = spelling; typed_well = typed_well; goes_on = goes_further; follows = follows; replay = replay; unfit = refusals; run = run; reduce = reduces; made = made_reduced; shows = shows; elide = elide; greedy = greedily; summaries = summaries }
   where
     kept : (text : List ℕ) (place : Place) (typed : PlainProgram) → IsAcceptedAs text place typed → Keeps typed
     kept text place typed accepted = passed text place typed accepted.0 accepted.1
@@ -209,7 +219,47 @@ keeps_guarantee machines greedy reduce inside never_stuck goes passed with_infer
             reduced = reduced_so typed keeps (limits_of job) job.arg within.0.steps_most within.1 reduce r.record.machine r.outcome m.0 m.1;
             inside = inside_so typed keeps (limits_of job) job.arg within.0.steps_most within.1 inside r.record.machine r.outcome m.0 m.1;
           };
+          in_rounds = λ rounds.
+              rounds_in_source each records some_ready as_runs typed (limits_of job) job.arg keeps.resolved keeps.has_main within.0.steps_most job.workers r
+              (subst (λ m. IsRunBy m typed (limits_of job) job.arg job.workers (Some r)) rounds ran.run);
         }
+
+    made_reduced : (job : Job) (text : List ℕ) (place : Place) (typed : PlainProgram) (r : Recorded) → IsWithin job → IsAcceptedAs text place typed
+        → IsRunBy job.mode typed (limits_of job) job.arg job.workers (Some r) → (well_typed : WellTyped typed) → MadeReduced job typed well_typed r
+    made_reduced job text place typed r within accepted run well_typed =
+        let keeps = record (kept text place typed accepted) { well_typed = well_typed } in
+        let m = made job typed r run in
+        let reduced = reduced_so typed keeps (limits_of job) job.arg within.0.steps_most within.1 reduce r.record.machine r.outcome m.0 m.1 in
+        record {
+          comes = record {
+            reduced = reduced;
+            inside = inside_so typed keeps (limits_of job) job.arg within.0.steps_most within.1 inside r.record.machine r.outcome m.0 m.1;
+          };
+          elided = λ none. reported_elision typed keeps (limits_of job) job.arg within.0.steps_most within.1 machines none r.record.machine r.outcome m.0 m.1;
+          told = told_events each records alike typed (limits_of job) job.arg keeps.resolved keeps.has_main within.0.steps_most r.record.machine.schedule reduced.outcome reduced.finished;
+        }
+
+    shows : (job : Job) (text : List ℕ) (place : Place) (typed : PlainProgram) (r : Recorded) (shown : Shown) → IsWithin job → IsAcceptedAs text place typed
+        → IsRunBy job.mode typed (limits_of job) job.arg job.workers (Some r) → AreEvents typed (limits_of job) job.arg r.record.machine.schedule shown → IsMade shown
+    shows job text place typed r shown within accepted run are = by are
+      where
+        ks : Keeps typed
+        ks = kept text place typed accepted
+
+        on : IsFollowed typed (limits_of job) job.arg r.record.machine.schedule replayed.Halted → ⊥
+        on = follows_on typed ks (limits_of job) job.arg within.0.steps_most within.1 never_stuck goes within.0.cells_most r.record.machine.schedule
+
+        -- the same run as one of which the caller made all events
+        alone : Recorded
+        alone = record { «record» = record { machine = r.record.machine; shares = []; own = length r.record.machine.schedule; rounds = 0 }; outcome = r.outcome }
+
+        by : {s : Shown} → AreEvents typed (limits_of job) job.arg r.record.machine.schedule s → IsMade s
+        by (AreEvents.made code xs m is those some) = tt
+        by (AreEvents.unfit at p followed wrong) =
+            right_not_wrong each going typed (limits_of job) job.arg ks.resolved ks.has_main within.0.steps_most r.record.machine.schedule alone
+            (record { is_run = (made job typed r run).0; came = (made job typed r run).1; seats = refl; counted = omega arith }) refl at p followed wrong
+        by (AreEvents.halted at p followed why) = on (IsFollowed.halted at p followed why)
+        by (AreEvents.too_wide wide) = on (IsFollowed.too_wide wide)
 
     elide : (job : Job) (text : List ℕ) (place : Place) (typed : PlainProgram) (answered : Answered) → IsWithin job → IsAcceptedAs text place typed
         → IsElided job typed answered → answered ≡ only (Ran (elision_for job typed))

@@ -22,7 +22,7 @@ module _ (P : Program) (D : Disciplined P) (L : Limits) where
   next_of_finished k ks o (over _ _ R e r h n) = (R, e, r, h)
 
   -- a number whose event would be over a limit is in no run
-  over_not_ran : (k : ℕ) (ks : List ℕ) (S : Run) (f : Event) (R : Run) → Ran P L ks S → Ready P S k f → (Within P L (f ∷ S) → ⊥) → Ran P L (k ∷ ks) R → ⊥
+  pub over_not_ran : (k : ℕ) (ks : List ℕ) (S : Run) (f : Event) (R : Run) → Ran P L ks S → Ready P S k f → (Within P L (f ∷ S) → ⊥) → Ran P L (k ∷ ks) R → ⊥
   over_not_ran k ks S f [] s g n r = r
   over_not_ran k ks S f (e ∷ R) s g n r =
       let same : S ≡ R = one_run P D L ks S R s r.0 in

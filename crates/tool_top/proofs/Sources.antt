@@ -17,7 +17,7 @@ use Rattle.tool_top.specs.declared.answered.Answered.{Answered}
 use Rattle.tool_top.specs.declared.call.Reply.{Reply}
 use Rattle.tool_top.specs.declared.call.Unread.{Unread}
 use Rattle.tool_top.specs.declared.call.Unread.TheVariants.{ReadFault}
-use Rattle.tool_top.specs.Answer.{IsAnswer, too_long, only, refused_at_start, most_bytes, asks_run}
+use Rattle.tool_top.specs.Answer.{IsAnswer, too_long, only, refused_at_start, most_bytes, makes_run}
 use Rattle.tool_top.specs.Call.{Answers, AnswersBy, AnswersSome, IsAnswered, IsTold, ReadToEnd, asks_text, makes_text, text_for, told_by}
 use Rattle.tool_top.specs.Replaying.{too_long as trace_too_long}
 use Rattle.tool_top.proofs.Traces.{replay-no-usage}
@@ -32,6 +32,7 @@ by-no-usage command.Elide asked text answered is e = answer-no-usage asked text 
 by-no-usage command.«List» asked text answered is e = answer-no-usage asked text answered is e
 by-no-usage command.Demo asked text answered is e = answer-no-usage asked text answered is e
 by-no-usage command.Trace asked text answered is e = answer-no-usage asked text answered is e
+by-no-usage command.Events asked text answered is e = answer-no-usage asked text answered is e
 by-no-usage command.Effects asked text answered is e = answer-no-usage asked text answered is e
 by-no-usage command.Cost asked text answered is e = answer-no-usage asked text answered is e
 
@@ -51,6 +52,7 @@ by-too-long command.Elide asked bytes answered is long = long-answer asked bytes
 by-too-long command.«List» asked bytes answered is long = long-answer asked bytes answered is long
 by-too-long command.Demo asked bytes answered is long = long-answer asked bytes answered is long
 by-too-long command.Trace asked bytes answered is long = long-answer asked bytes answered is long
+by-too-long command.Events asked bytes answered is long = long-answer asked bytes answered is long
 by-too-long command.Effects asked bytes answered is long = long-answer asked bytes answered is long
 by-too-long command.Cost asked bytes answered is long = long-answer asked bytes answered is long
 
@@ -119,11 +121,12 @@ not-made command.Elide demo = refl
 not-made command.«List» demo = refl
 not-made command.Trace demo = refl
 not-made command.Replay demo = refl
+not-made command.Events demo = refl
 not-made command.Effects demo = refl
 not-made command.Cost demo = refl
 
--- and a demo alone makes one, and asks for a run of it
-pub made-runs : (c : Command) → makes_text c ≡ true → asks_run c ≡ true
+-- and a demo alone makes one, of which a run is made
+pub made-runs : (c : Command) → makes_text c ≡ true → makes_run c ≡ true
 made-runs command.Demo made = refl
 made-runs command.Check made = absurd (false≢true made)
 made-runs command.Run made = absurd (false≢true made)
@@ -131,6 +134,7 @@ made-runs command.Elide made = absurd (false≢true made)
 made-runs command.«List» made = absurd (false≢true made)
 made-runs command.Trace made = absurd (false≢true made)
 made-runs command.Replay made = absurd (false≢true made)
+made-runs command.Events made = absurd (false≢true made)
 made-runs command.Effects made = absurd (false≢true made)
 made-runs command.Cost made = absurd (false≢true made)
 
@@ -143,6 +147,7 @@ by-program command.Elide asked text answered other is = is
 by-program command.«List» asked text answered other is = is
 by-program command.Demo asked text answered other is = is
 by-program command.Trace asked text answered other is = is
+by-program command.Events asked text answered other is = is
 by-program command.Effects asked text answered other is = is
 by-program command.Cost asked text answered other is = is
 

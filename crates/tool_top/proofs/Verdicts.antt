@@ -29,15 +29,26 @@ use Rattle.code_listing.specs.Laws.{TellsPlainCode}
 use Rattle.code_listing.specs.Listing.{listing_of, plain_listing}
 use Rattle.lang_typed.specs.Names.{ProgramNames}
 use Rattle.lang_typed.specs.Plain.{PlainProgram}
+use Rattle.exec_machine.specs.declared.made_event.MadeEvent.{MadeEvent}
+use Rattle.exec_run.specs.Events.{AreEvents}
+use Rattle.exec_run.specs.declared.showing.Shown.{Shown}
+use Rattle.exec_run.specs.declared.showing.Shown.TheVariants.{Made, Unfit, Halted}
 use Rattle.exec_run.specs.declared.recorded.Recorded.{Recorded}
-use Rattle.tool_front.specs.Front.{AreNames, IsFault}
+use Rattle.tool_front.specs.Front.{AreFieldNames, AreNames, IsFault}
+use Rattle.tool_trace.specs.events.Text.{events_text}
 use Rattle.tool_top.specs.declared.answered.Answered.{Answered}
-use Rattle.tool_top.specs.Answer.{IsAcceptedAs, IsAnswer, too_long, faulty, of_program, IsRan, IsRunBy, IsElided, IsListing, IsAnswerOn, to_check, to_run, to_elide, to_list, to_effects, TellsEffects, verdict_by, verdict_of, limits_of, only, asks_run, max_text}
+use Rattle.tool_top.specs.Answer.{IsAcceptedAs, IsAnswer, too_long, faulty, of_program, IsRan, IsRunBy, IsElided, IsListing, IsShown, IsAnswerOn, to_check, to_run, to_events, to_elide, to_list, to_effects, TellsEffects, verdict_by, verdict_of, limits_of, only, asks_run, makes_run, max_text, shown_verdict}
+use Rattle.tool_top.specs.Keeps.{IsMade}
 
 pub ending_status-no-usage : (ending : Ending) → ending_status ending ≡ ended.Usage → ⊥
 ending_status-no-usage (Done value) e = cc
 ending_status-no-usage (Trapped trap place) e = cc
 ending_status-no-usage Limited e = cc
+
+pub ending_status-no-refusal : (ending : Ending) → ending_status ending ≡ ended.Refused → ⊥
+ending_status-no-refusal (Done value) e = cc
+ending_status-no-refusal (Trapped trap place) e = cc
+ending_status-no-refusal Limited e = cc
 
 reported-no-usage : (c : Command) (job : Job) (text schedule : List ℕ) (rounds : ℕ) (outcome : Outcome) → status_of (verdict_by c job text schedule rounds outcome) ≡ ended.Usage → ⊥
 reported-no-usage command.Demo job text schedule rounds outcome e = ending_status-no-usage outcome.ending e
@@ -47,6 +58,7 @@ reported-no-usage command.Run job text schedule rounds outcome e = ending_status
 reported-no-usage command.Elide job text schedule rounds outcome e = ending_status-no-usage outcome.ending e
 reported-no-usage command.«List» job text schedule rounds outcome e = ending_status-no-usage outcome.ending e
 reported-no-usage command.Replay job text schedule rounds outcome e = ending_status-no-usage outcome.ending e
+reported-no-usage command.Events job text schedule rounds outcome e = ending_status-no-usage outcome.ending e
 reported-no-usage command.Effects job text schedule rounds outcome e = ending_status-no-usage outcome.ending e
 reported-no-usage command.Cost job text schedule rounds outcome e = ending_status-no-usage outcome.ending e
 
@@ -54,6 +66,9 @@ ran-no-usage : (job : Job) (text : List ℕ) (typed : PlainProgram) (answered : 
     → status_of answered.verdict ≡ ended.Usage → ⊥
 ran-no-usage job text typed answered r e =
     reported-no-usage job.command job text r.made.record.machine.schedule r.made.record.rounds r.made.outcome (ap (λ (a : Answered). status_of a.verdict) (sym r.is) ∙ e)
+
+shown-no-usage : (job : Job) (text : List ℕ) (typed : PlainProgram) (answered : Answered) → IsShown job text typed answered → status_of answered.verdict ≡ ended.Usage → ⊥
+shown-no-usage job text typed answered s e = ending_status-no-usage s.made.outcome.ending (ap (λ (a : Answered). status_of a.verdict) (sym s.is) ∙ e)
 
 listed-no-usage : (bytes : List ℕ) (answered : Answered) → answered ≡ only (Listed bytes) → status_of answered.verdict ≡ ended.Usage → ⊥
 listed-no-usage bytes answered is e = let s : status_of (Listed bytes) ≡ ended.Usage = ap (λ (a : Answered). status_of a.verdict) (sym is) ∙ e in cc
@@ -65,6 +80,7 @@ program-no-usage : (job : Job) (text : List ℕ) (typed : PlainProgram) (answere
     → status_of answered.verdict ≡ ended.Usage → ⊥
 program-no-usage job text typed answered (to_check asked is) e = cc
 program-no-usage job text typed answered (to_run asked is) e = ran-no-usage job text typed answered is e
+program-no-usage job text typed answered (to_events asked is) e = shown-no-usage job text typed answered is e
 program-no-usage job text typed answered (to_elide asked is) e =
     ending_status-no-usage is.outcome.ending (ap (λ (a : Answered). status_of a.verdict) (sym is.is) ∙ e)
 program-no-usage job text typed answered (to_list asked is) e = listed-no-usage _ answered is.lists e
@@ -97,12 +113,13 @@ pub effects-answer : (asked : Job) (text : List ℕ) (typed : PlainProgram) (res
 effects-answer asked text typed (Ok answered) is tells = to_effects is tells
 effects-answer asked text typed (Err none) is tells = tt
 
--- any other command than these that asks for no run and is no replay is to check
-pub is-check : (c : Command) → asks_run c ≡ false → c ≢ command.Elide → c ≢ command.«List» → c ≢ command.Effects → c ≢ command.Replay → c ≡ command.Check
+-- any other command than these of which no run is made and that is no replay is to check
+pub is-check : (c : Command) → makes_run c ≡ false → c ≢ command.Elide → c ≢ command.«List» → c ≢ command.Effects → c ≢ command.Replay → c ≡ command.Check
 is-check command.Check unrun elide list effects replay = refl
 is-check command.Run unrun elide list effects replay = absurd (false≢true (sym unrun))
 is-check command.Demo unrun elide list effects replay = absurd (false≢true (sym unrun))
 is-check command.Trace unrun elide list effects replay = absurd (false≢true (sym unrun))
+is-check command.Events unrun elide list effects replay = absurd (false≢true (sym unrun))
 is-check command.Cost unrun elide list effects replay = absurd (false≢true (sym unrun))
 is-check command.Elide unrun elide list effects replay = absurd (elide refl)
 is-check command.«List» unrun elide list effects replay = absurd (list refl)
@@ -120,24 +137,45 @@ pub ran-answer : (asked : Job) (text : List ℕ) (place : Place) (typed : PlainP
     → IfOk result (IsRan asked text typed) → IfOk result (IsAnswer asked text)
 ran-answer asked text place typed result accepted asks run = program-answer asked text place typed result accepted (run-answer asked text typed result asks run)
 
--- which commands ask for a run
-pub asks : (c : Command) → (c ≡ command.Demo) ⊎ (c ≡ command.Run) ⊎ (c ≡ command.Trace) ⊎ (c ≡ command.Cost) → asks_run c ≡ true
-asks c (inl demo) = ap asks_run demo
-asks c (inr (inl run)) = ap asks_run run
-asks c (inr (inr (inl trace))) = ap asks_run trace
-asks c (inr (inr (inr cost))) = ap asks_run cost
+-- and so are its events
+pub shown-answer : (asked : Job) (text : List ℕ) (place : Place) (typed : PlainProgram) (result : Result Answered NoMemory) → IsAcceptedAs text place typed → asked.command ≡ command.Events
+    → IfOk result (IsShown asked text typed) → IfOk result (IsAnswer asked text)
+shown-answer asked text place typed (Ok answered) accepted is shown = of_program place typed answered accepted (to_events is shown)
+shown-answer asked text place typed (Err none) accepted is shown = tt
 
--- and that no other does
-pub asks-none : (c : Command) → c ≢ command.Demo → c ≢ command.Run → c ≢ command.Trace → c ≢ command.Cost → asks_run c ≡ false
-asks-none command.Check demo run trace cost = refl
-asks-none command.Run demo run trace cost = absurd (run refl)
-asks-none command.Demo demo run trace cost = absurd (demo refl)
-asks-none command.Trace demo run trace cost = absurd (trace refl)
-asks-none command.Cost demo run trace cost = absurd (cost refl)
-asks-none command.Elide demo run trace cost = refl
-asks-none command.«List» demo run trace cost = refl
-asks-none command.Effects demo run trace cost = refl
-asks-none command.Replay demo run trace cost = refl
+-- of which commands a run is made
+pub makes : (c : Command) → (c ≡ command.Demo) ⊎ (c ≡ command.Run) ⊎ (c ≡ command.Trace) ⊎ (c ≡ command.Events) ⊎ (c ≡ command.Cost) → makes_run c ≡ true
+makes c (inl demo) = ap makes_run demo
+makes c (inr (inl run)) = ap makes_run run
+makes c (inr (inr (inl trace))) = ap makes_run trace
+makes c (inr (inr (inr (inl events)))) = ap makes_run events
+makes c (inr (inr (inr (inr cost)))) = ap makes_run cost
+
+-- and that of no other
+pub makes-none : (c : Command) → c ≢ command.Demo → c ≢ command.Run → c ≢ command.Trace → c ≢ command.Events → c ≢ command.Cost → makes_run c ≡ false
+makes-none command.Check demo run trace events cost = refl
+makes-none command.Run demo run trace events cost = absurd (run refl)
+makes-none command.Demo demo run trace events cost = absurd (demo refl)
+makes-none command.Trace demo run trace events cost = absurd (trace refl)
+makes-none command.Events demo run trace events cost = absurd (events refl)
+makes-none command.Cost demo run trace events cost = absurd (cost refl)
+makes-none command.Elide demo run trace events cost = refl
+makes-none command.«List» demo run trace events cost = refl
+makes-none command.Effects demo run trace events cost = refl
+makes-none command.Replay demo run trace events cost = refl
+
+-- it is asked by each of these but one
+pub makes-asked : (c : Command) → makes_run c ≡ true → c ≢ command.Events → asks_run c ≡ true
+makes-asked command.Check made other = absurd (false≢true made)
+makes-asked command.Run made other = refl
+makes-asked command.Demo made other = refl
+makes-asked command.Trace made other = refl
+makes-asked command.Events made other = absurd (other refl)
+makes-asked command.Cost made other = refl
+makes-asked command.Elide made other = absurd (false≢true made)
+makes-asked command.«List» made other = absurd (false≢true made)
+makes-asked command.Effects made other = absurd (false≢true made)
+makes-asked command.Replay made other = absurd (false≢true made)
 
 -- so is the first fault of a text
 pub faulty-answer : (asked : Job) (text : List ℕ) (found reported : Refusal) (answered : Answered) → found ≡ reported → answered ≡ only (Refused reported) → length text ≤ max_text
@@ -182,3 +220,47 @@ effects-so text made typed own names kept lines answered same named are_names in
   inferred = subst (λ P. IsInferred P kept) same inferred;
   tells = reported ∙ ap (λ l. only (Effects l)) (is ∙ ap (λ P. lines_of (program_kept kept P) own) same ∙ ap (lines_of (program_kept kept typed)) named);
 }
+
+-- the verdict on the run of a program whose events are told
+pub shown-so : (asked : Job) (text : List ℕ) (made typed : PlainProgram) (own names : ProgramNames) (given fields : List (List (List ℕ))) (r : Recorded) (schedule : List ℕ) (events : List MadeEvent) (verdict : Verdict)
+    → made ≡ typed → own ≡ names → AreNames text names → given ≡ fields → AreFieldNames text fields
+    → IsRunBy asked.mode typed (limits_of asked) asked.arg asked.workers (Some r) → schedule ≡ r.record.machine.schedule → AreEvents typed (limits_of asked) asked.arg schedule (Made events)
+    → verdict ≡ shown_verdict asked (record { program = made; names = own; fields = given }) events r.outcome → IsShown asked text typed (record { verdict = verdict; recorded = Some r.record })
+shown-so asked text made typed own names given fields r schedule events verdict same named are_names spelled are_fields runs by_schedule shows is = record {
+  made = r;
+  run = runs;
+  events = events;
+  are_events = subst (λ ks. AreEvents typed (limits_of asked) asked.arg ks (Made events)) by_schedule shows;
+  names = names;
+  are_names = are_names;
+  fields = fields;
+  are_fields = are_fields;
+  is = ap (λ v. record { verdict = v; recorded = Some r.record })
+      (is ∙ ap (λ P. shown_verdict asked (record { program = P; names = own; fields = given }) events r.outcome) same
+      ∙ ap (λ n. shown_verdict asked (record { program = typed; names = n; fields = given }) events r.outcome) named
+      ∙ ap (λ f. shown_verdict asked (record { program = typed; names = names; fields = f }) events r.outcome) spelled);
+}
+
+-- events under limits, an argument and a schedule that equal others
+pub shown-as : (made typed : PlainProgram) (L limits : Limits) (a argument : ℤ) (schedule numbers : List ℕ) (shown : Shown) → made ≡ typed → L ≡ limits → a ≡ argument → schedule ≡ numbers
+    → AreEvents made L a schedule shown → AreEvents typed limits argument numbers shown
+shown-as made typed L limits a argument schedule numbers shown same within given by_schedule are =
+    subst (λ P. AreEvents P limits argument numbers shown) same
+    (subst (λ k. AreEvents made k argument numbers shown) within
+    (subst (λ z. AreEvents made L z numbers shown) given (subst (λ ks. AreEvents made L a ks shown) by_schedule are)))
+
+-- where a schedule makes its events, these are shown
+pub shown-made : (shown : Shown) → IsMade shown → ((events : List MadeEvent) → shown ≡ Made events → ⊥) → ⊥
+shown-made (Made events) made never = never events refl
+shown-made (Unfit at) made never = made
+shown-made Halted made never = made
+
+-- the text of events on what equals an argument, limits, names and events
+pub events-as : (typed : PlainProgram) (names : ProgramNames) (a argument : ℤ) (L limits : Limits) (given fields : List (List (List ℕ))) (told events : List MadeEvent) (ending : Ending)
+    → a ≡ argument → L ≡ limits → given ≡ fields → told ≡ events
+    → events_text a L (record { program = typed; names = names; fields = given }) told ending ≡ events_text argument limits (record { program = typed; names = names; fields = fields }) events ending
+events-as typed names a argument L limits given fields told events ending same within spelled are =
+    ap (λ z. events_text z L (record { program = typed; names = names; fields = given }) told ending) same
+    ∙ ap (λ k. events_text argument k (record { program = typed; names = names; fields = given }) told ending) within
+    ∙ ap (λ f. events_text argument limits (record { program = typed; names = names; fields = f }) told ending) spelled
+    ∙ ap (λ xs. events_text argument limits (record { program = typed; names = names; fields = fields }) xs ending) are

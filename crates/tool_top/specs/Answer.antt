@@ -16,21 +16,27 @@ use Rattle.body_infer.specs.PostFixpoint.{IsInferred}
 use Rattle.body_infer.specs.Kept.{Keeping, program_kept}
 use Rattle.body_infer.specs.Lines.{lines_of}
 use Rattle.code_listing.specs.Listing.{plain_listing}
+use Rattle.exec_machine.specs.declared.made_event.MadeEvent.{MadeEvent}
+use Rattle.exec_run.specs.Events.{AreEvents}
 use Rattle.exec_run.specs.Run.{IsRun}
 use Rattle.exec_run.specs.Rounding.{ComesByRounds}
 use Rattle.exec_run.specs.Seeding.{ComesBySeed}
 use Rattle.exec_run.specs.declared.recorded.Recorded.{Recorded}
+use Rattle.exec_run.specs.declared.showing.Shown.TheVariants.{Made}
+use Rattle.tool_trace.specs.events.Names.{Spelling}
+use Rattle.tool_trace.specs.events.Text.{events_text}
 use Rattle.tool_trace.specs.Text.{trace_text}
-use Rattle.tool_front.specs.Front.{AreNames, IsPassed, IsFault}
+use Rattle.tool_front.specs.Front.{AreFieldNames, AreNames, IsPassed, IsFault}
 use Rattle.tool_words.specs.declared.command.Command.{Command}
 use Rattle.tool_words.specs.declared.command.Command.TheVariants as command
 use Rattle.tool_words.specs.Jobs.{IsInRange}
+use Rattle.tool_words.specs.Reports.{status_of}
 use Rattle.tool_words.specs.declared.job.Job.{Job}
 use Rattle.tool_words.specs.declared.key.Mode.{Mode}
 use Rattle.tool_words.specs.declared.key.Mode.TheVariants as mode
 use Rattle.tool_words.specs.declared.verdict.Figures.{Figures}
 use Rattle.tool_words.specs.declared.verdict.Verdict.{Verdict}
-use Rattle.tool_words.specs.declared.verdict.Verdict.TheVariants.{Refused, Ran, Listed, Accepted, Demo, Traced, Effects, Cost}
+use Rattle.tool_words.specs.declared.verdict.Verdict.TheVariants.{Refused, Ran, Listed, Accepted, Demo, Traced, Shown, Effects, Cost}
 use Rattle.tool_top.specs.declared.answered.Answered.{Answered}
 
 -- the most bytes that a text may have
@@ -69,6 +75,15 @@ asks_run command.Trace = true
 asks_run command.Cost = true
 asks_run _ = false
 
+-- a run is made: it is asked, or its events are
+abbrev pub makes_run : Command → Bool
+makes_run command.Run = true
+makes_run command.Demo = true
+makes_run command.Trace = true
+makes_run command.Cost = true
+makes_run command.Events = true
+makes_run _ = false
+
 -- the elision of an accepted program, of which nothing is recorded
 pub record IsElided (job : Job) (typed : PlainProgram) (answered : Answered) : Type 0 where
   pub outcome : Outcome
@@ -106,6 +121,22 @@ pub record IsRan (job : Job) (text : List ℕ) (typed : PlainProgram) (answered 
   pub run : IsRunBy job.mode typed (limits_of job) job.arg job.workers (Some made)
   pub is : answered ≡ record { verdict = verdict_of job text made.record.machine.schedule made.record.rounds made.outcome; recorded = Some made.record }
 
+-- what is told of a run in place of its report: its events, and how it came out
+abbrev pub shown_verdict : Job → Spelling → List MadeEvent → Outcome → Verdict
+shown_verdict job spelling events outcome = Shown outcome (events_text job.arg (limits_of job) spelling events outcome.ending)
+
+-- the run of an accepted program by the job's mode, with its record, and the events that its schedule makes, with the names of the text
+pub record IsShown (job : Job) (text : List ℕ) (typed : PlainProgram) (answered : Answered) : Type 0 where
+  pub made : Recorded
+  pub run : IsRunBy job.mode typed (limits_of job) job.arg job.workers (Some made)
+  pub events : List MadeEvent
+  pub are_events : AreEvents typed (limits_of job) job.arg made.record.machine.schedule (Made events)
+  pub names : ProgramNames
+  pub are_names : AreNames text names
+  pub fields : List (List (List ℕ))
+  pub are_fields : AreFieldNames text fields
+  pub is : answered ≡ record { verdict = shown_verdict job (record { program = typed; names = names; fields = fields }) events made.outcome; recorded = Some made.record }
+
 -- the listing of the code of a program, with the names of the text
 pub record IsListing (text : List ℕ) (typed : PlainProgram) (answered : Answered) : Type 0 where
   pub names : ProgramNames
@@ -124,6 +155,7 @@ pub record TellsEffects (text : List ℕ) (typed : PlainProgram) (answered : Ans
 pub data IsAnswerOn (job : Job) (text : List ℕ) (typed : PlainProgram) (answered : Answered) : Type 0 where
   to_check : job.command ≡ command.Check → answered ≡ only Accepted → IsAnswerOn job text typed answered
   to_run : asks_run job.command ≡ true → IsRan job text typed answered → IsAnswerOn job text typed answered
+  to_events : job.command ≡ command.Events → IsShown job text typed answered → IsAnswerOn job text typed answered
   to_elide : job.command ≡ command.Elide → IsElided job typed answered → IsAnswerOn job text typed answered
   to_list : job.command ≡ command.«List» → IsListing text typed answered → IsAnswerOn job text typed answered
   to_effects : job.command ≡ command.Effects → TellsEffects text typed answered → IsAnswerOn job text typed answered
@@ -142,6 +174,11 @@ pub data IsAnswer (job : Job) (text : List ℕ) : Answered → Type 0 where
   faulty : (refusal : Refusal) → length text ≤ max_text → IsFault text refusal → IsAnswer job text (only (Refused refusal))
   of_program : (place : Place) (typed : PlainProgram) (answered : Answered) → IsAcceptedAs text place typed → IsAnswerOn job text typed answered → IsAnswer job text answered
 
--- there is one answer at most to a job on a text, for each run that was recorded
+-- answers to a command are the same; those that tell events tell of runs with one status
+abbrev pub AreAlike : Command → Answered → Answered → Type 0
+AreAlike command.Events first second = status_of first.verdict ≡ status_of second.verdict
+AreAlike _ first second = first ≡ second
+
+-- there is one answer at most to a job on a text, for each run that was recorded; of one that tells events it is said of the status
 abbrev pub OneAnswer : Type 0
-OneAnswer = (job : Job) (text : List ℕ) (first second : Answered) → IsWithin job → IsAnswer job text first → IsAnswer job text second → first.recorded ≡ second.recorded → first ≡ second
+OneAnswer = (job : Job) (text : List ℕ) (first second : Answered) → IsWithin job → IsAnswer job text first → IsAnswer job text second → first.recorded ≡ second.recorded → AreAlike job.command first second

@@ -1,6 +1,8 @@
 pub mod Answer
 pub mod Call
 pub mod Replaying
+pub mod Events
+pub mod Refusing
+pub mod Rounds
 pub mod Guarantee
 pub mod Keeps
-pub mod Refusing

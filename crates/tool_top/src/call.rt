@@ -6,7 +6,7 @@ ghost use Rattle.tool_words.specs.Demo.{demo_text};
 ghost use Rattle.tool_words.specs.Jobs.{job, IsInRange};
 ghost use Rattle.tool_words.specs.Reports.{report_of, status_of};
 ghost use Rattle.tool_top.specs.Answer.{IsAnswer, most_bytes, only};
-ghost use Rattle.tool_top.specs.Guarantee.{MustReport, MustReplay, TellsOfProgram};
+ghost use Rattle.tool_top.specs.Guarantee.{MustReport, MustRefuse, MustReplay, MustTell, TellsOfProgram};
 ghost use Rattle.tool_top.specs.Call.{Answers, AnswersSome, IsAnswered, IsTold, TellsOfVerdict, Tells, BreaksOff, ReadToEnd, Appends, AppendsPart, asks_text, makes_text};
 
 use crate::answered::Answered;
@@ -71,6 +71,12 @@ pub fn dpj<R: Threads + Wait + Sync, S: Source, K: Sink, G: Gate + Sync>(
     // So is a run that a replay has made, which is reported by its outcome: without nd constructs that is the elision.
     ensures replayed { TellsOfProgram result.status
         → MustReplay (map string_bytes words.now) (option_map vec_items result.read) (S.left source.old) (K.held sink.old) (K.held sink.new) result.status result.recorded }
+    // And so is one whose events are reported: line by line these are the events of the run of the source.
+    ensures events { TellsOfProgram result.status
+        → MustTell (map string_bytes words.now) (option_map vec_items result.read) (S.left source.old) (K.held sink.old) (K.held sink.new) result.status result.recorded }
+    // A replay that is refused for its schedule is one by whose next number the run of the source can't go on.
+    ensures refused { result.status ≡ Status.Refused
+        → MustRefuse (map string_bytes words.now) (option_map vec_items result.read) (S.left source.old) (K.held sink.old) (K.held sink.new) result.status }
     // What was read is what the source held, where it tells it.
     ensures told { IfSome result.read (λ text. IsTold (S.left source.old) (vec_items text)) }
 
@@ -192,7 +198,7 @@ fn answer_text<R: Threads + Wait + Sync, G: Gate + Sync>(
 {
     match job.command {
         Command::Replay => replayed(alloc, text),
-        Command::Demo | Command::Run | Command::Trace | Command::Cost => {
+        Command::Demo | Command::Run | Command::Trace | Command::Events | Command::Cost => {
             answer_by_run(rt, alloc, job, text, gate)
         }
         _ => answer_without_run(alloc, job, text),

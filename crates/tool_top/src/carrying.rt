@@ -1,12 +1,12 @@
 ghost use Rattle.std.specs.Int.{w32};
 ghost use Rattle.std.specs.Prelude.{◌≡◌, ◌≢◌, false, FitsSigned, IfOk};
-ghost use Rattle.tool_front.specs.Front.{AreNames};
+ghost use Rattle.tool_front.specs.Front.{AreFieldNames, AreNames};
 ghost use Rattle.tool_front.specs.Judging.{names_of_passed, typed_of};
 ghost use Rattle.lang_typed.specs.Plain.{plain_program};
 ghost use Rattle.lang_typed.specs.Resolved.{Resolved, HasMain};
 ghost use Rattle.tool_words.specs.Jobs.{IsInRange};
 ghost use Rattle.tool_words.specs.declared.command.Command.TheVariants.{Replay};
-ghost use Rattle.tool_top.specs.Answer.{IsAcceptedAs, IsAnswer, IsElided, IsListing, IsRan, IsRunBy, TellsEffects, asks_run, limits_of, verdict_of};
+ghost use Rattle.tool_top.specs.Answer.{IsAcceptedAs, IsAnswer, IsElided, IsListing, IsRan, IsRunBy, IsShown, TellsEffects, limits_of, makes_run, verdict_of};
 
 use crate::answered::{Answered, limits};
 use crate::figures::figures;
@@ -15,8 +15,9 @@ use body_infer::{infer, lines};
 use code_compile::compile;
 use code_listing::laws::law_plain;
 use code_listing::listing;
+use exec_machine::Schedule;
 use exec_run::workers::Gate;
-use exec_run::{Recorded, run, run_rounds, run_seeded};
+use exec_run::{Recorded, Shown, events, run, run_rounds, run_seeded};
 use exec_walker::elide;
 use lang_base::{NoMemory, Outcome};
 use lang_typed::Program;
@@ -25,7 +26,7 @@ use std::alloc::Global;
 use std::sync::Wait;
 use std::thread::Threads;
 use tool_front::Passed;
-use tool_trace::trace_text;
+use tool_trace::{events_text, trace_text};
 use tool_words::{Command, Job, Mode, Verdict};
 
 /// The answer to a job that asks for no run, on the accepted program of a text.
@@ -38,7 +39,7 @@ pub fn carry_out(
     requires in_range { IsInRange job.now }
     requires accepted { IsAcceptedAs text.now passed.place (typed_of passed) }
     requires named { AreNames text.now (names_of_passed passed) }
-    requires no_run { asks_run job.now.command ≡ false }
+    requires no_run { makes_run job.now.command ≡ false }
     requires no_replay { job.now.command ≢ Replay }
     ensures { IfOk result (IsAnswer job.now text.now) }
 {
@@ -84,6 +85,47 @@ pub fn ran<R: Threads + Wait + Sync, G: Gate + Sync>(
     })
 }
 
+/// The run of an accepted program, with its record, and its events in place of a report.
+pub fn shown<R: Threads + Wait + Sync, G: Gate + Sync>(
+    rt: &R,
+    alloc: Global,
+    job: &Job,
+    text: &[u8],
+    passed: Passed,
+    gate: &G,
+) -> Result<Answered, NoMemory>
+    requires in_range { IsInRange job.now }
+    requires accepted { IsAcceptedAs text.now passed.place (typed_of passed) }
+    requires named { AreNames text.now (names_of_passed passed) }
+    requires fields { AreFieldNames text.now passed.fields }
+    ensures { IfOk result (IsShown job.now text.now (typed_of passed)) }
+{
+    promise();
+    law_passed();
+    let (typed, fields) = passed.spelled(alloc)?;
+    let Some(run) = made(rt, alloc, job, &typed, gate)? else {
+        unreachable!("an accepted program goes on until it has come out")
+    };
+    let Recorded { record, outcome } = run;
+    let tasks = record.machine.schedule().to_items(alloc)?;
+    let schedule = tasks.as_slice();
+    let Shown::Made(told) = events(alloc, &typed, limits(job), job.arg, schedule)? else {
+        unreachable!("a schedule that was recorded makes its events")
+    };
+    let text = events_text(
+        alloc,
+        job.arg,
+        limits(job),
+        &typed,
+        fields.as_slice(),
+        told.as_slice(),
+        outcome.ending,
+    )?;
+    let verdict = Verdict::Shown { outcome, text };
+    let recorded = Some(record);
+    Ok(Answered { verdict, recorded })
+}
+
 /// The run that the job's mode asks for: by workers, in rounds, or by a seed; none where it can't go on.
 fn made<R: Threads + Wait + Sync, G: Gate + Sync>(
     rt: &R,
@@ -110,7 +152,7 @@ fn verdict_on(
     alloc: Global,
     job: &Job,
     text: &[u8],
-    schedule: &[u32],
+    schedule: &Schedule,
     rounds: u64,
     outcome: Outcome,
 ) -> Result<Verdict, NoMemory>
@@ -122,10 +164,11 @@ fn verdict_on(
             bytes: text.len() as u64,
             outcome,
         },
-        Command::Trace => Verdict::Traced {
-            outcome,
-            text: trace_text(alloc, job.arg, limits(job), schedule, text)?,
-        },
+        Command::Trace => {
+            let tasks = schedule.to_items(alloc)?;
+            let text = trace_text(alloc, job.arg, limits(job), tasks.as_slice(), text)?;
+            Verdict::Traced { outcome, text }
+        }
         Command::Cost => Verdict::Cost {
             outcome,
             figures: figures(schedule, rounds),

@@ -5,7 +5,8 @@ use Rattle.lang_base.specs.declared.place.Place.{Place}
 use Rattle.lang_base.specs.declared.refusal.Kind.TheVariants.{TooLong}
 use Rattle.body_assembly.specs.Named.{names_in}
 use Rattle.code_compile.specs.Titles.{titles_of}
-use Rattle.tool_front.specs.Front.{AreNames, IsPassed}
+use Rattle.tool_front.specs.Front.{AreFieldNames, AreNames, IsPassed}
+use Rattle.tool_front.specs.Judging.{field_names_in}
 use Rattle.code_scheme.specs.Whole.{compiled}
 use Rattle.exec_progress.specs.Progress.{CodeMakesProgress}
 use Rattle.body_infer.specs.Kept.{program_kept}
@@ -21,10 +22,11 @@ use Rattle.tool_words.specs.declared.command.Command.TheVariants as command
 use Rattle.tool_words.specs.declared.job.Job.{Job}
 use Rattle.tool_words.specs.declared.verdict.Verdict.TheVariants.{Accepted, Effects, Listed, Ran, Refused}
 use Rattle.tool_top.specs.declared.answered.Answered.{Answered}
-use Rattle.tool_top.specs.Answer.{IsAcceptedAs, IsAnswer, IsAnswerOn, IsWithin, asks_run, faulty, limits_of, max_text, of_program, only, refused_at_start, to_check, to_effects, to_elide, to_list, to_run, too_long, verdict_of}
+use Rattle.tool_top.specs.Answer.{IsAcceptedAs, IsAnswer, IsAnswerOn, IsWithin, asks_run, faulty, limits_of, max_text, of_program, only, refused_at_start, shown_verdict, to_check, to_effects, to_events, to_elide, to_list, to_run, too_long, verdict_of}
 use Rattle.lang_meaning.specs.Elision.{elided}
 use Rattle.tool_total.proofs.Effects.{inferred}
 use Rattle.tool_total.proofs.Runs.{run_by}
+use Rattle.tool_total.proofs.Shown.{events_of}
 use Rattle.tool_total.specs.Answering.{EachAnswered}
 use Rattle.lang_meaning.specs.Reported.{reported}
 
@@ -46,6 +48,14 @@ named text place typed passed =
       },
     )
 
+-- and its classes declare fields by names
+spelled : (text : List ℕ) (place : Place) (typed : PlainProgram) → IsPassed text place typed → (fields : List (List (List ℕ))) × AreFieldNames text fields
+spelled text place typed passed =
+    let h = passed.has_program in (
+      field_names_in h.program,
+      record { tokens = passed.tokens; end = passed.end; cut = passed.cut; has_names = record { program = h.program; derived = h.derived; named_so = refl } },
+    )
+
 module _ (passed : PassedKeeps) (verdict : OneVerdict) (going : CodeMakesProgress) (some : SomeTaskIsReady) (short : SchedulesAreShort) (never_stuck : MachinesAreNotStuck) where
   module _ (job : Job) (text : List ℕ) (place : Place) (typed : PlainProgram) (within : IsWithin job) (accepted : IsAcceptedAs text place typed) where
     kept : Keeps typed
@@ -59,6 +69,20 @@ module _ (passed : PassedKeeps) (verdict : OneVerdict) (going : CodeMakesProgres
         let r = run_by going some short never_stuck typed kept (limits_of job) job.arg within.0.steps_most within.0.cells_most within.1 job.mode job.workers in (
           record { verdict = verdict_of job text r.0.record.machine.schedule r.0.record.rounds r.0.outcome; recorded = Some r.0.record },
           to_run asks (record { made = r.0; run = r.1; is = refl }),
+        )
+
+    shown : job.command ≡ command.Events → Answer
+    shown asks =
+        let r = run_by going some short never_stuck typed kept (limits_of job) job.arg within.0.steps_most within.0.cells_most within.1 job.mode job.workers in
+        let names = named text place typed accepted.1 in
+        let fields = spelled text place typed accepted.1 in
+        let told = events_of typed (limits_of job) job.arg job.mode job.workers r.0 r.1 in (
+          record {
+            verdict = shown_verdict job (record { program = typed; names = names.0; fields = fields.0 }) told.0 r.0.outcome;
+            recorded = Some r.0.record;
+          },
+          to_events asks
+              (record { made = r.0; run = r.1; events = told.0; are_events = told.1; names = names.0; are_names = names.1; fields = fields.0; are_fields = fields.1; is = refl }),
         )
 
     walked : job.command ≡ command.Elide → Answer
@@ -89,6 +113,7 @@ module _ (passed : PassedKeeps) (verdict : OneVerdict) (going : CodeMakesProgres
     by_command command.«List» is never = listed is
     by_command command.Demo is never = ran (ap asks_run is)
     by_command command.Trace is never = ran (ap asks_run is)
+    by_command command.Events is never = shown is
     by_command command.Replay is never = absurd (never refl)
     by_command command.Effects is never = told is
     by_command command.Cost is never = ran (ap asks_run is)

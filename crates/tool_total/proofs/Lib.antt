@@ -9,6 +9,7 @@ pub mod Rounds
 pub mod Seeds
 pub mod Effects
 pub mod Runs
+pub mod Shown
 pub mod Answers
 pub mod Deciding
 pub mod Reading

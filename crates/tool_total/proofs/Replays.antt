@@ -26,7 +26,7 @@ use Rattle.tool_words.specs.declared.job.Job.{Job}
 use Rattle.tool_words.specs.declared.verdict.Verdict.{Verdict}
 use Rattle.tool_words.specs.declared.verdict.Verdict.TheVariants.{Ran, Traced}
 use Rattle.tool_top.specs.declared.answered.Answered.{Answered}
-use Rattle.tool_top.specs.Answer.{IsAcceptedAs, IsAnswer, IsAnswerOn, IsRan, IsWithin, asks_run, faulty, limits_of, max_text, max_trace, of_program, only, to_check, to_effects, to_elide, to_list, to_run, too_long, verdict_by}
+use Rattle.tool_top.specs.Answer.{IsAcceptedAs, IsAnswer, IsAnswerOn, IsRan, IsWithin, asks_run, faulty, limits_of, max_text, max_trace, of_program, only, shown_verdict, to_check, to_effects, to_elide, to_events, to_list, to_run, too_long, verdict_by}
 use Rattle.tool_top.specs.Replaying as replay
 use Rattle.tool_top.specs.Replaying.{IsAnswerOnTrace, IsReplayOf, IsReplayed, program_of}
 use Rattle.tool_top.proofs.Following.{ran_once, right_not_wrong}
@@ -47,6 +47,7 @@ traced_by command.Check job text schedule rounds o outcome bytes run e = absurd 
 traced_by command.Elide job text schedule rounds o outcome bytes run e = absurd (cc)
 traced_by command.«List» job text schedule rounds o outcome bytes run e = absurd (cc)
 traced_by command.Replay job text schedule rounds o outcome bytes run e = absurd (cc)
+traced_by command.Events job text schedule rounds o outcome bytes run e = absurd (cc)
 traced_by command.Effects job text schedule rounds o outcome bytes run e = absurd (cc)
 traced_by command.Cost job text schedule rounds o outcome bytes run e = absurd (cc)
 
@@ -173,6 +174,7 @@ module _ (short : SchedulesAreShort) (keeps : EachKeeps) (going : CodeMakesProgr
       on : (place : Place) (typed : PlainProgram) (a : Answered) → IsAcceptedAs text place typed → IsAnswerOn job text typed a → a.verdict ≡ Traced outcome bytes → TellsTrace job text a outcome bytes
       on place typed a accepted (to_check c same) e = absurd (let never = no_other _ a same e in cc)
       on place typed a accepted (to_run c ran) e = told job text place typed a outcome bytes within accepted c ran e
+      on place typed a accepted (to_events c h) e = absurd (let never : shown_verdict job (record { program = typed; names = h.names; fields = h.fields }) h.events h.made.outcome ≡ Traced outcome bytes = sym (ap (λ (b : Answered). b.verdict) h.is) ∙ e in cc)
       on place typed a accepted (to_elide c h) e = absurd (let never = no_other _ a h.is e in cc)
       on place typed a accepted (to_list c h) e = absurd (let never = no_other _ a h.lists e in cc)
       on place typed a accepted (to_effects c h) e = absurd (let never = no_other _ a h.tells e in cc)

@@ -4,3 +4,4 @@ pub mod Text
 pub mod Reading
 pub mod Listing
 pub mod Laws
+pub mod events

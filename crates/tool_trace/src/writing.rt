@@ -26,14 +26,16 @@ pub fn trace_text(
     Ok(text)
 }
 
-fn settings_line(alloc: Global, arg: i32, limits: Limits) -> Result<String, AllocError>
+/// What the run was given.
+pub fn settings_line(alloc: Global, arg: i32, limits: Limits) -> Result<String, AllocError>
     ensures { IfOk result (λ text. string_bytes text ≡ line (settings_text arg limits)) }
 {
     let Limits { steps, cells } = limits;
     format!(in alloc; "arg {arg} steps {steps} cells {cells}\n")
 }
 
-fn events_line(alloc: Global, events: usize) -> Result<String, AllocError>
+/// How many events there are.
+pub fn events_line(alloc: Global, events: usize) -> Result<String, AllocError>
     ensures { IfOk result (λ text. string_bytes text ≡ line (events_text events)) }
 {
     format!(in alloc; "events {events}\n")

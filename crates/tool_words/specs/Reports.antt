@@ -48,6 +48,7 @@ report_of (verdict.Ran outcome) = run_report outcome
 report_of (verdict.Listed listing) = listing
 report_of (verdict.Demo classes bytes outcome) = demo_ending_report classes bytes outcome.steps outcome.ending
 report_of (verdict.Traced outcome text) = text
+report_of (verdict.Shown outcome text) = text
 report_of (verdict.Effects lines) = lines
 report_of (verdict.Cost outcome figures) = cost_report outcome figures
 
@@ -66,6 +67,7 @@ status_of (verdict.Ran outcome) = ending_status outcome.ending
 status_of (verdict.Listed listing) = status.Done
 status_of (verdict.Demo classes bytes outcome) = ending_status outcome.ending
 status_of (verdict.Traced outcome text) = ending_status outcome.ending
+status_of (verdict.Shown outcome text) = ending_status outcome.ending
 status_of (verdict.Effects lines) = status.Done
 status_of (verdict.Cost outcome figures) = ending_status outcome.ending
 

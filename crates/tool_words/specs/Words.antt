@@ -20,13 +20,14 @@ command_name command.Elide = codes "elide"
 command_name command.«List» = codes "list"
 command_name command.Demo = codes "demo"
 command_name command.Trace = codes "trace"
+command_name command.Events = codes "events"
 command_name command.Replay = codes "replay"
 command_name command.Effects = codes "effects"
 command_name command.Cost = codes "cost"
 
 -- every command
 abbrev pub commands : List Command
-commands = command.Check ∷ command.Run ∷ command.Elide ∷ command.«List» ∷ command.Demo ∷ command.Trace ∷ command.Replay ∷ command.Effects ∷ command.Cost ∷ []
+commands = command.Check ∷ command.Run ∷ command.Elide ∷ command.«List» ∷ command.Demo ∷ command.Trace ∷ command.Events ∷ command.Replay ∷ command.Effects ∷ command.Cost ∷ []
 
 -- the command that a word asks for
 abbrev pub command_named : List ℕ → Option Command
@@ -50,6 +51,7 @@ keys_of command.Elide = key.Steps ∷ key.Cells ∷ key.Arg ∷ []
 keys_of command.«List» = []
 keys_of command.Demo = key.Workers ∷ key.Steps ∷ key.Cells ∷ key.Number ∷ []
 keys_of command.Trace = key.Workers ∷ key.Steps ∷ key.Cells ∷ key.Arg ∷ key.Seed ∷ []
+keys_of command.Events = key.Workers ∷ key.Steps ∷ key.Cells ∷ key.Arg ∷ key.Seed ∷ []
 keys_of command.Replay = []
 keys_of command.Effects = []
 keys_of command.Cost = key.Steps ∷ key.Cells ∷ key.Arg ∷ []

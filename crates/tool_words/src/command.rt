@@ -17,6 +17,8 @@ pub enum Command {
     Demo,
     /// Runs, and writes the trace of the run.
     Trace,
+    /// Runs, and writes the events of the run.
+    Events,
     /// Reads a trace, and runs its schedule.
     Replay,
     /// Checks, and writes the inferred summaries.
@@ -25,13 +27,14 @@ pub enum Command {
     Cost,
 }
 
-const COMMANDS: [Command; 9] = [
+const COMMANDS: [Command; 10] = [
     Command::Check,
     Command::Run,
     Command::Elide,
     Command::List,
     Command::Demo,
     Command::Trace,
+    Command::Events,
     Command::Replay,
     Command::Effects,
     Command::Cost,
@@ -51,6 +54,7 @@ impl Command {
             Command::List => "list",
             Command::Demo => "demo",
             Command::Trace => "trace",
+            Command::Events => "events",
             Command::Replay => "replay",
             Command::Effects => "effects",
             Command::Cost => "cost",
@@ -80,7 +84,9 @@ impl Command {
                 Key::Mode,
                 Key::Seed,
             ],
-            Command::Trace => &[Key::Workers, Key::Steps, Key::Cells, Key::Arg, Key::Seed],
+            Command::Trace | Command::Events => {
+                &[Key::Workers, Key::Steps, Key::Cells, Key::Arg, Key::Seed]
+            }
             Command::Elide | Command::Cost => &[Key::Steps, Key::Cells, Key::Arg],
             Command::Demo => &[Key::Workers, Key::Steps, Key::Cells, Key::Number],
             Command::Check | Command::List | Command::Replay | Command::Effects => &[],

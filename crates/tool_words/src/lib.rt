@@ -25,6 +25,6 @@ pub use command::Command;
 pub use job::{Job, Usage, read_words};
 pub use key::{Key, Mode};
 pub use laws::law_values;
-pub use reports::{report, status};
+pub use reports::{ending_report, report, status};
 pub use source::demo_source;
 pub use verdict::{Figures, Status, Verdict};

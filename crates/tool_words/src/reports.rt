@@ -26,7 +26,8 @@ pub fn report(alloc: Global, verdict: &Verdict) -> Result<Bytes, NoMemory>
         } => demo_report(alloc, *classes, *bytes, outcome),
         Verdict::Listed(reported)
         | Verdict::Effects(reported)
-        | Verdict::Traced { text: reported, .. } => { reported.copy(alloc) }
+        | Verdict::Traced { text: reported, .. }
+        | Verdict::Shown { text: reported, .. } => { reported.copy(alloc) }
     }
 }
 
@@ -41,6 +42,7 @@ pub fn status(verdict: &Verdict) -> Status
         Verdict::Ran(outcome)
         | Verdict::Demo { outcome, .. }
         | Verdict::Traced { outcome, .. }
+        | Verdict::Shown { outcome, .. }
         | Verdict::Cost { outcome, .. } => ending_status(outcome.ending),
     }
 }
@@ -86,8 +88,8 @@ fn cost_report(alloc: Global, outcome: &Outcome, figures: Figures) -> Result<Byt
     Ok(bytes)
 }
 
-// What a run printed, and the line of its ending.
-fn ending_report(alloc: Global, out: &[u8], ending: Ending) -> Result<Bytes, NoMemory>
+/// What a run printed, and the line of its ending.
+pub fn ending_report(alloc: Global, out: &[u8], ending: Ending) -> Result<Bytes, NoMemory>
     ensures { IfOk result (λ bytes. bytes ≡ ending_report out.now ending) }
 {
     let mut bytes = Bytes::new(alloc);

@@ -26,6 +26,11 @@ pub enum Verdict {
         outcome: Outcome,
         text: Bytes,
     },
+    /// A run, with its events, which are written in place of its report.
+    Shown {
+        outcome: Outcome,
+        text: Bytes,
+    },
     /// The inferred summaries, a line for each.
     Effects(Bytes),
     /// A run, with what it is made of.

@@ -36,14 +36,14 @@ fn reported(alloc: Global, ended: Ended) -> Result<String, anyhow::Error> {
 
 /// What a record tells. The record goes before any of it can fail.
 fn reported_by(alloc: Global, made: Record) -> Result<String, anyhow::Error> {
-    let schedule = made.machine.schedule().to_vec(alloc);
+    let schedule = made.machine.schedule().to_items(alloc);
     let Record {
         shares,
         own,
         rounds,
         ..
     } = made;
-    let (schedule, shares) = (schedule?, shares.into_vec());
+    let (schedule, shares) = (schedule?.into_vec(), shares.into_vec());
     Ok(format!(in alloc;
         "{rounds} rounds, schedule {schedule:?}, shares {shares:?}, {own} by the caller"
     )?)

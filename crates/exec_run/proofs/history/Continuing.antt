@@ -5,9 +5,13 @@ use Rattle.std.proofs.lemmas.List.{take_more, take_all, reverse-append}
 use Rattle.lang_base.specs.declared.outcome.Limits.{Limits}
 use Rattle.code_instrs.specs.declared.code.Code.{Code}
 use Rattle.exec_machine.specs.Keeping.{Played, IsReplayed, IsAfter}
+use Rattle.exec_machine.specs.declared.made_event.MadeEvent.{MadeEvent}
+use Rattle.exec_machine.specs.Events.{Makes}
 use Rattle.exec_machine.specs.Replay.{Moment, LeadsTo, Moves}
+use Rattle.exec_machine.specs.Telling.{MakesThese}
 use Rattle.exec_run.specs.declared.history.replaying.ReplayStop.{ReplayStop}
 use Rattle.exec_run.specs.declared.history.replaying.ReplayStop.TheVariants.{Bad, Stuck, NoMemory}
+use Rattle.exec_run.specs.history.Showing.{Shows}
 use Rattle.exec_run.specs.history.Replaying.{IsAt, IsReplay, HasMade, after_end, not_ready, too_early, WhyStopped, WhyUnmade}
 
 pub next-is : (xs : List ℕ) (i : ℕ) → i < length xs → slice_get xs i ≡ Some (get_or xs i 0)
@@ -86,3 +90,15 @@ handed-on (Err f) e W is why = subst W (sym is) why
 pub not-some : {X : Type 0} (o : Option X) → (IsSome o → ⊥) → o ≡ None
 not-some None none = refl
 not-some (Some x) none = absurd (none refl)
+
+-- the events of a run that has come out by the schedule
+pub shows-is : (code : Code) (L : Limits) (argument : ℤ) (schedule : List ℕ) (machine : Played) (xs : List MadeEvent) → IsReplay code L argument schedule machine
+    → MakesThese machine xs → Shows code L argument schedule xs
+shows-is code L argument schedule machine xs whole made = record {
+  moment = made.moment;
+  makes = subst (λ c. Makes c L argument (reverse schedule) (reverse xs) made.moment) whole.is_at.is_code
+      (subst (λ l. Makes machine.code l argument (reverse schedule) (reverse xs) made.moment) whole.is_at.is_limits
+      (subst (λ a. Makes machine.code machine.limits a (reverse schedule) (reverse xs) made.moment) whole.is_at.is_argument
+      (subst (λ s. Makes machine.code machine.limits machine.argument (reverse s) (reverse xs) made.moment) whole.is_at.is_schedule made.makes)));
+  finished = subst IsSome made.outcome whole.finished;
+}

@@ -19,7 +19,7 @@ use Rattle.exec_task.specs.declared.action.Answer.{Answer as DeclaredAnswer}
 use Rattle.exec_task.specs.declared.action.Answer.TheVariants as answer
 use Rattle.exec_task.specs.declared.action.Ending.{Ending as DeclaredEnding}
 use Rattle.exec_task.specs.declared.action.Ending.TheVariants as ending
-use Rattle.exec_machine.specs.Events.{MadeEvent}
+use Rattle.exec_machine.specs.declared.made_event.MadeEvent.{MadeEvent}
 use Rattle.runs_elision.proofs.Worlds.{Later, LocalsLike, ValueLike, no_locals, more_locals, int_like, boolean_like, null_like, object_like, name_later, EndingLike, returned_like, assigned_like, trapped_like}
 use Rattle.runs_simulation.specs.Alike.{ActionAlike, AnswerAlike, EndingAlike, EventAlike, SlotAlike, ValueAlike}
 use Rattle.runs_simulation.specs.Alike as alike

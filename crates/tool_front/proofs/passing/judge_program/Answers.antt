@@ -3,6 +3,7 @@ use Rattle.body_assembly.specs.Assembled.{plain_body, program_of}
 use Rattle.body_check.specs.Methods.{BodiesChecking}
 use Rattle.decl_classes.specs.Build.{HasTable, IsReported}
 use Rattle.tool_front.specs.Judging.{IsFaulty, of_bodies, of_table}
+use Rattle.lang_base.specs.declared.refusal.Stop.TheVariants.{NoMemory}
 use Rattle.tool_front.proofs.Reported.{handed-so}
 use Rattle.tool_front.proofs.passing.judge_program.Goals as goal
 
@@ -52,3 +53,7 @@ returns-clause-named c = record {
   checked = c.in_ok-checked.ensures.checks;
   named_so = refl;
 }
+
+pub returns-in_err-fields-clause-fault : goal.returns-in_err-fields-clause-fault
+returns-in_err-fields-clause-fault c =
+    handed-so (λ refusal. ⊥) (IsFaulty c.args.tree) c.from_residual-in_err-fields.result NoMemory c.from_residual-in_err-fields.ensures.1 (λ refusal none. absurd none) tt

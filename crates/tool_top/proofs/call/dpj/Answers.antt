@@ -1,9 +1,9 @@
 use Rattle.std.proofs.Common.{Global, map, option_map, subst, sym}
 use Rattle.std.specs.String.{string_bytes}
 use Rattle.std.specs.Vec.{vec_items}
-use Rattle.tool_top.specs.Call.{IsAnswered}
-use Rattle.tool_top.proofs.Owed.{owed, program_tells, tells-no-want}
-use Rattle.tool_top.proofs.Replayed.{owed_replay}
+use Rattle.tool_top.specs.Call.{IsAnswered, TellsOfVerdict}
+use Rattle.tool_top.proofs.Owed.{owed, owed_tale, program_tells, tells-no-want}
+use Rattle.tool_top.proofs.Replayed.{owed_refusal, owed_replay}
 use Rattle.tool_top.proofs.call.dpj.Goals as goal
 
 pub returns-in-Ok-clause-answered : goal.returns-in-Ok-clause-answered
@@ -29,3 +29,15 @@ returns-in-Ok-clause-replayed g c reported =
     owed_replay c.promise.ensures (map (string_bytes {Z = Global}) c.args.words.now) (option_map vec_items c.tell.result.read) (g.S.Source.left c.args.source.now)
     (g.K.Sink.held c.args.sink.now) (g.K.Sink.held c.tell.new.sink) c.tell.result.status c.tell.result.recorded
     (returns-in-Ok-clause-answered g c (program_tells c.tell.result.status reported))
+
+pub returns-in-Ok-clause-events : goal.returns-in-Ok-clause-events
+returns-in-Ok-clause-events g c reported =
+    owed_tale c.promise.ensures (map (string_bytes {Z = Global}) c.args.words.now)
+    (option_map vec_items c.tell.result.read) (g.S.Source.left c.args.source.now) (g.K.Sink.held c.args.sink.now) (g.K.Sink.held c.tell.new.sink) c.tell.result.status
+    c.tell.result.recorded (returns-in-Ok-clause-answered g c (program_tells c.tell.result.status reported)) reported
+
+pub returns-in-Ok-clause-refused : goal.returns-in-Ok-clause-refused
+returns-in-Ok-clause-refused g c is =
+    owed_refusal c.promise.ensures (map (string_bytes {Z = Global}) c.args.words.now) (option_map vec_items c.tell.result.read) (g.S.Source.left c.args.source.now)
+    (g.K.Sink.held c.args.sink.now) (g.K.Sink.held c.tell.new.sink) c.tell.result.status c.tell.result.recorded
+    (returns-in-Ok-clause-answered g c (subst TellsOfVerdict (sym is) tt)) is

@@ -3,6 +3,7 @@ use Rattle.std.proofs.Common.{◌≡◌, ◌<◌, ◌≤◌, ◌∙◌, sym, sub
 use Rattle.std.specs.FinMap.{get}
 use Rattle.code_instrs.specs.Plain.{plain_code}
 use Rattle.exec_machine.specs.Keeping.{IsAt}
+use Rattle.exec_machine.specs.Telling.{MakesIn}
 use Rattle.exec_machine.proofs.Stepping.{next_in, of_some, no_start, no_body, bodies_counted, began, apart}
 use Rattle.exec_machine.proofs.run.Run.make_begin.Goals as goal
 
@@ -24,14 +25,17 @@ returns-then-start-len-clause-why c = λ m can.
     no_body C m c.args.event c.in-Some.slot.now c.args.branch c.in_ok-start.start x c.requires.begins c.in_ok-start.ensures
     (subst (λ k. k ≤ c.in_ok-start.start.body) (c.len.ensures ∙ bodies_counted c.args.code.now) c.if-start-len.true)
 
-pub returns-clause-moves : goal.returns-clause-moves
-returns-clause-moves c = λ m can.
+pub returns-clause-makes : goal.returns-clause-makes
+returns-clause-makes c = λ m can.
     let C = plain_code c.args.code.now in
     let there : get c.args.self.now.slots c.args.event.task ≡ Some c.in-Some.slot.now = sym c.in-Some.ensures in
     let at = of_some (get c.args.self.now.slots c.args.event.task) c.in-Some.slot.now (IsAt C c.args.event) there c.requires.at in
     let x = next_in C c.args.self.now m c.args.event c.in-Some.slot.now can.has_next there at in
     let comes = of_some (get c.args.self.now.slots c.args.event.task) c.in-Some.slot.now _ there c.in_ok-begin.ensures.ok in
-    began c.args.code.now c.args.limits c.args.self.now c.begin.new.self m c.args.event c.in-Some.slot.now comes.0 c.args.branch c.in_ok-start.start can x
-    c.requires.fits c.requires.begins
-    (subst (λ k. c.in_ok-start.start.body < k) (c.len.ensures ∙ bodies_counted c.args.code.now) c.if-start-len.false) c.in_ok-start.ensures
-    (apart C c.args.self.now m c.args.event.task can.has_next) comes.1 comes.2
+    subst (λ o. MakesIn c.args.code.now c.args.limits m c.args.event o c.begin.new.self) (sym there) (
+      x,
+      began c.args.code.now c.args.limits c.args.self.now c.begin.new.self m c.args.event c.in-Some.slot.now comes.0 c.args.branch c.in_ok-start.start can x
+          c.requires.fits c.requires.begins
+          (subst (λ k. c.in_ok-start.start.body < k) (c.len.ensures ∙ bodies_counted c.args.code.now) c.if-start-len.false) c.in_ok-start.ensures
+          (apart C c.args.self.now m c.args.event.task can.has_next) comes.1 comes.2,
+    )

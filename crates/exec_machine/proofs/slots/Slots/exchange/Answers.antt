@@ -2,21 +2,17 @@
 use Rattle.std.proofs.Common.{ap, sym, ◌∙◌, Some}
 use Rattle.std.specs.FinMap.{FinMap, get, insert}
 use Rattle.std.specs.Ordering.{nat_cmp}
-use Rattle.exec_world.proofs.Maps.{seen, get_seen}
 use Rattle.exec_machine.specs.declared.slot.Slot.{Slot}
-use Rattle.exec_machine.proofs.Maps.{written, of_none}
+use Rattle.exec_machine.proofs.Maps.{of_none}
 use Rattle.exec_machine.proofs.slots.Slots.exchange.Goals as goal
 
 pub unreachable-requires : goal.unreachable-requires
-unreachable-requires c = of_none c.self.inside.map c.args.number c.args.self.now _ c.in_default.ensures.value c.self.view_is c.requires
+unreachable-requires c = of_none c.self.inside.map c.args.number c.args.self.now _ c.self.view_is c.in_default.ensures.value c.requires
 
 pub returns-clause-was : goal.returns-clause-was
 returns-clause-was c =
-    sym (ap (λ (slots : FinMap nat_cmp Slot). get slots c.args.number) c.self.view_is) ∙ get_seen c.self.inside.map c.args.number
-    ∙ sym c.in-Some.ensures.value ∙ ap Some (sym c.get_mut-place.ensures.value) ∙ ap Some (sym c.replace.ensures.value)
+    sym (ap (λ (slots : FinMap nat_cmp Slot). get slots c.args.number) c.self.view_is) ∙ sym c.in-Some.ensures.value ∙ ap Some (sym c.replace.ensures.value)
 
 pub returns-clause-put : goal.returns-clause-put
 returns-clause-put c =
-    written c.self.inside.map c.get_mut.follows.lender c.args.number _ c.in-Some.place.now c.in-Some.ensures.value c.get_mut.follows.holds
-    ∙ ap (insert (seen c.self.inside.map) c.args.number) c.replace.ensures.after
-    ∙ ap (λ (slots : FinMap nat_cmp Slot). insert slots c.args.number c.args.slot) c.self.view_is
+    ap (insert c.self.inside.map c.args.number) c.replace.ensures.after ∙ ap (λ (slots : FinMap nat_cmp Slot). insert slots c.args.number c.args.slot) c.self.view_is

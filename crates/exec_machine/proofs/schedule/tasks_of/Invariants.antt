@@ -1,0 +1,6 @@
+use Rattle.std.proofs.Common.{◌≡◌, take, replicate}
+use Rattle.std.specs.List.{flat_map}
+use Rattle.exec_machine.proofs.schedule.tasks_of.Given as goal
+
+abbrev pub invariant-loop-stretch : goal.invariant-loop-stretch
+invariant-loop-stretch l = l.tasks ≡ flat_map (λ s. replicate s.many s.task) (take l.stretch-index l.stretches)

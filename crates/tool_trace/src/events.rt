@@ -1,0 +1,11 @@
+//! The text of the events of a run, a line for each.
+mod acting;
+mod naming;
+mod telling;
+mod text;
+mod thing;
+mod walk;
+
+pub use text::events_text;
+pub use thing::{Elements, Thing};
+pub use walk::Walk;
