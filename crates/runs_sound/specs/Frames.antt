@@ -38,6 +38,7 @@ pub record PartFits (P : PlainProgram) (S : Shapes) (g : Setting) (values : List
   pub no_index : has_index 0 a ≡ false
   pub none_mentioned : mentions_index 0 t ≡ false
   pub array : FitsIn P S (env_of g) (array t a false) (slot_value values k)
+  pub first : FitsIn P S (env_of g) int (slot_value values (k + 1))
   pub len : FitsIn P S (env_of g) int (slot_value values (k + 2))
   pub places : g.part k ≡ record { array = slot_value values k; first = number (slot_value values (k + 1)); len = number (slot_value values (k + 2)) }
 

@@ -51,9 +51,9 @@ abbrev pub are_operands : {N : Type 0} → Operands → Value N → Value N → 
 are_operands Ints v u = is_int v && is_int u
 are_operands Same v u = (is_int v && is_int u) || (is_boolean v && is_boolean u) || (is_reference v && is_reference u)
 
--- the slots of a part hold the array and a length
+-- the slots of a part hold the array, its first place and its length
 abbrev pub is_part : {N : Type 0} → ℕ → List (Value N) → Bool
-is_part k vs = is_reference (slot_value vs k) && is_int (slot_value vs (k + 2))
+is_part k vs = is_reference (slot_value vs k) && (is_int (slot_value vs (k + 1)) && is_int (slot_value vs (k + 2)))
 
 -- the answers to a read and to a write, either of which may be out of bounds
 abbrev pub is_read : {N M : Type 0} → Answer N M → Bool

@@ -52,7 +52,9 @@ kind_as P S env u v e h = kind_fits P S env u v (subst (λ z. FitsIn P S env z v
 
 -- what the slots of a part hold
 pub part_kinds : (P : PlainProgram) (S : Shapes) (g : Setting) (vs : List Value) (k : ℕ) (t : PlainType) (a : Rpl) → PartFits P S g vs k t a → is_part k vs ≡ true
-part_kinds P S g vs k t a pf = and_from _ _ (kind_fits P S (env_of g) (array t a false) _ pf.array) (kind_fits P S (env_of g) int _ pf.len)
+part_kinds P S g vs k t a pf =
+    and_from _ _ (kind_fits P S (env_of g) (array t a false) _ pf.array)
+    (and_from _ _ (kind_fits P S (env_of g) int _ pf.first) (kind_fits P S (env_of g) int _ pf.len))
 
 -- two operands of the right types
 pub operands_fit : (P : PlainProgram) (S : Shapes) (env : Env) (o : Operands) (t u : PlainType) (v w : Value) → Takes o t u → FitsIn P S env t v → FitsIn P S env u w →

@@ -10,7 +10,7 @@ use Rattle.lang_meaning.specs.Counts.{part_begin, is_part}
 use Rattle.runs_theory.specs.Objects.{Value}
 use Rattle.runs_sound.specs.Settings.{Places}
 use Rattle.runs_sound.specs.Accesses.{Access, Through}
-use Rattle.runs_sound.proofs.numbers.Ints.{zero_fits}
+use Rattle.runs_sound.proofs.numbers.Ints.{zero_fits, add_fits}
 use Rattle.runs_sound.proofs.numbers.Numbers.{number_one}
 
 -- the part of a number, of so many, of an array of a length after its first place
@@ -89,6 +89,12 @@ ends_in n m q l =
 
 not_below : (x : ℕ) → int_lt (pos x) (pos 0) ≡ false
 not_below x = false_from_ne_true (int_lt (pos x) (pos 0)) (λ t. (let l = ltb-true x 0 t in omega (arith, l)))
+
+-- its first place is an int
+pub first_fits : (v : Value) (first len parts at : ℤ) → FitsSigned w32 (taken v first len parts at).first
+first_fits v first len parts at =
+    ⊎_elim (λ e. subst (FitsSigned w32) (sym (cond-true (is_part len parts at) _ (pos 0) e)) (add_fits first (pos (part_begin len parts at))))
+    (λ e. subst (FitsSigned w32) (sym (cond-false (is_part len parts at) _ (pos 0) e)) zero_fits) (cases_Bool (is_part len parts at))
 
 -- a part is no longer than the whole
 pub part_fits : (v : Value) (first len parts at : ℤ) → FitsSigned w32 len → FitsSigned w32 (taken v first len parts at).len

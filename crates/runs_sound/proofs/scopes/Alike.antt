@@ -131,6 +131,7 @@ local_alike P S L g k a vs x (part t b) e s f = record {
   no_index = f.no_index;
   none_mentioned = f.none_mentioned;
   array = fits_alike P S L g k a (array t b false) s (slot_value vs x) f.array;
+  first = f.first;
   len = f.len;
   places = sym (a.part x t b e) ∙ f.places;
 }
@@ -160,6 +161,7 @@ local_kept P S g vs z v x (part t a) ne np f =
       no_index = f.no_index;
       none_mentioned = f.none_mentioned;
       array = subst (FitsIn P S (env_of g) (array t a false)) e0 f.array;
+      first = subst (FitsIn P S (env_of g) int) e1 f.first;
       len = subst (FitsIn P S (env_of g) int) e2 f.len;
       places = f.places ∙ (λ i. record { array = e0 i; first = number (e1 i); len = number (e2 i) });
     }

@@ -39,6 +39,7 @@ local_later P S T h g vs x (part t a) f = record {
   no_index = f.no_index;
   none_mentioned = f.none_mentioned;
   array = fits_grows P S T h (env_of g) (array t a false) (slot_value vs x) f.array;
+  first = fits_grows P S T h (env_of g) int (slot_value vs (x + 1)) f.first;
   len = fits_grows P S T h (env_of g) int (slot_value vs (x + 2)) f.len;
   places = f.places;
 }

@@ -34,7 +34,7 @@ use Rattle.runs_sound.proofs.scopes.Locals.{frame_outside, number_alike, lies_ge
 use Rattle.runs_sound.proofs.numbers.Ints.{add_fits}
 use Rattle.runs_sound.proofs.numbers.Numbers.{number_one}
 use Rattle.runs_sound.proofs.work.Parts.{with_places, good_part, frame_part}
-use Rattle.runs_sound.proofs.paths.Places.{taken, part_fits, in_whole, parts_apart}
+use Rattle.runs_sound.proofs.paths.Places.{taken, first_fits, part_fits, in_whole, parts_apart}
 use Rattle.runs_sound.proofs.paths.Quiet.{Reaches, lists_quiet, reached_same, iterations_quiet}
 use Rattle.runs_sound.proofs.paths.Uses.{UsesPart, without_marks, own_part, free_in_branch}
 use Rattle.runs_sound.proofs.scopes.Wider.{wider_type}
@@ -240,6 +240,7 @@ module _ (P : PlainProgram) (b : Bounds) (st : State) (L : Scope) (good : GoodSc
         (subst (λ y. FrameFits P b.path st (with_number (k + 4) (number (slot_value (part_frame i).values (k + 4))) (with_places k y g)) (with_part k t a (in_loop_branch L)) (part_frame i)) pl
         (frame_part (in_loop_branch L) k t a loop_free P b.path st g (good_loop L good) in_branch_scope alone (part_frame i)
         (subst (FitsIn P st.shapes (env_of g) (array t a false)) (sym e0) array_fits)
+        (subst (FitsIn P st.shapes (env_of g) int) (sym e1) (subst (FitsSigned w32) (sym (first_at i)) (first_fits whole.array whole.first whole.len count (number_at i))))
         (subst (FitsIn P st.shapes (env_of g) int) (sym e2) (subst (FitsSigned w32) (sym (length_at i)) (part_fits whole.array whole.first whole.len count (number_at i) len_fits)))
         (subst (FitsIn P st.shapes (env_of g) int) (sym e4) (add_fits (pos 0) (pos i))) (frame_at i))))
 

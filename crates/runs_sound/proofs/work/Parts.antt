@@ -151,13 +151,14 @@ module _ (L : Scope) (k : ℕ) (t : PlainType) (a : Rpl) where
     -- a frame that fits outside fits inside, where the slots of the part say where it stands
     pub frame_part : (P : PlainProgram) (path : Path) (st : State) (g : Setting) → GoodScope L → TypeInScope L 0 (array t a false) →
         (has_index 0 a ≡ false) × (mentions_index 0 t ≡ false) → (f : Frame) →
-        FitsIn P st.shapes (env_of g) (array t a false) (slot_value f.values k) → FitsIn P st.shapes (env_of g) int (slot_value f.values (k + 2)) →
+        FitsIn P st.shapes (env_of g) (array t a false) (slot_value f.values k) → FitsIn P st.shapes (env_of g) int (slot_value f.values (k + 1)) →
+        FitsIn P st.shapes (env_of g) int (slot_value f.values (k + 2)) →
         FitsIn P st.shapes (env_of g) int (slot_value f.values (k + 4)) → FrameFits P path st g L f →
         FrameFits P path st
         (with_number (k + 4) (number (slot_value f.values (k + 4)))
         (with_places k (record { array = slot_value f.values k; first = number (slot_value f.values (k + 1)); len = number (slot_value f.values (k + 2)) }) g))
         (with_part k t a L) f
-    frame_part P path st g good s alone f array_fits len_fits number_fits ff = record {
+    frame_part P path st g good s alone f array_fits first_fits len_fits number_fits ff = record {
       regions = ff.regions;
       plain = ff.plain;
       atomic = ff.atomic;
@@ -193,6 +194,7 @@ module _ (L : Scope) (k : ℕ) (t : PlainType) (a : Rpl) where
           no_index = alone.0;
           none_mentioned = alone.1;
           array = fits_alike P st.shapes L g inner al (array t a false) s (slot_value f.values k) array_fits;
+          first = first_fits;
           len = len_fits;
           places = cond-true (k == k) _ _ (eq-eqb k k refl);
         }))
