@@ -4,5 +4,6 @@ pub mod Items
 pub mod Paths
 pub mod Summaries
 pub mod Spelled
+pub mod Numbered
 pub mod Speaking
 pub mod Lines
