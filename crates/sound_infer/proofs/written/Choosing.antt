@@ -29,13 +29,13 @@ use Rattle.sound_infer.specs.Written.{HasItemsOf, HasWrittenItems, IsItemOf, Say
 
 -- elements of a list
 
-here : {X : Type 0} (x : X) (xs : List X) → Contains (x ∷ xs) x
+pub here : {X : Type 0} (x : X) (xs : List X) → Contains (x ∷ xs) x
 here x xs = (0, omega arith, refl)
 
-later : {X : Type 0} (y : X) (xs : List X) (x : X) → Contains xs x → Contains (y ∷ xs) x
+pub later : {X : Type 0} (y : X) (xs : List X) (x : X) → Contains xs x → Contains (y ∷ xs) x
 later y xs x c = let l = c.1 in (suc c.0, omega (arith, l), c.2)
 
-first_or_later : {X : Type 0} (y : X) (xs : List X) (x : X) → Contains (y ∷ xs) x → (y ≡ x) ⊎ Contains xs x
+pub first_or_later : {X : Type 0} (y : X) (xs : List X) (x : X) → Contains (y ∷ xs) x → (y ≡ x) ⊎ Contains xs x
 first_or_later {X} y xs x c = by c.0 c.1 c.2
   where
     by : (k : ℕ) → k < length (y ∷ xs) → slice_index_or (y ∷ xs) k x ≡ x → (y ≡ x) ⊎ Contains xs x
@@ -45,7 +45,7 @@ first_or_later {X} y xs x c = by c.0 c.1 c.2
 is_first : {X : Type 0} (y x : X) (xs : List X) → y ≡ x → Contains (y ∷ xs) x
 is_first y x xs e = subst (Contains (y ∷ xs)) e (here y xs)
 
-zip_find : {X Y : Type 0} (R : X → Y → Type 0) (xs : List X) (ys : List Y) (y : Y) → AllZip R xs ys → Contains ys y → (x : X) × R x y × Contains xs x
+pub zip_find : {X Y : Type 0} (R : X → Y → Type 0) (xs : List X) (ys : List Y) (y : Y) → AllZip R xs ys → Contains ys y → (x : X) × R x y × Contains xs x
 zip_find R [] [] y h c = let l = c.1 in absurd (omega (arith, l))
 zip_find R [] (z ∷ ys) y h c = absurd h
 zip_find R (x ∷ xs) [] y h c = absurd h
@@ -164,20 +164,20 @@ summary_for A old es ks m =
 
 -- a tree with these summaries of its methods and constructors, by their numbers
 
-abbrev with_summary : Option SummaryTree → OwnMethod → OwnMethod
+abbrev pub with_summary : Option SummaryTree → OwnMethod → OwnMethod
 with_summary s own = record own { method = record own.method { summary = s } }
 
-abbrev members_with : (ℕ → Option SummaryTree) → ℕ → List Member → List Member
+abbrev pub members_with : (ℕ → Option SummaryTree) → ℕ → List Member → List Member
 members_with f n [] = []
 members_with f n (member.Regions is_atomic names ∷ ms) = member.Regions is_atomic names ∷ members_with f n ms
 members_with f n (member.Field field ∷ ms) = member.Field field ∷ members_with f n ms
 members_with f n (member.Method method ∷ ms) = member.Method (record method { summary = f n }) ∷ members_with f (suc n) ms
 
-abbrev classes_with : (ℕ → Option SummaryTree) → ℕ → List Class → List Class
+abbrev pub classes_with : (ℕ → Option SummaryTree) → ℕ → List Class → List Class
 classes_with f n [] = []
 classes_with f n (k ∷ ks) = record k { members = members_with f n k.members } ∷ classes_with f (n + length (flat_map (member_methods 0) k.members)) ks
 
-abbrev methods_with : (ℕ → Option SummaryTree) → ℕ → List OwnMethod → List OwnMethod
+abbrev pub methods_with : (ℕ → Option SummaryTree) → ℕ → List OwnMethod → List OwnMethod
 methods_with f n [] = []
 methods_with f n (own ∷ more) = with_summary (f n) own ∷ methods_with f (suc n) more
 
@@ -200,7 +200,7 @@ module _ (f : ℕ → Option SummaryTree) where
       let at : n + length (x ∷ xs) ≡ suc n + length xs = omega arith in
       ap (λ k. with_summary (f n) x ∷ (methods_with f (suc n) xs ++ methods_with f k ys)) at ∙ ap (λ rest. with_summary (f n) x ∷ rest) (both_with (suc n) xs ys)
 
-  methods_of : (c n : ℕ) (ks : List Class) → methods_from c (classes_with f n ks) ≡ methods_with f n (methods_from c ks)
+  pub methods_of : (c n : ℕ) (ks : List Class) → methods_from c (classes_with f n ks) ≡ methods_with f n (methods_from c ks)
   methods_of c n [] = refl
   methods_of c n (k ∷ ks) =
       let ms = flat_map (member_methods c) k.members in
@@ -209,7 +209,7 @@ module _ (f : ℕ → Option SummaryTree) where
       ap (λ first. first ++ methods_from (suc c) (classes_with f (n + length (flat_map (member_methods 0) k.members)) ks)) (methods_in c n k.members)
       ∙ ap (λ more. methods_with f n ms ++ more) rest ∙ both_with n ms (methods_from (suc c) ks)
 
-  method_at : (n i : ℕ) (xs : List OwnMethod) (own other : OwnMethod) → slice_get xs i ≡ Some own → slice_get (methods_with f n xs) i ≡ Some other → other.method.summary ≡ f (n + i)
+  pub method_at : (n i : ℕ) (xs : List OwnMethod) (own other : OwnMethod) → slice_get xs i ≡ Some own → slice_get (methods_with f n xs) i ≡ Some other → other.method.summary ≡ f (n + i)
   method_at n i [] own other e g = cc
   method_at n zero (x ∷ xs) own other e g =
       let at : n ≡ n + 0 = omega arith in
@@ -224,7 +224,7 @@ module _ (f : ℕ → Option SummaryTree) where
   members_same n (member.Field field ∷ ms) = ap (λ rest. member.Field field ∷ rest) (members_same n ms)
   members_same n (member.Method method ∷ ms) = ap (λ rest. member_without (member.Method method) ∷ rest) (members_same (suc n) ms)
 
-  classes_same : (n : ℕ) (ks : List Class) → map class_without (classes_with f n ks) ≡ map class_without ks
+  pub classes_same : (n : ℕ) (ks : List Class) → map class_without (classes_with f n ks) ≡ map class_without ks
   classes_same n [] = refl
   classes_same n (k ∷ ks) =
       let many = n + length (flat_map (member_methods 0) k.members) in
