@@ -10,4 +10,4 @@ pub mod Kept
 pub mod WellTyped
 pub mod Lines
 pub mod written
-pub mod told
+pub mod reading

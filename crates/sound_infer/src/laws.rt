@@ -1,6 +1,6 @@
 //! The laws of inferred summaries, the clauses of a function that does nothing.
 ghost use Rattle.sound_infer.specs.Laws.{EffectsAreThose, InferredIsWellTyped, PostFixpointsAreWellTyped};
-ghost use Rattle.sound_infer.specs.Told.{LinesAreAccepted, LinesCanBeRead, LinesSayWhatIsKept};
+ghost use Rattle.sound_infer.specs.Reading.{LinesAreAccepted, LinesCanBeRead, LinesSayWhatIsKept};
 ghost use Rattle.sound_infer.specs.Written.{KeptCanBeWritten, KeptIsAccepted, KeptMeans};
 
 /// What a body does by the judgement is what the inference takes it to do; and a program that is well typed is so with whatever
@@ -21,7 +21,7 @@ pub fn law_written()
 
 /// The lines of an accepted text can be read as summaries, and however they are read, they say what is kept of the written ones; so a
 /// text is accepted whose tree has them in their place, where that covers what is done.
-pub fn law_told()
+pub fn law_lines()
     ensures read { LinesCanBeRead }
     ensures say { LinesSayWhatIsKept }
     ensures accepted { LinesAreAccepted }

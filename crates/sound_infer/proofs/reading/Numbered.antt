@@ -19,8 +19,8 @@ use Rattle.syntax_means.specs.Means.{in_class, param_names}
 use Rattle.syntax_means.specs.Paths.{Around}
 use Rattle.body_infer.specs.Lines.{class_params, params_of}
 use Rattle.sound_infer.proofs.written.Choosing.{first_or_later}
-use Rattle.sound_infer.proofs.told.Paths.{AllSpelled, IsSpelled, RegionIsSpelled}
-use Rattle.sound_infer.proofs.told.Spelled.{ClassSpelled, MemberSpelled, MethodSpelled, ParamsSpelled}
+use Rattle.sound_infer.proofs.reading.Paths.{AllSpelled, IsSpelled, RegionIsSpelled}
+use Rattle.sound_infer.proofs.reading.Spelled.{ClassSpelled, MemberSpelled, MethodSpelled, ParamsSpelled}
 
 -- what is so of each element
 

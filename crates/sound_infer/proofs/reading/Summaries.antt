@@ -22,11 +22,11 @@ use Rattle.syntax_means.specs.Declares.{names_in}
 use Rattle.syntax_means.specs.Means.{ItemMeans, SummaryMeans}
 use Rattle.syntax_means.specs.Paths.{Around}
 use Rattle.body_infer.specs.Lines.{item_text, items_of, listed, mark_text, path_text, summary_text}
-use Rattle.sound_infer.proofs.told.Items.{item_from, same_items, some_items}
+use Rattle.sound_infer.proofs.reading.Items.{item_from, same_items, some_items}
 use Rattle.sound_infer.proofs.written.Choosing.{here, later}
-use Rattle.sound_infer.proofs.told.Parts.{Anything, EndsWord, Reads, a_space, followed, nothing, read_as, spelled_as}
-use Rattle.sound_infer.proofs.told.Paths.{AllSpelled, IsPath, SpeakablePath, path_reads, takes}
-use Rattle.sound_infer.proofs.told.Words.{Comes, a_comma, a_keyword, at_comma, at_space}
+use Rattle.sound_infer.proofs.reading.Parts.{Anything, EndsWord, Reads, a_space, followed, nothing, read_as, spelled_as}
+use Rattle.sound_infer.proofs.reading.Paths.{AllSpelled, IsPath, SpeakablePath, path_reads, takes}
+use Rattle.sound_infer.proofs.reading.Words.{Comes, a_comma, a_keyword, at_comma, at_space}
 
 -- a terminal, and then a space
 spaced : {said : Terminal} {before between after : List Placed} {place : Place} → Comes said before between place → between ≡ after → Takes said before after place

@@ -36,11 +36,11 @@ use Rattle.body_infer.specs.Kept.{Keeping, SaysOfEach, summary_kept}
 use Rattle.body_infer.specs.Lines.{params_of, summary_text}
 use Rattle.body_infer.specs.PostFixpoint.{IsPostFixpoint}
 use Rattle.sound_infer.specs.Laws.{program_inferred}
-use Rattle.sound_infer.specs.Told.{HasSummariesOfLines, ReadsAs, words_of}
+use Rattle.sound_infer.specs.Reading.{HasSummariesOfLines, ReadsAs, words_of}
 use Rattle.sound_infer.specs.Written.{SaysWhatIsKept}
-use Rattle.sound_infer.proofs.told.Parts.{EndsWord, Reads, pieces_of, said_from, whole_is, whole_says}
-use Rattle.sound_infer.proofs.told.Speaking.{words_read}
-use Rattle.sound_infer.proofs.told.Summaries.{IsSummary}
+use Rattle.sound_infer.proofs.reading.Parts.{EndsWord, Reads, pieces_of, said_from, whole_is, whole_says}
+use Rattle.sound_infer.proofs.reading.Speaking.{words_read}
+use Rattle.sound_infer.proofs.reading.Summaries.{IsSummary}
 use Rattle.sound_infer.proofs.written.Choosing.{classes_same, classes_with, method_at, methods_of}
 use Rattle.sound_infer.proofs.written.Programs.{kept_is_accepted}
 
@@ -144,14 +144,14 @@ module _ (text : List ℕ) (tree : Program) (P : PlainProgram) (S : Keeping) (ac
 
   -- the summary of a line, where there is one
 
-  abbrev IsTold : ℕ → Option SummaryTree → Type 0
-  IsTold n s = (m : PlainMember) (named : Named) (ks : List Kept) → member_at P n ≡ Some m → slice_get (names_in tree).members n ≡ Some named → slice_get S n ≡ Some ks →
+  abbrev SaysIt : ℕ → Option SummaryTree → Type 0
+  SaysIt n s = (m : PlainMember) (named : Named) (ks : List Kept) → member_at P n ≡ Some m → slice_get (names_in tree).members n ≡ Some named → slice_get S n ≡ Some ks →
       (summary : SummaryTree) × (s ≡ Some summary) × ReadsAs tree.names (words m named ks) summary
 
-  told : (n : ℕ) → (s : Option SummaryTree) × IsTold n s
-  told n = by (slice_get (all_methods tree) n) (member_at P n) (slice_get S n) refl refl refl
+  each_says : (n : ℕ) → (s : Option SummaryTree) × SaysIt n s
+  each_says n = by (slice_get (all_methods tree) n) (member_at P n) (slice_get S n) refl refl refl
     where
-      by : (a : Option OwnMethod) (b : Option PlainMember) (c : Option (List Kept)) → slice_get (all_methods tree) n ≡ a → member_at P n ≡ b → slice_get S n ≡ c → (s : Option SummaryTree) × IsTold n s
+      by : (a : Option OwnMethod) (b : Option PlainMember) (c : Option (List Kept)) → slice_get (all_methods tree) n ≡ a → member_at P n ≡ b → slice_get S n ≡ c → (s : Option SummaryTree) × SaysIt n s
       by None b c e f g = (None, λ m named ks f' e' g'. (let own = method_called n named e' in absurd (none-some own.0 (sym e ∙ own.1))))
       by (Some own) None c e f g = (None, λ m named ks f' e' g'. absurd (none-some m (sym f ∙ f')))
       by (Some own) (Some m) None e f g = (None, λ m' named ks f' e' g'. absurd (none-some ks (sym g ∙ g')))
@@ -170,7 +170,7 @@ module _ (text : List ℕ) (tree : Program) (P : PlainProgram) (S : Keeping) (ac
 
   pub lines_read : (new : Program) × HasSummariesOfLines tree new P S
   lines_read =
-      let f = λ (n : ℕ). (told n).0 in
+      let f = λ (n : ℕ). (each_says n).0 in
       let new : Program = record tree { classes = classes_with f 0 tree.classes } in (
         new,
         record {
@@ -179,7 +179,7 @@ module _ (text : List ℕ) (tree : Program) (P : PlainProgram) (S : Keeping) (ac
               let zero_more : 0 + n ≡ n = omega arith in
               let own = method_called n named e in
               let is : other.method.summary ≡ f n = method_at f 0 n (all_methods tree) own.0 other own.1 (ap (λ xs. slice_get xs n) (sym (methods_of f 0 0 tree.classes)) ∙ at) ∙ ap f zero_more in
-              let w = (told n).1 m named ks here e keeps in
+              let w = (each_says n).1 m named ks here e keeps in
               (w.0, is ∙ w.1, w.2);
         },
       )

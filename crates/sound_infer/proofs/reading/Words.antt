@@ -17,7 +17,7 @@ use Rattle.syntax_tokens.specs.declared.terminal.Terminal.{Terminal}
 use Rattle.syntax_tokens.specs.declared.terminal.Terminal.TheVariants as terminal
 use Rattle.syntax_tokens.specs.Piece.{BeginsComment, HasLeadingZero, StopsAt}
 use Rattle.syntax_tokens.specs.Spelling.{keyword_text, symbol_text}
-use Rattle.sound_infer.proofs.told.Parts.{Anything, EndsWord, Reads, a_word}
+use Rattle.sound_infer.proofs.reading.Parts.{Anything, EndsWord, Reads, a_word}
 
 -- the terminal comes first
 abbrev pub Comes : Terminal → List Placed → List Placed → Place → Type 0

@@ -27,8 +27,8 @@ use Rattle.syntax_parse.specs.Taking.{Many, StandsAt, Takes}
 use Rattle.syntax_means.specs.Declares.{MeansIn, OwnRegion, all_regions, names_in, spelled}
 use Rattle.syntax_means.specs.Paths.{Around, ElemMeans, HeadMeans, PathMeans, RegionMeans}
 use Rattle.body_infer.specs.Lines.{elem_text, head_text, path_text, region_text, within_class}
-use Rattle.sound_infer.proofs.told.Parts.{Anything, EndsWord, Reads, followed, nothing, read_as, spelled_as}
-use Rattle.sound_infer.proofs.told.Words.{Comes, a_close_bracket, a_colon, a_dot, a_keyword, a_name, a_number, a_question, a_star, an_open_bracket, at_close_bracket, at_colon, at_dot}
+use Rattle.sound_infer.proofs.reading.Parts.{Anything, EndsWord, Reads, followed, nothing, read_as, spelled_as}
+use Rattle.sound_infer.proofs.reading.Words.{Comes, a_close_bracket, a_colon, a_dot, a_keyword, a_name, a_number, a_question, a_star, an_open_bracket, at_close_bracket, at_colon, at_dot}
 
 -- a name of the tree is spelled as names are
 pub record IsSpelled (tree : Program) (name : ℕ) : Type 0 where

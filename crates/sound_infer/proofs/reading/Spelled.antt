@@ -40,7 +40,7 @@ use Rattle.syntax_laws.proofs.Statements.{block_fits}
 use Rattle.syntax_means.specs.Accepts.{HasTree}
 use Rattle.syntax_means.specs.Declares.{spelled}
 use Rattle.syntax_laws.proofs.Numbers.{here as none_left}
-use Rattle.sound_infer.proofs.told.Paths.{IsSpelled}
+use Rattle.sound_infer.proofs.reading.Paths.{IsSpelled}
 
 -- a whole number that a token can say
 abbrev pub IsSayable : ℤ → Type 0

@@ -34,11 +34,11 @@ use Rattle.body_infer.specs.declared.kept.Kept.TheVariants as kept
 use Rattle.body_infer.specs.Kept.{summary_kept}
 use Rattle.body_infer.specs.Lines.{params_of, summary_text}
 use Rattle.sound_infer.proofs.written.Choosing.{first_or_later, here, later, zip_find}
-use Rattle.sound_infer.proofs.told.Paths.{AllSpeakable, AllSpelled, Speakable, SpeakablePath}
-use Rattle.sound_infer.proofs.told.Numbered.{after_all, before_formals, before_spelled, each_in, nothing_in, the_method}
-use Rattle.sound_infer.proofs.told.Parts.{EndsWord, Reads}
-use Rattle.sound_infer.proofs.told.Summaries.{IsSummary, summary_reads}
-use Rattle.sound_infer.proofs.told.Spelled.{ItemsSaid, LiteralSaid, LiteralsSaid, SummarySaid, classes_spelled}
+use Rattle.sound_infer.proofs.reading.Paths.{AllSpeakable, AllSpelled, Speakable, SpeakablePath}
+use Rattle.sound_infer.proofs.reading.Numbered.{after_all, before_formals, before_spelled, each_in, nothing_in, the_method}
+use Rattle.sound_infer.proofs.reading.Parts.{EndsWord, Reads}
+use Rattle.sound_infer.proofs.reading.Summaries.{IsSummary, summary_reads}
+use Rattle.sound_infer.proofs.reading.Spelled.{ItemsSaid, LiteralSaid, LiteralsSaid, SummarySaid, classes_spelled}
 
 -- around the formals of a method all is as before them, but for locals
 

@@ -1,5 +1,5 @@
-use Rattle.sound_infer.proofs.told.Lines.{lines_accepted, lines_read, lines_say}
-use Rattle.sound_infer.proofs.laws.law_told.Goals as goal
+use Rattle.sound_infer.proofs.reading.Lines.{lines_accepted, lines_read, lines_say}
+use Rattle.sound_infer.proofs.laws.law_lines.Goals as goal
 
 pub returns : goal.returns
 returns c = record {
