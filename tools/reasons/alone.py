@@ -81,6 +81,11 @@ class Alone:
         return f"{{ new {self.source(node.type)}({self.actuals(constructor, owner, heads_of(owner), {})}); }}"
 
 
+def name_of(owner, method):
+    """What a method or constructor is called in a sentence."""
+    return f"the constructor of {owner.name}" if method.constructor else f"{owner.name}.{method.name}"
+
+
 def summaries_of(world, owner, method, marks=False):
     """Summaries that a method without one may have, as texts: what its body does but for calls of itself, and that with all below it."""
     body = Body(world, owner, method)
@@ -93,7 +98,7 @@ def summaries_of(world, owner, method, marks=False):
 
 def calls(body, node, method):
     """Whether a node calls a method."""
-    met = body.world.member(body.types.get(id(node.of)), "method", node.name) if node.kind == "call" else None
+    met = body.callee(node)
     return met is not None and met[1] is method
 
 

@@ -23,13 +23,13 @@ BY_NAME = {
     "assign": ("assigning", "explain_assign"),
     "return": ("assigning", "explain_return"),
     "main": ("others", "explain_main"),
-    "region-args": ("others", "explain_region_args"),
+    "region-args": ("arguments", "explain_region_args"),
     "partial-write": ("others", "explain_partial_write"),
     "atomic-body": ("others", "explain_atomic_body"),
     "local-region": ("others", "explain_local_region"),
     "override": ("others", "explain_override"),
     "cycle": ("others", "explain_cycle"),
-    "constraint": ("others", "explain_constraint"),
+    "constraint": ("arguments", "explain_constraint"),
 }
 LEAST = "2147483648"
 

@@ -14,6 +14,8 @@ TYPE = r"(?:final\s+)?\b[A-Za-z_]\w*(?:<[^<>;{}()]*>)?(?:\s*\[\s*\](?:<[^<>;{}()
 PLAIN = r"[A-Za-z_]\w*(?:\.[A-Za-z_]\w*|\[[^\[\];]*(?:\[[^\[\];]*\][^\[\];]*)?\])*"
 NAMES = r"[A-Za-z_]\w*\s*(?:=[^;]*?)?,[^;]*?"
 WORDS = "in|class|reads|writes|pure|atomic|region|print|foreach|cobegin|extends|Root|int|boolean|new|void"
+LIBRARY = "List|ArrayList|LinkedList|Vector|Map|HashMap|TreeMap|Set|HashSet|TreeSet|Queue|Deque|ArrayDeque|PriorityQueue|Stack|Optional|Iterator"
+LIBRARY += "|StringBuilder|Scanner|Random|AtomicInteger|AtomicLong|Runnable|Callable|Executor|ExecutorService|Executors|Future|CompletableFuture|Stream|Arrays"
 WORD = r"(?!return\b|new\b|else\b|in\b|reads\b|writes\b|extends\b|class\b|region\b|import\b|package\b|goto\b|throw\b|case\b)"
 Mend = Optional[Union[str, Callable]]
 
@@ -45,11 +47,21 @@ HABITS = [
     row("dash", r"\xe2\x80[\x90-\x95]|\xe2\x88\x92", "Here stands a dash as in print; a minus is `-`.", "-"),
     row("not-ascii", r"[\x80-\xff]+", "Outside of comments and text literals a text is ASCII, names as well.", None),
     row("import", r"\b(?:import|package)\b[^;{}]*;", "There are no packages and no library: a program is one text with all its classes.", ""),
+    row("library", rf"\b(?:{LIBRARY})\b[^;{{}}]*;?", "There is no library. A list is a class with a link to the next one, or an array; a table is an array too.",
+        rewrites.unless_declared),
+    row("diamond", r"(?P<lead>\bnew\s+\w+)\s*<\s*>", "Region arguments are written out; a list that is left out is `Root` for each parameter.", r"\g<lead>"),
     row("annotation", r"@\s*\w+(?:\s*\([^()]*\))?", "There are no annotations.", ""),
     row("implements", r"\bimplements\b[^{]*(?=\{)", "There are no interfaces; a class may extend one class.", ""),
     row("interface", r"\b(?:interface|enum|record)\s+\w+", "There are no interfaces, enums and records. A class whose methods are overridden serves"
         " for an interface, and int constants for an enum.", None),
     row("throws", r"\bthrows\s+[\w., ]+", "There are no exceptions.", ""),
+    row("synchronized", r"\bsynchronized\s*\([^{}]*?\)\s*(?=\{)", "There is no `synchronized`. A block runs as at one moment where it is `atomic { .. }`,"
+        " in a branch of `cobegin_nd` or `foreach_nd`.", "atomic "),
+    row("synchronized", rf"(?P<lead>\bsynchronized\s+)(?=\w+(?:\[\])*\s+\w+\s*\()", "There is no `synchronized`. What a body is to do as at one moment stands in"
+        " an `atomic { .. }` in it.", ""),
+    row("constant", rf"(?:\b(?:{MODIFIERS}|final)\b\s+)+(?P<type>int|boolean)\s+(?P<name>[A-Za-z_]\w*)\s*=(?P<value>[^;{{}}]*);",
+        "A field has no value in its declaration, and nothing is constant for a class: a method without effects gives a constant,"
+        " and is called as `this.name()`.", rewrites.constant_method),
     row("modifier", rf"(?:\b(?:{MODIFIERS})\b\s+)+(?:final\s+)?(?P<rest>\w+\b(?:\s+\w+)?)",
         "There are no `public`, `private`, `static` and the like:"
         " everything is visible, and belongs to an object.", lambda match, _: [rewrites.Edit(match.start(), match.start("rest"), "")]),
@@ -59,6 +71,35 @@ HABITS = [
     row("final-member", r"\bfinal\s+(?=(?:class|void)\b|\w+(?:<[^;(){}]*>)?(?:\[\])*\s+\w+\s*(?:\(|;|=|in\b))",
         "`final` is for locals alone, not for"
         " fields, methods or classes.", ""),
+    row("type-parameter", r"(?<=[<,])\s*type\s+\w+\s*(?:,\s*|(?=>))", "The parameters of a class are regions; there are no type parameters, so that a"
+        " class is written for each type of elements.", ""),
+    row("parameters-behind", r"(?P<result>\b[A-Za-z_]\w*(?:\[\])*)\s+(?P<name>\w+)\s*(?P<params><\s*(?:(?:atomic\s+)?region\b)[^<>{}()]*>)\s*(?=\()",
+        "The region parameters of a method stand in front of its result.", r"\g<params> \g<result> \g<name>"),
+    row("parameters-before-class", r"(?P<params><\s*(?:atomic\s+)?region\b[^<>{}()]*>)\s*(?P<head>class\s+\w+)", "The region parameters of a class stand behind"
+        " its name.", r"\g<head>\g<params>"),
+    row("arguments-behind", rf"(?P<of>{PLAIN})\.(?P<name>\w+)\s*(?P<args><[\w\s.,:*?\[\]]*>)\s*(?=\()",
+        "The region arguments of a call stand behind the dot, in front of the"
+        " method's name.", r"\g<of>.\g<args>\g<name>"),
+    row("arguments-behind", r"(?<![\w.])(?<!new )(?P<name>(?!new\b)[a-z]\w*)\s*(?P<args><[\w\s.,:*?\[\]]*>)\s*(?=\([^;{}]*;)",
+        "A method is called on its object, and"
+        " the region arguments stand behind the dot.", r"this.\g<args>\g<name>"),
+    row("new-alone", r"(?P<new>\bnew\s+[A-Z]\w*(?:<[^<>;(){}]*>)?)\s*(?=[;,)])", "A creation has parentheses, also where there is no constructor.", r"\g<new>()"),
+    row("index-name-first", r"(?P<index>#\s*\w+)\s*(?P<path><[^<>;(){}]*>)", "The region of an array comes before its index name.", r"\g<path>\g<index>"),
+    row("all-regions", r"(?P<lead>(?:\b(?:reads|writes|atomic|in)\b|[,<])\s*)(?:\*|\?)", "All regions together are `Root:*`.", r"\g<lead>Root:*"),
+    row("region-tree", r"(?P<lead>\bregion\s[\w\s,]*?)\w+(?:\s*[:.]\s*\w+)*\s*[:.]\s*(?P<last>\w+)",
+        "A declaration of regions has plain names; how they lie below"
+        " each other is written in paths, as in `int x in A:B;`.", r"\g<lead>\g<last>"),
+    row("summary-first", rf"(?P<summary>\b(?:pure|(?:reads|writes)\b[\w\s.,:*?\[\]]*?))\s+(?P<head>(?:int|boolean|void|[A-Z]\w*(?:<[^<>]*>)?)(?:\[\])*\s+\w+\s*\([^(){{}}]*\))",
+        "A summary stands behind the formals.", r"\g<head> \g<summary>"),
+    row("no-body", r"(?P<head>\b(?P<result>int|boolean|void|[A-Z]\w*(?:<[^<>;]*>)?(?:\[\])*)\s+\w+\s*\([^(){};]*\)[\w\s.,:*?\[\]]*);", "Each method has a body. One that"
+        " subclasses override has one too, say with a result that stands for none.", rewrites.body_of_none),
+    row("object-of-cpp", r"(?P<type>\b[A-Z]\w*(?:<[^<>;(){}]*>)?)\s+(?P<name>[a-z_]\w*)\s*\((?P<actuals>[^;{}]*)\)\s*;", "An object is created by"
+        " `new`.", rewrites.created_local),
+    row("default-actual", rf"(?P<lead>[(,]\s*{TYPE}\s+\w+)\s*=[^=,;(){{}}]+(?=[,)][^;{{}}]*\{{)", "A formal has no value of its own: each call gives it one.", r"\g<lead>"),
+    row("varargs", r"\s*\.\.\.\s*(?=\w+\s*\))", "A method has a fixed number of formals; more values are handed on in an array.", "[] "),
+    row("label", r"\b[A-Za-z_]\w*\s*:\s*(?=(?:while|for|do|foreach|\{)\b)", "There are no labels, and no `break` out of a loop.", ""),
+    row("comment-in-comment", r"\*/", "A comment ends at the first `*/`, so one inside another ends both; here stands a `*/` that closes none.", ""),
+    row("then", r"\)\s*then\b\s*", "No `then` stands behind the condition of an `if`.", ") "),
     row("type-parameter", r"(?<=<)\s*(?P<name>[A-Z]\w*)(?=\s*[>,|])", "The parameters of a class are regions, and are written"
         " `<region P>`; there are no type parameters.", r"region \g<name>"),
     row("extends-two", r"(?P<lead>\bextends\s+\w+(?:<[^<>]*>)?)\s*,\s*[^{]*", "A class extends one class at most.", r"\g<lead> "),
@@ -104,6 +145,7 @@ HABITS = [
     row("println", r"\b(?:System\s*\.\s*(?:out|err)\s*\.\s*print(?:ln|f)?|println|printf|echo)\s*\((?:\s*\")?",
         "What is printed is an int, a boolean"
         " or a text: `print(e);`.", lambda match, _: [rewrites.Edit(match.start(), match.group().index("(") + match.start(), "print")]),
+    row("print-bare", r"\bprint\s+(?P<value>[^;{}()]*(?:\([^;{}]*\)[^;{}()]*)*);", "What is printed stands in parentheses: `print(e);`.", r"print(\g<value>);"),
     row("print-sum", r"\bprint\s*\((?=[^;]*\")[^;]*[+,][^;]*\)\s*",
         "`print` takes one int, boolean or text, and ends the line. There are no strings"
         " to be put together.", rewrites.text_and_values),
@@ -123,6 +165,9 @@ HABITS = [
     row("not-same", r"!==|<>", "Two values are compared by `!=`.", "!="),
     row("at-least", r"=>", "Written `>=`.", ">="),
     row("at-most", r"=<", "Written `<=`.", "<="),
+    row("compared-alone", rf"(?<=[;{{}}])\s*{PLAIN}\s*(?P<sign>==)(?!=)[^;{{}}=]*;", "A comparison alone is no statement, and does nothing; a value is assigned by `=`.",
+        lambda match, _: [rewrites.Edit(match.start("sign"), match.end("sign"), "=")]),
+    row("assigned-as-in-pascal", r":=", "A value is assigned by `=`.", "="),
     row("step", rf"(?P<step>{PLAIN}\s*(?:\+\+|--)|(?:\+\+|--)\s*{PLAIN})\s*;", "There is no `++` and no `--`.", rewrites.whole_step),
     row("step-inside", rf"(?P<step>(?P<name>{PLAIN})\s*(?:\+\+|--))\s*", "There is no `++` and no `--`; an assignment is a statement of its own.",
         rewrites.step_in_expression),

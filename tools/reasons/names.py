@@ -7,7 +7,7 @@ from .java_names import NAMES_OF_JAVA
 from .leaving import Edit, is_around
 from .source import KEYWORDS, statement_around, without_comments
 from .typed import Body
-from .world import heads_of
+from .world import heads_of, put_in_type
 
 TRIALS_AT_MOST = 10
 
@@ -37,12 +37,33 @@ def explain_unknown(report, world):
         return
     place = Place(report, world, token)
     proposals = place.proposals()
-    for word, edits in (misspelt_declarations(report, token, proposals) + proposals)[:TRIALS_AT_MOST]:
-        if report.mends(word, edits, quiet=True):
-            place.name_declaration(edits[0].new.removeprefix("this."))
-            if edits[0].new == token.text:
-                report.name(*statement_around(report.source, edits[0].start), f"declares what is nearly `{token.text}`")
-            return
+    edits = best_proposal(report, (misspelt_declarations(report, token, proposals) + proposals)[:TRIALS_AT_MOST])
+    if edits is not None:
+        place.name_declaration(edits[0].new.removeprefix("this."))
+        if edits[0].new == token.text:
+            report.name(*statement_around(report.source, edits[0].start), f"declares what is nearly `{token.text}`")
+
+
+def best_proposal(report, proposals):
+    """Tries proposals: the first one with which the text is accepted, or else the first one whose next fault isn't in the same statement, or any."""
+    start, end = statement_around(report.source, report.answer.offset)
+    lines, kept = {report.source.place(start)[0], report.source.place(end)[0]}, None
+    for word, edits in proposals:
+        if not report.mends(word, edits, quiet=True):
+            continue
+        answer = report.mend["answer"]
+        rank = 0 if answer == "accepted" else 1 + (int(answer.split()[1].split(":")[0]) in lines)
+        if kept is None or rank < kept[0]:
+            kept = (rank, report.mend, report.tried.pop(), edits)
+        else:
+            report.tried.pop()
+        if rank == 0:
+            break
+    if kept is None:
+        return None
+    report.mend = kept[1]
+    report.tried.append(kept[2])
+    return kept[3]
 
 
 def misspelt_declarations(report, token, proposals):
@@ -164,6 +185,17 @@ class Place:
             homes = [its for its in self.world.classes if node.name in self.members(("class", its, ()), "method")]
             if homes:
                 self.report.say(f"A method `{node.name}` is declared in {', '.join(homes)}.")
+            found += self.through_fields(node, its_type)
+        return found
+
+    def through_fields(self, node, its_type):
+        """The fields of an object whose own class has the method."""
+        found, end = [], node.of.end
+        for name in self.members(its_type, "field"):
+            owner, field, given = self.world.member(its_type, "field", name)
+            its = put_in_type(self.world.type(field.type, owner.name, heads_of(owner)), given)
+            if node.name in self.members(its, "method"):
+                found.append((f"The method of its field `{name}` may be meant.", [Edit(end, end, f".{name}")]))
         return found
 
     def scope(self):
@@ -242,9 +274,7 @@ class Place:
         name, at = self.token.text, self.token.start
         text = self.report.source.text
         if text[:at].rstrip().endswith("[") and at > node.start:
-            indexes = [local.name for local in self.scope().values() if local.is_index]
-            self.report.say(f"`{name}` is no index variable; " + (f"these are: {', '.join(indexes)}." if indexes else "none is in scope."))
-            return self.instead(near(name, indexes)) + self.instead(["?"])
+            return self.of_index(node)
         chain = list(self.world.chain(self.class_node.name))
         declared = [token.text for its in chain for member in its.members if member.kind == "regions" for token in member.names]
         params = sorted(heads_of(self.class_node, self.method))
@@ -258,6 +288,20 @@ class Place:
             self.report.say(f"No region name `{name}` is declared in {self.class_node.name}, and no region parameter.")
         found.append(("Declare the region name.", [Edit(opened, opened, f" region {name};")]))
         return found
+
+
+    def of_index(self, node):
+        """An index in a path."""
+        name = self.token.text
+        if self.method is None or self.token.start < self.method.body.start:
+            self.report.say(
+                f"`{name}` is no index variable: a field, a formal, a result and a summary name none but the index name of the array type around. Let the"
+                f" {'class' if self.method is None else 'method'} take a region parameter, which is given the region with the index."
+            )
+            return self.instead(["?"]) if self.method is not None and node in self.method.summary.paths else []
+        indexes = [local.name for local in reversed(self.scope().values()) if local.is_index]
+        self.report.say(f"`{name}` is no index variable; " + (f"these are: {', '.join(indexes)}." if indexes else "none is in scope."))
+        return self.instead(list(dict.fromkeys(near(name, indexes) + indexes))) + self.instead(["?"])
 
 
 def explain_duplicate(report, world):
@@ -294,7 +338,7 @@ def first_of(report, world, token):
 
 
 def rename(report, world, token):
-    """Another name for a local and its uses; for what else is declared the declaration alone."""
+    """Another name for a local and its uses; for a method that and its calls as their actuals tell; for what else is declared the declaration alone."""
     class_node, method = method_at(world, token.start)
     new = token.text + "2"
     taken = {other.text for other in report.source.tokens}
@@ -305,4 +349,18 @@ def rename(report, world, token):
         body = Body(world, class_node, method)
         places = sorted({use.at for use in body.uses if use.local.at == token.start})
         edits += [Edit(place, place + len(token.text), new) for place in places]
+    elif method is not None and not method.constructor:
+        edits += renamed_calls(world, class_node, method, new)
     report.mends(f"Give it another name, say `{new}`.", edits, quiet=True)
+
+
+def renamed_calls(world, class_node, method, new):
+    """Edits of the calls that are meant for a method, where another one of its name takes another number of actuals."""
+    others = [
+        member for node in world.chain(class_node.name) for member in node.members
+        if member.kind == "method" and member.name == method.name and member is not method
+    ]  # fmt: skip
+    if any(len(other.formals) == len(method.formals) for other in others):
+        return []
+    calls = [node for node in world.program.walk() if node.kind == "call" and node.name == method.name]
+    return [Edit(node.at, node.at + len(node.name), new) for node in calls if len(node.actuals) == len(method.formals)]

@@ -65,17 +65,44 @@ def whole_step(match, _):
 
 
 def step_in_expression(match, source):
-    """A step inside an expression: as a statement before or behind it, where that statement is simple."""
+    """A step inside an expression: as a statement before or behind it, where that statement is simple; in a condition before it and in a loop
+    at the end of the body too."""
     text = source.text
     end = text.find(";", match.end())
     start = max(text.rfind(mark, 0, match.start()) for mark in ";{}") + 1
-    if end < 0 or re.search(r"[{}]", text[match.end() : end]) or re.match(r"\s*(if|while|for|return|else|foreach)\b", text[start:]):
-        return None
     start += len(text[start:]) - len(text[start:].lstrip())
+    head = re.match(r"(if|while|for|return|else|foreach)\b", text[start:])
+    if head and head[1] in ("if", "while"):
+        return step_in_condition(match, source, start)
+    if end < 0 or re.search(r"[{}]", text[match.end() : end]) or (head and head[1] != "return"):
+        return None
     name, alone = match["name"], step(match["step"])
-    if match["step"].startswith(name):
+    is_behind = match["step"].startswith(name)
+    if is_behind and head:
+        taken = next(new for new in ("taken", "before", "given", "valueBefore") if not re.search(rf"\b{new}\b", text))
+        return [Edit(start, start, f"int {taken} = {name}; {alone}; "), Edit(match.start("step"), match.end("step"), taken)]
+    if is_behind:
         return [Edit(match.start("step"), match.end("step"), name), Edit(end + 1, end + 1, f" {alone};")]
     return [Edit(start, start, f"{alone}; "), Edit(match.start("step"), match.end("step"), name)]
+
+
+def step_in_condition(match, source, start):
+    """A step in the condition of an `if` or a `while`: before the statement, and in a loop at the end of its body."""
+    text, name, alone = source.text, match["name"], step(match["step"])
+    opened = text.index("(", start)
+    closed = closing(text, opened)
+    body = body_after(text, closed) if closed else None
+    if not body or match.end("step") > closed or re.search(r"&&|\|\|", text[opened : match.start("step")]):
+        return None
+    # What a step behind its name gives is the value before it.
+    back = "-" if "+" in match["step"] else "+"
+    value = f"({name} {back} 1)" if match["step"].startswith(name) else name
+    edits = [Edit(start, start, f"{alone}; "), Edit(match.start("step"), match.end("step"), value)]
+    if not text.startswith("while", start):
+        return edits
+    if text[body[0]] == "{":
+        return [*edits, Edit(body[1] - 1, body[1] - 1, f" {alone}; ")]
+    return [*edits, Edit(body[0], body[0], "{ "), Edit(body[1], body[1], f" {alone}; }}")]
 
 
 def body_after(text, offset):
@@ -184,16 +211,18 @@ def value_of(its_type):
 
 
 def declarators(match, source):
-    """`T a = 1, b;` as declarations of their own, of locals with a value."""
+    """`T a = 1, b;` as declarations of their own, of locals with a value; a region behind the last field is that of all without one."""
     its_type, is_field = match["type"], depth_at(source.text, match.start()) < 2
     parts = split_at(match["names"], ",")
-    if len(parts) < 2 or not all(re.match(r"[A-Za-z_]\w*\s*(?:=|$)", part) for part in parts):
+    if len(parts) < 2 or not all(re.match(r"[A-Za-z_]\w*\s*(?:=|$|in\b)", part) for part in parts):
         return []
+    last = re.search(r"\s+in\s+[^=]*", parts[-1])
     made = []
     for part in parts:
         name, _, value = (piece.strip() for piece in part.partition("="))
         if is_field:
-            made.append(f"{its_type} {name};")
+            place = "" if re.search(r"\sin\s", name) or not last else last.group().rstrip()
+            made.append(f"{its_type} {name}{place};")
         else:
             made.append(f"{its_type} {name} = {value or value_of(its_type.removeprefix('final ').strip())};")
     return [Edit(match.start(), match.end(), " ".join(made))]
@@ -307,3 +336,32 @@ def close_literal(match, source):
     tail = re.search(r"\s*\)\s*;[^\"]*$", line)
     place = match.start() + (tail.start() if tail else len(line))
     return [Edit(place, place, '"')]
+
+
+def unless_declared(match, source):
+    """No edits where the text declares a class of the name itself; otherwise no mend is known."""
+    name = re.match(r"\w+", match.group()).group()
+    return [] if re.search(rf"\bclass\s+{name}\b", source.text) else None
+
+
+def constant_method(match, source):
+    """A constant as a method without effects; no edits for a local."""
+    if depth_at(source.text, match.start()) != 1:
+        return []
+    return [Edit(match.start(), match.end(), f"{match['type']} {match['name']}() pure {{ return {match['value'].strip()}; }}")]
+
+
+def body_of_none(match, source):
+    """A method without a body as one that returns a default; no edits where no method is declared."""
+    if depth_at(source.text, match.start()) != 1:
+        return []
+    made = "{ }" if match["result"] == "void" else f"{{ return {value_of(match['result'])}; }}"
+    return [Edit(match.end("head"), match.end(), f" {made}")]
+
+
+def created_local(match, source):
+    """`C x(e);` with `new`; no edits where a member is declared."""
+    if depth_at(source.text, match.start()) < 2:
+        return []
+    its_type, name = match["type"], match["name"]
+    return [Edit(match.start(), match.end(), f"{its_type} {name} = new {its_type}({match['actuals']});")]

@@ -16,6 +16,7 @@ LIKELY = 2.5
 OPENINGS_AT_MOST = 12
 NO_LINE_END = tuple("{};,=+-*/%<>(|&.:[") + ("&&", "||", "==", "!=", "<=", ">=")
 ONLY_ALONE = 6
+IFS_AT_MOST = 3
 
 
 def slip_mend(report, has_habit):
@@ -25,7 +26,7 @@ def slip_mend(report, has_habit):
     best = None
     at = report.answer.offset
     lines_here = report.source.place(at)[0]
-    enough = max(2, statement_around(report.source, at)[1] - at)
+    enough = max(2, statement_around(report.source, at)[1] - at, past_the_next(report.source, at) - at)
     for text, edits, rank, *about in candidates(report)[:TRIALS_AT_MOST]:
         answer, offset = report.attempt(text, edits)
         report.tried.pop()
@@ -43,6 +44,12 @@ def slip_mend(report, has_habit):
     return None
 
 
+def past_the_next(source, at):
+    """The end of the token after the one at a place: a change that only moves the fault there is no mend."""
+    number = min(source.token_at(at) + 1, len(source.tokens) - 1)
+    return source.tokens[number].end if source.tokens else at
+
+
 def candidates(report):
     """Changes with a word on each and a rank, the likely ones first."""
     source, at = report.source, report.answer.offset
@@ -52,6 +59,7 @@ def candidates(report):
     found += missing_braces(source, number)
     found += missing_openings(source, number)
     found += misspelt(source, number)
+    found += several_in_an_if(source, number)
     found += calls_without_object(source, number)
     found += one_token(source, number)
     found += statement_in_braces(source, number)
@@ -86,6 +94,25 @@ def statement_in_braces(source, number):
         return []
     start, end = source.tokens[number].start, statement_around(source, source.tokens[number].start)[1]
     return [("Put the statement in braces.", [Edit(start, start, "{ "), Edit(end, end, " }")], 2 if before in BEFORE_A_BLOCK else ONLY_ALONE)]
+
+
+def several_in_an_if(source, number):
+    """An `else` behind several statements of an `if`: these in braces, for each of the last few `if`s."""
+    tokens = source.tokens
+    if number >= len(tokens) or tokens[number].text != "else":
+        return []
+    found, heads = [], [place for place in range(max(0, number - 80), number) if tokens[place].text == "if"]
+    for rank, head in enumerate(reversed(heads[-IFS_AT_MOST:])):
+        depth, opened = 0, None
+        for place in range(head + 1, number):
+            depth += (tokens[place].text == "(") - (tokens[place].text == ")")
+            if depth == 0:
+                opened = tokens[place].end
+                break
+        if opened is not None:
+            edits = [Edit(opened, opened, " {"), Edit(tokens[number].start, tokens[number].start, "} ")]
+            found.append(("Put the statements of the `if` in braces.", edits, 0.5 + rank / 10, tokens[head].start))
+    return found
 
 
 def misspelt(source, number):
