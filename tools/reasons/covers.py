@@ -3,7 +3,7 @@
 from .alone import Alone, name_of, summaries_of, summary_for, summary_text
 from .atomics import blocks
 from .branches import method_at
-from .leaving import Edit, Leaving, headers_of, instead, quiet
+from .leaving import Edit, Leaving, applied, headers_of, instead, quiet
 from .mends import sibling_paths
 from .typed import Body
 from .world import ROOT, default_of, heads_of, put
@@ -226,9 +226,14 @@ def written(summary):
 def widened(report, world, overriding, overridden):
     """The summary of the overridden method with what the overriding one does."""
     body = Body(world, *overriding)
+    asked = {}
     for access in body.accesses:
-        shown = world.show(access.path, overriding[0].name, body.heads)
-        report.name(*head_span(access.statement), f"{access.kind} {shown} in the overriding method", access.node)
+        key = (access.kind, access.path, access.marked)
+        if key not in asked:
+            asked[key] = is_beyond(report, world, body, access)
+        if asked[key]:
+            shown = world.show(access.path, overriding[0].name, body.heads)
+            report.name(*head_span(access.statement), f"{access.kind} {shown}, which the summary of the overridden method doesn't cover", access.node)
     owner, top = overridden
     top_body = Body(world, owner, top)
     reads, writes = written_items(world, top_body)
@@ -241,3 +246,12 @@ def widened(report, world, overriding, overridden):
         report.mends(f"Or `{summary}` for {owner.name}.{top.name}.", [instead(top.summary, summary)])
 
 
+
+
+def is_beyond(report, world, body, access):
+    """Whether the overridden method's summary doesn't cover an access, by asking: as the whole summary of the overriding method."""
+    summary, method = summary_text(*summary_for(world, body, [access], marks=True)), body.method
+    edit = instead(method.summary, summary) if method.summary.items is not None else Edit(method.summary.end, method.summary.end, " " + summary)
+    text, offset = applied(report.source.text, [edit], report.answer.offset)
+    answer = report.asker.check(text)
+    return (answer.name, answer.offset) == (report.answer.name, offset)

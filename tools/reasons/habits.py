@@ -59,7 +59,7 @@ HABITS = [
         " in a branch of `cobegin_nd` or `foreach_nd`.", "atomic "),
     row("synchronized", rf"(?P<lead>\bsynchronized\s+)(?=\w+(?:\[\])*\s+\w+\s*\()", "There is no `synchronized`. What a body is to do as at one moment stands in"
         " an `atomic { .. }` in it.", ""),
-    row("constant", rf"(?:\b(?:{MODIFIERS}|final)\b\s+)+(?P<type>int|boolean)\s+(?P<name>[A-Za-z_]\w*)\s*=(?P<value>[^;{{}}]*);",
+    row("constant", rf"(?:\b(?:{MODIFIERS})\b\s+)*\bfinal\b\s+(?:\b(?:{MODIFIERS})\b\s+)*(?P<type>int|boolean)\s+(?P<name>[A-Za-z_]\w*)\s*=(?P<value>[^;{{}}]*);",
         "A field has no value in its declaration, and nothing is constant for a class: a method without effects gives a constant,"
         " and is called as `this.name()`.", rewrites.constant_method),
     row("modifier", rf"(?:\b(?:{MODIFIERS})\b\s+)+(?:final\s+)?(?P<rest>\w+\b(?:\s+\w+)?)",
@@ -191,6 +191,7 @@ HABITS = [
     row("exclusive-or", r"\^|~", "There are no operators on bits, and no power. Two booleans differ where `a != b`.", None),
     row("exclusive-or", r"\^", "There is no `^`; two booleans differ where `a != b`.", "!="),
     row("cast", r"\(\s*(?:int|long|short|byte|char|double|float|boolean|[A-Z]\w*(?:<[^<>;(){}]*>)?)\s*\)\s*(?=[\w(])", "There are no casts.", ""),
+    row("two-indices", r"\[(?P<one>[^\[\],;{}]+),\s*(?P<two>[^\[\],;{}]+)\]", "Each index stands in brackets of its own.", r"[\g<one>][\g<two>]"),
     row("two-lengths", r"\bnew\s+(?P<base>\w+)\s*\[(?P<one>[^\[\]]*)\]\s*\[(?P<two>[^\[\]]*)\]",
         "A creation makes one array. Its length comes last,"
         " and `new int[][n]` is an array of n arrays, each of which is made by itself: `m[k] = new int[..];`.", r"new \g<base>[][\g<one>]"),
@@ -219,7 +220,7 @@ HABITS = [
         "A field has no value in its declaration, and begins as 0,"
         " false or null. The constructor sets it, or in Main the method main.", r"\g<lead>;"),
     row("class-end", r"(?<=\})\s*;", "No semicolon follows a `}`.", ""),
-    row("empty", r"(?<=[;{)])\s*;", "There is no empty statement; a body that does nothing is `{ }`.", ""),
+    row("empty", r"(?<=[;{)])\s*;", "There is no empty statement; a body that does nothing is `{ }`.", rewrites.empty_statement),
     row("assigned-twice", rf"(?P<one>{PLAIN})\s*=\s*(?P<two>{PLAIN})\s*=(?!=)\s*(?P<value>[^;=]*);",
         "An assignment is a statement, and has no value.",
         r"\g<two> = \g<value>; \g<one> = \g<two>;"),
@@ -238,7 +239,7 @@ HABITS = [
         " writes.", r"\g<reads> \g<writes> "),
     row("delete", r"\b(?:delete|free|goto|synchronized|let|def|func|function)\b\s*\w*\s*", "There is no such statement.", None),
     row("keyword", rf"(?:\b(?:int|boolean|void)|\w[>\]])\s+(?P<word>\b(?:{WORDS})\b)\s*(?=[=;,)(])",
-        "This name is a keyword here.", lambda match, _: [rewrites.Edit(match.end("word"), match.end("word"), "1")]),
+        "This name is a keyword here.", lambda match, _: [rewrites.Edit(match.start("word"), match.end("word"), match["word"] + "1")]),
     row("value-alone", rf"(?<=[;{{}}])\s*(?:{PLAIN}|[0-9]+)\s*;",
         "A statement is an assignment, a call or a creation; a value alone does nothing.", ""),
 ]  # fmt: skip

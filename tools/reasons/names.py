@@ -3,7 +3,7 @@
 import re
 
 from .branches import method_at
-from .java_names import NAMES_OF_JAVA
+from .java_names import METHODS_OF_MATH, NAMES_OF_JAVA
 from .leaving import Edit, is_around
 from .source import KEYWORDS, statement_around, without_comments
 from .typed import Body
@@ -28,6 +28,8 @@ def explain_unknown(report, world):
     token = token_here(report)
     name_here(report, f"`{token.text}` isn't declared")
     if token.text in NAMES_OF_JAVA and token.text not in world.classes:
+        if token.text == "Math" and of_math(report, world, token):
+            return
         says, instead = NAMES_OF_JAVA[token.text]
         if token.text != "System" or not println(report):
             report.say(says)
@@ -64,6 +66,20 @@ def best_proposal(report, proposals):
     report.mend = kept[1]
     report.tried.append(kept[2])
     return kept[3]
+
+
+def of_math(report, world, token):
+    """A method of Java's class Math that is written in a line: as one of the class."""
+    name = re.match(r"Math\s*\.\s*(\w+)", report.source.text[token.start :])
+    method = METHODS_OF_MATH.get(name[1]) if name else None
+    class_node = next((node for node in world.classes.values() if node.start <= token.start < node.end), None)
+    if method is None or class_node is None or class_node.name == "Math":
+        return False
+    report.say("There is no library: the method is written in the class itself.")
+    declared = any(member.kind == "method" and member.name == name[1] for node in world.chain(class_node.name) for member in node.members)
+    edits = [Edit(other.start, other.end, "this") for other in report.source.tokens if other.text == "Math" and class_node.start < other.start < class_node.end]
+    edits += [] if declared else [Edit(class_node.end - 1, class_node.end - 1, f"  {method}\n")]
+    return report.mends(f"Write the method `{name[1]}`.", edits, quiet=True)
 
 
 def misspelt_declarations(report, token, proposals):
@@ -167,6 +183,14 @@ class Place:
         classes = self.world.chain(its_type[1])
         return [member.name for node in classes for member in node.members if member.kind == kind and not (kind == "method" and member.constructor)]
 
+    def fields_in(self, its_type, region):
+        """The fields of an object that lie in a region of this name."""
+        if not its_type or its_type[0] != "class" or not self.world.home(its_type[1], region):
+            return []
+        self.report.say(f"`{region}` is a region name; the fields that lie in it have names of their own.")
+        fields = [member for node in self.world.chain(its_type[1]) for member in node.members if member.kind == "field" and member.region]
+        return [field.name for field in fields if field.region.elements[-1] == region]
+
     def of_object(self, node):
         """A field or a method of an object."""
         its_type = self.body.types.get(id(node.of)) if self.body else None
@@ -175,7 +199,7 @@ class Place:
         names = list(dict.fromkeys(self.members(its_type, mine)))
         listed = ", ".join(f"`{name}`" for name in names[:8])
         self.report.say(f"{its_class} has no {mine} `{node.name}`; it has {listed}." if names else f"{its_class} has no {mine}s.")
-        found = self.instead(near(node.name, names))
+        found = self.instead(near(node.name, names)) + self.instead(self.fields_in(its_type, node.name) if node.kind == "field_of" else [])
         if node.kind == "field_of" and node.name in self.members(its_type, other):
             found.insert(0, ("A method is called with parentheses.", self.edit(node.name + "()")))
         scope = self.scope()
@@ -185,8 +209,15 @@ class Place:
             homes = [its for its in self.world.classes if node.name in self.members(("class", its, ()), "method")]
             if homes:
                 self.report.say(f"A method `{node.name}` is declared in {', '.join(homes)}.")
-            found += self.through_fields(node, its_type)
+            found += self.through_fields(node, its_type) + self.of_library(node)
         return found
+
+    def of_library(self, node):
+        """`a.equals(b)`, which every object of Java has."""
+        if node.name != "equals" or len(node.actuals) != 1:
+            return []
+        one, two = (self.report.source.text[part.start : part.end] for part in (node.of, node.actuals[0]))
+        return [("References are compared by `==`.", [Edit(node.start, node.end, f"({one} == {two})")])]
 
     def through_fields(self, node, its_type):
         """The fields of an object whose own class has the method."""
@@ -275,6 +306,10 @@ class Place:
         text = self.report.source.text
         if text[:at].rstrip().endswith("[") and at > node.start:
             return self.of_index(node)
+        after = re.match(r"\w+\s*\.", text[at:])
+        if after and name in heads_of(self.class_node, self.method):
+            dot = at + after.end() - 1
+            return [("The elements of a path stand behind `:`.", [Edit(dot, dot + 1, ":")])]
         chain = list(self.world.chain(self.class_node.name))
         declared = [token.text for its in chain for member in its.members if member.kind == "regions" for token in member.names]
         params = sorted(heads_of(self.class_node, self.method))

@@ -30,6 +30,12 @@ def of_one_object(report, found, of):
         return
     keyword, (left, right) = found.fork.keyword, (found.region(access) for access in found.pair)
     if one.name == two.name:
+        shared = shared_array(found, one, two)
+        if shared:
+            report.say(
+                f"Both calls get the array `{shared}`, and no method can be given a part of one: `foreach_parts` cuts an array at equal distances, a tree"
+                " of objects goes down over halves, and what depends on one index goes by `foreach`."
+            )
         report.say(
             f"Both branches go to `{of}.{one.name}`, so they can't run side by side: do one before or after the {keyword}, or let it work on something"
             " of its own."
@@ -40,6 +46,15 @@ def of_one_object(report, found, of):
         f"`{of}.{one.name}` and `{of}.{two.name}` both touch {where} of one object, so they can't run side by side: do one before or after the"
         f" {keyword}, or let what each of them touches lie in a region of its own."
     )
+
+
+def shared_array(found, one, two):
+    """The array that two calls get as one of their actuals."""
+    if one.kind != "call" or two.kind != "call":
+        return None
+    mine = {found.text[actual.start : actual.end]: found.body.types.get(id(actual)) for actual in one.actuals}
+    both = [found.text[actual.start : actual.end] for actual in two.actuals]
+    return next((text for text in both if mine.get(text) and mine[text][0] == "array"), None)
 
 
 def of_two_objects(report, found, first, second):

@@ -153,13 +153,16 @@ class Report:
 
     def statement_lines(self, paper):
         """Each statement once, with what it does."""
-        lines, last = [], None
+        lines, last, roles = [], None, set()
         for entry in self.statements:
             here = (entry["line"], entry["column"], entry["text"])
             if here != last:
                 lines.append(f"  {paper.bold(place_of(entry))}  {entry['text']}")
+                roles = set()
+            if entry["role"] not in roles:
+                lines += paper.wrapped(entry["role"], "      ")
             last = here
-            lines += paper.wrapped(entry["role"], "      ")
+            roles.add(entry["role"])
         return lines
 
     def mend_lines(self, paper):

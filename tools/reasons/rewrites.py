@@ -365,3 +365,14 @@ def created_local(match, source):
         return []
     its_type, name = match["type"], match["name"]
     return [Edit(match.start(), match.end(), f"{its_type} {name} = new {its_type}({match['actuals']});")]
+
+
+def empty_statement(match, source):
+    """A `;` alone; no edits where it ends a statement, which a `)` before it may also do."""
+    text = source.text[: match.start()].rstrip()
+    if text.endswith(")"):
+        start = max(text.rfind(mark) for mark in ";{}") + 1
+        statement = re.sub(r"^\s*(?:else\s+)?", "", text[start:])
+        if statement.count("(") != statement.count(")") or not re.match(r"(?:if|while|for|foreach|foreach_nd|foreach_parts)\b", statement):
+            return []
+    return [Edit(match.start(), match.end(), "")]

@@ -95,7 +95,7 @@ def utf8(text):
 
 def clean(text):
     """A text as UTF-8 reads it, without what a terminal obeys."""
-    return printable(re.sub(r"[\t\f]", " ", utf8(text)))
+    return printable(re.sub(r"[\t\f]|[\r\n]+[ \t]*", " ", utf8(text)))
 
 
 def shown(piece):
