@@ -10,6 +10,7 @@ from .typed import Body
 from .world import heads_of, put_in_type
 
 TRIALS_AT_MOST = 10
+NAMES_AT_MOST = 8
 
 
 def token_here(report):
@@ -257,6 +258,9 @@ class Place:
                 self.report.say(f"The local `{node.name}` of {line} isn't in scope here: its block {after}; each branch and each body is a block.")
                 self.report.name(other.start, other.end, "the declaration, whose scope doesn't reach here")
         found += self.instead(near(node.name, locals_ + ["this", "true", "false", "null"])) + self.instead(near(node.name, fields), "this.")
+        if not found:
+            listed = ", ".join(f"`{name}`" for name in locals_[:NAMES_AT_MOST])
+            self.report.say(f"`{node.name}` is no local or formal here; " + (f"in scope are {listed}." if listed else "none is in scope."))
         return found + self.declaration(node)
 
     def declaration(self, node):
@@ -319,11 +323,22 @@ class Place:
                 self.report.say(f"The region name `{name}` is declared in {its.name}, and is written with that class elsewhere.")
                 found.insert(0, (f"Write `{its.name}.{name}`.", self.edit(f"{its.name}.{name}")))
         opened = self.class_node.opened + 1
+        found += self.as_asked(node)
         if not found:
             self.report.say(f"No region name `{name}` is declared in {self.class_node.name}, and no region parameter.")
         found.append(("Declare the region name.", [Edit(opened, opened, f" region {name};")]))
         return found
 
+
+    def as_asked(self, path):
+        """The regions that are asked, for a creation with a region name that isn't declared."""
+        for node in self.method.body.walk() if self.method else []:
+            if node.kind in ("local", "assign") and node.value.kind == "new" and path in node.value.type.args:
+                asked = self.body.type(node.type) if node.kind == "local" else self.body.types.get(id(node.target))
+                shown = self.world.show_type(asked, self.class_node.name, self.body.heads) if asked and asked[0] == "class" else None
+                its = node.value.type
+                return [("Create it with the region arguments that are asked.", [Edit(its.start, its.end, shown)])] if shown else []
+        return []
 
     def of_index(self, node):
         """An index in a path."""

@@ -17,6 +17,7 @@ OPENINGS_AT_MOST = 12
 NO_LINE_END = tuple("{};,=+-*/%<>(|&.:[") + ("&&", "||", "==", "!=", "<=", ">=")
 ONLY_ALONE = 6
 IFS_AT_MOST = 3
+LINE_AT_MOST = 200
 
 
 def slip_mend(report, has_habit):
@@ -26,7 +27,8 @@ def slip_mend(report, has_habit):
     best = None
     at = report.answer.offset
     lines_here = report.source.place(at)[0]
-    enough = max(2, statement_around(report.source, at)[1] - at, past_the_next(report.source, at) - at)
+    # Where several statements lack something, what is taken for one goes on over lines.
+    enough = max(2, min(statement_around(report.source, at)[1], line_end(report.source, at)) - at, past_the_next(report.source, at) - at)
     for text, edits, rank, *about in candidates(report)[:TRIALS_AT_MOST]:
         answer, offset = report.attempt(text, edits)
         report.tried.pop()
@@ -42,6 +44,13 @@ def slip_mend(report, has_habit):
     if best and report.mends(best[1], best[2]) and best[3]:
         return best[3][0]
     return None
+
+
+def line_end(source, at):
+    """The end of the last token in the line of a place."""
+    line = source.place(at)[0]
+    last = [token.end for token in source.tokens[source.token_at(at) :][:LINE_AT_MOST] if source.place(token.start)[0] == line]
+    return last[-1] if last else at
 
 
 def past_the_next(source, at):
