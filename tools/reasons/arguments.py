@@ -1,5 +1,6 @@
 """Region arguments that are refused: their number, what they name, and constraints that aren't known to hold."""
 
+from .alone import array_text
 from .branches import method_at
 from .leaving import Edit, instead
 from .source import fresh_region, statement_around
@@ -11,9 +12,10 @@ def explain_region_args(report, world):
     report.name(*statement_around(report.source, report.answer.offset), "the region arguments or the path stand here")
     at = report.answer.offset
     for node in world.program.walk():
-        if node.kind in ("type", "new") and node.start == at:
+        if node.kind in ("type", "new", "new_array") and node.start == at:
             args_as_asked(report, world, at)
-            if report.mend is None and number_of_args(report, world, node if node.kind == "type" else node.type):
+            its = {"new": "type", "new_array": "element"}.get(node.kind)
+            if report.mend is None and number_of_args(report, world, node.parts[its] if its else node):
                 return
         if node.kind == "call" and node.at == at:
             call_args(report, world, node)
@@ -30,11 +32,17 @@ def args_as_asked(report, world, at):
         return False
     body = Body(world, class_node, method)
     for node in method.body.walk():
-        if node.kind not in ("local", "assign") or node.value.kind != "new" or node.value.start != at:
+        if node.kind not in ("local", "assign") or not node.value.start <= at < node.value.end:
             continue
         wanted = body.type(node.type) if node.kind == "local" else body.types.get(id(node.target))
-        shown = world.show_type(wanted, class_node.name, body.heads) if wanted else None
-        if shown and report.mends("Create it with the region arguments that are asked.", [instead(node.value.type, shown)], quiet=True):
+        if node.value.kind == "new_array" and wanted and wanted[0] == "array":
+            length = report.source.text[node.value.length.start : node.value.length.end]
+            made = instead(node.value, array_text(body, length, wanted))
+        elif node.value.kind == "new" and wanted and wanted[0] == "class":
+            made = instead(node.value.type, world.show_type(wanted, class_node.name, body.heads))
+        else:
+            continue
+        if report.mends("Create it with the region arguments that are asked.", [made], quiet=True):
             return True
     return False
 

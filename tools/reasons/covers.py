@@ -169,16 +169,17 @@ def summary_mend(report, body, found):
     writes_now = writes + [item for item in more_writes if item not in writes]
     reads_now = [item for item in reads + more_reads if item not in writes_now]
     wanted = [summary_text(list(dict.fromkeys(reads_now)), writes_now)]
+    if any(access.marked for access in found):
+        wanted.append(summary_text(*summary_for(world, body, body.accesses, marks=True)))
     wanted.append(summary_text(*summary_for(world, body, body.accesses)))
     wanted.append("writes " + ", ".join(sorted(f"{head}:*" for head in heads)) if heads else "writes Root:*")
     wanted.append("writes Root:*")
     old = source.text[method.summary.start : method.summary.end].strip()
-    for summary in dict.fromkeys(wanted):
-        text = "Widen the summary." if old else "Write a summary."
-        edit = instead(method.summary, summary) if old else Edit(method.summary.end, method.summary.end, " " + summary)
-        if report.mends(text, [edit]):
-            return True
-    return False
+    ways = [
+        [instead(method.summary, summary) if old else Edit(method.summary.end, method.summary.end, " " + summary)]
+        for summary in dict.fromkeys(wanted)
+    ]
+    return report.best_of("Widen the summary." if old else "Write a summary.", ways)
 
 
 def explain_override(report, world):

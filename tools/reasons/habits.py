@@ -83,6 +83,8 @@ HABITS = [
     row("arguments-behind", r"(?<![\w.])(?<!new )(?P<name>(?!new\b)[a-z]\w*)\s*(?P<args><[\w\s.,:*?\[\]]*>)\s*(?=\([^;{}]*;)",
         "A method is called on its object, and"
         " the region arguments stand behind the dot.", r"this.\g<args>\g<name>"),
+    row("arguments-alone", r"(?<![\w.\])>])(?P<args><(?!\s*(?:atomic|region)\b)[\w\s.,:*?\[\]]+>)\s*(?P<name>[a-z]\w*)\s*(?=\([^;{}]*;)",
+        "A method is called on its object.", r"this.\g<args>\g<name>"),
     row("new-alone", r"(?P<new>\bnew\s+[A-Z]\w*(?:<[^<>;(){}]*>)?)\s*(?=[;,)])", "A creation has parentheses, also where there is no constructor.", r"\g<new>()"),
     row("index-name-first", r"(?P<index>#\s*\w+)\s*(?P<path><[^<>;(){}]*>)", "The region of an array comes before its index name.", r"\g<path>\g<index>"),
     row("all-regions", r"(?P<lead>(?:\b(?:reads|writes|atomic|in)\b|[,<])\s*)(?:\*|\?)", "All regions together are `Root:*`.", r"\g<lead>Root:*"),

@@ -2,6 +2,7 @@
 
 import itertools
 
+from .alone import array_text
 from .branches import method_at
 from .leaving import Edit, instead, is_around
 from .names import near
@@ -312,9 +313,8 @@ class Asked:
         if value.kind == "new":
             what = f"Create a {wanted[1]}." if is_class else "Create it in the region that is asked."
             done = self.report.mends(what, [instead(value.type, self.shown(wanted))], quiet=True)
-        if value.kind == "new_array" and value.path:
-            path = self.world.show(wanted[2], self.body.class_node.name, heads_of(self.body.class_node, self.body.method))
-            done = self.report.mends("Create it in the region that is asked.", [instead(value.path, path)], quiet=True)
+        if value.kind == "new_array":
+            done = self.report.mends("Create the array that is asked.", [instead(value, array_text(self.body, self.source(value.length), wanted))], quiet=True)
         if not done and statement.kind == "local":
             done = self.report.mends("Declare it with the type of the value.", [instead(statement.type, self.shown(found))], quiet=True)
         return done

@@ -14,12 +14,27 @@ def branch_mends(report, found):
     if found.pair is None:
         return
     is_nd = found.fork.keyword.endswith("_nd")
+    say_bare_types(report, found)
     forms = [missing_summaries, unplaced_fields]
     forms += [table_region, atomic_blocks] if is_nd else []
     forms += [link_before, other_region, constraint, own_index, in_branches, value_before]
     for form in forms:
         if form(report, found):
             return
+
+
+def say_bare_types(report, found):
+    """A local or a formal of a class with region parameters that is declared without arguments: each of them is Root."""
+    declared = {node.name_at: node.type for node in found.body.method.body.walk() if node.kind == "local"}
+    declared.update({formal.name_at: formal.type for formal in found.body.method.formals})
+    for access in dict.fromkeys(found.pair):
+        scope = found.body.scopes[id(access.statement)]
+        for name in [node.name for node in access.node.walk() if node.kind == "name"]:
+            its = declared.get(scope[name].at) if name in scope else None
+            owner = found.world.classes.get(its.base) if its is not None else None
+            if owner is not None and owner.params and not its.args:
+                full = ", ".join(["Root"] * len(owner.params))
+                report.say(f"`{name}` is declared as `{its.base}` without region arguments, which is `{its.base}<{full}>`.")
 
 
 def missing_summaries(report, found):
