@@ -26,25 +26,25 @@ def explain_region_args(report, world):
 
 
 def args_as_asked(report, world, at):
-    """A creation with the region arguments of the local or the field that it is for."""
+    """A creation with the region arguments of the local or the field that it is for, or a local declared with those of the creation."""
     class_node, method = method_at(world, at)
     if method is None:
         return False
-    body = Body(world, class_node, method)
+    body, mends = Body(world, class_node, method), []
     for node in method.body.walk():
-        if node.kind not in ("local", "assign") or not node.value.start <= at < node.value.end:
+        if node.kind not in ("local", "assign") or not node.start <= at < node.end or node.value.kind not in ("new", "new_array"):
             continue
         wanted = body.type(node.type) if node.kind == "local" else body.types.get(id(node.target))
+        text = "Create it with the region arguments that are asked."
         if node.value.kind == "new_array" and wanted and wanted[0] == "array":
             length = report.source.text[node.value.length.start : node.value.length.end]
-            made = instead(node.value, array_text(body, length, wanted))
+            mends.append((text, [instead(node.value, array_text(body, length, wanted))]))
         elif node.value.kind == "new" and wanted and wanted[0] == "class":
-            made = instead(node.value.type, world.show_type(wanted, class_node.name, body.heads))
-        else:
-            continue
-        if report.mends("Create it with the region arguments that are asked.", [made], quiet=True):
-            return True
-    return False
+            mends.append((text, [instead(node.value.type, world.show_type(wanted, class_node.name, body.heads))]))
+        found = body.types.get(id(node.value))
+        if node.kind == "local" and found and found != wanted:
+            mends.append(("Declare it with the type of the value.", [instead(node.type, world.show_type(found, class_node.name, body.heads))]))
+    return report.best(mends)
 
 
 def number_of_args(report, world, node):
@@ -100,6 +100,20 @@ def regions_of(class_node, is_atomic):
     """The region names of a class that are atomic, or those that aren't."""
     members = [member for member in class_node.members if member.kind == "regions" and member.atomic == is_atomic]
     return [token.text for member in members for token in member.names]
+
+
+def parameter_atomic(report, world, node):
+    """The region parameter that a path begins with as an atomic one."""
+    class_node, name = next(its for its in world.classes.values() if its.start <= node.start < its.end), node.elements[0]
+    method = method_at(world, node.start)[1]
+    holder = next((its for its in (method, class_node) if its is not None and (name, False) in its.params), None)
+    if holder is None:
+        return False
+    tokens = report.source.tokens[report.source.token_at(holder.start) :]
+    first = next(token for token in tokens if token.text == "<")
+    last = next(token for token in tokens if token.text in ("|", ">") and token.start > first.start)
+    listed = ", ".join(("atomic " if is_atomic or its == name else "") + f"region {its}" for its, is_atomic in holder.params)
+    return report.mends(f"Take an atomic parameter `{name}`.", [Edit(first.end, last.start, listed + (" " if last.text == "|" else ""))], quiet=True)
 
 
 def declared_atomic(report, world, node):
@@ -160,6 +174,8 @@ def path_of(report, world, node):
             report.mends("Name one region.", [instead(node, ":".join(node.elements[:kept]))], quiet=True)
     else:
         report.say(f"`{shown}` isn't atomic, and the parameter is; it has to end with a name that is declared `atomic region`.")
+        if len(node.elements) == 1 or all(element[0] == "[" for element in node.elements[1:]):
+            parameter_atomic(report, world, node)
         declared_atomic(report, world, node)
 
 

@@ -129,6 +129,12 @@ def not_apart(report, found):
             f"Nothing in {found.region(found.pair[0])} depends on `{found.fork.name}`, so all iterations touch the same. Put results into an array"
             " by index and put them together after the loop, or use foreach_nd with an atomic block."
         )
+    may_be_equal(report, found)
+
+
+def may_be_equal(report, found):
+    """Says why two paths that have different indices at one place may be one region."""
+    one, two = (seen_path(found, access.path) for access in found.pair)
     differing = [(left, right) for left, right in zip(one, two) if left != right]
     if differing and all(element[0] == "[" for element in differing[0]):
         names = [element[1:-1].isidentifier() for element in differing[0]]
@@ -148,6 +154,7 @@ def in_branches(report, found):
             return of_element(report, found, access)
         if says_nothing(found, access, access.node.index):
             report.say(f"The index `{index}` is neither a number nor an index variable, so the element may be any: {found.region(access)}.")
+    may_be_equal(report, found)
     return False
 
 

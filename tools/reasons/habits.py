@@ -87,6 +87,13 @@ HABITS = [
         "A method is called on its object.", r"this.\g<args>\g<name>"),
     row("new-alone", r"(?P<new>\bnew\s+[A-Z]\w*(?:<[^<>;(){}]*>)?)\s*(?=[;,)])", "A creation has parentheses, also where there is no constructor.", r"\g<new>()"),
     row("index-name-first", r"(?P<index>#\s*\w+)\s*(?P<path><[^<>;(){}]*>)", "The region of an array comes before its index name.", r"\g<path>\g<index>"),
+    row("summary-twice", r"(?P<kind>\b(?:reads|writes)\b)(?P<one>[\w\s.,:*?\[\]]*?)\s+(?P=kind)\s+", "Each kind of effect is named once; its regions are joined by"
+        " commas.", r"\g<kind>\g<one>, "),
+    row("pure-alone", r"\bpure\s+(?=(?:reads|writes)\b)", "`pure` stands alone, and means that there are no effects.", ""),
+    row("index-behind-name", r"(?P<head>(?:<|\b(?:in|reads|writes|atomic)\s|,)\s*[A-Z][\w.:\[\]]*?)\s*(?P<index>\[[\w?]+\])", "An index in a path stands"
+        " behind a colon, as in `A:[i]`.", r"\g<head>:\g<index>"),
+    row("index-without-brackets", r"(?P<head>[A-Z]\w*\s*:\s*)(?P<index>[a-z0-9]\w*|\?)(?=\s*[>,;:{])", "An index in a path stands in brackets, as in `A:[i]`.",
+        r"\g<head>[\g<index>]"),
     row("all-regions", r"(?P<lead>(?:\b(?:reads|writes|atomic|in)\b|[,<])\s*)(?:\*|\?)", "All regions together are `Root:*`.", r"\g<lead>Root:*"),
     row("region-tree", r"(?P<lead>\bregion\s[\w\s,]*?)\w+(?:\s*[:.]\s*\w+)*\s*[:.]\s*(?P<last>\w+)",
         "A declaration of regions has plain names; how they lie below"
@@ -114,10 +121,14 @@ HABITS = [
     row("foreach-of", r"\bforeach(?:_nd)?\s*\(\s*[^;:(){}]*:[^;{}]*?\)",
         "`foreach (int i in start, count)` goes through a start and a count of numbers;"
         " the elements of an array `a` are `a[i]` with `i` in `0, a.length`.", None),
-    row("foreach-until", r"(?P<lead>\bforeach(?:_nd)?\s*\(\s*int\s+\w+\s+in\s+[^;{}.,]*?)\s*\.\.+\s*", "A loop has a start and a count with a comma"
+    row("foreach-until", r"(?P<lead>\bforeach(?:_nd)?\s*\(\s*int\s+\w+\s+in\s+[^;{}.,]*?)\s*(?:\.\.+|\b(?:to|until|upto|til)\b|:|;|\s-\s)\s*", "A loop has a start and a count with a comma"
         " between, as in `0, n`.", r"\g<lead>, "),
     row("foreach-stride", r"(?P<lead>\bforeach(?:_nd)?\s*\(\s*int\s+\w+\s+in\s+[^;{},]*,[^;{},]*?)\s*,[^;{},]*?(?=\)\s*[{\w])", "A loop has a start"
         " and a count, and no stride: compute the index from the variable, or choose another order of the array.", r"\g<lead>"),
+    row("foreach-array", r"(?P<lead>\bforeach(?:_nd)?\s*\(\s*int\s+\w+\s+in\s+)(?P<of>[\w.]+)\s*(?=\))", "A loop goes through a start and a count of numbers;"
+        " the elements of an array `a` are `a[i]` with `i` in `0, a.length`.", rewrites.from_zero),
+    row("parallel-for", r"\b(?:parallel|par|parfor|pfor|forall|parallel_for)\b\s*(?:for\s*)?(?=\()[^{}]*?", "Iterations that may run side by side are those of"
+        " `foreach (int i in start, count)`.", rewrites.parallel_loop),
     row("foreach-without-int", r"(?P<lead>\bforeach(?:_nd)?\s*\(\s*)(?=\w+\s+in\b)", "The variable of a loop is declared in it.", r"\g<lead>int "),
     row("for-each", r"\bfor\s*\((?=[^;{}]*?:)",
         "There is no `for`; a `while` goes through the indices, or a `foreach` where the turns may run side by side.",
@@ -135,6 +146,8 @@ HABITS = [
         "There are no exceptions: a trap ends"
         " the run. Test before what may fail, and hand on by the result what happened.", None),
     row("assert", r"\bassert\b[^;]*;", "There is no `assert`.", None),
+    row("fork-join", r"\b(?:spawn|sync|async|await|finish|fork|join)\b\s*(?:\{|this\b|\w+|;|\()", "Branches stand side by side in a `cobegin { .. }`, which goes on when all have"
+        " ended: `cobegin { a = this.f(1); b = this.f(2); }`.", None),
     row("lambda", r"(?:\([\w\s,]*\)|\w+)\s*->|::",
         "There are no lambdas and method references. A class with a method that is overridden serves for one.", None),
     row("instanceof", r"\binstanceof\b", "There is no `instanceof`, and no cast. Let the classes override a method that says which one it is.",
@@ -180,8 +193,8 @@ HABITS = [
         r"\g<target> = \g<target> \g<sign>\g<sign> (\g<value>);"),
     row("compound-bits", rf"(?P<target>{PLAIN})\s*(?P<sign><<|>>>?|\^)=(?P<value>[^;]*);", "There are no operators on bits.", None),
     row("unary-plus", r"(?<=[=(,\[<>+*/%&|-])\s*\+\s*(?=[\w(])|(?<=return)\s*\+\s*(?=[\w(])", "There is no sign `+` in front of a number.", " "),
-    row("conditional", r"(?<=[;{})])[^;{}?]*\?[^;{}]*;", "There is no `? :`. Write an `if` with an `else`.", rewrites.conditional),
-    row("conditional", r"\?", "There is no `? :`. Take the value into a local by an `if` with an `else` before the statement.", None),
+    row("conditional", r"(?<=[;{})])(?:[^;{}?]|(?<=\[)\?(?=\]))*(?<!\[)\?[^;{}]*;", "There is no `? :`. Write an `if` with an `else`.", rewrites.conditional),
+    row("conditional", r"(?<!\[)\?", "There is no `? :`. Take the value into a local by an `if` with an `else` before the statement.", None),
     row("shift", r"(?P<sign><<|>>>?)\s*(?P<by>[0-9]+)", "There are no operators on bits. A shift is a product or a quotient of a power of two (a"
         " quotient rounds towards zero, so it differs for numbers below 0).", rewrites.shifted),
     row("shift", r"<<|>>>?", "There are no operators on bits. A shift is a product or a quotient of a power of two.", None),
@@ -223,11 +236,16 @@ HABITS = [
         " false or null. The constructor sets it, or in Main the method main.", r"\g<lead>;"),
     row("class-end", r"(?<=\})\s*;", "No semicolon follows a `}`.", ""),
     row("empty", r"(?<=[;{)])\s*;", "There is no empty statement; a body that does nothing is `{ }`.", rewrites.empty_statement),
+    row("target-in-parentheses", rf"(?P<lead>[;{{}}]\s*)\(\s*(?P<target>{PLAIN})\s*\)\s*(?==[^=])", "What is assigned isn't in parentheses.",
+        lambda match, _: [rewrites.Edit(match.end("lead"), match.end(), match["target"] + " ")]),
+    row("assigned-call", r"(?<=[;{}])[^;{}=]*\)\s*=(?!=)", "What is assigned is a local, a field or an element; the result of a call is no target. Let a method with a"
+        " formal set it.", None),
     row("assigned-twice", rf"(?P<one>{PLAIN})\s*=\s*(?P<two>{PLAIN})\s*=(?!=)\s*(?P<value>[^;=]*);",
         "An assignment is a statement, and has no value.",
         r"\g<two> = \g<value>; \g<one> = \g<two>;"),
-    row("assigned-in-condition", r"(?<=[^=!<>])=(?=[^=])", "An assignment is a statement, and no condition; values are compared by `==`.", "=="),
-    row("chain", r"(?P<one>[\w.]+)\s*(?P<first><=?|>=?)\s*(?P<two>[\w.]+)\s*(?P<second><=?|>=?)", "Comparisons don't chain.",
+    row("assigned-in-condition", r"\b(?:if|while|return)\b[^;{}=]*(?<![=!<>])=(?=[^=])", "An assignment is a statement, and no condition; values are compared by `==`.",
+        lambda match, _: [rewrites.Edit(match.end() - 1, match.end(), "==")]),
+    row("chain", r"(?P<one>[\w.]+)\s*(?P<first><=?|>=?)\s*(?P<two>[\w.]+)\s*(?P<second><=?|>=?)(?=\s*[\w(-])", "Comparisons don't chain.",
         r"\g<one> \g<first> \g<two> && \g<two> \g<second>"),
     row("words", r"\band\b", "Conditions are joined by `&&`.", "&&"),
     row("words", r"\bor\b", "Conditions are joined by `||`.", "||"),

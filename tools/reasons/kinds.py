@@ -208,11 +208,21 @@ class Asked:
         if constructor is None:
             if node.actuals:
                 self.report.say(f"{owner.name} declares no constructor, so it is created without actuals.")
+                if self.is_meant(owner):
+                    return True
                 first, last = node.actuals[0].start, node.actuals[-1].end
                 self.report.mends(f"`new {owner.name}()`, and set its fields then.", [Edit(first, last, "")], quiet=True)
             return bool(node.actuals)
         its_type = self.body.type(node.type)
         return self.actuals(node, owner, constructor, self.world.given(owner.name, its_type[2]), f"{owner.name}'s constructor")
+
+    def is_meant(self, owner):
+        """A method with the name of its class, which with a result is no constructor."""
+        for member in owner.members:
+            if member.kind == "method" and member.name == owner.name and not member.constructor:
+                self.report.name(member.start, member.body.start, "a method, since it has a result or `void` in front; a constructor has neither")
+                return self.report.mends("Leave out what stands in front of its name.", [Edit(member.start, member.name_at, "")], quiet=True)
+        return False
 
     def no_result(self, node, method):
         if method.result is None:
@@ -308,15 +318,12 @@ class Asked:
             self.of_classes(found, wanted)
         else:
             self.report.say("The region of what is asked has to take up that of the value; a `*` in the asked type takes up any that go on from there.")
-        value = statement.value
-        done = False
+        value, mends = statement.value, []
         if value.kind == "new":
             what = f"Create a {wanted[1]}." if is_class else "Create it in the region that is asked."
-            done = self.report.mends(what, [instead(value.type, self.shown(wanted))], quiet=True)
+            mends.append((what, [instead(value.type, self.shown(wanted))]))
         if value.kind == "new_array":
-            done = self.report.mends("Create the array that is asked.", [instead(value, array_text(self.body, self.source(value.length), wanted))], quiet=True)
-        if not done and statement.kind == "local":
-            done = self.report.mends("Declare it with the type of the value.", [instead(statement.type, self.shown(found))], quiet=True)
-        return done
-
-
+            mends.append(("Create the array that is asked.", [instead(value, array_text(self.body, self.source(value.length), wanted))]))
+        if statement.kind == "local":
+            mends.append(("Declare it with the type of the value.", [instead(statement.type, self.shown(found))]))
+        return self.report.best(mends)

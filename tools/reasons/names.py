@@ -2,6 +2,7 @@
 
 import re
 
+from .alone import summary_text
 from .branches import method_at
 from .java_names import METHODS_OF_MATH, NAMES_OF_JAVA
 from .leaving import Edit, is_around
@@ -28,7 +29,7 @@ def explain_unknown(report, world):
     """Fills in a report on `unknown`."""
     token = token_here(report)
     name_here(report, f"`{token.text}` isn't declared")
-    if token.text in NAMES_OF_JAVA and token.text not in world.classes:
+    if token.text in NAMES_OF_JAVA and not near(token.text, world.classes) and token.text not in world.classes:
         if token.text == "Math" and of_math(report, world, token):
             return
         says, instead = NAMES_OF_JAVA[token.text]
@@ -323,12 +324,27 @@ class Place:
                 self.report.say(f"The region name `{name}` is declared in {its.name}, and is written with that class elsewhere.")
                 found.insert(0, (f"Write `{its.name}.{name}`.", self.edit(f"{its.name}.{name}")))
         opened = self.class_node.opened + 1
+        if self.method is not None and node in self.method.summary.paths and self.is_local_region(name):
+            return self.without_item(node)
         found += self.as_asked(node)
         if not found:
             self.report.say(f"No region name `{name}` is declared in {self.class_node.name}, and no region parameter.")
         found.append(("Declare the region name.", [Edit(opened, opened, f" region {name};")]))
         return found
 
+
+    def is_local_region(self, name):
+        """Whether the method declares a local region of this name."""
+        declared = [node for node in self.method.body.walk() if node.kind == "local_regions"]
+        return any(token.text == name for node in declared for token in node.names)
+
+    def without_item(self, path):
+        """A summary without a local region."""
+        self.report.say(f"`{self.token.text}` is a local region: its effects end with its block, so a summary says nothing of it.")
+        items = [item for item in self.method.summary.items if item[1] is not path]
+        shown = {kind: ["atomic " * marked + self.report.source.text[its.start : its.end] for its_kind, its, marked in items if its_kind == kind] for kind in ("reads", "writes")}
+        start, end = self.method.summary.start, self.method.summary.end
+        return [("Leave it out of the summary.", [Edit(start, end, summary_text(shown["reads"], shown["writes"]))])]
 
     def as_asked(self, path):
         """The regions that are asked, for a creation with a region name that isn't declared."""

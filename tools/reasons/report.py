@@ -77,8 +77,12 @@ class Report:
 
     def best_of(self, text, ways):
         """Tries several ways of one mend: the first with which the text is accepted, or else the first that helps."""
+        return self.best([(text, edits) for edits in ways])
+
+    def best(self, mends):
+        """Tries several mends, with a word on each, in the same way."""
         kept = None
-        for edits in ways:
+        for text, edits in mends:
             if not self.mends(text, edits, quiet=True):
                 continue
             if self.mend["answer"] == "accepted":

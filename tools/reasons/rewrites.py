@@ -187,7 +187,7 @@ def parallel_loop(match, source):
     start, end = first[2].strip(), until[3].strip()
     count = end if start == "0" else f"{operand(end)} - {operand(start)}"
     count = count if until[2] == "<" else f"{count} + 1"
-    keyword = match.group().split("(")[0].strip()
+    keyword = "foreach_nd" if match.group().startswith("foreach_nd") else "foreach"
     return [Edit(match.start(), found[1], f"{keyword} (int {first[1]} in {start}, {count})")]
 
 
@@ -376,3 +376,10 @@ def empty_statement(match, source):
         if statement.count("(") != statement.count(")") or not re.match(r"(?:if|while|for|foreach|foreach_nd|foreach_parts)\b", statement):
             return []
     return [Edit(match.start(), match.end(), "")]
+
+
+def from_zero(match, source):
+    """A loop over all indices of an array, or up to a number."""
+    of = match["of"]
+    is_array = re.search(rf"\]\s*(?:<[^<>;{{}}]*>)?\s*(?:#\w+)?\s+{re.escape(of.rpartition('.')[2])}\b", source.text)
+    return [Edit(match.start("of"), match.end(), f"0, {of}.length" if is_array else f"0, {of}")]

@@ -2,6 +2,7 @@
 
 import re
 
+from .asking import Spent
 from .leaving import Edit
 from .names import distance
 from .source import KEYWORDS, statement_around
@@ -17,6 +18,8 @@ OPENINGS_AT_MOST = 12
 NO_LINE_END = tuple("{};,=+-*/%<>(|&.:[") + ("&&", "||", "==", "!=", "<=", ">=")
 ONLY_ALONE = 6
 IFS_AT_MOST = 3
+PAIRS = {"(": ")", "[": "]"}
+BRACKETS_AT_MOST = 16
 LINE_AT_MOST = 200
 
 
@@ -29,18 +32,22 @@ def slip_mend(report, has_habit):
     lines_here = report.source.place(at)[0]
     # Where several statements lack something, what is taken for one goes on over lines.
     enough = max(2, min(statement_around(report.source, at)[1], line_end(report.source, at)) - at, past_the_next(report.source, at) - at)
-    for text, edits, rank, *about in candidates(report)[:TRIALS_AT_MOST]:
-        answer, offset = report.attempt(text, edits)
-        report.tried.pop()
-        if not report.is_gone(answer, offset):
-            continue
-        reach = float("inf") if answer.accepted or answer.name not in ("syntax", "number", "nest") else answer.offset - offset
-        if reach < (float("inf") if rank >= ONLY_ALONE else enough):
-            continue
-        if best is None or (reach, -rank) > best[0]:
-            best = ((reach, -rank), text, edits, about)
-        if reach == float("inf") or (rank < LIKELY and answer.line >= lines_here + 2):
-            break
+    try:
+        for text, edits, rank, *about in candidates(report)[:TRIALS_AT_MOST]:
+            answer, offset = report.attempt(text, edits)
+            report.tried.pop()
+            if not report.is_gone(answer, offset):
+                continue
+            reach = float("inf") if answer.accepted or answer.name not in ("syntax", "number", "nest") else answer.offset - offset
+            if reach < (float("inf") if rank >= ONLY_ALONE else enough):
+                continue
+            if best is None or (answer.accepted, reach, -rank) > best[0]:
+                best = ((answer.accepted, reach, -rank), text, edits, about)
+            if answer.accepted or (rank < LIKELY and answer.line >= lines_here + 2):
+                break
+    except Spent:
+        if best is None:
+            raise
     if best and report.mends(best[1], best[2]) and best[3]:
         return best[3][0]
     return None
@@ -69,6 +76,7 @@ def candidates(report):
     found += missing_openings(source, number)
     found += misspelt(source, number)
     found += several_in_an_if(source, number)
+    found += unbalanced(source, number)
     found += calls_without_object(source, number)
     found += one_token(source, number)
     found += statement_in_braces(source, number)
@@ -103,6 +111,29 @@ def statement_in_braces(source, number):
         return []
     start, end = source.tokens[number].start, statement_around(source, source.tokens[number].start)[1]
     return [("Put the statement in braces.", [Edit(start, start, "{ "), Edit(end, end, " }")], 2 if before in BEFORE_A_BLOCK else ONLY_ALONE)]
+
+
+def unbalanced(source, number):
+    """A bracket that isn't closed, or isn't opened, in the statement: at each place where it may have been meant."""
+    tokens = source.tokens
+    first = next((place + 1 for place in range(min(number, len(tokens)) - 1, -1, -1) if source.ends[place]), 0)
+    waiting = []
+    for place in range(first, min(number, len(tokens))):
+        if tokens[place].text in PAIRS:
+            waiting.append(place)
+        elif tokens[place].text in PAIRS.values() and waiting:
+            waiting.pop()
+    here = tokens[number].text if number < len(tokens) else ""
+    found = []
+    if waiting and here != PAIRS[tokens[waiting[-1]].text]:
+        closer = PAIRS[tokens[waiting[-1]].text]
+        for rank, place in enumerate(range(number - 1, waiting[-1], -1)):
+            found.append((f"A `{closer}` is missing.", [Edit(tokens[place].end, tokens[place].end, closer)], 3.1 + rank / 100))
+    if not waiting and here in PAIRS.values():
+        opener = next(opener for opener, closer in PAIRS.items() if closer == here)
+        for rank, place in enumerate(range(number, first, -1)):
+            found.append((f"A `{opener}` is missing.", [Edit(tokens[place].start, tokens[place].start, opener)], ONLY_ALONE + rank / 100))
+    return found[:BRACKETS_AT_MOST]
 
 
 def several_in_an_if(source, number):
