@@ -18,7 +18,8 @@ def atomic_blocks(report, found):
         return dropped_marks(report, found)
     region = ["declare its region `atomic region`"] if declared else []
     marked = [access for access in plain if mark_of(found, access)]
-    edits = [edit for access in marked for edit in mark_of(found, access)] + blocks(found.text, found.body, [access for access in plain if access not in marked])
+    edits = blocks(found.text, found.body, [access for access in plain if access not in marked])
+    edits += [edit for access in marked for edit in mark_of(found, access)]
     if marked and report.mends(sentence(["mark the effect in the summary", *region]), edits + declared, quiet=True):
         if report.mend["answer"] == "accepted":
             return True

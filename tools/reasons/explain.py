@@ -18,7 +18,7 @@ BY_NAME = {
     "summary": ("covers", "explain_summary"),
     "override-effect": ("covers", "explain_override"),
     "unknown": ("names", "explain_unknown"),
-    "duplicate": ("names", "explain_duplicate"),
+    "duplicate": ("duplicates", "explain_duplicate"),
     "type": ("kinds", "explain"),
     "assign": ("assigning", "explain_assign"),
     "return": ("assigning", "explain_return"),

@@ -79,7 +79,8 @@ def of_math(report, world, token):
         return False
     report.say("There is no library: the method is written in the class itself.")
     declared = any(member.kind == "method" and member.name == name[1] for node in world.chain(class_node.name) for member in node.members)
-    edits = [Edit(other.start, other.end, "this") for other in report.source.tokens if other.text == "Math" and class_node.start < other.start < class_node.end]
+    uses = [other for other in report.source.tokens if other.text == "Math" and class_node.start < other.start < class_node.end]
+    edits = [Edit(other.start, other.end, "this") for other in uses]
     edits += [] if declared else [Edit(class_node.end - 1, class_node.end - 1, f"  {method}\n")]
     return report.mends(f"Write the method `{name[1]}`.", edits, quiet=True)
 
@@ -341,10 +342,12 @@ class Place:
     def without_item(self, path):
         """A summary without a local region."""
         self.report.say(f"`{self.token.text}` is a local region: its effects end with its block, so a summary says nothing of it.")
-        items = [item for item in self.method.summary.items if item[1] is not path]
-        shown = {kind: ["atomic " * marked + self.report.source.text[its.start : its.end] for its_kind, its, marked in items if its_kind == kind] for kind in ("reads", "writes")}
+        kept = {"reads": [], "writes": []}
+        for kind, its, marked in self.method.summary.items:
+            if its is not path:
+                kept[kind].append("atomic " * marked + self.report.source.text[its.start : its.end])
         start, end = self.method.summary.start, self.method.summary.end
-        return [("Leave it out of the summary.", [Edit(start, end, summary_text(shown["reads"], shown["writes"]))])]
+        return [("Leave it out of the summary.", [Edit(start, end, summary_text(kept["reads"], kept["writes"]))])]
 
     def as_asked(self, path):
         """The regions that are asked, for a creation with a region name that isn't declared."""
@@ -368,65 +371,3 @@ class Place:
         indexes = [local.name for local in reversed(self.scope().values()) if local.is_index]
         self.report.say(f"`{name}` is no index variable; " + (f"these are: {', '.join(indexes)}." if indexes else "none is in scope."))
         return self.instead(list(dict.fromkeys(near(name, indexes) + indexes))) + self.instead(["?"])
-
-
-def explain_duplicate(report, world):
-    """Fills in a report on `duplicate`."""
-    token = token_here(report)
-    name_here(report, f"the second `{token.text}`")
-    first = first_of(report, world, token)
-    if first is not None:
-        report.name(*statement_around(report.source, first), f"the first `{token.text}`, which is visible there")
-    rename(report, world, token)
-
-
-def first_of(report, world, token):
-    """Where the name that is declared once more was declared first."""
-    class_node, method = method_at(world, token.start)
-    if method is not None and method.name_at != token.start:
-        place = Place(report, world, token).scope().get(token.text)
-        if place and place.at != token.start:
-            return place.at
-    for node in world.program.classes:
-        if node.name_at == token.start:
-            return next(other.name_at for other in world.program.classes if other.name == token.text)
-    class_node = class_node or next((node for node in world.program.classes if node.start <= token.start < node.end), None)
-    for node in world.chain(class_node.name) if class_node else []:
-        for member in node.members:
-            names = member.names if member.kind == "regions" else []
-            places = [one.start for one in names if one.text == token.text]
-            if member.kind in ("field", "method") and member.name == token.text:
-                places.append(member.name_at)
-            places = [place for place in places if place != token.start]
-            if places:
-                return places[0]
-    return None
-
-
-def rename(report, world, token):
-    """Another name for a local and its uses; for a method that and its calls as their actuals tell; for what else is declared the declaration alone."""
-    class_node, method = method_at(world, token.start)
-    new = token.text + "2"
-    taken = {other.text for other in report.source.tokens}
-    while new in taken:
-        new += "2"
-    edits = [Edit(token.start, token.end, new)]
-    if method is not None and method.name_at != token.start:
-        body = Body(world, class_node, method)
-        places = sorted({use.at for use in body.uses if use.local.at == token.start})
-        edits += [Edit(place, place + len(token.text), new) for place in places]
-    elif method is not None and not method.constructor:
-        edits += renamed_calls(world, class_node, method, new)
-    report.mends(f"Give it another name, say `{new}`.", edits, quiet=True)
-
-
-def renamed_calls(world, class_node, method, new):
-    """Edits of the calls that are meant for a method, where another one of its name takes another number of actuals."""
-    others = [
-        member for node in world.chain(class_node.name) for member in node.members
-        if member.kind == "method" and member.name == method.name and member is not method
-    ]  # fmt: skip
-    if any(len(other.formals) == len(method.formals) for other in others):
-        return []
-    calls = [node for node in world.program.walk() if node.kind == "call" and node.name == method.name]
-    return [Edit(node.at, node.at + len(node.name), new) for node in calls if len(node.actuals) == len(method.formals)]

@@ -1,9 +1,10 @@
-"""The refusals of which little more can be said than the place: region arguments, Main, partial writes, blocks and the rest."""
+"""The refusals of which little more can be said than the place: Main, partial writes, blocks, overriding, cycles and local regions."""
 
 from .alone import name_of
 from .branches import method_at
+from .duplicates import renamed_calls
 from .leaving import Edit, instead, is_around
-from .names import near, renamed_calls
+from .names import near
 from .source import statement_around
 from .typed import Body
 
@@ -28,11 +29,7 @@ def explain_main(report, world):
     if main.params:
         report.name(main.start, main.opened, "Main has region parameters")
     if constructor:
-        report.name(constructor.start, constructor.body.start, "Main has a constructor; what it does goes into `main`")
-        name = unused(report, "start")
-        edits = [Edit(constructor.name_at, constructor.name_at + len("Main"), f"void {name}")]
-        edits += [Edit(method.body.start + 1, method.body.start + 1, f" this.{name}();") for method in methods if not constructor.formals]
-        report.mends("Make it a method that `main` calls.", edits, quiet=True)
+        constructor_of_main(report, constructor, methods)
     if not methods:
         report.name(main.start, main.opened, "Main has no method `int main(int n)`")
         for member in main.members:
@@ -53,6 +50,15 @@ def explain_main(report, world):
     if report.mends("Declare it so:", head, quiet=True) and report.mend["answer"] == "accepted":
         return
     report.mends("Declare it so, with a result at its end:", head + [Edit(end, end, "return 0; ")], quiet=True)
+
+
+def constructor_of_main(report, constructor, methods):
+    """What a constructor of Main does goes into a method."""
+    report.name(constructor.start, constructor.body.start, "Main has a constructor; what it does goes into `main`")
+    name = unused(report, "start")
+    edits = [Edit(constructor.name_at, constructor.name_at + len("Main"), f"void {name}")]
+    edits += [Edit(method.body.start + 1, method.body.start + 1, f" this.{name}();") for method in methods if not constructor.formals]
+    report.mends("Make it a method that `main` calls.", edits, quiet=True)
 
 
 def explain_partial_write(report, world):
@@ -169,7 +175,6 @@ def explain_override(report, world):
         return
     around(report, "the overriding method")
     owner, top = met
-    text = report.source.text
     report.name(top.start, top.body.start, f"the method of {owner.name} that it overrides")
     report.say("There is no overloading: both have the same region parameters, formals and result, or different names.")
     new = unused(report, method.name + "2")
