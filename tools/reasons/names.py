@@ -262,7 +262,7 @@ class Place:
         found += self.instead(near(node.name, locals_ + ["this", "true", "false", "null"])) + self.instead(near(node.name, fields), "this.")
         if not found:
             listed = ", ".join(f"`{name}`" for name in locals_[:NAMES_AT_MOST])
-            self.report.say(f"`{node.name}` is no local or formal here; " + (f"in scope are {listed}." if listed else "none is in scope."))
+            self.report.say(f"`{node.name}` is no local or formal here; " + (f"in scope: {listed}." if listed else "none is in scope."))
         return found + self.declaration(node)
 
     def declaration(self, node):
