@@ -28,6 +28,18 @@ def atomic_blocks(report, found):
     return bool(edits + declared) and report.mends(sentence(what + region), edits + declared)
 
 
+def nd_construct(report, found):
+    """Blocks in branches of a construct that promises one result: the one that lets them come in any order."""
+    fork, keyword = found.fork, found.fork.keyword
+    if fork.parts.get("part") or not all(access.marked for access in found.pair):
+        return False
+    report.say(
+        f"The accesses are in atomic blocks, but a {keyword} promises one result, whatever the order of its branches. Under {keyword}_nd blocks may come"
+        " in any order, and the result may depend on it."
+    )
+    return report.mends(f"Use `{keyword}_nd`.", [Edit(fork.start, fork.start + len(keyword), f"{keyword}_nd")], quiet=True)
+
+
 def sentence(parts):
     text = " and ".join(parts) + "."
     return text[0].upper() + text[1:]

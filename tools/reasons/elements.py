@@ -52,7 +52,8 @@ def own_index(report, found):
             return False
         if access.node.kind == "element" and of_element(report, found, access):
             return True
-    not_apart(report, found)
+    if not found.fork.part:
+        not_apart(report, found)
     return False
 
 

@@ -7,7 +7,7 @@ function that gives edits for a match. Of the rows whose pattern holds the place
 import re
 from typing import Callable, NamedTuple, Optional, Union
 
-from . import rewrites
+from . import conditionals, rewrites
 
 MODIFIERS = "public|private|protected|static|abstract|synchronized|native|transient|volatile|strictfp|const"
 TYPE = r"(?:final\s+)?\b[A-Za-z_]\w*(?:<[^<>;{}()]*>)?(?:\s*\[\s*\](?:<[^<>;{}()]*>)?(?:#\w+)?)*"
@@ -203,8 +203,8 @@ HABITS = [
     row("compound-bits", rf"(?P<target>{PLAIN})\s*(?P<sign><<|>>>?|\^)=(?P<value>[^;]*);", "There are no operators on bits.", None),
     row("unary-plus", r"(?<=[=(,\[<>+*/%&|-])\s*\+\s*(?=[\w(])|(?<=return)\s*\+\s*(?=[\w(])", "There is no sign `+` in front of a number.", " "),
     row("conditional", r"(?<=[;{})])(?:[^;{}?]|(?<=\[)\?(?=\]))*(?<!\[)\?[^;{}]*;",
-        "There is no `? :`. Write an `if` with an `else`.", rewrites.conditional),
-    row("conditional", r"(?<!\[)\?", "There is no `? :`. Take the value into a local by an `if` with an `else` before the statement.", None),
+        "There is no `? :`. Write an `if` with an `else`.", conditionals.conditional),
+    row("conditional", r"(?<!\[)\?", "There is no `? :`. Take the value into a local by an `if` with an `else` before the statement.", conditionals.conditional_inside),
     row("shift", r"(?P<sign><<|>>>?)\s*(?P<by>[0-9]+)", "There are no operators on bits. A shift is a product or a quotient of a power of two (a"
         " quotient rounds towards zero, so it differs for numbers below 0).", rewrites.shifted),
     row("shift", r"<<|>>>?", "There are no operators on bits. A shift is a product or a quotient of a power of two.", None),

@@ -1,7 +1,7 @@
 """Mends of branches that interfere, each tried."""
 
 from .alone import name_of, summaries_of
-from .atomics import atomic_blocks
+from .atomics import atomic_blocks, nd_construct
 from .elements import in_branches, own_index, table_region
 from .leaving import Edit, instead
 from .objects import same_object
@@ -16,7 +16,7 @@ def branch_mends(report, found):
     is_nd = found.fork.keyword.endswith("_nd")
     say_bare_types(report, found)
     forms = [missing_summaries, unplaced_fields]
-    forms += [table_region, atomic_blocks] if is_nd else []
+    forms += [table_region, atomic_blocks] if is_nd else [nd_construct]
     forms += [link_before, other_region, constraint, own_index, in_branches, value_before]
     for form in forms:
         if form(report, found):

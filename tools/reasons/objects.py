@@ -41,10 +41,11 @@ def of_one_object(report, found, of):
             " of its own."
         )
         return
-    where = left if left == right else f"{left} and {right}, which may be one region,"
+    both = f"`{of}.{one.name}` and `{of}.{two.name}` both touch {left} of one object"
+    if left != right:
+        both = f"`{of}.{one.name}` touches {left} of an object, and `{of}.{two.name}` touches {right} of the same, which may be one region"
     report.say(
-        f"`{of}.{one.name}` and `{of}.{two.name}` both touch {where} of one object, so they can't run side by side: do one before or after the"
-        f" {keyword}, or let what each of them touches lie in a region of its own."
+        f"{both}, so they can't run side by side: do one before or after the {keyword}, or let what each of them touches lie in a region of its own."
     )
 
 

@@ -10,9 +10,6 @@ STEP = re.compile(
     r"^(?:(?P<target>.+?)\s*(?P<after>\+\+|--)|(?P<before>\+\+|--)\s*(?P<other>.+)|(?P<left>.+?)\s*(?P<sign>[-+*/%])=\s*(?P<value>.+))$",
     re.DOTALL,
 )
-LEAD = re.compile(
-    r"(?:(?P<back>return)\b|(?P<type>(?:int|boolean|[A-Za-z_]\w*(?:<[^=;]*>)?)(?:\[\])*)\s+(?P<name>\w+)\s*=|(?P<target>[^=?<>!]+?)=(?!=))"
-)
 
 
 def closing(text, opened):
@@ -273,28 +270,6 @@ def plain_number(match, _):
     except ValueError:
         value = int(re.sub(r"[lL_]", "", match.group()).lstrip("0") or "0")
     return [Edit(match.start(), match.end(), str(value))] if value <= 2147483647 else None
-
-
-def conditional(match, source):
-    """`c ? a : b` of a declaration, an assignment or a return as an if."""
-    start = match.end() - len(match.group().lstrip())
-    text = source.text[start : match.end() - 1]
-    lead = LEAD.match(text)
-    question = text.find("?")
-    parts = split_at(text[question + 1 :], ":")
-    if not lead or len(parts) != 2:
-        return None
-    condition, (yes, no) = text[lead.end() : question].strip(), parts
-    condition = condition[1:-1] if condition.startswith("(") and closing(condition, 0) == len(condition) else condition
-    if lead["back"]:
-        made = f"if ({condition}) return {yes}; else return {no};"
-    elif lead["type"]:
-        name = lead["name"]
-        made = f"{lead['type']} {name} = {value_of(lead['type'])}; if ({condition}) {name} = {yes}; else {name} = {no};"
-    else:
-        target = lead["target"].strip()
-        made = f"if ({condition}) {target} = {yes}; else {target} = {no};"
-    return [Edit(start, match.end(), made)]
 
 
 def text_and_values(match, source):
