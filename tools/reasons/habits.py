@@ -167,7 +167,7 @@ HABITS = [
     row("println", r"\b(?:System\s*\.\s*(?:out|err)\s*\.\s*print(?:ln|f)?|println|printf|echo)\s*\((?:\s*\")?",
         "What is printed is an int, a boolean"
         " or a text: `print(e);`.", lambda match, _: [rewrites.Edit(match.start(), match.group().index("(") + match.start(), "print")]),
-    row("print-bare", r"\bprint\s+(?P<value>[^;{}()]*(?:\([^;{}]*\)[^;{}()]*)*);",
+    row("print-bare", r"\bprint\s+(?P<value>[^;{}(][^;{}]*);",
         "What is printed stands in parentheses: `print(e);`.", r"print(\g<value>);"),
     row("print-sum", r"\bprint\s*\((?=[^;]*\")[^;]*[+,][^;]*\)\s*",
         "`print` takes one int, boolean or text, and ends the line. There are no strings"
@@ -204,7 +204,8 @@ HABITS = [
     row("unary-plus", r"(?<=[=(,\[<>+*/%&|-])\s*\+\s*(?=[\w(])|(?<=return)\s*\+\s*(?=[\w(])", "There is no sign `+` in front of a number.", " "),
     row("conditional", r"(?<=[;{})])(?:[^;{}?]|(?<=\[)\?(?=\]))*(?<!\[)\?[^;{}]*;",
         "There is no `? :`. Write an `if` with an `else`.", conditionals.conditional),
-    row("conditional", r"(?<!\[)\?", "There is no `? :`. Take the value into a local by an `if` with an `else` before the statement.", conditionals.conditional_inside),
+    row("conditional", r"(?<!\[)\?", "There is no `? :`. Take the value into a local by an `if` with an `else` before the statement.",
+        conditionals.conditional_inside),
     row("shift", r"(?P<sign><<|>>>?)\s*(?P<by>[0-9]+)", "There are no operators on bits. A shift is a product or a quotient of a power of two (a"
         " quotient rounds towards zero, so it differs for numbers below 0).", rewrites.shifted),
     row("shift", r"<<|>>>?", "There are no operators on bits. A shift is a product or a quotient of a power of two.", None),
