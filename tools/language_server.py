@@ -6,7 +6,7 @@ are handed over when they change.
 
 Diagnostics: the refusal of a text, a tenth of a second after its last change, with what tools/why.py finds in short time. Hover: on a refused
 place what docs/REFUSALS.md says of it, on a keyword a sentence of docs/LANGUAGE.md. Completion: the declared regions, also as CLASS.REGION, and
-the keywords. Code actions: the mend of a refusal, where one was found.
+the keywords; behind a dot fields and methods. Code actions: the mend of a refusal, where one was found.
 
 Status: 0 after `shutdown` and `exit`, 1 where the client ends without them, 2 for words that are no call.
 """
@@ -98,7 +98,10 @@ class Server:
             raise Closed
         now = time.monotonic()
         for uri in [uri for uri, when in self.changed.items() if when + DELAY <= now]:
-            self.diagnose(uri)
+            try:
+                self.diagnose(uri)
+            except (OSError, ValueError, LookupError, TypeError) as fault:
+                self.show(f"the text isn't diagnosed: {fault!r}")
 
     def take(self, message):
         """Answers a request, or takes a note."""
@@ -112,8 +115,13 @@ class Server:
             error = None
         except Refused as refused:
             error = {"code": refused.code, "message": str(refused)}
+        except Closed:
+            raise
         except (KeyError, TypeError, AttributeError, ValueError, IndexError) as fault:
             error = {"code": NO_PARAMETERS, "message": f"the parameters of {method}: {fault!r}"}
+        except Exception as fault:  # noqa: BLE001
+            # An editor that lost its server for one request would lose all the others too.
+            error = {"code": INTERNAL, "message": f"{method}: {fault!r}"}
         if "id" in message:
             self.writer.write({"id": number, **({"error": error} if error else {"result": result})})
 
@@ -132,9 +140,13 @@ class Server:
         return self.requests[method](parameters)
 
     def initialize(self, parameters):
+        if self.is_ready:
+            raise Refused(NO_REQUEST, "initialize comes once")
+        process = (parameters or {}).get("processId")
         self.is_ready = True
-        process = parameters.get("processId")
-        self.client = process if isinstance(process, int) and process > 0 else None
+        # A client that isn't seen here, as from inside a container, isn't watched.
+        is_seen = isinstance(process, int) and process > 0 and is_alive(process)
+        self.client = process if is_seen else None
         return {"capabilities": CAPABILITIES, "serverInfo": {"name": "dpj"}}
 
     def shutdown(self, _):
@@ -146,9 +158,11 @@ class Server:
 
     def changes(self, parameters):
         document, changes = parameters["textDocument"], parameters["contentChanges"]
-        if document["uri"] not in self.texts or any("range" in change for change in changes):
-            raise ValueError("whole texts of open documents are wanted")
-        self.put(document["uri"], changes[-1]["text"], document.get("version"))
+        paper = self.texts[document["uri"]]
+        for change in changes:
+            # Whole texts are asked for, but some clients send pieces all the same.
+            paper = Paper(paper.edited(change["range"], change["text"]) if change.get("range") else change["text"])
+        self.put(document["uri"], paper.text, document.get("version"))
 
     def put(self, uri, text, version):
         self.texts[uri], self.versions[uri] = Paper(text), version
@@ -209,10 +223,14 @@ class Server:
     def actions(self, parameters):
         """The mend of a refusal that lies in the range."""
         uri, paper, found = self.current(parameters)
+        wanted = (parameters.get("context") or {}).get("only")
+        if wanted and not any("quickfix" == kind or "quickfix".startswith(f"{kind}.") for kind in wanted):
+            return []
         start, end = (paper.offset(parameters["range"][side]) for side in ("start", "end"))
         if not found or not found.report["mend"] or end < found.start or found.end < start:
             return []
-        return [{"title": found.report["mend"]["text"], "kind": "quickfix", "diagnostics": [found.diagnostic()], "edit": {"changes": {uri: list(found.edits())}}}]
+        edits = {"changes": {uri: list(found.edits())}}
+        return [{"title": found.report["mend"]["text"], "kind": "quickfix", "diagnostics": [found.diagnostic()], "edit": edits}]
 
 
 def is_alive(process):

@@ -35,7 +35,8 @@ def main(words):
         print(__doc__.strip())
         return 0 if words else 1
     program = str(pathlib.Path(words[0]).resolve())
-    parts = (colours.try_textmate, colours.try_package, colours.try_vim, talking.try_server, talking.try_ends, talking.try_client)
+    parts = (colours.try_textmate, colours.try_package, colours.try_vim, talking.try_server, talking.try_pieces, talking.try_ends,
+             talking.try_client)
     with concurrent.futures.ThreadPoolExecutor(len(parts)) as pool:
         tallies = list(pool.map(lambda part: part(Tally(), program), parts))
     passed, failed = sum(tally.passed for tally in tallies), sum(tally.failed for tally in tallies)

@@ -220,6 +220,61 @@ def try_bad(tally, talk):
     tally.sees("it goes on", talk.ask("textDocument/completion", at(0, 0)).get("result", {}).get("isIncomplete"), False)
 
 
+# A text with members, and what is offered at places of its lines: labels that have to be there, and labels that may not.
+MEMBERS = """class Top<region P> { int high in P; int rise(int by) reads P { return by; } }
+class Low<region Q> extends Top<Q> {
+  region Deep;
+  int low in Q:Deep;
+  Low(int n) writes Q:Deep { this.low = n; }
+  int sink(Top<Q> top) reads Q { return top.high + this.low; } // this.low
+}
+class Main { int own; int main(int n) { print("this.own"); return n; } }
+"""
+OFFERED = {
+    "behind this": ((5, 56), {"low", "high", "rise", "sink"}, {"own", "main", "Low", "by", "n", "while", "Deep"}),
+    "behind a local": ((5, 45), {"low", "high", "rise", "sink", "own", "main"}, {"Deep", "while", "P"}),
+    "behind a colon": ((3, 15), {"Deep", "Q", "P"}, {"while", "low"}),
+    "in a comment": ((5, 73), set(), {"low", "while", "Deep"}),
+    "in a literal": ((7, 52), set(), {"own", "while", "Deep"}),
+    "elsewhere": ((6, 1), {"Deep", "Low.Deep", "class"}, {"low", "own"}),
+}
+
+
+def try_offers(tally, talk, version):
+    """What completion offers, by what stands before the place."""
+    talk.put(MEMBERS, version)
+    talk.diagnostics()
+    for name, ((line, character), wanted, others) in OFFERED.items():
+        labels = {item["label"] for item in talk.ask("textDocument/completion", at(line, character))["result"]["items"]}
+        tally.sees(f"completion {name}", (wanted - labels, others & labels), (set(), set()))
+
+
+def try_pieces(tally, program):
+    """Changes in pieces, messages in pieces, and what is asked twice or dropped."""
+    talk = Talk(program, *WAITING)
+    # No process has this number.
+    tally.sees("a client that isn't seen", "result" in talk.ask("initialize", {"processId": (1 << 22) + 1, "capabilities": {}}), True)
+    tally.sees("initialize twice", talk.ask("initialize", {"processId": None})["error"]["code"], -32600)
+    talk.put("class Main { /* \U0001f600 */ int main(int amount) { return amount; } }\n", 1)
+    tally.sees("an accepted text", talk.diagnostics()["diagnostics"], [])
+    change = {"range": {"start": {"line": 0, "character": 54}, "end": {"line": 0, "character": 56}}, "text": "uo"}
+    talk.note("textDocument/didChange", {"textDocument": {"uri": URI, "version": 2}, "contentChanges": [change]})
+    found = talk.diagnostics()
+    tally.sees("a change of a range", (found["version"], [bounds(one["range"]) for one in found["diagnostics"]]), (2, [(0, 52, 0, 58)]))
+    for kinds, count in ((["refactor"], 0), (["source.organizeImports"], 0), (["quickfix"], 1), ([], 1)):
+        asked = {"textDocument": {"uri": URI}, "range": found["diagnostics"][0]["range"], "context": {"diagnostics": [], "only": kinds}}
+        talk.note("$/cancelRequest", {"id": 1000})
+        tally.sees(f"mends of the kinds {kinds}", len(talk.ask("textDocument/codeAction", asked)["result"]), count)
+    body = json.dumps({"jsonrpc": "2.0", "id": "a", "method": "textDocument/completion", "params": at(0, 0)}).encode()
+    message = b"content-type: application/vscode-jsonrpc; charset=utf-8\r\ncontent-length: %d\r\n\r\n%s" % (len(body), body)
+    for piece in (message[:5], message[5:90], message[90:] + message):
+        talk.raw(piece)
+        time.sleep(0.05)
+    tally.sees("two messages in three pieces", [talk.next().get("id") for _ in range(2)], ["a", "a"])
+    tally.sees("exit", talk.end(), 0)
+    return tally
+
+
 def try_ends(tally, program):
     """How a server ends."""
     talk = Talk(program)
@@ -270,6 +325,7 @@ def try_server(tally, program):
     try_reasons(tally, talk, program, version)
     try_words(tally, talk)
     try_sentences(tally, talk, version + 2)
+    try_offers(tally, talk, version + 3)
     try_bad(tally, talk)
     talk.note("textDocument/didClose", {"textDocument": {"uri": URI}})
     tally.sees("a closed text has no diagnostics", talk.diagnostics()["diagnostics"], [])

@@ -33,7 +33,7 @@ UNKNOWN_REASON = """\
   With it the text is accepted. (./dpj why)
 """
 # A statement that is the whole line that is shown isn't written again.
-ALONE_REASON = "  3:3  `m` isn't declared (./dpj why)\n"
+ALONE_REASON = "  3:3  `m` isn't declared\n  `m` is no local or formal here; in scope: `n`. (./dpj why)\n"
 LITERAL = b'class Main { int main(int n) {\r\n  print("one\r\n  two"); return n; } }\r\n'
 # What is put in stands before the end of the line, which is CR LF.
 LITERAL_REASON = """\

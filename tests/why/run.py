@@ -20,6 +20,7 @@ HERE = Path(__file__).resolve().parent
 TOP = HERE.parent.parent
 EXAMPLES = TOP / "examples" / "check"
 SPARE = 3
+CRLF = " with crlf"
 sys.path.insert(0, str(TOP / "tools"))
 
 from faults import Faults  # noqa: E402
@@ -43,6 +44,8 @@ def table(file):
         word, name, *rest = head.split(" ", 2)
         words = rest[0] if rest else ""
         text = (EXAMPLES / f"{name}.dpj").read_bytes() if word == "example" else body.rstrip("\n").encode() + b"\n"
+        if words.endswith(CRLF):
+            words, text = words.removesuffix(CRLF), text.replace(b"\n", b"\r\n")
         cases.append((name, words, text))
     return cases
 

@@ -3,7 +3,7 @@
 // drawn, since a run may have many events.
 
 const ROW = 22, HEAD = 26, EDGE = 10, CURVE = 7;
-const NARROW_TEXT = 200, WIDE_TEXT = 300;
+const NARROW_TEXT = 200, FAIR_TEXT = 240, WIDE_TEXT = 300;
 
 class Lanes {
   constructor(run, view, asked) {
@@ -45,7 +45,8 @@ class Lanes {
   measure() {
     const { clientWidth, clientHeight } = this.scroller;
     const all = 2 * EDGE + this.run.columns.length * this.width;
-    const least = clientWidth < 480 ? NARROW_TEXT : WIDE_TEXT;
+    // The texts give way a little where all lanes can be seen then.
+    const least = clientWidth < 480 ? NARROW_TEXT : Math.max(FAIR_TEXT, Math.min(WIDE_TEXT, clientWidth - all));
     this.shown = Math.min(all, Math.max(clientWidth - least, this.width + 2 * EDGE));
     const text = clientWidth - this.shown;
     this.tall.style.width = `${all + text}px`;

@@ -221,14 +221,11 @@ class View {
     if (this.conflicts) facts.push(counted(this.conflicts, "access in conflict", "accesses in conflict"));
     element("about").replaceChildren(facts.filter(Boolean).join(" · ") + " · ", node("b", "", run.ending));
     element("slider").max = run.events.length;
+    element("stage").style.setProperty("--figures", String(run.events.length).length);
     element("gathered").disabled = !run.blocks.length;
     if (!run.blocks.length) element("gathered").title = "This run has no atomic blocks";
     element("scroller").setAttribute("aria-label", `${run.events.length} events, in ${run.tasks.length} lanes`);
-    const shown = ["new", "read", "write", "look", "print", "fork", "begin", "join", "enter", "exit", "rest", "end", "fold"];
-    element("legend").innerHTML = shown.map((kind) =>
-      `<span><svg viewBox="0 0 22 22"><g class="mark ${kind}">${markOf(kind, 11, 11)}</g></svg>${kind === "fold" ? "a folded stretch" : kind}</span>`).join("") +
-      '<span><svg viewBox="0 0 22 22"><rect class="band" x="2" y="2" width="18" height="18" rx="5"/></svg>an atomic block</span>' +
-      '<span><svg viewBox="0 0 22 22"><g class="mark write"><circle cx="11" cy="11" r="5"/><path class="clash" d="M16 2h6v6z"/></g></svg>in conflict</span>';
+    element("legend").innerHTML = legend();
   }
 
   listen() {
@@ -264,8 +261,24 @@ class View {
   dress() {
     if (this.theme) document.documentElement.dataset.theme = this.theme;
     else delete document.documentElement.dataset.theme;
-    element("theme").textContent = this.theme || "auto";
+    element("theme").textContent = `colours: ${this.theme || "auto"}`;
   }
+}
+
+// What each mark and each kind of line means.
+function legend() {
+  const marks = {
+    new: "an object or an array is made", read: "of a field or an element", write: "of a field or an element", look: "for a class or a length",
+    print: "a line is printed", fork: "branches are to begin", begin: "a branch begins", join: "all branches have ended", enter: "of an atomic block",
+    exit: "of an atomic block", rest: "before a block: others may go on", end: "of a task", fold: "events of one task",
+  };
+  const lines = { "goes own": "the task of this step", goes: "a task at work", waits: "waits for its branches", ended: "has ended, not joined yet" };
+  const entry = (drawn, word, says) => `<span><svg viewBox="0 0 22 22">${drawn}</svg><b>${word}</b> ${says}</span>`;
+  const parts = Object.entries(marks).map(([kind, says]) => entry(`<g class="mark ${kind}">${markOf(kind, 11, 11)}</g>`, kind === "fold" ? "folded" : kind, says));
+  parts.push(entry('<rect class="band" x="2" y="2" width="18" height="18" rx="5"/>', "block", "that is atomic"));
+  parts.push(entry('<g class="mark write"><circle cx="11" cy="11" r="5"/><path class="clash" d="M16 2h6v6z"/></g>', "conflict", "with one in no order"));
+  for (const [kind, says] of Object.entries(lines)) parts.push(entry(`<path class="line ${kind}" d="M11 1V21"/>`, "line", says));
+  return parts.join("");
 }
 
 function remembered() {

@@ -81,6 +81,17 @@ class Alone:
         return f"{{ new {self.source(node.type)}({self.actuals(constructor, owner, heads_of(owner), {})}); }}"
 
 
+def array_text(body, length, its_type):
+    """The creation of an array of a type, with a length."""
+    element, path = body.world.show_type(its_type[1], body.class_node.name, body.heads), body.world.show(its_type[2], body.class_node.name, body.heads)
+    return f"new {element}[{length}]<{path}>" + (f"#{its_type[3]}" if its_type[3] else "")
+
+
+def name_of(owner, method):
+    """What a method or constructor is called in a sentence."""
+    return f"the constructor of {owner.name}" if method.constructor else f"{owner.name}.{method.name}"
+
+
 def summaries_of(world, owner, method, marks=False):
     """Summaries that a method without one may have, as texts: what its body does but for calls of itself, and that with all below it."""
     body = Body(world, owner, method)
@@ -93,7 +104,7 @@ def summaries_of(world, owner, method, marks=False):
 
 def calls(body, node, method):
     """Whether a node calls a method."""
-    met = body.world.member(body.types.get(id(node.of)), "method", node.name) if node.kind == "call" else None
+    met = body.callee(node)
     return met is not None and met[1] is method
 
 

@@ -196,8 +196,7 @@ def explain_return(report, world):
         no_result(report, method, world.type(method.result, class_node.name, set()) if method.result else None)
         return
     for node in method.body.walk():
-        if node.start == at and node.kind == "return":
-            wrong_return(report, method, node)
+        if node.start == at and node.kind == "return" and wrong_return(report, method, node):
             return
     after_the_end(report, method, at)
 
@@ -220,9 +219,11 @@ def no_result(report, method, its_type):
 
 
 def wrong_return(report, method, node):
-    """A return inside a construct or a block, or with or without a value against the method's result."""
-    report.name(node.start, node.end, "this return")
+    """A return inside a construct or a block, or with or without a value against the method's result; whether it is one."""
     around = [other for other in method.body.walk() if other.kind in ("cobegin", "foreach", "atomic") and is_around(other, node)]
+    if not around and (node.value is None) == (method.result is None):
+        return False
+    report.name(node.start, node.end, "this return")
     if around:
         outer = around[-1]
         keyword = outer.parts.get("keyword", "atomic")
@@ -233,6 +234,7 @@ def wrong_return(report, method, node):
     else:
         report.say(f"`{method.name}` has no result, so no return has a value.")
         report.mends("Return without a value.", [Edit(node.start + 6, node.end - 1, "")], quiet=True)
+    return True
 
 
 def after_the_end(report, method, at):

@@ -1,11 +1,12 @@
 """Why a summary doesn't cover a body or another summary: the statements, and a summary that is accepted."""
 
-from .alone import Alone, summaries_of, summary_for, summary_text
+from .alone import Alone, name_of, summaries_of, summary_for, summary_text
+from .atomics import blocks
 from .branches import method_at
-from .leaving import Edit, Leaving, headers_of, instead, quiet
+from .leaving import Edit, Leaving, applied, headers_of, instead, quiet
 from .mends import sibling_paths
 from .typed import Body
-from .world import heads_of
+from .world import ROOT, default_of, heads_of, put
 
 STATEMENTS_AT_MOST = 8
 
@@ -23,10 +24,10 @@ def explain_summary(report, world):
         report.name(*head_span(access.statement), role, access.node)
     for access in found:
         if access.says.endswith("has no summary"):
-            report.say(f"{access.says}, so calling it counts as `writes Root:*`. Give it one first.")
+            report.say(f"{access.says[:1].upper()}{access.says[1:]}, so calling it counts as `writes Root:*`. Give it one first.")
         elif access.path == ("Root",):
             report.say(f"`{report.source.text[access.node.start : access.node.end]}` lies in Root, as what is declared without `in R` does.")
-    if callee_mend(report, world, found) or field_mend(report, body, found):
+    if callee_mend(report, world, body, found) or field_mend(report, body, found) or block_mend(report, body, found):
         return
     summary_mend(report, body, found)
 
@@ -74,19 +75,22 @@ def is_refused_alone(report, body, alone, access):
     if access.marked:
         statement = f"atomic {statement}"
     edits = []
-    replaced = access.statement
+    replaced, result = access.statement, body.type(body.method.result) if body.method.result else None
     for node in body.method.body.walk():
-        edits += without(node, replaced, statement)
+        edits += without(node, replaced, statement, default_of(result))
     text, offset = leaving.with_edits(edits)
     answer = report.asker.check(text)
     return answer.name == report.answer.name and answer.offset == offset
 
 
-def without(node, kept, statement):
-    """Edits that leave out what a statement does, and put one in place of the kept one."""
+def without(node, kept, statement, result):
+    """Edits that leave out what a statement does, and put one in place of the kept one; what is returned becomes a default."""
+    if node.kind == "return":
+        edits = [instead(node.value, result)] if node.value is not None else []
+        return edits + ([Edit(node.start, node.start, f"{{ {statement} "), Edit(node.end, node.end, " }")] if node is kept else [])
     if node is not kept:
         return quiet(node)
-    if node.kind in ("local", "return"):
+    if node.kind == "local":
         return [Edit(node.start, node.start, statement + " ")] + quiet(node)
     if headers_of(node):
         return [Edit(node.start, node.start, "{ " + statement), Edit(node.end, node.end, " }")] + quiet(node)
@@ -100,21 +104,18 @@ def least(report, body):
     return [access for access in body.accesses if leaving.lives(access.node)][:STATEMENTS_AT_MOST]
 
 
-def callee_mend(report, world, found):
+def callee_mend(report, world, body, found):
     """Methods without a summary that are called: theirs are tried."""
     lacking = []
     for access in found:
         if access.says.endswith("has no summary"):
-            owner_name, _, name = access.says.split(" ")[0].rpartition(".")
-            owner = world.classes[owner_name]
-            lacking.append((owner, next(member for member in owner.members if member.kind == "method" and member.name == name)))
+            lacking.append(body.callee(access.node))
     lacking = list(dict.fromkeys(lacking))
-    for summaries in zip(*(summaries_of(world, *met) for met in lacking)):
-        edits = [Edit(method.summary.end, method.summary.end, f" {summary}") for (_, method), summary in zip(lacking, summaries)]
-        names = ", ".join(f"{owner.name}.{method.name}" for owner, method in lacking)
-        if report.mends(f"Write a summary for {names}.", edits, quiet=True):
-            return True
-    return False
+    if not lacking:
+        return False
+    ways = zip(*(summaries_of(world, *met) for met in lacking))
+    tried = [[Edit(method.summary.end, method.summary.end, f" {summary}") for (_, method), summary in zip(lacking, way)] for way in ways]
+    return report.best_of(f"Write a summary for {', '.join(name_of(*met) for met in lacking)}.", tried)
 
 
 def field_mend(report, body, found):
@@ -149,6 +150,16 @@ def written_items(world, body):
     return reads, writes
 
 
+def block_mend(report, body, found):
+    """What the summary promises to do in atomic blocks alone and the body does outside of them: blocks are tried."""
+    promised = [body.path(path) for _, path, marked in body.method.summary.items or [] if marked]
+    plain = [access for access in found if access.path in promised and not access.marked]
+    if not plain:
+        return False
+    report.say("The summary has the mark `atomic`, which promises that this is done in atomic blocks alone.")
+    return report.mends("Put an atomic block around it.", blocks(report.source.text, body, plain), quiet=True)
+
+
 def summary_mend(report, body, found):
     """The written summary with what is missing, and if that doesn't do, with all that the body does."""
     world, method, source = body.world, body.method, report.source
@@ -158,16 +169,17 @@ def summary_mend(report, body, found):
     writes_now = writes + [item for item in more_writes if item not in writes]
     reads_now = [item for item in reads + more_reads if item not in writes_now]
     wanted = [summary_text(list(dict.fromkeys(reads_now)), writes_now)]
+    if any(access.marked for access in found):
+        wanted.append(summary_text(*summary_for(world, body, body.accesses, marks=True)))
     wanted.append(summary_text(*summary_for(world, body, body.accesses)))
     wanted.append("writes " + ", ".join(sorted(f"{head}:*" for head in heads)) if heads else "writes Root:*")
     wanted.append("writes Root:*")
     old = source.text[method.summary.start : method.summary.end].strip()
-    for summary in dict.fromkeys(wanted):
-        text = "Widen the summary." if old else "Write a summary."
-        edit = instead(method.summary, summary) if old else Edit(method.summary.end, method.summary.end, " " + summary)
-        if report.mends(text, [edit]):
-            return True
-    return False
+    ways = [
+        [instead(method.summary, summary) if old else Edit(method.summary.end, method.summary.end, " " + summary)]
+        for summary in dict.fromkeys(wanted)
+    ]
+    return report.best_of("Widen the summary." if old else "Write a summary.", ways)
 
 
 def explain_override(report, world):
@@ -182,11 +194,30 @@ def explain_override(report, world):
     report.name(method.start, method.body.start, f"the overriding method: {written(mine)}")
     report.name(top.start, top.body.start, f"the method of {owner.name} that it overrides: {written(theirs)}")
     report.say("Who calls the overridden method counts on its summary, so the overriding one does no more.")
+    theirs = summary_of_top(world, class_node, owner, top) if theirs else theirs
     edit = Edit(method.summary.start, method.summary.end, " " + theirs) if not mine else instead(method.summary, theirs)
     if theirs and report.mends(f"`{theirs}` for {class_node.name}.{method.name} as well.", [edit]):
         if report.mend["answer"] == "accepted":
             return
     widened(report, world, (class_node, method), (owner, top))
+
+
+def summary_of_top(world, class_node, owner, top):
+    """The summary of an overridden method as it is written in the class of the overriding one."""
+    heads = heads_of(owner, top)
+    met = world.member(("class", class_node.parent, args_of_parent(world, class_node)), "method", top.name)
+    given = met[2] if met else {}
+    reads, writes = [], []
+    for kind, path, marked in top.summary.items or []:
+        shown = world.show(put(world.path(path, owner.name, heads), given), class_node.name, heads_of(class_node))
+        (writes if kind == "writes" else reads).append(("atomic " if marked else "") + shown)
+    return summary_text(reads, writes)
+
+
+def args_of_parent(world, class_node):
+    """The paths that a class gives its superclass."""
+    args = tuple(world.path(arg, class_node.name, heads_of(class_node)) for arg in class_node.parent_args)
+    return args or (ROOT,) * len(world.classes[class_node.parent].params)
 
 
 def written(summary):
@@ -196,9 +227,14 @@ def written(summary):
 def widened(report, world, overriding, overridden):
     """The summary of the overridden method with what the overriding one does."""
     body = Body(world, *overriding)
+    asked = {}
     for access in body.accesses:
-        shown = world.show(access.path, overriding[0].name, body.heads)
-        report.name(*head_span(access.statement), f"{access.kind} {shown} in the overriding method", access.node)
+        key = (access.kind, access.path, access.marked)
+        if key not in asked:
+            asked[key] = is_beyond(report, world, body, access)
+        if asked[key]:
+            shown = world.show(access.path, overriding[0].name, body.heads)
+            report.name(*head_span(access.statement), f"{access.kind} {shown}, which the summary of the overridden method doesn't cover", access.node)
     owner, top = overridden
     top_body = Body(world, owner, top)
     reads, writes = written_items(world, top_body)
@@ -211,3 +247,12 @@ def widened(report, world, overriding, overridden):
         report.mends(f"Or `{summary}` for {owner.name}.{top.name}.", [instead(top.summary, summary)])
 
 
+
+
+def is_beyond(report, world, body, access):
+    """Whether the overridden method's summary doesn't cover an access, by asking: as the whole summary of the overriding method."""
+    summary, method = summary_text(*summary_for(world, body, [access], marks=True)), body.method
+    edit = instead(method.summary, summary) if method.summary.items is not None else Edit(method.summary.end, method.summary.end, " " + summary)
+    text, offset = applied(report.source.text, [edit], report.answer.offset)
+    answer = report.asker.check(text)
+    return (answer.name, answer.offset) == (report.answer.name, offset)

@@ -18,18 +18,18 @@ BY_NAME = {
     "summary": ("covers", "explain_summary"),
     "override-effect": ("covers", "explain_override"),
     "unknown": ("names", "explain_unknown"),
-    "duplicate": ("names", "explain_duplicate"),
+    "duplicate": ("duplicates", "explain_duplicate"),
     "type": ("kinds", "explain"),
     "assign": ("assigning", "explain_assign"),
     "return": ("assigning", "explain_return"),
     "main": ("others", "explain_main"),
-    "region-args": ("others", "explain_region_args"),
+    "region-args": ("arguments", "explain_region_args"),
     "partial-write": ("others", "explain_partial_write"),
     "atomic-body": ("others", "explain_atomic_body"),
     "local-region": ("others", "explain_local_region"),
     "override": ("others", "explain_override"),
     "cycle": ("others", "explain_cycle"),
-    "constraint": ("others", "explain_constraint"),
+    "constraint": ("arguments", "explain_constraint"),
 }
 LEAST = "2147483648"
 

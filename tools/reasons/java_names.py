@@ -32,3 +32,8 @@ NAMES_OF_JAVA = {
     "protected": ("There is no `protected`: everything is visible.", ""),
     "abstract": ("There is no `abstract`.", ""),
 }  # fmt: skip
+METHODS_OF_MATH = {
+    "max": "int max(int a, int b) pure { if (a > b) return a; return b; }",
+    "min": "int min(int a, int b) pure { if (a < b) return a; return b; }",
+    "abs": "int abs(int a) pure { if (a < 0) return 0 - a; return a; }",
+}

@@ -2,8 +2,9 @@
 
 import itertools
 
+from .alone import array_text
 from .branches import method_at
-from .leaving import Edit, instead
+from .leaving import Edit, instead, is_around
 from .names import near
 from .source import statement_around
 from .typed import Body
@@ -138,7 +139,15 @@ class Asked:
         return True
 
     def on_print(self, node):
-        self.report.say(f"`print` takes an int, a boolean or a text; `{self.source(node.value)}` has type {self.shown(self.type(node.value))}.")
+        its_type, end = self.type(node.value), node.value.end
+        self.report.say(f"`print` takes an int, a boolean or a text; `{self.source(node.value)}` has type {self.shown(its_type)}.")
+        if its_type and its_type[0] == "array":
+            self.report.mends("Print its length, or its elements one by one.", [Edit(end, end, ".length")], quiet=True)
+        for owner in self.world.chain(its_type[1]) if its_type and its_type[0] == "class" else []:
+            for field in owner.members:
+                is_plain = field.kind == "field" and field.type.base in ("int", "boolean") and not field.type.suffixes
+                if is_plain and self.report.mends("Print a field of it, say:", [Edit(end, end, f".{field.name}")], quiet=True):
+                    return True
         return True
 
     def on_foreach(self, node):
@@ -199,11 +208,21 @@ class Asked:
         if constructor is None:
             if node.actuals:
                 self.report.say(f"{owner.name} declares no constructor, so it is created without actuals.")
+                if self.is_meant(owner):
+                    return True
                 first, last = node.actuals[0].start, node.actuals[-1].end
                 self.report.mends(f"`new {owner.name}()`, and set its fields then.", [Edit(first, last, "")], quiet=True)
             return bool(node.actuals)
         its_type = self.body.type(node.type)
         return self.actuals(node, owner, constructor, self.world.given(owner.name, its_type[2]), f"{owner.name}'s constructor")
+
+    def is_meant(self, owner):
+        """A method with the name of its class, which with a result is no constructor."""
+        for member in owner.members:
+            if member.kind == "method" and member.name == owner.name and not member.constructor:
+                self.report.name(member.start, member.body.start, "a method, since it has a result or `void` in front; a constructor has neither")
+                return self.report.mends("Leave out what stands in front of its name.", [Edit(member.start, member.name_at, "")], quiet=True)
+        return False
 
     def no_result(self, node, method):
         if method.result is None:
@@ -249,12 +268,14 @@ class Asked:
         """A number as a boolean, or a boolean as a number."""
         if wanted == BOOLEAN and self.type(node) == INT:
             return self.report.mends("A number is compared with 0.", [instead(node, f"{self.in_parentheses(node)} != 0")], quiet=True)
+        if wanted == BOOLEAN and self.type(node) and self.type(node)[0] in ("class", "array"):
+            return self.report.mends("A reference is compared with null.", [instead(node, f"{self.source(node)} != null")], quiet=True)
         if wanted != INT or self.type(node) != BOOLEAN:
             return False
         self.report.say("There are no casts: a boolean becomes an int by an `if`.")
         value = self.source(node)
         if statement is None:
-            return False
+            return self.number_before(node, value)
         if statement.kind == "return":
             made = f"if ({value}) return 1; else return 0;"
         elif statement.kind == "local":
@@ -264,21 +285,45 @@ class Asked:
             made = f"if ({value}) {target} = 1; else {target} = 0;"
         return self.report.mends("By an `if`:", [instead(statement, made)], quiet=True)
 
+    def number_before(self, node, value):
+        """A boolean as a number by a local in front of the statement that holds it."""
+        acting = [other for other in self.body.method.body.walk() if other.kind in ("local", "assign", "effect", "return", "print")]
+        holder = next((other for other in acting if is_around(other, node)), None)
+        if holder is None:
+            return False
+        name = next(name for name in ("number", "asNumber", "oneOrNone", "numberOfIt") if name not in self.text)
+        before = f"int {name} = 0; if ({value.removeprefix('(').removesuffix(')') if node.kind == 'paren' else value}) {name} = 1; "
+        edits = [Edit(holder.start, holder.start, before), instead(node, name)]
+        blocks = [other for other in self.body.method.body.walk() if other.kind == "block"]
+        if not any(holder in block.statements for block in blocks):
+            edits[0] = edits[0]._replace(new="{ " + before)
+            edits.append(Edit(holder.end, holder.end, " }"))
+        return self.report.mends("By an `if` before the statement:", edits, quiet=True)
+
+    def of_classes(self, found, wanted):
+        """Two classes of which the one isn't below the other."""
+        one, two = found[1], wanted[1]
+        if one in [node.name for node in self.world.chain(two)]:
+            self.report.say(f"{two} extends {one}, so a {two} is a {one}, and not the other way round; there are no casts.")
+        else:
+            self.report.say(f"{one} doesn't extend {two}.")
+
     def regions(self, statement, wanted):
         """Two types that differ in their regions: the one or the other is changed."""
         found = self.type(statement.value)
         if not found or not wanted or found[0] != wanted[0] or found[0] not in ("class", "array"):
             return False
-        self.report.say("The region of what is asked has to take up that of the value; a `*` in the asked type takes up any that go on from there.")
-        value = statement.value
-        done = False
+        is_class = found[0] == "class" and wanted[1] not in [node.name for node in self.world.chain(found[1])]
+        if is_class:
+            self.of_classes(found, wanted)
+        else:
+            self.report.say("The region of what is asked has to take up that of the value; a `*` in the asked type takes up any that go on from there.")
+        value, mends = statement.value, []
         if value.kind == "new":
-            done = self.report.mends("Create it in the region that is asked.", [instead(value.type, self.shown(wanted))], quiet=True)
-        if value.kind == "new_array" and value.path:
-            path = self.world.show(wanted[2], self.body.class_node.name, heads_of(self.body.class_node, self.body.method))
-            done = self.report.mends("Create it in the region that is asked.", [instead(value.path, path)], quiet=True)
-        if not done and statement.kind == "local":
-            done = self.report.mends("Declare it with the type of the value.", [instead(statement.type, self.shown(found))], quiet=True)
-        return done
-
-
+            what = f"Create a {wanted[1]}." if is_class else "Create it in the region that is asked."
+            mends.append((what, [instead(value.type, self.shown(wanted))]))
+        if value.kind == "new_array":
+            mends.append(("Create the array that is asked.", [instead(value, array_text(self.body, self.source(value.length), wanted))]))
+        if statement.kind == "local":
+            mends.append(("Declare it with the type of the value.", [instead(statement.type, self.shown(found))]))
+        return self.report.best(mends)

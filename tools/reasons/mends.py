@@ -1,8 +1,12 @@
 """Mends of branches that interfere, each tried."""
 
-from .alone import summaries_of
+from .alone import name_of, summaries_of
+from .atomics import atomic_blocks, nd_construct
+from .elements import in_branches, own_index, table_region
 from .leaving import Edit, instead
-from .world import default_of, heads_of, is_named
+from .objects import same_object
+from .source import fresh_region
+from .world import heads_of
 
 
 def branch_mends(report, found):
@@ -10,40 +14,40 @@ def branch_mends(report, found):
     if found.pair is None:
         return
     is_nd = found.fork.keyword.endswith("_nd")
+    say_bare_types(report, found)
     forms = [missing_summaries, unplaced_fields]
-    forms += [table_region, atomic_blocks] if is_nd else []
-    forms += [link_before, other_region, constraint, own_index]
+    forms += [table_region, atomic_blocks] if is_nd else [nd_construct]
+    forms += [link_before, other_region, constraint, own_index, in_branches, value_before]
     for form in forms:
         if form(report, found):
             return
 
 
-def called(found, access):
-    """The class and method that an access calls or creates by."""
-    node, world = access.node, found.world
-    if node.kind == "call":
-        met = world.member(found.body.types.get(id(node.of)), "method", node.name)
-        return (met[0], met[1]) if met else None
-    if node.kind == "new" and world.constructor(node.type.base):
-        return world.classes[node.type.base], world.constructor(node.type.base)
-    return None
+def say_bare_types(report, found):
+    """A local or a formal of a class with region parameters that is declared without arguments: each of them is Root."""
+    declared = {node.name_at: node.type for node in found.body.method.body.walk() if node.kind == "local"}
+    declared.update({formal.name_at: formal.type for formal in found.body.method.formals})
+    for access in dict.fromkeys(found.pair):
+        scope = found.body.scopes[id(access.statement)]
+        for name in [node.name for node in access.node.walk() if node.kind == "name"]:
+            its = declared.get(scope[name].at) if name in scope else None
+            owner = found.world.classes.get(its.base) if its is not None else None
+            if owner is not None and owner.params and not its.args:
+                full = ", ".join(["Root"] * len(owner.params))
+                report.say(f"`{name}` is declared as `{its.base}` without region arguments, which is `{its.base}<{full}>`.")
 
 
 def missing_summaries(report, found):
     """A method without a summary writes everything: one that its body fits is tried."""
     is_nd = found.fork.keyword.endswith("_nd")
-    lacking = [called(found, access) for access in dict.fromkeys(found.pair)]
+    lacking = [found.body.callee(access.node) for access in dict.fromkeys(found.pair)]
     lacking = list(dict.fromkeys(met for met in lacking if met and met[1].summary.items is None))
     if not lacking:
         return False
     report.say("A method without a summary is taken to write everything (`writes Root:*`), so it interferes with whatever touches a region.")
     ways = [summaries_of(found.world, *met, marks=is_nd) for met in lacking]
-    for summaries in zip(*ways):
-        edits = [Edit(method.summary.end, method.summary.end, f" {summary}") for (_, method), summary in zip(lacking, summaries)]
-        names = [f"{owner.name}.{method.name}" for owner, method in lacking]
-        if report.mends(f"Write a summary for {', '.join(names)}.", edits, quiet=True):
-            return True
-    return False
+    tried = [[Edit(method.summary.end, method.summary.end, f" {summary}") for (_, method), summary in zip(lacking, way)] for way in zip(*ways)]
+    return report.best_of(f"Write a summary for {', '.join(name_of(*met) for met in lacking)}.", tried)
 
 
 def unplaced_fields(report, found):
@@ -93,6 +97,18 @@ def link_before(report, found):
     return False
 
 
+def value_before(report, found):
+    """A value that a branch reads and another writes: that from before the construct may be meant."""
+    for access in dict.fromkeys(found.pair):
+        node = access.node
+        if access.kind == "reads" and node.kind in ("field_of", "element") and not any(part.kind in ("call", "new") for part in node.walk()):
+            value = found.text[node.start : node.end]
+            if take_link(report, found, node, value):
+                report.say(f"If the value that `{value}` has before the {found.fork.keyword} is meant, a local takes it there.")
+                return True
+    return False
+
+
 def take_link(report, found, node, link):
     """Tries a local for a link in front of the construct."""
     scope, fork = found.body.scopes.get(id(found.fork), {}), found.fork
@@ -100,7 +116,7 @@ def take_link(report, found, node, link):
     its_type = found.body.types.get(id(node))
     if its_type is None or not names <= set(scope):
         return False
-    name = node.name if node.kind == "field_of" else "link"
+    name = node.name if node.kind == "field_of" else "link" if its_type[0] in ("class", "array") else "value"
     while name in scope or any(token.text == name and node.kind != "field_of" for token in report.source.tokens):
         name += "Link"
     shown = found.world.show_type(its_type, found.body.class_node.name, found.body.heads)
@@ -153,42 +169,6 @@ def other_region(report, found):
     return report.mends(f"Put `{field.name}` into a region of its own.", edits)
 
 
-def fresh_region(source, name):
-    """A region name that the text doesn't have yet."""
-    made = name[:1].upper() + name[1:]
-    names = {token.text for token in source.tokens}
-    while made in names:
-        made += "Region"
-    return made
-
-
-def same_object(report, found):
-    """One region for what may be two objects, or one object for both branches: a word on that."""
-    one, two = found.pair
-    if found.is_loop or one.path != two.path or one.node.kind != two.node.kind:
-        return False
-    if "of" not in one.node.parts:
-        report.say(
-            "A region name is one region for all objects of a class. Let the class take a region parameter, and create each object in a region of"
-            " its own."
-        )
-        return False
-    first, second = (found.text[part.node.of.start : part.node.of.end] for part in (one, two))
-    if first == second:
-        report.say(
-            f"Both branches go to `{first}.{one.node.name}`, so they can't run side by side: do one before or after the {found.fork.keyword},"
-            " or let it work on something of its own."
-            if one.node.parts.get("name") == two.node.parts.get("name") and "name" in one.node.parts
-            else ""
-        )
-    else:
-        report.say(
-            f"A region name is one region for all objects of a class, so `{first}` and `{second}` aren't told apart. Let the class take a region"
-            " parameter, and give each object a region of its own."
-        )
-    return False
-
-
 def constraint(report, found):
     """Two region parameters that may be the same: a constraint is tried."""
     one, two = (access.path for access in found.pair)
@@ -218,156 +198,3 @@ def params_end(source, holder):
     number = source.token_at(holder.start)
     tokens = source.tokens[number:]
     return next(token.start for token in tokens if token.text == ">")
-
-
-def indexed_array(found, of):
-    """Edits by which each element of an array without an index name, a local or a field, gets a region of its own."""
-    declared, created = None, []
-    if of.kind == "name":
-        for node in found.body.method.body.walk():
-            if node.kind == "local" and node.name == of.name:
-                declared = node.type
-            value = node.parts.get("value") if node.kind in ("local", "assign") else None
-            name = node.name if node.kind == "local" else node.target.parts.get("name") if node.kind == "assign" else None
-            created += [value] if value is not None and name == of.name and value.kind == "new_array" else []
-    elif of.kind == "field_of":
-        met = found.world.member(found.body.types.get(id(of.of)), "field", of.name)
-        declared = met[1].type if met else None
-        assigned = [node for node in found.world.program.walk() if node.kind == "assign" and node.target.kind == "field_of"]
-        created = [node.value for node in assigned if node.target.name == of.name and node.value.kind == "new_array"]
-    if declared is None or len(declared.suffixes) != 1 or declared.suffixes[0][1] is not None:
-        return []
-    return with_index(found, declared, created)
-
-
-def with_index(found, declared, created):
-    """Edits that put an index name into the type of an array and into its creations."""
-    text, name = found.text, found.fork.name
-    path = declared.suffixes[0][0]
-    tail = f"<{text[path.start : path.end] if path else 'Root'}:[{name}]>#{name}"
-    args = f"<{', '.join(text[arg.start : arg.end] for arg in declared.args)}>" if declared.args else ""
-    edits = [instead(declared, f"{declared.base}{args}[]{tail}")]
-    for value in created:
-        element, length = (text[part.start : part.end] for part in (value.element, value.length))
-        edits.append(instead(value, f"new {element}[{length}]{tail}"))
-    return edits
-
-
-def own_index(report, found):
-    """Elements of an array at other indices than the variable of the loop."""
-    for access in dict.fromkeys(found.pair):
-        node = access.node
-        if access.path == ("Root", "*"):
-            return False
-        if found.is_loop and "of" in node.parts and node.of.kind == "element":
-            report.say(
-                f"`{found.text[node.of.start : node.of.end]}` is an object of {found.region(access)} in every iteration. An array by index, as"
-                " `C<R:[i]>[]<R:[i]>#i`, has an object of a region of its own at each."
-            )
-            return False
-        if node.kind != "element" or not found.is_loop:
-            continue
-        index = found.text[node.index.start : node.index.end]
-        of = found.body.types.get(id(node.of))
-        if of and of[0] == "array" and of[3] is None and not any(element[0] == "[" for element in of[2]):
-            report.say(
-                f"All elements of `{found.text[node.of.start : node.of.end]}` lie in {found.region(access)}. An array whose region has an index,"
-                " `T[]<R:[i]>#i`, tells its elements apart."
-            )
-            edits = indexed_array(found, node.of)
-            if edits and report.mends("Let the region of an element depend on its index.", edits, quiet=True):
-                return True
-        elif "[?]" in access.path:
-            report.say(
-                f"The index `{index}` isn't the variable of the loop itself, so the element may be any: {found.region(access)}. Only"
-                f" `[{found.fork.name}]` is told apart in two iterations."
-            )
-    named = {f"[{found.fork.name}]", "[?]", "*"} if found.is_loop else set()
-    if found.is_loop and found.pair[0] is found.pair[1] and not named & set(found.pair[0].path):
-        report.say(
-            f"Nothing in {found.region(found.pair[0])} depends on `{found.fork.name}`, so all iterations touch the same. Put results into an array"
-            " by index and put them together after the loop, or use foreach_nd with an atomic block."
-        )
-    return False
-
-
-def table_region(report, found):
-    """An array that lies in the atomic region of its objects: another region for the array, which the iterations only read."""
-    for access in dict.fromkeys(found.pair):
-        of = found.body.types.get(id(access.node.of)) if access.node.kind == "element" else None
-        if access.kind != "reads" or not of or of[0] != "array" or of[1][0] != "class" or of[2] not in of[1][2]:
-            continue
-        array = found.text[access.node.of.start : access.node.of.end]
-        report.say(
-            f"`{array}` lies in {found.world.show(of[2], found.body.class_node.name)}, as its objects do, and reading it is no atomic access. Let the"
-            " array lie in a region of its own, which is only read here."
-        )
-        owner = found.body.class_node
-        names = [token.text for member in owner.members if member.kind == "regions" and not member.atomic for token in member.names]
-        new = fresh_region(report.source, "table")
-        for name in [*names, new]:
-            edits = array_moved(found, access.node.of, name)
-            if edits and name == new:
-                edits.append(Edit(owner.opened + 1, owner.opened + 1, f" region {new};"))
-            if edits and report.mends(f"Put the array `{array}` into the region {name}.", edits, quiet=True):
-                return True
-    return False
-
-
-def array_moved(found, of, name):
-    """Edits by which a local array lies in another region, by its declaration."""
-    for node in found.body.method.body.walk():
-        if of.kind == "name" and node.kind == "local" and node.name == of.name and node.value.kind == "new_array" and node.value.path:
-            path, index = node.type.suffixes[-1]
-            if path is None or index is None:
-                return []
-            return [instead(path, f"{name}:[{index}]"), instead(node.value.path, f"{name}:[{node.value.index}]")]
-    return []
-
-
-def atomic_blocks(report, found):
-    """The accesses of an nd construct: blocks around them, and regions that are atomic."""
-    plain = [access for access in dict.fromkeys(found.pair) if not access.marked]
-    edits = []
-    for statement in dict.fromkeys(access.statement for access in plain):
-        if "then" in statement.parts or "body" in statement.parts:
-            continue
-        if statement.kind == "local":
-            edits += declared_before(statement, found)
-            continue
-        edits += [Edit(statement.start, statement.start, "atomic { "), Edit(statement.end, statement.end, " }")]
-    declared = [edit for access in dict.fromkeys(found.pair) for edit in made_atomic(found, access)]
-    what = []
-    if plain:
-        listed = ", ".join(f"`{found.text[access.node.start : access.node.end]}`" for access in plain)
-        report.say(f"Not every access that interferes is inside an atomic block: {listed}.")
-        what.append("put an atomic block around it")
-    if declared:
-        what.append("declare its region `atomic region`")
-        report.say(f"{found.region(found.pair[0])} isn't an atomic region.")
-    declared = list(dict.fromkeys(declared))
-    if edits + declared:
-        text = " and ".join(what) + "."
-        return report.mends(text[0].upper() + text[1:], edits + declared)
-    return False
-
-
-def declared_before(node, found):
-    """Edits by which a local gets its value in an atomic block after its declaration."""
-    value = found.text[node.value.start : node.value.end]
-    return [instead(node.value, default_of(found.body.type(node.type))), Edit(node.end, node.end, f" atomic {{ {node.name} = {value}; }}")]
-
-
-def made_atomic(found, access):
-    """The edit by which the region name at the end of a path is declared atomic."""
-    names = [element for element in access.path if is_named(element)]
-    if len(names) < 2:
-        return []
-    owner, _, region = names[-1].rpartition(".")
-    node = found.world.classes.get(owner)
-    for member in node.members if node else []:
-        if member.kind == "regions" and not member.atomic and region in [token.text for token in member.names]:
-            return [Edit(member.start, member.start, "atomic ")]
-    return []
-
-

@@ -2,14 +2,16 @@
 
 import re
 
+from .alone import summary_text
 from .branches import method_at
-from .java_names import NAMES_OF_JAVA
+from .java_names import METHODS_OF_MATH, NAMES_OF_JAVA
 from .leaving import Edit, is_around
 from .source import KEYWORDS, statement_around, without_comments
 from .typed import Body
-from .world import heads_of
+from .world import heads_of, put_in_type
 
 TRIALS_AT_MOST = 10
+NAMES_AT_MOST = 8
 
 
 def token_here(report):
@@ -27,7 +29,9 @@ def explain_unknown(report, world):
     """Fills in a report on `unknown`."""
     token = token_here(report)
     name_here(report, f"`{token.text}` isn't declared")
-    if token.text in NAMES_OF_JAVA and token.text not in world.classes:
+    if token.text in NAMES_OF_JAVA and not near(token.text, world.classes) and token.text not in world.classes:
+        if token.text == "Math" and of_math(report, world, token):
+            return
         says, instead = NAMES_OF_JAVA[token.text]
         if token.text != "System" or not println(report):
             report.say(says)
@@ -37,12 +41,48 @@ def explain_unknown(report, world):
         return
     place = Place(report, world, token)
     proposals = place.proposals()
-    for word, edits in (misspelt_declarations(report, token, proposals) + proposals)[:TRIALS_AT_MOST]:
-        if report.mends(word, edits, quiet=True):
-            place.name_declaration(edits[0].new.removeprefix("this."))
-            if edits[0].new == token.text:
-                report.name(*statement_around(report.source, edits[0].start), f"declares what is nearly `{token.text}`")
-            return
+    edits = best_proposal(report, (misspelt_declarations(report, token, proposals) + proposals)[:TRIALS_AT_MOST])
+    if edits is not None:
+        place.name_declaration(edits[0].new.removeprefix("this."))
+        if edits[0].new == token.text:
+            report.name(*statement_around(report.source, edits[0].start), f"declares what is nearly `{token.text}`")
+
+
+def best_proposal(report, proposals):
+    """Tries proposals: the first one with which the text is accepted, or else the first one whose next fault isn't in the same statement, or any."""
+    start, end = statement_around(report.source, report.answer.offset)
+    lines, kept = {report.source.place(start)[0], report.source.place(end)[0]}, None
+    for word, edits in proposals:
+        if not report.mends(word, edits, quiet=True):
+            continue
+        answer = report.mend["answer"]
+        rank = 0 if answer == "accepted" else 1 + (int(answer.split()[1].split(":")[0]) in lines)
+        if kept is None or rank < kept[0]:
+            kept = (rank, report.mend, report.tried.pop(), edits)
+        else:
+            report.tried.pop()
+        if rank == 0:
+            break
+    if kept is None:
+        return None
+    report.mend = kept[1]
+    report.tried.append(kept[2])
+    return kept[3]
+
+
+def of_math(report, world, token):
+    """A method of Java's class Math that is written in a line: as one of the class."""
+    name = re.match(r"Math\s*\.\s*(\w+)", report.source.text[token.start :])
+    method = METHODS_OF_MATH.get(name[1]) if name else None
+    class_node = next((node for node in world.classes.values() if node.start <= token.start < node.end), None)
+    if method is None or class_node is None or class_node.name == "Math":
+        return False
+    report.say("There is no library: the method is written in the class itself.")
+    declared = any(member.kind == "method" and member.name == name[1] for node in world.chain(class_node.name) for member in node.members)
+    uses = [other for other in report.source.tokens if other.text == "Math" and class_node.start < other.start < class_node.end]
+    edits = [Edit(other.start, other.end, "this") for other in uses]
+    edits += [] if declared else [Edit(class_node.end - 1, class_node.end - 1, f"  {method}\n")]
+    return report.mends(f"Write the method `{name[1]}`.", edits, quiet=True)
 
 
 def misspelt_declarations(report, token, proposals):
@@ -146,6 +186,14 @@ class Place:
         classes = self.world.chain(its_type[1])
         return [member.name for node in classes for member in node.members if member.kind == kind and not (kind == "method" and member.constructor)]
 
+    def fields_in(self, its_type, region):
+        """The fields of an object that lie in a region of this name."""
+        if not its_type or its_type[0] != "class" or not self.world.home(its_type[1], region):
+            return []
+        self.report.say(f"`{region}` is a region name; the fields that lie in it have names of their own.")
+        fields = [member for node in self.world.chain(its_type[1]) for member in node.members if member.kind == "field" and member.region]
+        return [field.name for field in fields if field.region.elements[-1] == region]
+
     def of_object(self, node):
         """A field or a method of an object."""
         its_type = self.body.types.get(id(node.of)) if self.body else None
@@ -154,7 +202,7 @@ class Place:
         names = list(dict.fromkeys(self.members(its_type, mine)))
         listed = ", ".join(f"`{name}`" for name in names[:8])
         self.report.say(f"{its_class} has no {mine} `{node.name}`; it has {listed}." if names else f"{its_class} has no {mine}s.")
-        found = self.instead(near(node.name, names))
+        found = self.instead(near(node.name, names)) + self.instead(self.fields_in(its_type, node.name) if node.kind == "field_of" else [])
         if node.kind == "field_of" and node.name in self.members(its_type, other):
             found.insert(0, ("A method is called with parentheses.", self.edit(node.name + "()")))
         scope = self.scope()
@@ -164,6 +212,24 @@ class Place:
             homes = [its for its in self.world.classes if node.name in self.members(("class", its, ()), "method")]
             if homes:
                 self.report.say(f"A method `{node.name}` is declared in {', '.join(homes)}.")
+            found += self.through_fields(node, its_type) + self.of_library(node)
+        return found
+
+    def of_library(self, node):
+        """`a.equals(b)`, which every object of Java has."""
+        if node.name != "equals" or len(node.actuals) != 1:
+            return []
+        one, two = (self.report.source.text[part.start : part.end] for part in (node.of, node.actuals[0]))
+        return [("References are compared by `==`.", [Edit(node.start, node.end, f"({one} == {two})")])]
+
+    def through_fields(self, node, its_type):
+        """The fields of an object whose own class has the method."""
+        found, end = [], node.of.end
+        for name in self.members(its_type, "field"):
+            owner, field, given = self.world.member(its_type, "field", name)
+            its = put_in_type(self.world.type(field.type, owner.name, heads_of(owner)), given)
+            if node.name in self.members(its, "method"):
+                found.append((f"The method of its field `{name}` may be meant.", [Edit(end, end, f".{name}")]))
         return found
 
     def scope(self):
@@ -194,6 +260,9 @@ class Place:
                 self.report.say(f"The local `{node.name}` of {line} isn't in scope here: its block {after}; each branch and each body is a block.")
                 self.report.name(other.start, other.end, "the declaration, whose scope doesn't reach here")
         found += self.instead(near(node.name, locals_ + ["this", "true", "false", "null"])) + self.instead(near(node.name, fields), "this.")
+        if not found:
+            listed = ", ".join(f"`{name}`" for name in locals_[:NAMES_AT_MOST])
+            self.report.say(f"`{node.name}` is no local or formal here; " + (f"in scope: {listed}." if listed else "none is in scope."))
         return found + self.declaration(node)
 
     def declaration(self, node):
@@ -242,9 +311,11 @@ class Place:
         name, at = self.token.text, self.token.start
         text = self.report.source.text
         if text[:at].rstrip().endswith("[") and at > node.start:
-            indexes = [local.name for local in self.scope().values() if local.is_index]
-            self.report.say(f"`{name}` is no index variable; " + (f"these are: {', '.join(indexes)}." if indexes else "none is in scope."))
-            return self.instead(near(name, indexes)) + self.instead(["?"])
+            return self.of_index(node)
+        after = re.match(r"\w+\s*\.", text[at:])
+        if after and name in heads_of(self.class_node, self.method):
+            dot = at + after.end() - 1
+            return [("The elements of a path stand behind `:`.", [Edit(dot, dot + 1, ":")])]
         chain = list(self.world.chain(self.class_node.name))
         declared = [token.text for its in chain for member in its.members if member.kind == "regions" for token in member.names]
         params = sorted(heads_of(self.class_node, self.method))
@@ -254,55 +325,49 @@ class Place:
                 self.report.say(f"The region name `{name}` is declared in {its.name}, and is written with that class elsewhere.")
                 found.insert(0, (f"Write `{its.name}.{name}`.", self.edit(f"{its.name}.{name}")))
         opened = self.class_node.opened + 1
+        if self.method is not None and node in self.method.summary.paths and self.is_local_region(name):
+            return self.without_item(node)
+        found += self.as_asked(node)
         if not found:
             self.report.say(f"No region name `{name}` is declared in {self.class_node.name}, and no region parameter.")
         found.append(("Declare the region name.", [Edit(opened, opened, f" region {name};")]))
         return found
 
 
-def explain_duplicate(report, world):
-    """Fills in a report on `duplicate`."""
-    token = token_here(report)
-    name_here(report, f"the second `{token.text}`")
-    first = first_of(report, world, token)
-    if first is not None:
-        report.name(*statement_around(report.source, first), f"the first `{token.text}`, which is visible there")
-    rename(report, world, token)
+    def is_local_region(self, name):
+        """Whether the method declares a local region of this name."""
+        declared = [node for node in self.method.body.walk() if node.kind == "local_regions"]
+        return any(token.text == name for node in declared for token in node.names)
 
+    def without_item(self, path):
+        """A summary without a local region."""
+        self.report.say(f"`{self.token.text}` is a local region: its effects end with its block, so a summary says nothing of it.")
+        kept = {"reads": [], "writes": []}
+        for kind, its, marked in self.method.summary.items:
+            if its is not path:
+                kept[kind].append("atomic " * marked + self.report.source.text[its.start : its.end])
+        start, end = self.method.summary.start, self.method.summary.end
+        return [("Leave it out of the summary.", [Edit(start, end, summary_text(kept["reads"], kept["writes"]))])]
 
-def first_of(report, world, token):
-    """Where the name that is declared once more was declared first."""
-    class_node, method = method_at(world, token.start)
-    if method is not None and method.name_at != token.start:
-        place = Place(report, world, token).scope().get(token.text)
-        if place and place.at != token.start:
-            return place.at
-    for node in world.program.classes:
-        if node.name_at == token.start:
-            return next(other.name_at for other in world.program.classes if other.name == token.text)
-    class_node = class_node or next((node for node in world.program.classes if node.start <= token.start < node.end), None)
-    for node in world.chain(class_node.name) if class_node else []:
-        for member in node.members:
-            names = member.names if member.kind == "regions" else []
-            places = [one.start for one in names if one.text == token.text]
-            if member.kind in ("field", "method") and member.name == token.text:
-                places.append(member.name_at)
-            places = [place for place in places if place != token.start]
-            if places:
-                return places[0]
-    return None
+    def as_asked(self, path):
+        """The regions that are asked, for a creation with a region name that isn't declared."""
+        for node in self.method.body.walk() if self.method else []:
+            if node.kind in ("local", "assign") and node.value.kind == "new" and path in node.value.type.args:
+                asked = self.body.type(node.type) if node.kind == "local" else self.body.types.get(id(node.target))
+                shown = self.world.show_type(asked, self.class_node.name, self.body.heads) if asked and asked[0] == "class" else None
+                its = node.value.type
+                return [("Create it with the region arguments that are asked.", [Edit(its.start, its.end, shown)])] if shown else []
+        return []
 
-
-def rename(report, world, token):
-    """Another name for a local and its uses; for what else is declared the declaration alone."""
-    class_node, method = method_at(world, token.start)
-    new = token.text + "2"
-    taken = {other.text for other in report.source.tokens}
-    while new in taken:
-        new += "2"
-    edits = [Edit(token.start, token.end, new)]
-    if method is not None and method.name_at != token.start:
-        body = Body(world, class_node, method)
-        places = sorted({use.at for use in body.uses if use.local.at == token.start})
-        edits += [Edit(place, place + len(token.text), new) for place in places]
-    report.mends(f"Give it another name, say `{new}`.", edits, quiet=True)
+    def of_index(self, node):
+        """An index in a path."""
+        name = self.token.text
+        if self.method is None or self.token.start < self.method.body.start:
+            self.report.say(
+                f"`{name}` is no index variable: a field, a formal, a result and a summary name none but the index name of the array type around. Let the"
+                f" {'class' if self.method is None else 'method'} take a region parameter, which is given the region with the index."
+            )
+            return self.instead(["?"]) if self.method is not None and node in self.method.summary.paths else []
+        indexes = [local.name for local in reversed(self.scope().values()) if local.is_index]
+        self.report.say(f"`{name}` is no index variable; " + (f"these are: {', '.join(indexes)}." if indexes else "none is in scope."))
+        return self.instead(list(dict.fromkeys(near(name, indexes) + indexes))) + self.instead(["?"])

@@ -169,6 +169,9 @@ def by_tree(report, world):
     class_node, method = method_at(world, at)
     if method is not None:
         yield from in_sequence(source, method, at)
+        for node in method.body.walk():
+            if node.kind == "atomic" and node.start == at:
+                yield [Edit(at, node.block.start, "")], Change("leaving out the word atomic at", at)
         if method.body.start < at:
             yield from quiet_statements(source, method, at)
         yield body_left_out(source, world, class_node, method)

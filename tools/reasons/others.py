@@ -1,6 +1,8 @@
-"""The refusals of which little more can be said than the place: region arguments, Main, partial writes, blocks and the rest."""
+"""The refusals of which little more can be said than the place: Main, partial writes, blocks, overriding, cycles and local regions."""
 
+from .alone import name_of
 from .branches import method_at
+from .duplicates import renamed_calls
 from .leaving import Edit, instead, is_around
 from .names import near
 from .source import statement_around
@@ -27,7 +29,7 @@ def explain_main(report, world):
     if main.params:
         report.name(main.start, main.opened, "Main has region parameters")
     if constructor:
-        report.name(constructor.start, constructor.body.start, "Main has a constructor; what it does goes into `main`")
+        constructor_of_main(report, constructor, methods)
     if not methods:
         report.name(main.start, main.opened, "Main has no method `int main(int n)`")
         for member in main.members:
@@ -50,98 +52,13 @@ def explain_main(report, world):
     report.mends("Declare it so, with a result at its end:", head + [Edit(end, end, "return 0; ")], quiet=True)
 
 
-def explain_region_args(report, world):
-    """Fills in a report on `region-args`."""
-    around(report, "the region arguments or the path stand here")
-    at = report.answer.offset
-    for node in world.program.walk():
-        if node.kind in ("type", "new") and node.start == at:
-            args_as_asked(report, world, at)
-            if number_of_args(report, world, node if node.kind == "type" else node.type):
-                return
-        if node.kind == "call" and node.at == at:
-            call_args(report, world, node)
-            return
-        if node.kind == "path" and node.start <= at < node.end:
-            path_of(report, world, node)
-            return
-
-
-def args_as_asked(report, world, at):
-    """A creation with the region arguments of the local or the field that it is for."""
-    class_node, method = method_at(world, at)
-    if method is None:
-        return False
-    body = Body(world, class_node, method)
-    for node in method.body.walk():
-        if node.kind not in ("local", "assign") or node.value.kind != "new" or node.value.start != at:
-            continue
-        wanted = body.type(node.type) if node.kind == "local" else body.types.get(id(node.target))
-        shown = world.show_type(wanted, class_node.name, body.heads) if wanted else None
-        if shown and report.mends("Create it with the region arguments that are asked.", [instead(node.value.type, shown)], quiet=True):
-            return True
-    return False
-
-
-def number_of_args(report, world, node):
-    """A type with another number of region arguments than its class has parameters."""
-    owner = world.classes.get(node.base)
-    if owner is None or len(owner.params) == len(node.args):
-        return False
-    params = ", ".join(name for name, _ in owner.params)
-    report.say(f"{owner.name} has {len(owner.params)} region parameter{'s' * (len(owner.params) != 1)}" + (f" ({params})" if params else "")
-               + f"; here {len(node.args)} are given.")  # fmt: skip
-    report.name(owner.start, owner.opened, "the declaration")
-    if len(node.args) > len(owner.params):
-        kept = node.args[: len(owner.params)]
-        start = node.start + len(node.base)
-        end = report.source.text.index(">", node.args[-1].end) + 1
-        shown = ", ".join(report.source.text[path.start : path.end] for path in kept)
-        report.mends("Leave out what is too much.", [Edit(start, end, f"<{shown}>" if shown else "")], quiet=True)
-    return True
-
-
-def call_args(report, world, node):
-    class_node, method = method_at(world, node.at)
-    body = Body(world, class_node, method)
-    met = world.member(body.types.get(id(node.of)), "method", node.name)
-    if met:
-        params = ", ".join(name for name, _ in met[1].params)
-        count = f"{len(met[1].params)} region parameters" + (f" ({params})" if params else "")
-        report.say(f"{met[0].name}.{node.name} has {count}; here {len(node.args)} are given.")
-        report.name(met[1].start, met[1].body.start, "the declaration")
-
-
-def path_of(report, world, node):
-    """A path that isn't fully specified, isn't atomic, or has an index that is no index variable."""
-    shown = report.source.text[node.start : node.end]
-    class_node, method = method_at(world, node.start)
-    indexes = [element[1:-1] for element in node.elements if element[0] == "[" and element[1:-1].isidentifier()]
-    if method is not None:
-        for other in method.body.walk():
-            if other.kind == "local" and other.name in indexes and not other.final and other.start < node.start:
-                report.name(other.start, other.end, f"`{other.name}` isn't `final`")
-                report.say(f"`{other.name}` may change, so it's no index variable: that is a `final int` local or the variable of a loop.")
-                if report.mends("Declare it `final`.", [Edit(other.start, other.start, "final ")], quiet=True):
-                    return
-        formals = [formal for formal in method.formals if formal.name in indexes]
-        if formals and method.body.start < node.start:
-            name = formals[0].name
-            report.say(f"The formal `{name}` is no index variable; a `final int` local that takes it is one.")
-            start = statement_around(report.source, node.start)[0]
-            edits = [Edit(start, start, f"final int {name}At = {name}; ")]
-            edits += [Edit(node.start, node.end, shown.replace(f"[{name}]", f"[{name}At]"))]
-            report.mends("Take it into a final local.", edits, quiet=True)
-            return
-        if formals:
-            report.say(
-                "A summary, a formal's type and a result name no index variable: let the method take a region parameter, and call it with the index."
-            )
-            return
-    if "*" in node.elements or "[?]" in node.elements:
-        report.say(f"`{shown}` stands for more than one region; here one has to be named exactly, without `*` and `[?]`.")
-    else:
-        report.say(f"`{shown}` isn't atomic, and the parameter is; it has to end with a name that is declared `atomic region`.")
+def constructor_of_main(report, constructor, methods):
+    """What a constructor of Main does goes into a method."""
+    report.name(constructor.start, constructor.body.start, "Main has a constructor; what it does goes into `main`")
+    name = unused(report, "start")
+    edits = [Edit(constructor.name_at, constructor.name_at + len("Main"), f"void {name}")]
+    edits += [Edit(method.body.start + 1, method.body.start + 1, f" this.{name}();") for method in methods if not constructor.formals]
+    report.mends("Make it a method that `main` calls.", edits, quiet=True)
 
 
 def explain_partial_write(report, world):
@@ -203,14 +120,44 @@ def explain_atomic_body(report, world):
             report.name(node.start, node.start + len(keyword), f"a {keyword} inside it")
             if report.mends(f"Use `{keyword[:-3]}` there.", [Edit(node.start, node.start + len(keyword), keyword[:-3])], quiet=True):
                 return
-        if node.kind == "call":
-            met = world.member(body.types.get(id(node.of)), "method", node.name)
-            change = "without the call at {}:{}".format(*report.source.place(node.at))
+        met = body.callee(node)
+        if met:
+            change = "without the call at {}:{}".format(*report.source.place(node.start))
             answer, offset = report.attempt(change, without_call(block, node))
-            if met and report.is_gone(answer, offset):
-                report.name(node.start, node.end, f"{met[0].name}.{node.name}, or a method that overrides it, reaches an nd construct")
-            else:
+            if not report.is_gone(answer, offset):
                 report.tried.pop()
+                continue
+            report.name(node.start, node.end, f"{name_of(*met)}, or a method that overrides it, reaches an nd construct")
+            name_reached(report, world, met)
+
+
+def name_reached(report, world, met):
+    """Names the nd construct that a method reaches by calls, with the methods on the way."""
+    waiting, seen = [(met, [name_of(*met)])], set()
+    while waiting:
+        (owner, method), way = waiting.pop(0)
+        if id(method) in seen:
+            continue
+        seen.add(id(method))
+        body = Body(world, owner, method)
+        for node in method.body.walk():
+            keyword = node.parts.get("keyword", "")
+            if keyword.endswith("_nd"):
+                report.name(node.start, node.start + len(keyword), f"the {keyword} that is reached, by {', '.join(way)}")
+                report.say("Inside a block only `cobegin` and `foreach` may come, also through calls: call it outside of the block.")
+                return
+            for called in overriding(world, body.callee(node)):
+                waiting.append((called, [*way, name_of(*called)]))
+
+
+def overriding(world, met):
+    """A method with those that override it."""
+    if met is None:
+        return []
+    owner, method = met
+    below = [node for node in world.classes.values() if node is not owner and owner in world.chain(node.name)]
+    kept = [(node, member) for node in below for member in node.members if member.kind == "method" and member.name == method.name]
+    return [met] + ([] if method.constructor else kept)
 
 
 def without_call(block, node):
@@ -221,21 +168,39 @@ def without_call(block, node):
 
 def explain_override(report, world):
     """Fills in a report on `override`."""
-    around(report, "the overriding method")
     class_node, method = method_at(world, report.answer.offset)
     met = world.overridden(class_node.name, method.name) if method else None
     if not met:
-        report.say("A class can't extend one that has a constructor.")
+        of_constructor(report, world)
         return
+    around(report, "the overriding method")
     owner, top = met
-    text = report.source.text
     report.name(top.start, top.body.start, f"the method of {owner.name} that it overrides")
     report.say("There is no overloading: both have the same region parameters, formals and result, or different names.")
-    new = method.name + "2"
-    while new in text:
-        new += "2"
-    edit = Edit(method.name_at, method.name_at + len(method.name), new)
-    report.mends(f"Give it another name, say `{new}`, where it is meant as another method.", [edit], quiet=True)
+    new = unused(report, method.name + "2")
+    edits = [Edit(method.name_at, method.name_at + len(method.name), new), *renamed_calls(world, class_node, method, new)]
+    report.mends(f"Give it another name, say `{new}`, where it is meant as another method.", edits, quiet=True)
+
+
+def of_constructor(report, world):
+    """A class that extends one with a constructor."""
+    around(report, "extends a class that has a constructor")
+    report.say("A class can't extend one that has a constructor: what that does goes into a method, which the subclasses' constructors call.")
+    node = next((node for node in world.program.classes if node.parent and node.parent_at == report.answer.offset), None)
+    constructor = world.constructor(node.parent) if node else None
+    if constructor:
+        report.name(constructor.start, constructor.body.start, f"the constructor of {node.parent}")
+        name = unused(report, "start")
+        edits = [Edit(constructor.name_at, constructor.name_at + len(constructor.name), f"void {name}")]
+        report.mends(f"Make the constructor a method, say `{name}`.", edits, quiet=True)
+
+
+def unused(report, name):
+    """A name that the text doesn't have."""
+    taken = {token.text for token in report.source.tokens}
+    while name in taken:
+        name += "2"
+    return name
 
 
 def explain_cycle(report, world):
@@ -248,66 +213,6 @@ def explain_cycle(report, world):
             start = report.source.text.rindex("extends", 0, node.parent_at)
             end = node.opened
             report.mends(f"Let {node.name} extend nothing.", [Edit(start, end, "")], quiet=True)
-
-
-def explain_constraint(report, world):
-    """Fills in a report on `constraint`."""
-    around(report, "its region arguments aren't known to be disjoint")
-    at = report.answer.offset
-    for node in world.program.walk():
-        its = node.type if node.kind == "new" and node.start == at else node if node.kind == "type" and node.start == at else None
-        owner = world.classes.get(its.base) if its is not None else None
-        if owner is not None and owner.constraints:
-            listed = ", ".join(report.source.text[part.start : part.end] for part in owner.constraints)
-            report.name(owner.start, owner.opened, f"asks that {listed}")
-            if args_as_asked(report, world, at):
-                return
-            given = {name: report.source.text[path.start : path.end] for (name, _), path in zip(owner.params, its.args)}
-            disjoint(report, world, owner, given, its.args)
-            return
-        if node.kind == "call" and node.at == at:
-            constraint_of_call(report, world, node)
-            return
-
-
-def constraint_of_call(report, world, node):
-    """A method whose constraint isn't known to hold at a call."""
-    class_node, method = method_at(world, node.at)
-    met = world.member(Body(world, class_node, method).types.get(id(node.of)), "method", node.name)
-    if met and met[1].constraints:
-        text = report.source.text
-        listed = ", ".join(text[part.start : part.end] for part in met[1].constraints)
-        report.name(met[1].start, met[1].body.start, f"asks that {listed}")
-        given = {name: text[path.start : path.end] for (name, _), path in zip(met[1].params, node.args)}
-        disjoint(report, world, met[1], given, node.args)
-
-
-def disjoint(report, world, owner, given, args):
-    """Arguments that are disjoint: by a constraint on the parameters around, or another region for one of them."""
-    at, text = report.answer.offset, report.source.text
-    class_node = next(node for node in world.classes.values() if node.start <= at < node.end)
-    method = method_at(world, at)[1]
-    holder = method if method is not None and method.params else class_node
-    for part in owner.constraints:
-        sides = []
-        for side in (part.left, part.right):
-            first, *rest = side.elements
-            sides.append(":".join([given.get(first, first), *rest]))
-        if holder.params and sides[0] != sides[1]:
-            end = text.index(">", holder.start)
-            lead = ", " if holder.constraints else " | "
-            asked = f"{sides[0]} # {sides[1]}"
-            if report.mends(f"Let {holder.name} ask for `{asked}` too.", [Edit(end, end, lead + asked)], quiet=True):
-                return
-    for name in declared_regions(class_node):
-        for path in reversed(args):
-            if report.mends("Use regions that are disjoint.", [instead(path, name)], quiet=True):
-                return
-
-
-def declared_regions(class_node):
-    """The region names of a class that aren't atomic."""
-    return [token.text for member in class_node.members if member.kind == "regions" and not member.atomic for token in member.names]
 
 
 def explain_local_region(report, world):

@@ -9,7 +9,7 @@ def confirm(report, body, alone, access):
     """Tries an access alone in its method under a summary of its region, and under `pure`; None where that can't be written, or the
     access is a call of the method itself, which has the effects of the very summary that is changed."""
     node = access.node
-    met = body.world.member(body.types.get(id(node.of)), "method", node.name) if node.kind == "call" else None
+    met = body.callee(node)
     if met and met[1] is body.method:
         return None
     statement = alone.statement(access)

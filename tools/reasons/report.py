@@ -5,9 +5,12 @@ import json
 import screen
 
 from .leaving import applied
+from .nodes import NoTree
 from .source import clean, marked, shown, utf8
+from .tree import parse
 
 EARLY = ("too-long", "syntax", "number", "nest")
+OF_A_BODY = ("summary", "return")
 NO_TOKENS = tuple("'\"@$^~`\\&")
 OF_ONE_NAME = ("unknown", "duplicate", "type", "region-args", "local-region", "main", "cycle", "constraint", "partial-write")
 WIDEST = 110
@@ -27,6 +30,7 @@ class Report:
         self.mend = None
         self.tried = []
         self.brief = False
+        self.method = None
 
     def name(self, start, end, role, access=None):
         """Names a statement, with the access in it where there is one."""
@@ -49,9 +53,17 @@ class Report:
     def attempt(self, change, edits):
         """Tries edits; what came out is kept."""
         text, offset = applied(self.source.text, edits, self.answer.offset)
-        answer = self.asker.check(text)
+        answer = self.in_order(self.asker.check(text), edits)
         self.tried.append({"change": clean(change), "answer": str(answer), "edits": [self.edit(edit) for edit in edits]})
         return answer, offset
+
+    def in_order(self, answer, edits):
+        """An answer with the offset of the end of its method where it is placed at the name of the method and found after all that the body has."""
+        if answer.name not in OF_A_BODY or self.answer.name in OF_A_BODY:
+            return answer
+        self.method = self.method or method_around(self.source.text, self.answer.offset)
+        name_at, end = (applied(self.source.text, edits, offset)[1] for offset in self.method)
+        return answer._replace(offset=end) if answer.offset == name_at else answer
 
     def mends(self, text, edits, quiet=False):
         """Tries edits as a mend, which they are where the text is accepted or the fault isn't there any more."""
@@ -65,8 +77,12 @@ class Report:
 
     def best_of(self, text, ways):
         """Tries several ways of one mend: the first with which the text is accepted, or else the first that helps."""
+        return self.best([(text, edits) for edits in ways])
+
+    def best(self, mends):
+        """Tries several mends, with a word on each, in the same way."""
         kept = None
-        for edits in ways:
+        for text, edits in mends:
             if not self.mends(text, edits, quiet=True):
                 continue
             if self.mend["answer"] == "accepted":
@@ -141,13 +157,16 @@ class Report:
 
     def statement_lines(self, paper):
         """Each statement once, with what it does."""
-        lines, last = [], None
+        lines, last, roles = [], None, set()
         for entry in self.statements:
             here = (entry["line"], entry["column"], entry["text"])
             if here != last:
                 lines.append(f"  {paper.bold(place_of(entry))}  {entry['text']}")
+                roles = set()
+            if entry["role"] not in roles:
+                lines += paper.wrapped(entry["role"], "      ")
             last = here
-            lines += paper.wrapped(entry["role"], "      ")
+            roles.add(entry["role"])
         return lines
 
     def mend_lines(self, paper):
@@ -181,6 +200,16 @@ class Report:
             return f"{begin}{entry['role']}"
         room = max(BRIEF_TEXT, paper.columns - len(begin + end))
         return begin + (text if len(text) <= room else text[: room - 4] + " ...") + end
+
+
+def method_around(text, offset):
+    """The offsets of the name and of the end of the method that holds an offset."""
+    try:
+        classes = parse(text).classes
+    except NoTree:
+        return offset, offset
+    methods = [member for node in classes for member in node.members if member.kind == "method" and member.start <= offset < member.end]
+    return (methods[0].name_at, methods[0].end) if methods else (offset, offset)
 
 
 def place_of(entry):

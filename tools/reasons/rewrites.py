@@ -10,9 +10,6 @@ STEP = re.compile(
     r"^(?:(?P<target>.+?)\s*(?P<after>\+\+|--)|(?P<before>\+\+|--)\s*(?P<other>.+)|(?P<left>.+?)\s*(?P<sign>[-+*/%])=\s*(?P<value>.+))$",
     re.DOTALL,
 )
-LEAD = re.compile(
-    r"(?:(?P<back>return)\b|(?P<type>(?:int|boolean|[A-Za-z_]\w*(?:<[^=;]*>)?)(?:\[\])*)\s+(?P<name>\w+)\s*=|(?P<target>[^=?<>!]+?)=(?!=))"
-)
 
 
 def closing(text, opened):
@@ -65,17 +62,44 @@ def whole_step(match, _):
 
 
 def step_in_expression(match, source):
-    """A step inside an expression: as a statement before or behind it, where that statement is simple."""
+    """A step inside an expression: as a statement before or behind it, where that statement is simple; in a condition before it and in a loop
+    at the end of the body too."""
     text = source.text
     end = text.find(";", match.end())
     start = max(text.rfind(mark, 0, match.start()) for mark in ";{}") + 1
-    if end < 0 or re.search(r"[{}]", text[match.end() : end]) or re.match(r"\s*(if|while|for|return|else|foreach)\b", text[start:]):
-        return None
     start += len(text[start:]) - len(text[start:].lstrip())
+    head = re.match(r"(if|while|for|return|else|foreach)\b", text[start:])
+    if head and head[1] in ("if", "while"):
+        return step_in_condition(match, source, start)
+    if end < 0 or re.search(r"[{}]", text[match.end() : end]) or (head and head[1] != "return"):
+        return None
     name, alone = match["name"], step(match["step"])
-    if match["step"].startswith(name):
+    is_behind = match["step"].startswith(name)
+    if is_behind and head:
+        taken = next(new for new in ("taken", "before", "given", "valueBefore") if not re.search(rf"\b{new}\b", text))
+        return [Edit(start, start, f"int {taken} = {name}; {alone}; "), Edit(match.start("step"), match.end("step"), taken)]
+    if is_behind:
         return [Edit(match.start("step"), match.end("step"), name), Edit(end + 1, end + 1, f" {alone};")]
     return [Edit(start, start, f"{alone}; "), Edit(match.start("step"), match.end("step"), name)]
+
+
+def step_in_condition(match, source, start):
+    """A step in the condition of an `if` or a `while`: before the statement, and in a loop at the end of its body."""
+    text, name, alone = source.text, match["name"], step(match["step"])
+    opened = text.index("(", start)
+    closed = closing(text, opened)
+    body = body_after(text, closed) if closed else None
+    if not body or match.end("step") > closed or re.search(r"&&|\|\|", text[opened : match.start("step")]):
+        return None
+    # What a step behind its name gives is the value before it.
+    back = "-" if "+" in match["step"] else "+"
+    value = f"({name} {back} 1)" if match["step"].startswith(name) else name
+    edits = [Edit(start, start, f"{alone}; "), Edit(match.start("step"), match.end("step"), value)]
+    if not text.startswith("while", start):
+        return edits
+    if text[body[0]] == "{":
+        return [*edits, Edit(body[1] - 1, body[1] - 1, f" {alone}; ")]
+    return [*edits, Edit(body[0], body[0], "{ "), Edit(body[1], body[1], f" {alone}; }}")]
 
 
 def body_after(text, offset):
@@ -160,7 +184,7 @@ def parallel_loop(match, source):
     start, end = first[2].strip(), until[3].strip()
     count = end if start == "0" else f"{operand(end)} - {operand(start)}"
     count = count if until[2] == "<" else f"{count} + 1"
-    keyword = match.group().split("(")[0].strip()
+    keyword = "foreach_nd" if match.group().startswith("foreach_nd") else "foreach"
     return [Edit(match.start(), found[1], f"{keyword} (int {first[1]} in {start}, {count})")]
 
 
@@ -184,16 +208,18 @@ def value_of(its_type):
 
 
 def declarators(match, source):
-    """`T a = 1, b;` as declarations of their own, of locals with a value."""
+    """`T a = 1, b;` as declarations of their own, of locals with a value; a region behind the last field is that of all without one."""
     its_type, is_field = match["type"], depth_at(source.text, match.start()) < 2
     parts = split_at(match["names"], ",")
-    if len(parts) < 2 or not all(re.match(r"[A-Za-z_]\w*\s*(?:=|$)", part) for part in parts):
+    if len(parts) < 2 or not all(re.match(r"[A-Za-z_]\w*\s*(?:=|$|in\b)", part) for part in parts):
         return []
+    last = re.search(r"\s+in\s+[^=]*", parts[-1])
     made = []
     for part in parts:
         name, _, value = (piece.strip() for piece in part.partition("="))
         if is_field:
-            made.append(f"{its_type} {name};")
+            place = "" if re.search(r"\sin\s", name) or not last else last.group().rstrip()
+            made.append(f"{its_type} {name}{place};")
         else:
             made.append(f"{its_type} {name} = {value or value_of(its_type.removeprefix('final ').strip())};")
     return [Edit(match.start(), match.end(), " ".join(made))]
@@ -246,28 +272,6 @@ def plain_number(match, _):
     return [Edit(match.start(), match.end(), str(value))] if value <= 2147483647 else None
 
 
-def conditional(match, source):
-    """`c ? a : b` of a declaration, an assignment or a return as an if."""
-    start = match.end() - len(match.group().lstrip())
-    text = source.text[start : match.end() - 1]
-    lead = LEAD.match(text)
-    question = text.find("?")
-    parts = split_at(text[question + 1 :], ":")
-    if not lead or len(parts) != 2:
-        return None
-    condition, (yes, no) = text[lead.end() : question].strip(), parts
-    condition = condition[1:-1] if condition.startswith("(") and closing(condition, 0) == len(condition) else condition
-    if lead["back"]:
-        made = f"if ({condition}) return {yes}; else return {no};"
-    elif lead["type"]:
-        name = lead["name"]
-        made = f"{lead['type']} {name} = {value_of(lead['type'])}; if ({condition}) {name} = {yes}; else {name} = {no};"
-    else:
-        target = lead["target"].strip()
-        made = f"if ({condition}) {target} = {yes}; else {target} = {no};"
-    return [Edit(start, match.end(), made)]
-
-
 def text_and_values(match, source):
     """A printed sum of texts and values as a print for each."""
     opened = source.text.index("(", match.start())
@@ -307,3 +311,50 @@ def close_literal(match, source):
     tail = re.search(r"\s*\)\s*;[^\"]*$", line)
     place = match.start() + (tail.start() if tail else len(line))
     return [Edit(place, place, '"')]
+
+
+def unless_declared(match, source):
+    """No edits where the text declares a class of the name itself; otherwise no mend is known."""
+    name = re.match(r"\w+", match.group()).group()
+    return [] if re.search(rf"\bclass\s+{name}\b", source.text) else None
+
+
+def constant_method(match, source):
+    """A constant as a method without effects; no edits for a local."""
+    if depth_at(source.text, match.start()) != 1:
+        return []
+    return [Edit(match.start(), match.end(), f"{match['type']} {match['name']}() pure {{ return {match['value'].strip()}; }}")]
+
+
+def body_of_none(match, source):
+    """A method without a body as one that returns a default; no edits where no method is declared."""
+    if depth_at(source.text, match.start()) != 1:
+        return []
+    made = "{ }" if match["result"] == "void" else f"{{ return {value_of(match['result'])}; }}"
+    return [Edit(match.end("head"), match.end(), f" {made}")]
+
+
+def created_local(match, source):
+    """`C x(e);` with `new`; no edits where a member is declared."""
+    if depth_at(source.text, match.start()) < 2:
+        return []
+    its_type, name = match["type"], match["name"]
+    return [Edit(match.start(), match.end(), f"{its_type} {name} = new {its_type}({match['actuals']});")]
+
+
+def empty_statement(match, source):
+    """A `;` alone; no edits where it ends a statement, which a `)` before it may also do."""
+    text = source.text[: match.start()].rstrip()
+    if text.endswith(")"):
+        start = max(text.rfind(mark) for mark in ";{}") + 1
+        statement = re.sub(r"^\s*(?:else\s+)?", "", text[start:])
+        if statement.count("(") != statement.count(")") or not re.match(r"(?:if|while|for|foreach|foreach_nd|foreach_parts)\b", statement):
+            return []
+    return [Edit(match.start(), match.end(), "")]
+
+
+def from_zero(match, source):
+    """A loop over all indices of an array, or up to a number."""
+    of = match["of"]
+    is_array = re.search(rf"\]\s*(?:<[^<>;{{}}]*>)?\s*(?:#\w+)?\s+{re.escape(of.rpartition('.')[2])}\b", source.text)
+    return [Edit(match.start("of"), match.end(), f"0, {of}.length" if is_array else f"0, {of}")]

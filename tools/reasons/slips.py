@@ -2,6 +2,7 @@
 
 import re
 
+from .asking import Spent
 from .leaving import Edit
 from .names import distance
 from .source import KEYWORDS, statement_around
@@ -16,6 +17,10 @@ LIKELY = 2.5
 OPENINGS_AT_MOST = 12
 NO_LINE_END = tuple("{};,=+-*/%<>(|&.:[") + ("&&", "||", "==", "!=", "<=", ">=")
 ONLY_ALONE = 6
+IFS_AT_MOST = 3
+PAIRS = {"(": ")", "[": "]"}
+BRACKETS_AT_MOST = 16
+LINE_AT_MOST = 200
 
 
 def slip_mend(report, has_habit):
@@ -25,22 +30,40 @@ def slip_mend(report, has_habit):
     best = None
     at = report.answer.offset
     lines_here = report.source.place(at)[0]
-    enough = max(2, statement_around(report.source, at)[1] - at)
-    for text, edits, rank, *about in candidates(report)[:TRIALS_AT_MOST]:
-        answer, offset = report.attempt(text, edits)
-        report.tried.pop()
-        if not report.is_gone(answer, offset):
-            continue
-        reach = float("inf") if answer.accepted or answer.name not in ("syntax", "number", "nest") else answer.offset - offset
-        if reach < (float("inf") if rank >= ONLY_ALONE else enough):
-            continue
-        if best is None or (reach, -rank) > best[0]:
-            best = ((reach, -rank), text, edits, about)
-        if reach == float("inf") or (rank < LIKELY and answer.line >= lines_here + 2):
-            break
+    # Where several statements lack something, what is taken for one goes on over lines.
+    enough = max(2, min(statement_around(report.source, at)[1], line_end(report.source, at)) - at, past_the_next(report.source, at) - at)
+    try:
+        for text, edits, rank, *about in candidates(report)[:TRIALS_AT_MOST]:
+            answer, offset = report.attempt(text, edits)
+            report.tried.pop()
+            if not report.is_gone(answer, offset):
+                continue
+            reach = float("inf") if answer.accepted or answer.name not in ("syntax", "number", "nest") else answer.offset - offset
+            if reach < (float("inf") if rank >= ONLY_ALONE else enough):
+                continue
+            if best is None or (answer.accepted, reach, -rank) > best[0]:
+                best = ((answer.accepted, reach, -rank), text, edits, about)
+            if answer.accepted or (rank < LIKELY and answer.line >= lines_here + 2):
+                break
+    except Spent:
+        if best is None:
+            raise
     if best and report.mends(best[1], best[2]) and best[3]:
         return best[3][0]
     return None
+
+
+def line_end(source, at):
+    """The end of the last token in the line of a place."""
+    line = source.place(at)[0]
+    last = [token.end for token in source.tokens[source.token_at(at) :][:LINE_AT_MOST] if source.place(token.start)[0] == line]
+    return last[-1] if last else at
+
+
+def past_the_next(source, at):
+    """The end of the token after the one at a place: a change that only moves the fault there is no mend."""
+    number = min(source.token_at(at) + 1, len(source.tokens) - 1)
+    return source.tokens[number].end if source.tokens else at
 
 
 def candidates(report):
@@ -52,6 +75,8 @@ def candidates(report):
     found += missing_braces(source, number)
     found += missing_openings(source, number)
     found += misspelt(source, number)
+    found += several_in_an_if(source, number)
+    found += unbalanced(source, number)
     found += calls_without_object(source, number)
     found += one_token(source, number)
     found += statement_in_braces(source, number)
@@ -86,6 +111,48 @@ def statement_in_braces(source, number):
         return []
     start, end = source.tokens[number].start, statement_around(source, source.tokens[number].start)[1]
     return [("Put the statement in braces.", [Edit(start, start, "{ "), Edit(end, end, " }")], 2 if before in BEFORE_A_BLOCK else ONLY_ALONE)]
+
+
+def unbalanced(source, number):
+    """A bracket that isn't closed, or isn't opened, in the statement: at each place where it may have been meant."""
+    tokens = source.tokens
+    first = next((place + 1 for place in range(min(number, len(tokens)) - 1, -1, -1) if source.ends[place]), 0)
+    waiting = []
+    for place in range(first, min(number, len(tokens))):
+        if tokens[place].text in PAIRS:
+            waiting.append(place)
+        elif tokens[place].text in PAIRS.values() and waiting:
+            waiting.pop()
+    here = tokens[number].text if number < len(tokens) else ""
+    found = []
+    if waiting and here != PAIRS[tokens[waiting[-1]].text]:
+        closer = PAIRS[tokens[waiting[-1]].text]
+        for rank, place in enumerate(range(number - 1, waiting[-1], -1)):
+            found.append((f"A `{closer}` is missing.", [Edit(tokens[place].end, tokens[place].end, closer)], 3.1 + rank / 100))
+    if not waiting and here in PAIRS.values():
+        opener = next(opener for opener, closer in PAIRS.items() if closer == here)
+        for rank, place in enumerate(range(number, first, -1)):
+            found.append((f"A `{opener}` is missing.", [Edit(tokens[place].start, tokens[place].start, opener)], ONLY_ALONE + rank / 100))
+    return found[:BRACKETS_AT_MOST]
+
+
+def several_in_an_if(source, number):
+    """An `else` behind several statements of an `if`: these in braces, for each of the last few `if`s."""
+    tokens = source.tokens
+    if number >= len(tokens) or tokens[number].text != "else":
+        return []
+    found, heads = [], [place for place in range(max(0, number - 80), number) if tokens[place].text == "if"]
+    for rank, head in enumerate(reversed(heads[-IFS_AT_MOST:])):
+        depth, opened = 0, None
+        for place in range(head + 1, number):
+            depth += (tokens[place].text == "(") - (tokens[place].text == ")")
+            if depth == 0:
+                opened = tokens[place].end
+                break
+        if opened is not None:
+            edits = [Edit(opened, opened, " {"), Edit(tokens[number].start, tokens[number].start, "} ")]
+            found.append(("Put the statements of the `if` in braces.", edits, 0.5 + rank / 10, tokens[head].start))
+    return found
 
 
 def misspelt(source, number):

@@ -95,7 +95,7 @@ def utf8(text):
 
 def clean(text):
     """A text as UTF-8 reads it, without what a terminal obeys."""
-    return printable(re.sub(r"[\t\f]", " ", utf8(text)))
+    return printable(re.sub(r"[\t\f]|[\r\n]+[ \t]*", " ", utf8(text)))
 
 
 def shown(piece):
@@ -148,3 +148,12 @@ def without_comments(text):
         if match.lastgroup == "blank":
             made[match.start() : match.end()] = [letter if letter.isspace() else " " for letter in match.group()]
     return "".join(made)
+
+
+def fresh_region(source, name):
+    """A region name that the text doesn't have yet."""
+    made = name[:1].upper() + name[1:]
+    names = {token.text for token in source.tokens}
+    while made in names:
+        made += "Region"
+    return made

@@ -7,6 +7,7 @@ from .slips import slip_mend
 from .source import statement_around, utf8, without_comments
 
 WINDOW = 1000
+SAY_ENOUGH = ("library",)
 UNKNOWN = "\N{REPLACEMENT CHARACTER}"
 OF_LETTERS = ("byte-order-mark", "open-comment", "open-literal", "escape", "blank", "quotes", "dash", "not-ascii")
 STATEMENT = ("if", "while", "return", "print", "cobegin", "foreach", "int", "{", "final", "boolean")
@@ -34,8 +35,10 @@ def explain(report):
     if report.mend is None:
         opened = slip_mend(report, habit is not None and habit.name != "nested-class")
     if opened is not None:
-        missing = "missing" if report.mend["new"].strip() == "{" else "not closed"
+        missing = "missing" if report.mend["edits"][0]["new"].strip() == "{" else "not closed"
         report.name(*statement_around(source, opened), f"its `{{` is {missing}")
+        if source.text.startswith("else", at):
+            report.name(*statement_around(source, at), "belongs to no `if` as it stands")
     else:
         name_statement(report, at, habit)
     if habit is None or habit.name not in OF_LETTERS:
@@ -77,7 +80,7 @@ def find_habit(report, plain, at):
             continue
         if edits is None:
             silent = silent or (habit, match)
-            if habit.mend is None:
+            if habit.mend is None or habit.name in SAY_ENOUGH:
                 break
             continue
         if report.mends(mend_text(edits, report.source), edits, quiet=True):

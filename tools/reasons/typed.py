@@ -241,12 +241,21 @@ class Body:
 
     def summary_of(self, node, owner, method, given, heads):
         """The accesses that a call or creation has by a summary."""
+        name = f"the constructor of {owner.name}" if method.constructor else f"{owner.name}.{method.name}"
         if method.summary.items is None:
-            self.access(node, "writes", ("Root", "*"), f"{owner.name}.{method.name} has no summary")
+            self.access(node, "writes", ("Root", "*"), f"{name} has no summary")
             return
         for kind, path, marked in method.summary.items:
             full = put(self.world.path(path, owner.name, heads), given)
-            self.access(node, kind, full, f"by the summary of {owner.name}.{method.name}", marked)
+            self.access(node, kind, full, f"by the summary of {name}", marked)
+
+    def callee(self, node):
+        """The class and the method or constructor that a call or creation names."""
+        if node.kind == "call":
+            met = self.world.member(self.types.get(id(node.of)), "method", node.name)
+            return (met[0], met[1]) if met else None
+        constructor = self.world.constructor(node.type.base) if node.kind == "new" else None
+        return (self.world.classes[node.type.base], constructor) if constructor else None
 
     def of_new(self, node):
         for actual in node.actuals:

@@ -58,6 +58,10 @@ class Paper:
         """The offset of a position."""
         return len(self.text[: self.index(position)].encode("utf-8"))
 
+    def edited(self, span, new):
+        """The text with another piece in place of a range."""
+        return self.text[: self.index(span["start"])] + new + self.text[self.index(span["end"]) :]
+
     def span(self, start, end):
         """The range of two offsets."""
         return {"start": self.position(start), "end": self.position(end)}

@@ -8,8 +8,10 @@ from reasons.source import KEYWORDS, tokens_of
 DOCUMENT = pathlib.Path(__file__).resolve().parents[2] / "docs" / "LANGUAGE.md"
 HEADING = re.compile(r"^#{2,3} (.*)$", re.M)
 LINK = re.compile(r"\]\(#([a-z0-9-]+)\)")
-KEYWORD, REGION = 14, 20
+METHOD, FIELD, KEYWORD, REGION = 2, 5, 14, 20
 CLASS_BEFORE = re.compile(r"([A-Za-z_]\w*)\.\w*$")
+DOT_BEFORE = re.compile(r"[\w\])]\s*\.\s*\w*$")
+COLON_BEFORE = re.compile(r":\s*\w*$")
 
 
 def anchor_of(heading):
@@ -98,16 +100,59 @@ def names_in(tokens):
             return
 
 
+def members_of(text):
+    """The fields and methods that a text declares, each with its class and its kind."""
+    found, holder, depth, skips = [], None, 0, False
+    tokens = tokens_of(text)
+    for token, after in zip(tokens, tokens[1:]):
+        if token.text == "class" and depth == 0:
+            holder = after.text
+        elif depth == 1 and token.text in ("region", "in"):
+            # What follows up to the semicolon, or in a list of parameters, are names of regions.
+            skips = True
+        elif depth == 1 and token.kind == "name" and token.text not in KEYWORDS and token.text != holder:
+            if after.text == "(":
+                found.append((token.text, holder, METHOD))
+            elif after.text in (";", "in") and not skips:
+                found.append((token.text, holder, FIELD))
+        if token.text in (";", "{", "}", ">"):
+            skips = False
+        depth += (token.text == "{") - (token.text == "}")
+    return list(dict.fromkeys(found))
+
+
+def chain_at(text, index):
+    """The class that holds a character, and its superclasses."""
+    parents = dict(re.findall(r"\bclass\s+(\w+)(?:\s*<[^{]*?>)?\s+extends\s+(\w+)", text))
+    names, chain = re.findall(r"\bclass\s+(\w+)", text[:index]), []
+    name = names[-1] if names else None
+    while name and name not in chain:
+        chain.append(name)
+        name = parents.get(name)
+    return chain
+
+
 def offered(paper, position):
-    """What may be written at a position: regions of a class after its name and a dot, or else all regions and the keywords."""
-    found = regions_of(paper.latin())
-    before = CLASS_BEFORE.search(paper.text[: paper.index(position)])
-    own = [name for name, holder in found if before and holder == before[1]]
+    """What may be written at a position: behind the name of a class and a dot its regions, behind another dot fields and methods, behind a colon
+    regions, in a comment or a text nothing, and elsewhere all regions and the keywords."""
+    index = paper.index(position)
+    text, before = paper.latin(), paper.text[:index]
+    line = before[before.rfind("\n") + 1 :]
+    if line.count('"') % 2 or "//" in line or before.rfind("/*") > before.rfind("*/"):
+        return []
+    found, owner = regions_of(text), CLASS_BEFORE.search(before)
+    own = [name for name, holder in found if owner and holder == owner[1]]
     if own:
-        return [{"label": name, "kind": REGION, "detail": f"a region of {before[1]}"} for name in own]
+        return [{"label": name, "kind": REGION, "detail": f"a region of {owner[1]}"} for name in own]
+    if DOT_BEFORE.search(before):
+        chain = chain_at(paper.text, index) if owner and owner[1] == "this" else None
+        members = [member for member in members_of(text) if chain is None or member[1] in chain]
+        return [{"label": name, "kind": kind, "detail": f"of {holder}"} for name, holder, kind in members]
     items = {}
     for name, holder in found:
         items.setdefault(name, {"label": name, "kind": REGION, "detail": f"a region of {holder}" if holder else "a region"})
         if holder:
             items[f"{holder}.{name}"] = {"label": f"{holder}.{name}", "kind": REGION, "detail": f"a region of {holder}"}
+    if COLON_BEFORE.search(before):
+        return list(items.values())
     return [*items.values(), *({"label": word, "kind": KEYWORD} for word in sorted(KEYWORDS))]
