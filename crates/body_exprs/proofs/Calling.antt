@@ -1,5 +1,5 @@
 -- Calls whose parts are read: of what is reported of a use with region arguments, what is so of the call.
-use Rattle.std.proofs.Common.{◌≡◌, ◌∙◌, ℕ, List, ◌++◌, Bool, true, false, Option, Some, None, Result, Ok, map, sym, subst, ap}
+use Rattle.std.proofs.Common.{◌≡◌, ◌∙◌, ℕ, List, ◌++◌, Bool, true, false, Option, Some, None, cond, Result, Ok, map, sym, subst, ap}
 use Rattle.std.specs.List.{list_all}
 use Rattle.lang_base.specs.declared.place.Place.{Place}
 use Rattle.lang_base.specs.declared.refusal.Kind.TheVariants as kind
@@ -33,7 +33,7 @@ use Rattle.body_exprs.specs.declared.typed.Typed.{Typed}
 use Rattle.body_exprs.specs.declared.typed.Typed.TheVariants.{Known, Any}
 use Rattle.body_exprs.specs.Refusing.{refusal_at}
 use Rattle.body_exprs.specs.Typed.{plain_node, plain_typed, type_in, value_type, nodes_at, may_be, is_value}
-use Rattle.body_exprs.specs.Uses.{args_noted, UseReported, unknown_reported, method_through, called, CallOf, CallOn, Call}
+use Rattle.body_exprs.specs.Uses.{args_noted, use_reported, unknown_reported, method_through, called, type_call_of, type_call_on, type_call}
 use Rattle.body_exprs.proofs.Built.{types_in}
 use Rattle.body_exprs.proofs.Passing.{says_all}
 
@@ -60,7 +60,7 @@ fit_for headers others actuals declared shown fit f h d =
 -- what is reported of a call with these region arguments, after these faults, through a partial receiver or not
 abbrev pub CallReported : Env → MethodRow → List (Option PlainType) → Place → Option Refusal → List Rpl → Faults → Bool → Type 0
 CallReported env row actuals place reported_one all before partial =
-    UseReported env before all actuals row.params partial (all_hold (given_in env) all row.given) place reported_one
+    use_reported env before all actuals row.params partial (all_hold (given_in env) all row.given) place ≡ reported_one
 
 reported_same : (env : Env) (row : MethodRow) (actuals : List (Option PlainType)) (place : Place) (reported_one : Option Refusal) (all all' : List Rpl) (before before' : Faults) (partial partial' : Bool) →
     all ≡ all' → before ≡ before' → partial ≡ partial' → CallReported env row actuals place reported_one all before partial → CallReported env row actuals place reported_one all' before' partial'
@@ -89,7 +89,7 @@ pub of_used : (env : Env) (e : TypedExpr) (class : ℕ) (row : MethodRow) (owned
     shown ≡ actuals → CallReported env row (map value_type shown) place None all before partial → plain_type t ≡ type_with all (plain_type row.result) →
     g ≡ with_call (table_of env) f row all → number ≡ row_of (table_of env) row.id → exprs_of (map plain_node passed) ≡ nodes_at place (map plain_typed actuals) →
     made ≡ typed place (plain_type t) (call e class number regions (exprs_of (map plain_node passed))) →
-    CallOf env e class row owned args (map plain_typed actuals) place f (gives (Some made) g)
+    type_call_of env e class row owned args (map plain_typed actuals) place f ≡ gives (Some made) g
 of_used env e class row owned args actuals shown place f g regions all before partial t number passed made given a b p shows reported is found numbers nodes makes =
     let result : PlainType = type_with (owned ++ regions) (plain_type row.result) in
     let same : made ≡ called env e class row owned regions (map plain_typed actuals) place =
@@ -98,54 +98,39 @@ of_used env e class row owned args actuals shown place f g regions all before pa
     ∙ ap (λ (z : ℕ). typed place result (call e class z regions (exprs_of (map plain_node passed)))) numbers
     ∙ ap (λ (z : TypedExprs). typed place result (call e class (row_of (table_of env) row.id) regions z)) nodes in
     let after : g ≡ with_call (table_of env) f row (owned ++ regions) = found ∙ ap (λ (z : List Rpl). with_call (table_of env) f row z) a in
-    subst (λ (z : TypedExpr). CallOf env e class row owned args (map plain_typed actuals) place f (gives (Some z) g)) (sym same)
-    (subst (λ (z : Found). CallOf env e class row owned args (map plain_typed actuals) place f (gives (Some (called env e class row owned regions (map plain_typed actuals) place)) z)) (sym after)
-    (CallOf.fitting_call given (reported_for env row owned args actuals shown place regions all before partial None a b p shows reported)))
+    rw (given, reported_for env row owned args actuals shown place regions all before partial None a b p shows reported)
+    (sym (ap (λ (z : TypedExpr). gives (Some z) g) same ∙ ap (gives (Some (called env e class row owned regions (map plain_typed actuals) place))) after))
 
 pub of_faulty : (env : Env) (e : TypedExpr) (class : ℕ) (row : MethodRow) (owned : List Rpl) (args : ReadArgs) (actuals shown : List Typed) (place : Place) (f : Found)
     (regions all : List Rpl) (before : Faults) (partial : Bool) (q : Refusal) →
     args_given args.written args.paths row.regions ≡ Some regions → all ≡ owned ++ regions → before ≡ args_noted args row.regions place → partial ≡ is_partial_call owned row →
-    shown ≡ actuals → CallReported env row (map value_type shown) place (Some q) all before partial → CallOf env e class row owned args (map plain_typed actuals) place f (refused q)
+    shown ≡ actuals → CallReported env row (map value_type shown) place (Some q) all before partial → type_call_of env e class row owned args (map plain_typed actuals) place f ≡ refused q
 of_faulty env e class row owned args actuals shown place f regions all before partial q given a b p shows reported =
-    CallOf.faulty_call given (reported_for env row owned args actuals shown place regions all before partial (Some q) a b p shows reported)
+    rw (given, reported_for env row owned args actuals shown place regions all before partial (Some q) a b p shows reported)
 
 pub of_unknown : (env : Env) (e : TypedExpr) (class : ℕ) (row : MethodRow) (owned : List Rpl) (args : ReadArgs) (actuals shown : List Typed) (place : Place) (f : Found) (before : Faults) (fit : Bool) (s : Stop) →
     args_given args.written args.paths row.regions ≡ None → before ≡ args_noted args row.regions place → shown ≡ actuals → fit ≡ shapes_fit (headers_of (table_of env)) (map value_type shown) row.params →
-    s ≡ stop.Refused (unknown_reported before fit place) → IfRefused s (λ q. CallOf env e class row owned args (map plain_typed actuals) place f (refused q))
+    s ≡ stop.Refused (unknown_reported before fit place) → IfRefused s (λ q. type_call_of env e class row owned args (map plain_typed actuals) place f ≡ refused q)
 of_unknown env e class row owned args actuals shown place f before fit s given b shows fits is =
-    let all = map plain_typed actuals in
-    subst (λ (z : Stop). IfRefused z (λ q. CallOf env e class row owned args all place f (refused q))) (sym is)
-    (subst (λ (z : Faults). CallOf env e class row owned args all place f (refused (unknown_reported z fit place))) (sym b)
-    (subst (λ (z : Bool). CallOf env e class row owned args all place f (refused (unknown_reported (args_noted args row.regions place) z place)))
-    (sym (fits ∙ ap (λ (z : List (Option PlainType)). shapes_fit (headers_of (table_of env)) z row.params) (types_for actuals shown shows)))
-    (CallOf.unknown_args given)))
+    rw is (rw (given, b, fits ∙ ap (λ (z : List (Option PlainType)). shapes_fit (headers_of (table_of env)) z row.params) (types_for actuals shown shows)))
 
 -- a call of the method that is found
 pub of_found : (env : Env) (e : Expr) (name : ℕ) (args : ReadArgs) (actuals : List (Option TypedExpr)) (place : Place) (f g : Found)
     (class : ℕ) (row : MethodRow) (owned shown : List Rpl) (r : Result Expr Stop) →
     method_through (table_of env) (plain_type e.ty) name place ≡ Ok (class, row, owned) → shown ≡ owned →
-    Says r (λ u. gives (Some (plain_node u)) g) refused (CallOf env (plain_node e) class row shown args actuals place f) →
-    Says r (λ u. gives (Some (plain_node u)) g) refused (CallOn env (plain_node e) name args actuals place f)
+    Says r (λ u. gives (Some (plain_node u)) g) refused (λ a. type_call_of env (plain_node e) class row shown args actuals place f ≡ a) →
+    Says r (λ u. gives (Some (plain_node u)) g) refused (λ a. type_call_on env (plain_node e) name args actuals place f ≡ a)
 of_found env e name args actuals place f g class row owned shown r through is h =
-    says_all (CallOf env (plain_node e) class row shown args actuals place f) (CallOn env (plain_node e) name args actuals place f) (λ u. gives (Some (plain_node u)) g) refused r
-    (λ a d. CallOn.of_method through (subst (λ (z : List Rpl). CallOf env (plain_node e) class row z args actuals place f a) is d))
-    h
+    says_all (λ a. type_call_of env (plain_node e) class row shown args actuals place f ≡ a) (λ a. type_call_on env (plain_node e) name args actuals place f ≡ a)
+    (λ u. gives (Some (plain_node u)) g) refused r (λ a d. rw (through, ← is) d) h
 
 -- a call on what has a type, and on what fits everywhere
 pub on_known : (env : Env) (of : Typed) (e : Expr) (name : ℕ) (args : ReadArgs) (actuals : List (Option TypedExpr)) (place : Place) (f : Found) (a : Answer) →
-    of ≡ Known e → CallOn env (plain_node e) name args actuals place f a → Call env (plain_typed of) name args actuals place f a
-on_known env of e name args actuals place f a is d = subst (λ (z : Typed). Call env (plain_typed z) name args actuals place f a) (sym is) (Call.on_type d)
+    of ≡ Known e → type_call_on env (plain_node e) name args actuals place f ≡ a → type_call env (plain_typed of) name args actuals place f ≡ a
+on_known env of e name args actuals place f a is d = rw is d
 
 pub on_any : (env : Env) (of : Typed) (name : ℕ) (args : ReadArgs) (actuals shown : List Typed) (place : Place) (f : Found) (values : Bool) →
-    of ≡ Any → shown ≡ actuals → values ≡ list_all (may_be is_value) (map value_type shown) → values ≡ true → Call env (plain_typed of) name args (map plain_typed actuals) place f (gives None f)
-on_any env of name args actuals shown place f values is shows reported so =
-    subst (λ (z : Typed). Call env (plain_typed z) name args (map plain_typed actuals) place f (gives None f)) (sym is)
-    (Call.on_anything (ap (list_all (may_be is_value)) (sym (types_for actuals shown shows)) ∙ sym reported ∙ so))
-
-pub on_any_faulty : (env : Env) (of : Typed) (name : ℕ) (args : ReadArgs) (actuals shown : List Typed) (place : Place) (f : Found) (values : Bool) (s : Stop) →
-    of ≡ Any → shown ≡ actuals → values ≡ list_all (may_be is_value) (map value_type shown) → values ≡ false → s ≡ refusal_at kind.Type place →
-    IfRefused s (λ q. Call env (plain_typed of) name args (map plain_typed actuals) place f (refused q))
-on_any_faulty env of name args actuals shown place f values s is shows reported so at =
-    subst (λ (z : Stop). IfRefused z (λ q. Call env (plain_typed of) name args (map plain_typed actuals) place f (refused q))) (sym at)
-    (subst (λ (z : Typed). Call env (plain_typed z) name args (map plain_typed actuals) place f (refused (fault kind.Type place))) (sym is)
-    (Call.no_value_passed (ap (list_all (may_be is_value)) (sym (types_for actuals shown shows)) ∙ sym reported ∙ so)))
+    of ≡ Any → shown ≡ actuals → values ≡ list_all (may_be is_value) (map value_type shown) →
+    type_call env (plain_typed of) name args (map plain_typed actuals) place f ≡ cond values (gives None f) (refused (fault kind.Type place))
+on_any env of name args actuals shown place f values is shows reported =
+    rw (is, reported ∙ ap (list_all (may_be is_value)) (types_for actuals shown shows))

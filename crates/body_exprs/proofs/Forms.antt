@@ -1,9 +1,10 @@
 -- The forms of the code's expressions.
-use Rattle.std.proofs.Common.{◌≡◌, ◌∙◌, ℕ, ℤ, Bool, ap, rules}
+use Rattle.std.proofs.Common.{◌≡◌, ◌∙◌, ℕ, ℤ, Bool, List, map, ap, rules}
 use Rattle.syntax_tree.specs.declared.expr.Expr.{Expr}
 use Rattle.syntax_tree.specs.declared.expr.ExprKind.{ExprKind, fold-ExprKind, the_lemmas}
 use Rattle.syntax_tree.specs.declared.expr.ExprKind.TheVariants as kind
-use Rattle.syntax_tree.specs.Plain.{PlainExpr, expression, ExprForm, int, boolean, null, this, local, field, element, expr_form, expr_node, plain_expr}
+use Rattle.syntax_tree.specs.declared.region.RplTree.{RplTree}
+use Rattle.syntax_tree.specs.Plain.{PlainExpr, expression, ExprForm, int, boolean, null, this, local, field, element, call, expr_form, expr_node, plain_expr, plain_exprs}
 
 abbrev pub plain_kind : ExprKind → ExprForm
 plain_kind = fold-ExprKind ExprForm PlainExpr expr_form expr_node
@@ -35,6 +36,10 @@ kind_Field of name = search (rules, the_lemmas)
 kind_Element : (of at : Expr) → plain_kind (kind.Element of at) ≡ element (plain_expr of) (plain_expr at)
 kind_Element of at = search (rules, the_lemmas)
 
+kind_Call : (of : Expr) (regions : List RplTree) (name : ℕ) (actuals : List Expr) →
+    plain_kind (kind.Call of regions name actuals) ≡ call (plain_expr of) regions name (plain_exprs (map plain_expr actuals))
+kind_Call of regions name actuals = search (rules, the_lemmas)
+
 pub at_Int : (e : Expr) (n : ℤ) → e.kind ≡ kind.Int n → plain_expr e ≡ expression e.place (int n)
 at_Int e n is = of_kind e (kind.Int n) (int n) is (kind_Int n)
 
@@ -55,3 +60,7 @@ at_Field e of name is = of_kind e (kind.Field of name) (field (plain_expr of) na
 
 pub at_Element : (e of at : Expr) → e.kind ≡ kind.Element of at → plain_expr e ≡ expression e.place (element (plain_expr of) (plain_expr at))
 at_Element e of at is = of_kind e (kind.Element of at) (element (plain_expr of) (plain_expr at)) is (kind_Element of at)
+
+pub at_Call : (e of : Expr) (regions : List RplTree) (name : ℕ) (actuals : List Expr) → e.kind ≡ kind.Call of regions name actuals →
+    plain_expr e ≡ expression e.place (call (plain_expr of) regions name (plain_exprs (map plain_expr actuals)))
+at_Call e of regions name actuals is = of_kind e (kind.Call of regions name actuals) (call (plain_expr of) regions name (plain_exprs (map plain_expr actuals))) is (kind_Call of regions name actuals)

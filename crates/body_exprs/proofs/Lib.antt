@@ -4,9 +4,6 @@ pub mod Constructs
 pub mod Creating
 pub mod Fitted
 pub mod Forms
-pub mod Once
-pub mod OnceTargets
-pub mod OnceUsed
 pub mod Own
 pub mod Passing
 pub mod Several

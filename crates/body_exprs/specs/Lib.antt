@@ -6,12 +6,13 @@ pub mod Env
 pub mod Found
 pub mod Answer
 pub mod Fields
+pub mod Fits
 pub mod Elements
 pub mod Shapes
+pub mod Steps
 pub mod Uses
 pub mod Arrays
 pub mod Locals
 pub mod Shape
 pub mod Typing
 pub mod Targeting
-pub mod Once

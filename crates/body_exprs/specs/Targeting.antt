@@ -1,5 +1,5 @@
 -- What is assigned to: a field or an element, which isn't read.
-use Rattle.std.specs.Prelude.{◌≡◌, ℕ, Bool, true, false, Option, Some, None, option_map, Result, Ok, Err}
+use Rattle.std.specs.Prelude.{◌≡◌, ℕ, Bool, true, Option, Some, None, option_map, Result, Ok, Err}
 use Rattle.lang_base.specs.declared.effect.Access.TheVariants.{Write}
 use Rattle.lang_base.specs.declared.place.Place.{Place}
 use Rattle.lang_base.specs.declared.refusal.Kind.TheVariants as kind
@@ -16,14 +16,14 @@ use Rattle.body_exprs.specs.declared.assigned.Target.{Target}
 use Rattle.body_exprs.specs.declared.env.Env.{Env}
 use Rattle.body_exprs.specs.declared.env.LocalRow.{LocalRow}
 use Rattle.body_exprs.specs.declared.found.Found.{Found}
-use Rattle.body_exprs.specs.Answer.{gives, refused, with_access, with_part_use}
+use Rattle.body_exprs.specs.Answer.{with_access, with_part_use}
 use Rattle.body_exprs.specs.Elements.{index_of, element_through, part_element}
 use Rattle.body_exprs.specs.Env.{table_of, part_of}
 use Rattle.body_exprs.specs.Fields.{PlainField, field_through}
 use Rattle.body_exprs.specs.Locals.{measured}
-use Rattle.body_exprs.specs.Shape.{is_access}
+use Rattle.body_exprs.specs.Steps.{after, given}
 use Rattle.body_exprs.specs.Typed.{plain_node, type_in, node_at}
-use Rattle.body_exprs.specs.Typing.{Typing}
+use Rattle.body_exprs.specs.Typing.{type_expr}
 
 -- where a value goes: to a field, an element, or an element of a part, told by the expressions that find it
 pub data PlainSpot : Type 0 where
@@ -96,31 +96,22 @@ in_part_element i (Err refusal) = Err refusal
 abbrev pub part_target : LocalRow → Option TypedExpr → Place → Result (Option PlainTarget) Refusal
 part_target row i place = in_part_element (node_at place i) (part_element row (type_in i) place)
 
-pub data Targeting (env : Env) : PlainExpr → Found → TargetAnswer → Type 0 where
-  -- the length of a part isn't assigned to
-  length_assigned : {place : Place} {of : PlainExpr} {name : ℕ} {f : Found} {row : LocalRow} →
-      measured env of name ≡ Some row → Targeting env (expression place (field of name)) f (misses (fault kind.Type place))
-  -- the receiver, then the field
-  receiver_refused : {place : Place} {of : PlainExpr} {name : ℕ} {f : Found} {refusal : Refusal} →
-      measured env of name ≡ None → Typing env of f (refused refusal) → Targeting env (expression place (field of name)) f (misses refusal)
-  field_assigned : {place : Place} {of : PlainExpr} {name : ℕ} {f g : Found} {t : Option TypedExpr} {a : TargetAnswer} →
-      measured env of name ≡ None → Typing env of f (gives t g) → aimed (field_target env t name place) g ≡ a →
-      Targeting env (expression place (field of name)) f a
-  -- the index, then the element of a part
-  part_index_refused : {place : Place} {array index : PlainExpr} {f : Found} {row : LocalRow} {refusal : Refusal} →
-      part_of env array ≡ Some row → Typing env index f (refused refusal) → Targeting env (expression place (element array index)) f (misses refusal)
-  part_element_assigned : {place : Place} {array index : PlainExpr} {f g : Found} {row : LocalRow} {t : Option TypedExpr} {a : TargetAnswer} →
-      part_of env array ≡ Some row → Typing env index f (gives t g) → aimed (part_target row t place) g ≡ a →
-      Targeting env (expression place (element array index)) f a
-  -- the array, the index, then the element
-  array_refused : {place : Place} {array index : PlainExpr} {f : Found} {refusal : Refusal} →
-      part_of env array ≡ None → Typing env array f (refused refusal) → Targeting env (expression place (element array index)) f (misses refusal)
-  index_refused : {place : Place} {array index : PlainExpr} {f g : Found} {t : Option TypedExpr} {refusal : Refusal} →
-      part_of env array ≡ None → Typing env array f (gives t g) → Typing env index g (refused refusal) →
-      Targeting env (expression place (element array index)) f (misses refusal)
-  element_assigned : {place : Place} {array index : PlainExpr} {f g h : Found} {t u : Option TypedExpr} {a : TargetAnswer} →
-      part_of env array ≡ None → Typing env array f (gives t g) → Typing env index g (gives u h) → aimed (element_target env t index u place) h ≡ a →
-      Targeting env (expression place (element array index)) f a
-  -- nothing else is assigned to
-  no_target : {place : Place} {form : ExprForm} {f : Found} →
-      is_access form ≡ false → Targeting env (expression place form) f (misses (fault kind.Type place))
+-- the steps in order: the first that refuses is the fault. The length of a part isn't assigned to, and neither is what is no
+-- field and no element
+abbrev pub target_form : Env → Place → ExprForm → Found → TargetAnswer
+target_form env place (field of name) f =
+    given (measured env of name)
+    (λ row. misses (fault kind.Type place))
+    (after misses (type_expr env of f) (λ t g. aimed (field_target env t name place) g))
+target_form env place (element array index) f =
+    given (part_of env array)
+    (λ row. after misses (type_expr env index f) (λ i g. aimed (part_target row i place) g))
+    (after misses (type_expr env array f) (λ t g. after misses (type_expr env index g) (λ i h. aimed (element_target env t index i place) h)))
+target_form env place form f = misses (fault kind.Type place)
+
+abbrev pub type_target : Env → PlainExpr → Found → TargetAnswer
+type_target env (expression place form) f = target_form env place form f
+
+-- the rules say this of what is assigned to where it stands
+abbrev pub Targeting : Env → PlainExpr → Found → TargetAnswer → Type 0
+Targeting env e f a = type_target env e f ≡ a

@@ -89,13 +89,6 @@ abbrev pub Fits : List Super → Typed → PlainType → Type 0
 Fits supers t declared = FitsAs supers (value_type t) declared
 
 -- as many values as declared types, each of which fits the one at its place with region arguments put in
-abbrev pub AllFit : List Super → List Rpl → List (Option PlainType) → List Ty → Type 0
-AllFit supers args [] [] = Unit {0}
-AllFit supers args [] (t ∷ declared) = ⊥
-AllFit supers args (v ∷ values) [] = ⊥
-AllFit supers args (v ∷ values) (t ∷ declared) = FitsAs supers v (type_with args (plain_type t)) × AllFit supers args values declared
-
--- the same by their places
 abbrev pub ActualsFit : List Super → List Rpl → List Typed → List Ty → Type 0
 ActualsFit supers args values declared =
     (length values ≡ length declared)

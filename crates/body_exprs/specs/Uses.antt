@@ -1,5 +1,5 @@
 -- Calls and creations of objects whose parts are read: what they give, and what is wrong in them.
-use Rattle.std.specs.Prelude.{◌≡◌, ◌↔◌, ℕ, Bool, true, false, not, List, [], ◌++◌, map, IsTrue, Option, Some, None, Result, Ok, Err}
+use Rattle.std.specs.Prelude.{ℕ, Bool, true, false, not, cond, List, [], ◌++◌, map, Option, Some, None, Result, Ok, Err}
 use Rattle.std.specs.List.{list_all}
 use Rattle.std.specs.Option.{option_map_or}
 use Rattle.lang_base.specs.declared.place.Place.{Place}
@@ -33,9 +33,11 @@ use Rattle.body_exprs.specs.declared.env.Env.{Env}
 use Rattle.body_exprs.specs.declared.found.Found.{Found}
 use Rattle.body_exprs.specs.Answer.{Answer, gives, refused, with_call}
 use Rattle.body_exprs.specs.Env.{table_of, supers_of, given_in, scope_of}
+use Rattle.body_exprs.specs.Fits.{all_fit}
 use Rattle.body_exprs.specs.Partial.{is_partial_call}
 use Rattle.body_exprs.specs.Shapes.{shapes_fit}
-use Rattle.body_exprs.specs.Typed.{type_in, nodes_at, may_be, is_value, AllFit}
+use Rattle.body_exprs.specs.Steps.{◌>>◌, given, looked_up}
+use Rattle.body_exprs.specs.Typed.{type_in, nodes_at, may_be, is_value}
 
 -- the region arguments that are written in a body, each of which is to be fully specified; and the first fault in them
 abbrev pub args_of : Env → List RplTree → ReadArgs
@@ -80,10 +82,9 @@ abbrev pub args_noted : ReadArgs → List ParamRow → Place → Faults
 args_noted args params place = all_noted (none_by order.Number) (args_faults args.local args.written params place)
 
 -- the fault that is reported of a use whose region arguments are known, or none
-pub record UseReported (env : Env) (before : Faults) (args : List Rpl) (actuals : List (Option PlainType)) (declared : List Ty) (partial hold : Bool) (place : Place) (reported_one : Option Refusal) : Type 0 where
-  pub fit : Bool
-  pub fits : IsTrue fit ↔ AllFit (supers_of env) args actuals declared
-  pub tells : reported (all_noted before (use_faults partial fit hold place)) ≡ reported_one
+abbrev pub use_reported : Env → Faults → List Rpl → List (Option PlainType) → List Ty → Bool → Bool → Place → Option Refusal
+use_reported env before args actuals declared partial hold place =
+    reported (all_noted before (use_faults partial (all_fit (supers_of env) args actuals declared) hold place))
 
 -- the fault that is reported of one whose region arguments aren't known, where the actuals may fit for some regions or not
 abbrev pub unknown_reported : Faults → Bool → Place → Refusal
@@ -95,74 +96,44 @@ abbrev pub called : Env → TypedExpr → ℕ → MethodRow → List Rpl → Lis
 called env e class row owned regions actuals place =
     typed place (type_with (owned ++ regions) (plain_type row.result)) (call e class (row_of (table_of env) row.id) regions (nodes_at place actuals))
 
--- a call of a method through a receiver
-pub data CallOf (env : Env) (e : TypedExpr) (class : ℕ) (row : MethodRow) (owned : List Rpl) (args : ReadArgs) (actuals : List (Option TypedExpr)) (place : Place) (found : Found) : Answer → Type 0 where
-  -- the region arguments aren't known
-  unknown_args :
-      args_given args.written args.paths row.regions ≡ None →
-      CallOf env e class row owned args actuals place found
-      (refused (unknown_reported (args_noted args row.regions place) (shapes_fit (headers_of (table_of env)) (map type_in actuals) row.params) place))
-  -- the call has a fault
-  faulty_call : {regions : List Rpl} {refusal : Refusal} →
-      args_given args.written args.paths row.regions ≡ Some regions →
-      UseReported env (args_noted args row.regions place) (owned ++ regions) (map type_in actuals) row.params (is_partial_call owned row)
-      (all_hold (given_in env) (owned ++ regions) row.given) place (Some refusal) →
-      CallOf env e class row owned args actuals place found (refused refusal)
-  -- it has the effects of the summary and the type of the result, with region arguments put in
-  fitting_call : {regions : List Rpl} →
-      args_given args.written args.paths row.regions ≡ Some regions →
-      UseReported env (args_noted args row.regions place) (owned ++ regions) (map type_in actuals) row.params (is_partial_call owned row)
-      (all_hold (given_in env) (owned ++ regions) row.given) place None →
-      CallOf env e class row owned args actuals place found
-      (gives (Some (called env e class row owned regions actuals place)) (with_call (table_of env) found row (owned ++ regions)))
+-- a call of a method through a receiver: it has the effects of the summary and the type of the result, with region arguments
+-- put in
+abbrev pub type_call_of : Env → TypedExpr → ℕ → MethodRow → List Rpl → ReadArgs → List (Option TypedExpr) → Place → Found → Answer
+type_call_of env e class row owned args actuals place found =
+    let before = args_noted args row.regions place in
+    given (args_given args.written args.paths row.regions) (λ regions. do
+      let whole = owned ++ regions
+      use_reported env before whole (map type_in actuals) row.params (is_partial_call owned row) (all_hold (given_in env) whole row.given) place
+      gives (Some (called env e class row owned regions actuals place)) (with_call (table_of env) found row whole))
+    (refused (unknown_reported before (shapes_fit (headers_of (table_of env)) (map type_in actuals) row.params) place))
 
 -- a call on what has a type
-pub data CallOn (env : Env) (e : TypedExpr) (name : ℕ) (args : ReadArgs) (actuals : List (Option TypedExpr)) (place : Place) (found : Found) : Answer → Type 0 where
-  no_method : {refusal : Refusal} → method_through (table_of env) (type_of e) name place ≡ Err refusal → CallOn env e name args actuals place found (refused refusal)
-  of_method : {class : ℕ} {row : MethodRow} {owned : List Rpl} {answer : Answer} →
-      method_through (table_of env) (type_of e) name place ≡ Ok (class, row, owned) → CallOf env e class row owned args actuals place found answer →
-      CallOn env e name args actuals place found answer
+abbrev pub type_call_on : Env → TypedExpr → ℕ → ReadArgs → List (Option TypedExpr) → Place → Found → Answer
+type_call_on env e name args actuals place found =
+    looked_up (method_through (table_of env) (type_of e) name place) (λ (class, row, owned). type_call_of env e class row owned args actuals place found)
 
--- a call on what gives a type, or fits everywhere: then the call does, where each actual is a value
-pub data Call (env : Env) : Option TypedExpr → ℕ → ReadArgs → List (Option TypedExpr) → Place → Found → Answer → Type 0 where
-  on_type : {e : TypedExpr} {name : ℕ} {args : ReadArgs} {actuals : List (Option TypedExpr)} {place : Place} {found : Found} {answer : Answer} →
-      CallOn env e name args actuals place found answer → Call env (Some e) name args actuals place found answer
-  on_anything : {name : ℕ} {args : ReadArgs} {actuals : List (Option TypedExpr)} {place : Place} {found : Found} →
-      list_all (may_be is_value) (map type_in actuals) ≡ true → Call env None name args actuals place found (gives None found)
-  no_value_passed : {name : ℕ} {args : ReadArgs} {actuals : List (Option TypedExpr)} {place : Place} {found : Found} →
-      list_all (may_be is_value) (map type_in actuals) ≡ false → Call env None name args actuals place found (refused (fault kind.Type place))
+-- a call on what gives a type; what fits everywhere has each method, where the actuals are values
+abbrev pub type_call : Env → Option TypedExpr → ℕ → ReadArgs → List (Option TypedExpr) → Place → Found → Answer
+type_call env (Some e) name args actuals place found = type_call_on env e name args actuals place found
+type_call env None name args actuals place found = cond (list_all (may_be is_value) (map type_in actuals)) (gives None found) (refused (fault kind.Type place))
 
 -- with what the constructor does, where there is one
 abbrev pub with_constructor : Table → Found → Option MethodRow → List Rpl → Found
 with_constructor table found None args = found
 with_constructor table found (Some row) args = with_call table found row args
 
--- the creation of an object of a class
-pub data CreationOf (env : Env) (at : ℕ) (args : ReadArgs) (actuals : List (Option TypedExpr)) (place : Place) (found : Found) : Answer → Type 0 where
-  -- the region arguments aren't known
-  unknown_args :
-      args_given args.written args.paths (params_in (headers_of (table_of env)) at) ≡ None →
-      CreationOf env at args actuals place found
-      (refused (unknown_reported (args_noted args (params_in (headers_of (table_of env)) at) place)
-      (shapes_fit (headers_of (table_of env)) (map type_in actuals) (formals_of (table_of env) at)) place))
-  -- the creation has a fault
-  faulty_creation : {regions : List Rpl} {refusal : Refusal} →
-      args_given args.written args.paths (params_in (headers_of (table_of env)) at) ≡ Some regions →
-      UseReported env (args_noted args (params_in (headers_of (table_of env)) at) place) regions (map type_in actuals) (formals_of (table_of env) at) false
-      (all_hold (given_in env) regions (given_of (table_of env) at)) place (Some refusal) →
-      CreationOf env at args actuals place found (refused refusal)
-  -- it has the effects of the constructor, with region arguments put in
-  created : {regions : List Rpl} →
-      args_given args.written args.paths (params_in (headers_of (table_of env)) at) ≡ Some regions →
-      UseReported env (args_noted args (params_in (headers_of (table_of env)) at) place) regions (map type_in actuals) (formals_of (table_of env) at) false
-      (all_hold (given_in env) regions (given_of (table_of env) at)) place None →
-      CreationOf env at args actuals place found
-      (gives (Some (typed place (ty.class at regions) (create (nodes_at place actuals))))
-      (with_constructor (table_of env) found (constructor_of (table_of env) at) regions))
+-- the creation of an object of a class: it has the effects of the constructor, with region arguments put in
+abbrev pub type_creation_of : Env → ℕ → ReadArgs → List (Option TypedExpr) → Place → Found → Answer
+type_creation_of env at args actuals place found =
+    let params = params_in (headers_of (table_of env)) at in
+    let formals = formals_of (table_of env) at in
+    let before = args_noted args params place in
+    given (args_given args.written args.paths params) (λ regions. do
+      use_reported env before regions (map type_in actuals) formals false (all_hold (given_in env) regions (given_of (table_of env) at)) place
+      gives (Some (typed place (ty.class at regions) (create (nodes_at place actuals)))) (with_constructor (table_of env) found (constructor_of (table_of env) at) regions))
+    (refused (unknown_reported before (shapes_fit (headers_of (table_of env)) (map type_in actuals) formals) place))
 
 -- the creation of an object of a class that is named
-pub data Creation (env : Env) (class : Named) (args : ReadArgs) (actuals : List (Option TypedExpr)) (place : Place) (found : Found) : Answer → Type 0 where
-  no_class : class_of (headers_of (table_of env)) class.name ≡ None → Creation env class args actuals place found (refused (fault kind.Unknown class.place))
-  of_class : {at : ℕ} {answer : Answer} →
-      class_of (headers_of (table_of env)) class.name ≡ Some at → CreationOf env at args actuals place found answer →
-      Creation env class args actuals place found answer
+abbrev pub type_creation : Env → Named → ReadArgs → List (Option TypedExpr) → Place → Found → Answer
+type_creation env class args actuals place found =
+    given (class_of (headers_of (table_of env)) class.name) (λ at. type_creation_of env at args actuals place found) (refused (fault kind.Unknown class.place))

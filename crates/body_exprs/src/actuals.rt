@@ -6,8 +6,9 @@ ghost use Rattle.decl_headers.specs.Passes.{fault_if};
 ghost use Rattle.decl_resolve.specs.Constraints.{all_hold};
 ghost use Rattle.body_exprs.specs.Answer.{Says};
 ghost use Rattle.body_exprs.specs.Env.{supers_of, given_in};
-ghost use Rattle.body_exprs.specs.Typed.{value_type, Fits, ActualsFit, AllFit};
-ghost use Rattle.body_exprs.specs.Uses.{use_faults, UseReported, unknown_reported};
+ghost use Rattle.body_exprs.specs.Fits.{all_fit};
+ghost use Rattle.body_exprs.specs.Typed.{value_type, Fits, ActualsFit};
+ghost use Rattle.body_exprs.specs.Uses.{use_faults, use_reported, unknown_reported};
 
 use crate::env::Env;
 use crate::fitting::{fits, refused};
@@ -40,7 +41,7 @@ pub fn check_use(
     partial: bool,
     place: Place,
 ) -> Result<(), Stop>
-    ensures { Says result (λ u. None) Some (UseReported env.now faults args.now (map value_type actuals.now) declared.now partial (all_hold (given_in env.now) args.now constraints.now) place) }
+    ensures { Says result (λ u. None) Some (λ t. use_reported env.now faults args.now (map value_type actuals.now) declared.now partial (all_hold (given_in env.now) args.now constraints.now) place ≡ t) }
 {
     let fit = all_fit(alloc, env, actuals, declared, args)?;
     let hold = constraints_hold(alloc, constraints, args, env.given())?;
@@ -81,7 +82,7 @@ fn all_fit(
     declared: &[Ty],
     args: &[Rpl],
 ) -> Result<bool, NoMemory>
-    ensures { IfOk result (λ fit. IsTrue fit ↔ AllFit (supers_of env.now) args.now (map value_type actuals.now) declared.now) }
+    ensures { IfOk result (λ fit. fit ≡ all_fit (supers_of env.now) args.now (map value_type actuals.now) declared.now) }
 {
     let fit = actuals_fit(alloc, env, actuals, declared, args)?;
     Ok(fit)

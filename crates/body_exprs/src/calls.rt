@@ -7,7 +7,7 @@ ghost use Rattle.body_exprs.specs.Answer.{gives, refused, with_call, Says};
 ghost use Rattle.body_exprs.specs.Env.{table_of, given_in};
 ghost use Rattle.body_exprs.specs.Partial.{some_mention_partial, is_partial_call};
 ghost use Rattle.body_exprs.specs.Typed.{plain_node, plain_typed, value_type, may_be, is_value};
-ghost use Rattle.body_exprs.specs.Uses.{args_of, args_reported, args_noted, callee_params, UseReported, method_through, CallOf, CallOn, Call};
+ghost use Rattle.body_exprs.specs.Uses.{args_of, args_reported, args_noted, callee_params, use_reported, method_through, type_call_of, type_call_on, type_call};
 
 use crate::actuals::{check_use, unknown_args};
 use crate::env::Env;
@@ -130,7 +130,7 @@ pub fn call(
     actuals: Items<Typed>,
     place: Place,
 ) -> Result<Typed, Stop>
-    ensures answer { Says result (λ given. gives (plain_typed given) found.new) refused (Call env.now (plain_typed of) name regions (map plain_typed actuals) place found.old) }
+    ensures answer { Says result (λ given. gives (plain_typed given) found.new) refused (λ a. type_call env.now (plain_typed of) name regions (map plain_typed actuals) place found.old ≡ a) }
     ensures nd { OnOk result (IsTrue found.old.reaches_nd → IsTrue found.new.reaches_nd) }
 {
     match of {
@@ -170,7 +170,7 @@ fn call_on(
     actuals: Items<Typed>,
     place: Place,
 ) -> Result<Expr, Stop>
-    ensures answer { Says result (λ e. gives (Some (plain_node e)) found.new) refused (CallOn env.now (plain_node of) name regions (map plain_typed actuals) place found.old) }
+    ensures answer { Says result (λ e. gives (Some (plain_node e)) found.new) refused (λ a. type_call_on env.now (plain_node of) name regions (map plain_typed actuals) place found.old ≡ a) }
     ensures nd { OnOk result (IsTrue found.old.reaches_nd → IsTrue found.new.reaches_nd) }
 {
     let (class, row, owned) = called_method(alloc, env, &of.ty, name, place)?;
@@ -219,7 +219,7 @@ fn call_of(
     actuals: Items<Typed>,
     place: Place,
 ) -> Result<Expr, Stop>
-    ensures answer { Says result (λ e. gives (Some (plain_node e)) found.new) refused (CallOf env.now (plain_node of) class row.now owned.now regions (map plain_typed actuals) place found.old) }
+    ensures answer { Says result (λ e. gives (Some (plain_node e)) found.new) refused (λ a. type_call_of env.now (plain_node of) class row.now owned.now regions (map plain_typed actuals) place found.old ≡ a) }
     ensures nd { OnOk result (IsTrue found.old.reaches_nd → IsTrue found.new.reaches_nd) }
 {
     let mut faults = Faults::by_number();
@@ -267,7 +267,7 @@ fn call_with(
     actuals: &[Typed],
     place: Place,
 ) -> Result<Ty, Stop>
-    ensures reported { Says result (λ ty. None) Some (UseReported env.now faults args.now (map value_type actuals.now) row.now.params partial (all_hold (given_in env.now) args.now row.now.given) place) }
+    ensures reported { Says result (λ ty. None) Some (λ t. use_reported env.now faults args.now (map value_type actuals.now) row.now.params partial (all_hold (given_in env.now) args.now row.now.given) place ≡ t) }
     ensures ty { IfOk result (λ ty. plain_type ty ≡ type_with args.now (plain_type row.now.result)) }
     ensures found { OnOk result (found.new ≡ with_call (table_of env.now) found.old row.now args.now) }
     ensures nd { OnOk result (IsTrue found.old.reaches_nd → IsTrue found.new.reaches_nd) }

@@ -7,7 +7,7 @@ ghost use Rattle.decl_table.specs.Table.{headers_of, constructor_of, given_of};
 ghost use Rattle.body_exprs.specs.Answer.{gives, refused, Says};
 ghost use Rattle.body_exprs.specs.Env.{table_of, given_in};
 ghost use Rattle.body_exprs.specs.Typed.{plain_node, plain_typed, value_type};
-ghost use Rattle.body_exprs.specs.Uses.{args_of, args_reported, args_noted, created_params, formals_of, UseReported, with_constructor, CreationOf, Creation};
+ghost use Rattle.body_exprs.specs.Uses.{args_of, args_reported, args_noted, created_params, formals_of, use_reported, with_constructor, type_creation_of, type_creation};
 
 use crate::actuals::{check_use, unknown_args};
 use crate::calls::read_full_args;
@@ -66,7 +66,7 @@ pub fn creation(
     actuals: Items<Typed>,
     place: Place,
 ) -> Result<Expr, Stop>
-    ensures answer { Says result (λ e. gives (Some (plain_node e)) found.new) refused (Creation env.now class regions (map plain_typed actuals) place found.old) }
+    ensures answer { Says result (λ e. gives (Some (plain_node e)) found.new) refused (λ a. type_creation env.now class regions (map plain_typed actuals) place found.old ≡ a) }
     ensures nd { OnOk result (IsTrue found.old.reaches_nd → IsTrue found.new.reaches_nd) }
 {
     match env.table().headers().class(class.name) {
@@ -85,7 +85,7 @@ fn creation_of(
     actuals: Items<Typed>,
     place: Place,
 ) -> Result<Expr, Stop>
-    ensures answer { Says result (λ e. gives (Some (plain_node e)) found.new) refused (CreationOf env.now class regions (map plain_typed actuals) place found.old) }
+    ensures answer { Says result (λ e. gives (Some (plain_node e)) found.new) refused (λ a. type_creation_of env.now class regions (map plain_typed actuals) place found.old ≡ a) }
     ensures nd { OnOk result (IsTrue found.old.reaches_nd → IsTrue found.new.reaches_nd) }
 {
     let mut faults = Faults::by_number();
@@ -118,7 +118,7 @@ fn creation_with(
     actuals: &[Typed],
     place: Place,
 ) -> Result<Ty, Stop>
-    ensures reported { Says result (λ ty. None) Some (UseReported env.now faults args (map value_type actuals.now) (formals_of (table_of env.now) class) false (all_hold (given_in env.now) args (given_of (table_of env.now) class)) place) }
+    ensures reported { Says result (λ ty. None) Some (λ t. use_reported env.now faults args (map value_type actuals.now) (formals_of (table_of env.now) class) false (all_hold (given_in env.now) args (given_of (table_of env.now) class)) place ≡ t) }
     ensures ty { IfOk result (λ ty. plain_type ty ≡ plain.class class args) }
     ensures found { OnOk result (found.new ≡ with_constructor (table_of env.now) found.old (constructor_of (table_of env.now) class) args) }
     ensures nd { OnOk result (IsTrue found.old.reaches_nd → IsTrue found.new.reaches_nd) }

@@ -5,6 +5,10 @@
 //! far, in the order of evaluation. It refuses the first expression, in post-order, that has a fault. `read_target`
 //! and `write` do the same for what is assigned to, which isn't read.
 //!
+//! The rules are a function, `type_expr` of `specs/Typing.antt`: one clause for a construct, whose steps are evaluated in order, and
+//! the first step that refuses is the fault. `type_call` and `type_creation` of `specs/Uses.antt` are its clauses for uses,
+//! `type_target` of `specs/Targeting.antt` is that of what is assigned to. So each expression has one answer where it stands.
+//!
 //! `Env` counts the slots of a member: 0 is `this`, and each local that is declared has the next one, whatever went out
 //! of scope before. So no two locals of a member have one slot, and an index variable is known by its slot.
 //!
@@ -20,7 +24,6 @@ mod env;
 mod fields;
 mod fitting;
 mod found;
-mod laws;
 mod nodes;
 mod operations;
 mod shapes;
@@ -33,7 +36,6 @@ pub use assigned::{Spot, Target, read_target};
 pub use env::{Env, LocalRow, Mark, length_name};
 pub use fitting::{fits, refused};
 pub use found::Found;
-pub use laws::one_typing;
 pub use supers::Supers;
 pub use typed::Typed;
 pub use typing::expr;

@@ -5,4 +5,5 @@ pub mod Free
 pub mod Known
 pub mod Lists
 pub mod Rows
+pub mod Rules
 pub mod Signatures

@@ -38,9 +38,10 @@ use Rattle.body_exprs.specs.Fields.{PlainField, owned_field, named_field, field_
 use Rattle.body_exprs.specs.Locals.{local_typed, measured}
 use Rattle.body_exprs.specs.Operations.{unary_takes, unary_typed, binary_takes, binary_gives, binary_form, binary_typed, node_if}
 use Rattle.body_exprs.specs.Typed.{type_in, node_at, nodes_at, is_int, is_array}
-use Rattle.body_exprs.specs.Typing.{answer, created, leaf_typed, AllAnswer, all_give, one_refused, Typing, TypingArray, TypingAll}
-use Rattle.body_exprs.specs.Uses.{args_of, owned_method, named_method, method_through, CallOf, CallOn, Call, CreationOf, Creation}
+use Rattle.body_exprs.specs.Typing.{answer, created, AllAnswer, all_give, one_refused, Typing}
+use Rattle.body_exprs.specs.Uses.{args_of, owned_method, named_method, method_through}
 use Rattle.sound_lemmas.proofs.Lists.{some_same, ok_same}
+use Rattle.sound_lemmas.proofs.Rules.{leaf_typed, CallOf, Call, CreationOf, Creation, Rules, AllRules, rules}
 use Rattle.sound_bodies.specs.Seen.{MethodSeen}
 use Rattle.sound_means.proofs.Knows.{Knows}
 use Rattle.sound_means.proofs.Written.{args_here, class_here, array_here}
@@ -271,31 +272,28 @@ module _ (A : Around) (env : Env) (knows : Knows A env)
 
     call_made : (place : Place) (of : tree.PlainExpr) (trees : List RplTree) (name : ℕ) (actuals : tree.PlainExprs) (h : Found) (e : TypedExpr) (class : ℕ) (row : MethodRow) (owned : List Rpl) (ts : List (Option TypedExpr)) (a : Answer) →
         ExprMeans A of e → MethodOf name class row → AllMeant actuals (all_give ts h) → CallOf env e class row owned (args_of env trees) ts place h a → Meant (tree.expression place (tree.call of trees name actuals)) a
-    call_made place of trees name actuals h e class row owned ts a m k all (CallOf.unknown_args unknown) = tt
-    call_made place of trees name actuals h e class row owned ts a m k all (CallOf.faulty_call given faulty) = tt
+    call_made place of trees name actuals h e class row owned ts a m k all CallOf.call_refused = tt
     call_made place of trees name actuals h e class row owned ts a m k all (CallOf.fitting_call {regions = regions} given right) =
         ExprMeans.a_call m k.known.in_row (knows.methods class name row k.named) k.known.seen.is
         (subst (λ params. ArgsMean A [] params trees regions) (sym k.known.seen.params) (args_here A (scope_of env) knows.paths row.regions trees regions given)) (all place)
 
     call_meant : (place : Place) (of : tree.PlainExpr) (trees : List RplTree) (name : ℕ) (actuals : tree.PlainExprs) (g h : Found) (t : Option TypedExpr) (ts : List (Option TypedExpr)) (a : Answer) → Meant of (gives t g) →
         AllMeant actuals (all_give ts h) → Call env t name (args_of env trees) ts place h a → Meant (tree.expression place (tree.call of trees name actuals)) a
-    call_meant place of trees name actuals g h t ts a m all (Call.on_type (CallOn.no_method is)) = tt
-    call_meant place of trees name actuals g h t ts a m all (Call.on_type {e = e} (CallOn.of_method {class = class} {row = row} {owned = owned} is d)) =
+    call_meant place of trees name actuals g h t ts a m all (Call.of_method {e = e} {class = class} {row = row} {owned = owned} is d) =
         call_made place of trees name actuals h e class row owned ts a m (method_seen (type_of e) name place class row owned is) all d
-    call_meant place of trees name actuals g h t ts a m all (Call.on_anything values) = absurd m
-    call_meant place of trees name actuals g h t ts a m all (Call.no_value_passed values) = tt
+    call_meant place of trees name actuals g h t ts a m all Call.on_anything = absurd m
+    call_meant place of trees name actuals g h t ts a m all Call.use_refused = tt
 
     -- the creation of an object
     creation_made : (place : Place) (class : Named) (trees : List RplTree) (actuals : tree.PlainExprs) (g : Found) (at : ℕ) (ts : List (Option TypedExpr)) (a : Answer) → class_of (headers_of (table_of env)) class.name ≡ Some at →
         AllMeant actuals (all_give ts g) → CreationOf env at (args_of env trees) ts place g a → Meant (tree.expression place (tree.create class trees actuals)) a
-    creation_made place class trees actuals g at ts a is all (CreationOf.unknown_args unknown) = tt
-    creation_made place class trees actuals g at ts a is all (CreationOf.faulty_creation given faulty) = tt
+    creation_made place class trees actuals g at ts a is all CreationOf.creation_refused = tt
     creation_made place class trees actuals g at ts a is all (CreationOf.created {regions = regions} given right) =
         ExprMeans.a_creation (class_here A (scope_of env) knows.paths class trees at regions is given) (all place)
 
     creation_meant : (place : Place) (class : Named) (trees : List RplTree) (actuals : tree.PlainExprs) (g : Found) (ts : List (Option TypedExpr)) (a : Answer) → AllMeant actuals (all_give ts g) →
         Creation env class (args_of env trees) ts place g a → Meant (tree.expression place (tree.create class trees actuals)) a
-    creation_meant place class trees actuals g ts a all (Creation.no_class is) = tt
+    creation_meant place class trees actuals g ts a all Creation.object_refused = tt
     creation_meant place class trees actuals g ts a all (Creation.of_class {at = at} is d) = creation_made place class trees actuals g at ts a is all d
 
     -- the creation of an array
@@ -314,56 +312,41 @@ module _ (A : Around) (env : Env) (knows : Knows A env)
 
     mutual
       -- what is made of an expression that passes
-      pub typing_meant : {e : tree.PlainExpr} {f : Found} {a : Answer} → Fitting e → Typing env e f a → Meant e a
-      typing_meant fits (Typing.no_parts {place = place} {form = leaf} {f = f} {r = r} l s) =
+      pub steps_meant : {e : tree.PlainExpr} {f : Found} {a : Answer} → Fitting e → Rules env e f a → Meant e a
+      steps_meant fits (Rules.no_parts {place = place} {form = leaf} {f = f} {r = r} l s) =
           subst (Meant (tree.expression place leaf)) s (answered (tree.expression place leaf) r f (leaf_meant place leaf r l))
-      typing_meant fits (Typing.part_length {place = place} {of = of} {name = name} {row = row} l) = measured_meant place of name row l
-      typing_meant fits (Typing.field_receiver_refused l d) = tt
-      typing_meant fits (Typing.field_read {place = place} {of = of} {name = name} {g = g} {t = t} l d r) =
-          subst (Meant (tree.expression place (tree.field of name))) r (field_read_meant place of name g t (typing_meant fits d))
-      typing_meant fits (Typing.part_index_refused l d) = tt
-      typing_meant fits (Typing.part_element_read {place = place} {array = array} {index = index} {g = g} {row = row} {t = t} l d r) =
-          subst (Meant (tree.expression place (tree.element array index))) r (part_read_meant place array index g row t l (typing_meant fits.1 d))
-      typing_meant fits (Typing.array_refused l d) = tt
-      typing_meant fits (Typing.index_refused l d i) = tt
-      typing_meant fits (Typing.element_read {place = place} {array = array} {index = index} {g = g} {h = h} {t = t} {u = u} l d i r) =
-          subst (Meant (tree.expression place (tree.element array index))) r (element_read_meant place array index g h t u (typing_meant fits.0 d) (typing_meant fits.1 i))
-      typing_meant fits (Typing.operand_refused d) = tt
-      typing_meant fits (Typing.operation {place = place} {op = op} {arg = arg} {g = g} {t = t} d r) =
-          subst (Meant (tree.expression place (tree.unary op arg))) r (answered (tree.expression place (tree.unary op arg)) (unary_typed op t place) g (unary_meant place op arg g t (typing_meant fits d)))
-      typing_meant fits (Typing.left_refused d) = tt
-      typing_meant fits (Typing.right_refused d i) = tt
-      typing_meant fits (Typing.both_operands {place = place} {op = op} {left = left} {right = right} {g = g} {h = h} {t = t} {u = u} d i r) =
+      steps_meant fits (Rules.part_length {place = place} {of = of} {name = name} {row = row} l) = measured_meant place of name row l
+      steps_meant fits Rules.is_refused = tt
+      steps_meant fits (Rules.field_read {place = place} {of = of} {name = name} {g = g} {t = t} l d r) =
+          subst (Meant (tree.expression place (tree.field of name))) r (field_read_meant place of name g t (steps_meant fits d))
+      steps_meant fits (Rules.part_element_read {place = place} {array = array} {index = index} {g = g} {row = row} {t = t} l d r) =
+          subst (Meant (tree.expression place (tree.element array index))) r (part_read_meant place array index g row t l (steps_meant fits.1 d))
+      steps_meant fits (Rules.element_read {place = place} {array = array} {index = index} {g = g} {h = h} {t = t} {u = u} l d i r) =
+          subst (Meant (tree.expression place (tree.element array index))) r (element_read_meant place array index g h t u (steps_meant fits.0 d) (steps_meant fits.1 i))
+      steps_meant fits (Rules.operation {place = place} {op = op} {arg = arg} {g = g} {t = t} d r) =
+          subst (Meant (tree.expression place (tree.unary op arg))) r (answered (tree.expression place (tree.unary op arg)) (unary_typed op t place) g (unary_meant place op arg g t (steps_meant fits d)))
+      steps_meant fits (Rules.both_operands {place = place} {op = op} {left = left} {right = right} {g = g} {h = h} {t = t} {u = u} d i r) =
           subst (Meant (tree.expression place (tree.binary op left right))) r
-          (answered (tree.expression place (tree.binary op left right)) (binary_typed op t u place) h (binary_meant place op left right g h t u (typing_meant fits.0 d) (typing_meant fits.1 i)))
-      typing_meant fits (Typing.receiver_refused d) = tt
-      typing_meant fits (Typing.call_args_refused d l) = tt
-      typing_meant fits (Typing.call_actual_refused d l i) = tt
-      typing_meant fits (Typing.method_call {place = place} {of = of} {regions = regions} {name = name} {actuals = actuals} {g = g} {h = h} {t = t} {types = types} {a = a} d l i r) =
-          call_meant place of regions name actuals g h t types a (typing_meant fits.0 d) (all_meant fits.1 i) r
-      typing_meant fits (Typing.new_args_refused l) = tt
-      typing_meant fits (Typing.new_actual_refused l i) = tt
-      typing_meant fits (Typing.new_object {place = place} {class = class} {regions = regions} {actuals = actuals} {g = g} {types = types} {a = a} l i r) =
+          (answered (tree.expression place (tree.binary op left right)) (binary_typed op t u place) h (binary_meant place op left right g h t u (steps_meant fits.0 d) (steps_meant fits.1 i)))
+      steps_meant fits (Rules.method_call {place = place} {of = of} {regions = regions} {name = name} {actuals = actuals} {g = g} {h = h} {t = t} {types = types} {a = a} d l i r) =
+          call_meant place of regions name actuals g h t types a (steps_meant fits.0 d) (all_meant fits.1 i) r
+      steps_meant fits (Rules.new_object {place = place} {class = class} {regions = regions} {actuals = actuals} {g = g} {types = types} {a = a} l i r) =
           creation_meant place class regions actuals g types a (all_meant fits i) r
-      typing_meant fits (Typing.new_array {place = place} {base = base} {suffixes = suffixes} {len = len} {rpl = rpl} {index = index} d) = made_meant suffixes index fits.0 fits.1 d
-
-      made_meant : (suffixes : List Suffix) (index : Option Named) → length suffixes ≤ 4294967295 → {base : BaseTree} {len : tree.PlainExpr} {rpl : Option RplTree} {place : Place} {f : Found} {a : Answer} → Fitting len →
-          TypingArray env (made_names suffixes index) base len rpl place f a → Meant (tree.expression place (tree.create_array base suffixes len rpl index)) a
-      made_meant suffixes index few fits (TypingArray.front_refused l) = tt
-      made_meant suffixes index few fits (TypingArray.length_refused l d) = tt
-      made_meant suffixes index few fits (TypingArray.array_created {base = base} {len = len} {rpl = rpl} {place = place} {g = g} {t = t} l d r) =
+      steps_meant fits (Rules.new_array {place = place} {base = base} {suffixes = suffixes} {len = len} {rpl = rpl} {index = index} {g = g} {t = t} l d r) =
           subst (Meant (tree.expression place (tree.create_array base suffixes len rpl index))) r
           (answered (tree.expression place (tree.create_array base suffixes len rpl index))
           (created place (node_at place t) (created_array env (made_names suffixes index) (front_of env (made_names suffixes index) base) (type_in t) rpl place)) g
-          (array_meant place base suffixes len rpl index g t few (typing_meant fits d)))
+          (array_meant place base suffixes len rpl index g t fits.0 (steps_meant fits.1 d)))
 
-      all_meant : {es : tree.PlainExprs} {f : Found} {a : AllAnswer} → AllFitting es → TypingAll env es f a → AllMeant es a
-      all_meant fits TypingAll.none_left = λ place. ExprsMean.no_exprs
-      all_meant fits (TypingAll.first_refused d) = tt
-      all_meant fits (TypingAll.later_refused d i) = tt
-      all_meant fits (TypingAll.one_more {e = e} {es = es} {g = g} {h = h} {t = t} {types = types} d i) = more_meant t types e es g h (typing_meant fits.0 d) (all_meant fits.1 i)
+      all_meant : {es : tree.PlainExprs} {f : Found} {a : AllAnswer} → AllFitting es → AllRules env es f a → AllMeant es a
+      all_meant fits AllRules.none_left = λ place. ExprsMean.no_exprs
+      all_meant fits AllRules.some_refused = tt
+      all_meant fits (AllRules.one_more {e = e} {es = es} {g = g} {h = h} {t = t} {types = types} d i) = more_meant t types e es g h (steps_meant fits.0 d) (all_meant fits.1 i)
+
+    pub typing_meant : (e : tree.PlainExpr) (f : Found) {a : Answer} → Fitting e → Typing env e f a → Meant e a
+    typing_meant e f fits d = steps_meant fits (rules env e f d)
 
     -- an expression that passes gives what it means
     pub expression_means : (e : tree.PlainExpr) (f g : Found) (made : Option TypedExpr) → Fitting e → Typing env e f (gives made g) → (t : TypedExpr) × (made ≡ Some t) × ExprMeans A e t
-    expression_means e f g None fits d = absurd (typing_meant fits d)
-    expression_means e f g (Some t) fits d = (t, refl, typing_meant fits d)
+    expression_means e f g None fits d = absurd (typing_meant e f fits d)
+    expression_means e f g (Some t) fits d = (t, refl, typing_meant e f fits d)

@@ -46,18 +46,19 @@ use Rattle.body_check.specs.Simple.{place_of, node_of, declared_type, declared_r
 use Rattle.body_check.specs.Walks.{Walk, Verdict, passes, refused, left_scope}
 use Rattle.sound_lemmas.proofs.Bodies.{free_if, free_found, declared_free, regions_free}
 use Rattle.sound_lemmas.proofs.Free.{parts_free}
+use Rattle.sound_lemmas.proofs.Rules.{TargetRules, target_rules}
 use Rattle.sound_lemmas.proofs.Known.{type_known}
 use Rattle.sound_bodies.proofs.scope.Growing.{Kept, room_free}
 use Rattle.sound_bodies.proofs.statements.Walks.{If, judged_if, after_if, After, Walked, checking_walked, scope_walked}
 use Rattle.sound_means.proofs.Counting.{region_room}
-use Rattle.sound_means.proofs.Expressions.{Meant, typing_meant, PartMeant, part_meant, FieldMeant, field_meant}
+use Rattle.sound_means.proofs.Expressions.{Meant, steps_meant, typing_meant, PartMeant, part_meant, FieldMeant, field_meant}
 use Rattle.sound_means.proofs.Knows.{Knows, knows_kept, knows_local, knows_part, knows_region}
 use Rattle.sound_means.proofs.Written.{type_here}
 
 -- the typed expression that was made of an expression
 expr_made : (A : Around) (env : Env) → Knows A env → (e : PlainExpr) (f g : Found) (t : Option TypedExpr) → Fitting e → Typing env e f (gives t g) → ExprMeans A e (node_of e t)
-expr_made A env k e f g None fits d = absurd (typing_meant A env k fits d)
-expr_made A env k e f g (Some t) fits d = typing_meant A env k fits d
+expr_made A env k e f g None fits d = absurd (typing_meant A env k e f fits d)
+expr_made A env k e f g (Some t) fits d = typing_meant A env k e f fits d
 
 -- what is made of a statement that stands at a node, of one with a scope of its own, and of several, is what they mean
 abbrev MeansSo : Around → Node → tree.StmtForm → TypedStmt → Walk → Type 0
@@ -178,31 +179,21 @@ module _ (A : Around) (env : Env) (k : Knows A env)
         by true = at (element_of (type_of e) (index_of env index))
         by false = tt
 
-    fields_store : {e : PlainExpr} {f : Found} {a : TargetAnswer} → IsField e → Fitting e → Targeting env e f a → StoreMeans A tree.assign_field e a
-    fields_store is fits (Targeting.length_assigned l) = tt
-    fields_store is fits (Targeting.receiver_refused l d) = tt
-    fields_store is fits (Targeting.field_assigned {place = place} {of = of} {name = name} {g = g} {t = t} l d r) =
-        subst (StoreMeans A tree.assign_field (expression place (tree.field of name))) r (field_store place of name g t (typing_meant A env k fits d))
-    fields_store is fits (Targeting.part_index_refused l d) = tt
-    fields_store is fits (Targeting.part_element_assigned l d r) = absurd is
-    fields_store is fits (Targeting.array_refused l d) = tt
-    fields_store is fits (Targeting.index_refused l d i) = tt
-    fields_store is fits (Targeting.element_assigned l d i r) = absurd is
-    fields_store is fits (Targeting.no_target none) = tt
+    fields_store : {e : PlainExpr} {f : Found} {a : TargetAnswer} → IsField e → Fitting e → TargetRules env e f a → StoreMeans A tree.assign_field e a
+    fields_store is fits TargetRules.is_missed = tt
+    fields_store is fits (TargetRules.field_assigned {place = place} {of = of} {name = name} {g = g} {t = t} l d r) =
+        subst (StoreMeans A tree.assign_field (expression place (tree.field of name))) r (field_store place of name g t (steps_meant A env k fits d))
+    fields_store is fits (TargetRules.part_element_assigned l d r) = absurd is
+    fields_store is fits (TargetRules.element_assigned l d i r) = absurd is
 
-    elements_store : {e : PlainExpr} {f : Found} {a : TargetAnswer} → IsElement e → Fitting e → Targeting env e f a → StoreMeans A tree.assign_element e a
-    elements_store is fits (Targeting.length_assigned l) = tt
-    elements_store is fits (Targeting.receiver_refused l d) = tt
-    elements_store is fits (Targeting.field_assigned l d r) = absurd is
-    elements_store is fits (Targeting.part_index_refused l d) = tt
-    elements_store is fits (Targeting.part_element_assigned {place = place} {array = array} {index = index} {g = g} {row = row} {t = t} l d r) =
-        subst (StoreMeans A tree.assign_element (expression place (tree.element array index))) r (part_store place array index g row t l (typing_meant A env k fits.1 d))
-    elements_store is fits (Targeting.array_refused l d) = tt
-    elements_store is fits (Targeting.index_refused l d i) = tt
-    elements_store is fits (Targeting.element_assigned {place = place} {array = array} {index = index} {g = g} {h = h} {t = t} {u = u} l d i r) =
+    elements_store : {e : PlainExpr} {f : Found} {a : TargetAnswer} → IsElement e → Fitting e → TargetRules env e f a → StoreMeans A tree.assign_element e a
+    elements_store is fits TargetRules.is_missed = tt
+    elements_store is fits (TargetRules.field_assigned l d r) = absurd is
+    elements_store is fits (TargetRules.part_element_assigned {place = place} {array = array} {index = index} {g = g} {row = row} {t = t} l d r) =
+        subst (StoreMeans A tree.assign_element (expression place (tree.element array index))) r (part_store place array index g row t l (steps_meant A env k fits.1 d))
+    elements_store is fits (TargetRules.element_assigned {place = place} {array = array} {index = index} {g = g} {h = h} {t = t} {u = u} l d i r) =
         subst (StoreMeans A tree.assign_element (expression place (tree.element array index))) r
-        (element_store place array index g h t u (typing_meant A env k fits.0 d) (typing_meant A env k fits.1 i))
-    elements_store is fits (Targeting.no_target none) = tt
+        (element_store place array index g h t u (steps_meant A env k fits.0 d) (steps_meant A env k fits.1 i))
 
 placing_means : (A : Around) (make : PlainExpr → PlainExpr → tree.StmtForm) {node : Node} {target value : PlainExpr} {w : Walk} {v : Verdict TypedStmt} → Knows A w.env → Fitting value →
     ((a : TargetAnswer) → Targeting w.env target w.found a → StoreMeans A make target a) → AssigningPlace node target value w v → If (MeansSo A node (make target value)) v
@@ -285,8 +276,8 @@ whole_array (ty.class c args) h = cc
 -- what is cut
 cut_array : (A : Around) (env : Env) → Knows A env → (array : PlainExpr) (f g : Found) (t : Option TypedExpr) → Fitting array → Typing env array f (gives t g) → cut_fault t ≡ None →
     SourceMeans A array (typed.of_array (node_of array t)) × (is_array (cut_type t) ≡ true)
-cut_array A env k array f g None fits d none = absurd (typing_meant A env k fits d)
-cut_array A env k array f g (Some e) fits d none = (SourceMeans.an_array (typing_meant A env k fits d), whole_array (type_of e) none)
+cut_array A env k array f g None fits d none = absurd (typing_meant A env k array f fits d)
+cut_array A env k array f g (Some e) fits d none = (SourceMeans.an_array (typing_meant A env k array f fits d), whole_array (type_of e) none)
 
 cutting_means : (A : Around) {env : Env} {array : PlainExpr} {f g : Found} {t : PlainType} {source : Source} {wrong : Option Kind} → Knows A env → Fitting array → Cutting env array f t source wrong g → wrong ≡ None →
     SourceMeans A array source × (is_array t ≡ true)
@@ -314,10 +305,10 @@ mutual
       kept_goes A (tree.assign_local target value) node w (λ a b h. h) k v (local_means A k fits d) (checking_walked {params = params} {around = around} k.step (Checking.of_local_assignment d))
   checking_goes {params = params} {around = around} {node = node} {w = w} {v = v} A k targets fits (Checking.of_field_assignment {target = target} {value = value} d) =
       kept_goes A (tree.assign_field target value) node w (λ a b h. h) k v
-      (placing_means A tree.assign_field k fits.1 (λ a aim. fields_store A w.env k targets fits.0 aim) d) (checking_walked {params = params} {around = around} k.step (Checking.of_field_assignment d))
+      (placing_means A tree.assign_field k fits.1 (λ a aim. fields_store A w.env k targets fits.0 (target_rules w.env target w.found aim)) d) (checking_walked {params = params} {around = around} k.step (Checking.of_field_assignment d))
   checking_goes {params = params} {around = around} {node = node} {w = w} {v = v} A k targets fits (Checking.of_element_assignment {target = target} {value = value} d) =
       kept_goes A (tree.assign_element target value) node w (λ a b h. h) k v
-      (placing_means A tree.assign_element k fits.1 (λ a aim. elements_store A w.env k targets fits.0 aim) d) (checking_walked {params = params} {around = around} k.step (Checking.of_element_assignment d))
+      (placing_means A tree.assign_element k fits.1 (λ a aim. elements_store A w.env k targets fits.0 (target_rules w.env target w.found aim)) d) (checking_walked {params = params} {around = around} k.step (Checking.of_element_assignment d))
   checking_goes A k targets fits (Checking.of_call (Performing.refused_itself d)) = tt
   checking_goes {params = params} {around = around} {node = node} {w = w} {v = v} A k targets fits (Checking.of_call {value = value} (Performing.performed {t = t} {g = g} d j)) =
       kept_goes A (tree.perform value) node w (λ a b h. h) k v

@@ -1,204 +1,225 @@
 -- Where an nd construct was reached before an expression, one is reached after it.
-use Rattle.std.proofs.Common.{◌≡◌, ◌&&◌, ℕ, Bool, true, false, cond, IsTrue, List, Option, Some, None, Result, Ok, Err, subst}
+use Rattle.std.proofs.Common.{◌&&◌, ℕ, Bool, true, false, cond, IsTrue, List, Option, Some, None, Result, Ok, Err, map, subst}
+use Rattle.std.specs.List.{list_all}
+use Rattle.std.specs.Option.{option_map_or}
 use Rattle.std.proofs.lemmas.Bool.{or_left}
 use Rattle.lang_base.specs.declared.place.Place.{Place}
 use Rattle.lang_base.specs.declared.refusal.Refusal.{Refusal}
 use Rattle.lang_base.specs.declared.region.Rpl.{Rpl}
 use Rattle.lang_base.specs.Types.{PlainType}
+use Rattle.decl_headers.specs.Headers.{class_of}
 use Rattle.decl_resolve.specs.declared.args.ReadArgs.{ReadArgs}
 use Rattle.region_types.specs.Access.{PlainElement}
-use Rattle.decl_resolve.specs.Index.{PlainIndex}
+use Rattle.decl_resolve.specs.Args.{args_given}
+use Rattle.decl_resolve.specs.Classes.{params_in}
 use Rattle.decl_table.specs.declared.rows.MethodRow.{MethodRow}
 use Rattle.decl_table.specs.declared.table.Table.{Table}
-use Rattle.decl_table.specs.Table.{constructor_of}
-use Rattle.syntax_tree.specs.declared.region.BaseTree.{BaseTree}
+use Rattle.decl_table.specs.Table.{headers_of, constructor_of}
 use Rattle.syntax_tree.specs.declared.region.Named.{Named}
-use Rattle.syntax_tree.specs.declared.region.RplTree.{RplTree}
-use Rattle.syntax_tree.specs.Plain.{PlainExpr, PlainExprs}
+use Rattle.syntax_tree.specs.Plain.{PlainExpr, expression, PlainExprs, no_exprs, more_exprs}
+use Rattle.syntax_tree.specs.Plain.{ExprForm as tree}
 use Rattle.lang_typed.specs.Plain.{TypedExpr, type_of}
 use Rattle.lang_typed.specs.Plain.{ExprForm as form}
 use Rattle.body_exprs.specs.declared.env.Env.{Env}
 use Rattle.body_exprs.specs.declared.found.Found.{Found}
 use Rattle.body_exprs.specs.Answer.{Answer, gives, refused, read}
-use Rattle.body_exprs.specs.Elements.{index_of, element_through, element_read, read_element, part_element, part_read, read_part}
-use Rattle.body_exprs.specs.Env.{table_of, is_length_name}
+use Rattle.body_exprs.specs.Arrays.{made_names}
+use Rattle.body_exprs.specs.Elements.{index_of, element_through, element_read, part_element, part_read}
+use Rattle.body_exprs.specs.Env.{table_of, local_of, part_of, is_length_name}
 use Rattle.body_exprs.specs.Fields.{PlainField, field_through, field_read, read_field}
-use Rattle.body_exprs.specs.Targeting.{PlainTarget, PlainSpot, to_field, to_element, to_part, TargetAnswer, aims, misses, aimed, written, with_write, Targeting}
-use Rattle.body_exprs.specs.Typed.{type_in, node_at, is_array}
-use Rattle.body_exprs.specs.Typing.{answer, AllAnswer, all_give, one_refused, Typing, TypingArray, TypingAll}
-use Rattle.body_exprs.specs.Uses.{with_constructor, CallOf, CallOn, Call, CreationOf, Creation}
+use Rattle.body_exprs.specs.Locals.{local_typed, measured}
+use Rattle.body_exprs.specs.Operations.{unary_typed, binary_typed}
+use Rattle.body_exprs.specs.Steps.{after, looked_up}
+use Rattle.body_exprs.specs.Targeting.{PlainTarget, PlainSpot, to_field, to_element, to_part, TargetAnswer, aims, misses, aimed, written, with_write, field_target, element_target, part_target, target_form, type_target, Targeting}
+use Rattle.body_exprs.specs.Typed.{type_in, node_at, may_be, is_value, is_array}
+use Rattle.body_exprs.specs.Typing.{answer, AllAnswer, all_give, one_refused, after_all, type_array, type_expr, type_form, type_all, Typing}
+use Rattle.body_exprs.specs.Uses.{args_of, method_through, with_constructor, type_call_of, type_call_on, type_call, type_creation}
 
 -- so much more is found
 abbrev pub Grows : Found → Found → Type 0
 Grows f g = IsTrue f.reaches_nd → IsTrue g.reaches_nd
 
--- what is found after an answer that gives something, has it
-abbrev pub IfGives : Answer → (Found → Type 0) → Type 0
-IfGives (gives t g) P = P g
-IfGives (refused q) P = Unit {0}
+-- so much more is found after an answer that gives something, after several, and after a target
+data Answered (f : Found) : Answer → Type 0 where
+  gives_more : {t : Option TypedExpr} {g : Found} → Grows f g → Answered f (gives t g)
+  gives_none : {q : Refusal} → Answered f (refused q)
 
-abbrev IfAllGive : AllAnswer → (Found → Type 0) → Type 0
-IfAllGive (all_give types g) P = P g
-IfAllGive (one_refused q) P = Unit {0}
+data AllAnswered (f : Found) : AllAnswer → Type 0 where
+  all_more : {types : List (Option TypedExpr)} {g : Found} → Grows f g → AllAnswered f (all_give types g)
+  all_none : {q : Refusal} → AllAnswered f (one_refused q)
 
-abbrev pub IfAims : TargetAnswer → (Found → Type 0) → Type 0
-IfAims (aims aim g) P = P g
-IfAims (misses q) P = Unit {0}
+data Aimed (f : Found) : TargetAnswer → Type 0 where
+  aims_more : {aim : Option PlainTarget} {g : Found} → Grows f g → Aimed f (aims aim g)
+  aims_none : {q : Refusal} → Aimed f (misses q)
+
+the_more : {f g : Found} {t : Option TypedExpr} → Answered f (gives t g) → Grows f g
+the_more (gives_more n) = n
+
+aim_more : {f g : Found} {aim : Option PlainTarget} → Aimed f (aims aim g) → Grows f g
+aim_more (aims_more n) = n
+
+same : {f : Found} {t : Option TypedExpr} → Answered f (gives t f)
+same = gives_more (λ n. n)
 
 -- after a part
-following : (f g : Found) (a : Answer) → Grows f g → IfGives a (Grows g) → IfGives a (Grows f)
-following f g (gives t h) before after = λ n. after (before n)
-following f g (refused q) before after = tt
+following : {f g : Found} {a : Answer} → Grows f g → Answered g a → Answered f a
+following before (gives_more after) = gives_more (λ n. after (before n))
+following before gives_none = gives_none
 
-aim_after : (f g : Found) (a : TargetAnswer) → Grows f g → IfAims a (Grows g) → IfAims a (Grows f)
-aim_after f g (aims aim h) before after = λ n. after (before n)
-aim_after f g (misses q) before after = tt
+aim_following : {f g : Found} {a : TargetAnswer} → Grows f g → Aimed g a → Aimed f a
+aim_following before (aims_more after) = aims_more (λ n. after (before n))
+aim_following before aims_none = aims_none
 
-answered : (f : Found) (r : Result TypedExpr Refusal) {a : Answer} → answer r f ≡ a → IfGives a (Grows f)
-answered f r is = subst (λ (z : Answer). IfGives z (Grows f)) is (of_result r)
-  where
-    of_result : (x : Result TypedExpr Refusal) → IfGives (answer x f) (Grows f)
-    of_result (Ok e) = λ n. n
-    of_result (Err q) = tt
+-- what comes out of a step
+given_grows : {X A : Type 0} (P : A → Type 0) (o : Option X) (some : X → A) (none : A) → ((x : X) → P (some x)) → P none → P (option_map_or some o none)
+given_grows P (Some x) some none first second = first x
+given_grows P None some none first second = second
+
+choice_grows : {f : Found} (b : Bool) {x y : Answer} → Answered f x → Answered f y → Answered f (cond b x y)
+choice_grows true first second = first
+choice_grows false first second = second
+
+reported_grows : {f : Found} (o : Option Refusal) (rest : Answer) → Answered f rest → Answered f (option_map_or refused o rest)
+reported_grows {f} o rest h = given_grows (Answered f) o refused rest (λ q. gives_none) h
+
+after_grows : {A : Type 0} (P : A → Type 0) {f : Found} (refuse : Refusal → A) (a : Answer) (next : Option TypedExpr → Found → A) → Answered f a → ((q : Refusal) → P (refuse q)) →
+    ((t : Option TypedExpr) (g : Found) → Grows f g → P (next t g)) → P (after refuse a next)
+after_grows P refuse (gives t g) next h stops goes = goes t g (the_more h)
+after_grows P refuse (refused q) next h stops goes = stops q
+
+after_all_grows : {A : Type 0} (P : A → Type 0) {f : Found} (refuse : Refusal → A) (a : AllAnswer) (next : List (Option TypedExpr) → Found → A) → AllAnswered f a → ((q : Refusal) → P (refuse q)) →
+    ((types : List (Option TypedExpr)) (g : Found) → Grows f g → P (next types g)) → P (after_all refuse a next)
+after_all_grows P refuse (all_give types g) next (all_more n) stops goes = goes types g n
+after_all_grows P refuse (one_refused q) next h stops goes = stops q
+
+answered : (f : Found) (r : Result TypedExpr Refusal) → Answered f (answer r f)
+answered f (Ok e) = same
+answered f (Err q) = gives_none
 
 -- what is read
-read_grows : (may : Bool) (e : TypedExpr) (rpl : Rpl) (place : Place) (f : Found) → IfGives (read may e rpl place f) (Grows f)
-read_grows true e rpl place f = λ n. n
-read_grows false e rpl place f = tt
+read_grows : (may : Bool) (e : TypedExpr) (rpl : Rpl) (place : Place) (f : Found) → Answered f (read may e rpl place f)
+read_grows true e rpl place f = gives_more (λ n. n)
+read_grows false e rpl place f = gives_none
 
-field_grows : (e : TypedExpr) (seen : Result PlainField Refusal) (place : Place) (f : Found) → IfGives (field_read e seen place f) (Grows f)
+field_grows : (e : TypedExpr) (seen : Result PlainField Refusal) (place : Place) (f : Found) → Answered f (field_read e seen place f)
 field_grows e (Ok seen) place f = read_grows seen.may_read _ seen.rpl place f
-field_grows e (Err q) place f = tt
+field_grows e (Err q) place f = gives_none
 
-choice_grows : (b : Bool) (x y : Answer) (f : Found) → IfGives x (Grows f) → IfGives y (Grows f) → IfGives (cond b x y) (Grows f)
-choice_grows true x y f first second = first
-choice_grows false x y f first second = second
-
-read_field_grows : (env : Env) (t : Option TypedExpr) (name : ℕ) (place : Place) (f : Found) → IfGives (read_field env t name place f) (Grows f)
-read_field_grows env None name place f = λ n. n
+read_field_grows : (env : Env) (t : Option TypedExpr) (name : ℕ) (place : Place) (f : Found) → Answered f (read_field env t name place f)
+read_field_grows env None name place f = same
 read_field_grows env (Some e) name place f =
-    choice_grows (is_array (type_of e) && is_length_name env name) _ _ f (λ n. n) (field_grows e (field_through (table_of env) (type_of e) name place) place f)
+    choice_grows (is_array (type_of e) && is_length_name env name) same (field_grows e (field_through (table_of env) (type_of e) name place) place f)
 
-element_grows : (made : form) (seen : Result (Option PlainElement) Refusal) (place : Place) (f : Found) → IfGives (element_read made seen place f) (Grows f)
-element_grows made (Ok None) place f = λ n. n
+element_grows : (made : form) (seen : Result (Option PlainElement) Refusal) (place : Place) (f : Found) → Answered f (element_read made seen place f)
+element_grows made (Ok None) place f = same
 element_grows made (Ok (Some seen)) place f = read_grows seen.may_read _ seen.rpl place f
-element_grows made (Err q) place f = tt
+element_grows made (Err q) place f = gives_none
 
-part_grows : (i : TypedExpr) (seen : Result (Option (ℕ × PlainType × Rpl)) Refusal) (place : Place) (f : Found) → IfGives (part_read i seen place f) (Grows f)
-part_grows i (Ok None) place f = λ n. n
-part_grows i (Ok (Some (slot, elem, rpl))) place f = λ n. n
-part_grows i (Err q) place f = tt
+part_grows : (i : TypedExpr) (seen : Result (Option (ℕ × PlainType × Rpl)) Refusal) (place : Place) (f : Found) → Answered f (part_read i seen place f)
+part_grows i (Ok None) place f = same
+part_grows i (Ok (Some (slot, elem, rpl))) place f = gives_more (λ n. n)
+part_grows i (Err q) place f = gives_none
 
 -- calls and creations
-call_of_grows : {env : Env} {e : TypedExpr} {class : ℕ} {row : MethodRow} {owned : List Rpl} {args : ReadArgs} {actuals : List (Option TypedExpr)} {place : Place} {f : Found} {a : Answer} →
-    CallOf env e class row owned args actuals place f a → IfGives a (Grows f)
-call_of_grows (CallOf.unknown_args is) = tt
-call_of_grows (CallOf.faulty_call is said) = tt
-call_of_grows (CallOf.fitting_call is said) = λ n. or_left _ _ n
+call_of_grows : (env : Env) (e : TypedExpr) (class : ℕ) (row : MethodRow) (owned : List Rpl) (args : ReadArgs) (actuals : List (Option TypedExpr)) (place : Place) (f : Found) →
+    Answered f (type_call_of env e class row owned args actuals place f)
+call_of_grows env e class row owned args actuals place f =
+    given_grows (Answered f) (args_given args.written args.paths row.regions) _ _ (λ regions. reported_grows _ _ (gives_more (λ n. or_left _ _ n))) gives_none
 
-call_on_grows : {env : Env} {e : TypedExpr} {name : ℕ} {args : ReadArgs} {actuals : List (Option TypedExpr)} {place : Place} {f : Found} {a : Answer} →
-    CallOn env e name args actuals place f a → IfGives a (Grows f)
-call_on_grows (CallOn.no_method is) = tt
-call_on_grows (CallOn.of_method is d) = call_of_grows d
+call_on_grows : (env : Env) (e : TypedExpr) (name : ℕ) (args : ReadArgs) (actuals : List (Option TypedExpr)) (place : Place) (f : Found) →
+    Answered f (type_call_on env e name args actuals place f)
+call_on_grows env e name args actuals place f = by (method_through (table_of env) (type_of e) name place)
+  where
+    by : (r : Result (ℕ × MethodRow × List Rpl) Refusal) → Answered f (looked_up r (λ (class, row, owned). type_call_of env e class row owned args actuals place f))
+    by (Ok seen) = call_of_grows env e seen.0 seen.1 seen.2 args actuals place f
+    by (Err q) = gives_none
 
-call_grows : {env : Env} {t : Option TypedExpr} {name : ℕ} {args : ReadArgs} {actuals : List (Option TypedExpr)} {place : Place} {f : Found} {a : Answer} →
-    Call env t name args actuals place f a → IfGives a (Grows f)
-call_grows (Call.on_type d) = call_on_grows d
-call_grows (Call.on_anything is) = λ n. n
-call_grows (Call.no_value_passed is) = tt
+call_grows : (env : Env) (t : Option TypedExpr) (name : ℕ) (args : ReadArgs) (actuals : List (Option TypedExpr)) (place : Place) (f : Found) →
+    Answered f (type_call env t name args actuals place f)
+call_grows env (Some e) name args actuals place f = call_on_grows env e name args actuals place f
+call_grows env None name args actuals place f = choice_grows (list_all (may_be is_value) (map type_in actuals)) same gives_none
 
 constructor_grows : (table : Table) (f : Found) (row : Option MethodRow) (args : List Rpl) → Grows f (with_constructor table f row args)
 constructor_grows table f None args = λ n. n
 constructor_grows table f (Some row) args = λ n. or_left _ _ n
 
-creation_of_grows : {env : Env} {at : ℕ} {args : ReadArgs} {actuals : List (Option TypedExpr)} {place : Place} {f : Found} {a : Answer} →
-    CreationOf env at args actuals place f a → IfGives a (Grows f)
-creation_of_grows (CreationOf.unknown_args is) = tt
-creation_of_grows (CreationOf.faulty_creation is said) = tt
-creation_of_grows {env} {at} {f = f} (CreationOf.created {regions = regions} is said) = constructor_grows (table_of env) f (constructor_of (table_of env) at) regions
-
-creation_grows : {env : Env} {class : Named} {args : ReadArgs} {actuals : List (Option TypedExpr)} {place : Place} {f : Found} {a : Answer} →
-    Creation env class args actuals place f a → IfGives a (Grows f)
-creation_grows (Creation.no_class is) = tt
-creation_grows (Creation.of_class is d) = creation_of_grows d
-
--- a rule that says what its answer is
-said : (f g : Found) (x : Answer) {a : Answer} → x ≡ a → Grows f g → IfGives x (Grows g) → IfGives a (Grows f)
-said f g x {a} is before after = following f g a before (subst (λ (z : Answer). IfGives z (Grows g)) is after)
+creation_grows : (env : Env) (class : Named) (args : ReadArgs) (actuals : List (Option TypedExpr)) (place : Place) (f : Found) →
+    Answered f (type_creation env class args actuals place f)
+creation_grows env class args actuals place f =
+    given_grows (Answered f) (class_of (headers_of (table_of env)) class.name) _ _
+    (λ at. given_grows (Answered f) (args_given args.written args.paths (params_in (headers_of (table_of env)) at)) _ _
+    (λ regions. reported_grows _ _ (gives_more (constructor_grows (table_of env) f (constructor_of (table_of env) at) regions))) gives_none) gives_none
 
 mutual
-  pub grows : {env : Env} {e : PlainExpr} {f : Found} {a : Answer} → Typing env e f a → IfGives a (Grows f)
-  grows {f = f} (Typing.no_parts {r = r} l s) = answered f r s
-  grows (Typing.part_length l) = λ n. n
-  grows (Typing.field_receiver_refused l d) = tt
-  grows {env} {f = f} (Typing.field_read {place = place} {name = name} {g = g} {t = t} l d r) =
-      said f g (read_field env t name place g) r (grows d) (read_field_grows env t name place g)
-  grows (Typing.part_index_refused l d) = tt
-  grows {f = f} (Typing.part_element_read {place = place} {g = g} {row = row} {t = t} l d r) =
-      said f g (read_part row t place g) r (grows d) (part_grows (node_at place t) (part_element row (type_in t) place) place g)
-  grows (Typing.array_refused l d) = tt
-  grows (Typing.index_refused l d i) = tt
-  grows {env} {f = f} (Typing.element_read {place = place} {index = index} {g = g} {h = h} {t = t} {u = u} l d i r) =
-      let first : Grows f g = grows d in
-      let second : Grows g h = grows i in
-      said f h (read_element env t index u place h) r (λ n. second (first n))
-      (element_grows (form.element (node_at place t) (node_at place u)) (element_through (type_in t) (index_of env index) (type_in u) place) place h)
-  grows (Typing.operand_refused d) = tt
-  grows {f = f} {a = a} (Typing.operation {g = g} d r) = following f g a (grows d) (answered g _ r)
-  grows (Typing.left_refused d) = tt
-  grows (Typing.right_refused d i) = tt
-  grows {f = f} {a = a} (Typing.both_operands {g = g} {h = h} d i r) =
-      let first : Grows f g = grows d in
-      let second : Grows g h = grows i in
-      following f h a (λ n. second (first n)) (answered h _ r)
-  grows (Typing.receiver_refused d) = tt
-  grows (Typing.call_args_refused d l) = tt
-  grows (Typing.call_actual_refused d l i) = tt
-  grows {f = f} {a = a} (Typing.method_call {g = g} {h = h} d l i r) =
-      let first : Grows f g = grows d in
-      let second : Grows g h = all_grow i in
-      following f h a (λ n. second (first n)) (call_grows r)
-  grows (Typing.new_args_refused l) = tt
-  grows (Typing.new_actual_refused l i) = tt
-  grows {f = f} {a = a} (Typing.new_object {g = g} l i r) = following f g a (all_grow i) (creation_grows r)
-  grows (Typing.new_array d) = array_grows d
+  expr_grows : (env : Env) (e : PlainExpr) (f : Found) → Answered f (type_expr env e f)
+  expr_grows env (expression place form) f = form_grows env place form f
 
-  array_grows : {env : Env} {around : PlainIndex} {base : BaseTree} {len : PlainExpr} {rpl : Option RplTree} {place : Place} {f : Found} {a : Answer} →
-      TypingArray env around base len rpl place f a → IfGives a (Grows f)
-  array_grows (TypingArray.front_refused l) = tt
-  array_grows (TypingArray.length_refused l d) = tt
-  array_grows {f = f} {a = a} (TypingArray.array_created {g = g} l d r) = following f g a (grows d) (answered g _ r)
+  form_grows : (env : Env) (place : Place) (e : tree) (f : Found) → Answered f (type_form env place e f)
+  form_grows env place (tree.int k) f = same
+  form_grows env place (tree.boolean b) f = same
+  form_grows env place tree.null f = same
+  form_grows env place tree.this f = same
+  form_grows env place (tree.local name) f = answered f (local_typed (local_of env name) place)
+  form_grows env place (tree.field of name) f =
+      given_grows (Answered f) (measured env of name) _ _ (λ row. same)
+      (after_grows (Answered f) _ _ _ (expr_grows env of f) (λ q. gives_none) (λ t g n. following n (read_field_grows env t name place g)))
+  form_grows env place (tree.element array index) f =
+      given_grows (Answered f) (part_of env array) _ _
+      (λ row.
+      after_grows (Answered f) _ _ _ (expr_grows env index f) (λ q. gives_none)
+      (λ i g n. following n (part_grows (node_at place i) (part_element row (type_in i) place) place g)))
+      (after_grows (Answered f) _ _ _ (expr_grows env array f) (λ q. gives_none)
+      (λ t g n. after_grows (Answered f) _ _ _ (expr_grows env index g) (λ q. gives_none)
+      (λ i h m. following (λ x. m (n x))
+      (element_grows (form.element (node_at place t) (node_at place i)) (element_through (type_in t) (index_of env index) (type_in i) place) place h))))
+  form_grows env place (tree.unary op arg) f =
+      after_grows (Answered f) _ _ _ (expr_grows env arg f) (λ q. gives_none) (λ t g n. following n (answered g (unary_typed op t place)))
+  form_grows env place (tree.binary op left right) f =
+      after_grows (Answered f) _ _ _ (expr_grows env left f) (λ q. gives_none)
+      (λ t g n. after_grows (Answered f) _ _ _ (expr_grows env right g) (λ q. gives_none)
+      (λ u h m. following (λ x. m (n x)) (answered h (binary_typed op t u place))))
+  form_grows env place (tree.call of regions name actuals) f =
+      after_grows (Answered f) _ _ _ (expr_grows env of f) (λ q. gives_none)
+      (λ t g n. reported_grows _ _ (after_all_grows (Answered f) _ _ _ (all_grow env actuals g) (λ q. gives_none)
+      (λ types h m. following (λ x. m (n x)) (call_grows env t name (args_of env regions) types place h))))
+  form_grows env place (tree.create class regions actuals) f =
+      reported_grows _ _ (after_all_grows (Answered f) _ _ _ (all_grow env actuals f) (λ q. gives_none)
+      (λ types g n. following n (creation_grows env class (args_of env regions) types place g)))
+  form_grows env place (tree.create_array base suffixes len rpl index) f =
+      reported_grows _ _ (after_grows (Answered f) _ _ _ (expr_grows env len f) (λ q. gives_none)
+      (λ t g n. following n (answered g (type_array env (made_names suffixes index) base rpl place t))))
 
-  all_grow : {env : Env} {es : PlainExprs} {f : Found} {a : AllAnswer} → TypingAll env es f a → IfAllGive a (Grows f)
-  all_grow TypingAll.none_left = λ n. n
-  all_grow (TypingAll.first_refused d) = tt
-  all_grow (TypingAll.later_refused d i) = tt
-  all_grow {f = f} (TypingAll.one_more {g = g} {h = h} d i) =
-      let first : Grows f g = grows d in
-      let second : Grows g h = all_grow i in
-      λ n. second (first n)
+  all_grow : (env : Env) (es : PlainExprs) (f : Found) → AllAnswered f (type_all env es f)
+  all_grow env no_exprs f = all_more (λ n. n)
+  all_grow env (more_exprs e es) f =
+      after_grows (AllAnswered f) _ _ _ (expr_grows env e f) (λ q. all_none)
+      (λ t g n. after_all_grows (AllAnswered f) _ _ _ (all_grow env es g) (λ q. all_none) (λ types h m. all_more (λ x. m (n x))))
 
--- what is assigned to
-aimed_grows : (f : Found) (r : Result (Option PlainTarget) Refusal) {a : TargetAnswer} → aimed r f ≡ a → IfAims a (Grows f)
-aimed_grows f r is = subst (λ (z : TargetAnswer). IfAims z (Grows f)) is (of_result r)
-  where
-    of_result : (x : Result (Option PlainTarget) Refusal) → IfAims (aimed x f) (Grows f)
-    of_result (Ok target) = λ n. n
-    of_result (Err q) = tt
+-- what is found after an expression that gives something, and after a target
+pub grows : (env : Env) (e : PlainExpr) (f : Found) {t : Option TypedExpr} {g : Found} → Typing env e f (gives t g) → Grows f g
+grows env e f d = the_more (subst (Answered f) d (expr_grows env e f))
 
-pub target_grows : {env : Env} {e : PlainExpr} {f : Found} {a : TargetAnswer} → Targeting env e f a → IfAims a (Grows f)
-target_grows (Targeting.length_assigned l) = tt
-target_grows (Targeting.receiver_refused l d) = tt
-target_grows {f = f} {a = a} (Targeting.field_assigned {g = g} l d r) = aim_after f g a (grows d) (aimed_grows g _ r)
-target_grows (Targeting.part_index_refused l d) = tt
-target_grows {f = f} {a = a} (Targeting.part_element_assigned {g = g} l d r) = aim_after f g a (grows d) (aimed_grows g _ r)
-target_grows (Targeting.array_refused l d) = tt
-target_grows (Targeting.index_refused l d i) = tt
-target_grows {f = f} {a = a} (Targeting.element_assigned {g = g} {h = h} l d i r) =
-    let first : Grows f g = grows d in
-    let second : Grows g h = grows i in
-    aim_after f h a (λ n. second (first n)) (aimed_grows h _ r)
-target_grows (Targeting.no_target n) = tt
+aimed_grows : (f : Found) (r : Result (Option PlainTarget) Refusal) → Aimed f (aimed r f)
+aimed_grows f (Ok target) = aims_more (λ n. n)
+aimed_grows f (Err q) = aims_none
+
+aiming_grows : (env : Env) (place : Place) (e : tree) (f : Found) → Aimed f (target_form env place e f)
+aiming_grows env place (tree.field of name) f =
+    given_grows (Aimed f) (measured env of name) _ _ (λ row. aims_none)
+    (after_grows (Aimed f) _ _ _ (expr_grows env of f) (λ q. aims_none) (λ t g n. aim_following n (aimed_grows g (field_target env t name place))))
+aiming_grows env place (tree.element array index) f =
+    given_grows (Aimed f) (part_of env array) _ _
+    (λ row. after_grows (Aimed f) _ _ _ (expr_grows env index f) (λ q. aims_none) (λ i g n. aim_following n (aimed_grows g (part_target row i place))))
+    (after_grows (Aimed f) _ _ _ (expr_grows env array f) (λ q. aims_none)
+    (λ t g n. after_grows (Aimed f) _ _ _ (expr_grows env index g) (λ q. aims_none)
+    (λ i h m. aim_following (λ x. m (n x)) (aimed_grows h (element_target env t index i place)))))
+aiming_grows env place e f = aims_none
+
+target_of_grows : (env : Env) (e : PlainExpr) (f : Found) → Aimed f (type_target env e f)
+target_of_grows env (expression place form) f = aiming_grows env place form f
+
+pub target_grows : (env : Env) (e : PlainExpr) (f : Found) {aim : Option PlainTarget} {g : Found} → Targeting env e f (aims aim g) → Grows f g
+target_grows env e f d = aim_more (subst (Aimed f) d (target_of_grows env e f))
 
 -- a write
 written_grows : (f : Found) (to : PlainSpot) (rpl : Rpl) → Grows f (written f to rpl)

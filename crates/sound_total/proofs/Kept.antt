@@ -111,8 +111,8 @@ declaring_done : {around : Around} {node : Node} {is_final : Bool} {tree : TypeT
     Declaring node is_final tree name value w v → IfPasses (FormDone around node (form.declare is_final tree name value) w) v
 declaring_done (Declaring.type_refused is) = not_passed
 declaring_done (Declaring.value_refused is d) = not_passed
-declaring_done {node = node} {name = name} {w = w} (Declaring.declared {g = g} {fit = fit} made is same d fits j) =
-    let more : Grows w.found g = grows d in
+declaring_done {node = node} {name = name} {value = value} {w = w} (Declaring.declared {g = g} {fit = fit} made is same d fits j) =
+    let more : Grows w.found g = grows w.env value w.found d in
     at_node (with_fault_if (declaration_noted w.env name node.place node) kind.Type (not fit)) _ _ j
     (λ clean. record {
       keeps = tt;
@@ -124,8 +124,8 @@ local_done : {around : Around} {node : Node} {target : Named} {value : PlainExpr
     AssigningLocal node target value w v → IfPasses (FormDone around node (form.assign_local target value) w) v
 local_done (AssigningLocal.value_refused d) = not_passed
 local_done (AssigningLocal.no_local d is reported) = not_passed
-local_done {node = node} {w = w} (AssigningLocal.assigned {g = g} {row = row} {fit = fit} d is fits j) =
-    let more : Grows w.found g = grows d in
+local_done {node = node} {value = value} {w = w} (AssigningLocal.assigned {g = g} {row = row} {fit = fit} d is fits j) =
+    let more : Grows w.found g = grows w.env value w.found d in
     at_node (with_found node (local_fault fit row.is_final)) _ _ j
     (λ clean. record { keeps = tt; clean = found_clean node (local_fault fit row.is_final) clean; reaches = grown more })
 
@@ -137,14 +137,14 @@ record PlaceDone (node : Node) (w u : Walk) : Type 0 where
 place_done : {node : Node} {target value : PlainExpr} {w : Walk} {v : Verdict TypedStmt} → AssigningPlace node target value w v → IfPasses (PlaceDone node w) v
 place_done (AssigningPlace.target_refused d) = not_passed
 place_done (AssigningPlace.value_refused d i) = not_passed
-place_done {node} {w = w} (AssigningPlace.anything_assigned {g = g} {h = h} {t = t} d i j) =
-    let first : Grows w.found g = target_grows d in
-    let second : Grows g h = grows i in
+place_done {node} {target} {value} {w} (AssigningPlace.anything_assigned {g = g} {h = h} {t = t} d i j) =
+    let first : Grows w.found g = target_grows w.env target w.found d in
+    let second : Grows g h = grows w.env value g i in
     at_node (with_fault_if node kind.Type (not (may_be is_value (type_in t)))) _ _ j
     (λ clean. record { clean = (if_clean node kind.Type (not (may_be is_value (type_in t))) clean).0; reaches = λ t. second (first (still w.found.reaches_nd t)) })
-place_done {node} {w = w} (AssigningPlace.place_assigned {aim = aim} {g = g} {h = h} {fit = fit} d i fits j) =
-    let first : Grows w.found g = target_grows d in
-    let second : Grows g h = grows i in
+place_done {node} {target} {value} {w} (AssigningPlace.place_assigned {aim = aim} {g = g} {h = h} {fit = fit} d i fits j) =
+    let first : Grows w.found g = target_grows w.env target w.found d in
+    let second : Grows g h = grows w.env value g i in
     at_node (with_found node (target_fault fit aim.may_write)) _ _ j
     (λ clean. record {
       clean = found_clean node (target_fault fit aim.may_write) clean;
@@ -162,8 +162,8 @@ element_done h = weaker h (λ u done. record { keeps = tt; clean = done.clean; r
 performing_done : {around : Around} {node : Node} {value : PlainExpr} {w : Walk} {v : Verdict TypedStmt} → Performing node value w v →
     IfPasses (FormDone around node (form.perform value) w) v
 performing_done (Performing.refused_itself d) = not_passed
-performing_done {node = node} {w = w} (Performing.performed {g = g} d j) =
-    let more : Grows w.found g = grows d in
+performing_done {node = node} {value = value} {w = w} (Performing.performed {g = g} d j) =
+    let more : Grows w.found g = grows w.env value w.found d in
     at_node node _ _ j (λ clean. record { keeps = tt; clean = clean; reaches = grown more })
 
 return_done : {around : Around} {node : Node} {w : Walk} {v : Verdict TypedStmt} (made : TypedStmt) →
@@ -177,8 +177,8 @@ return_done {around} {node} {w} made is =
 returning_done : {around : Around} {node : Node} {value : PlainExpr} {w : Walk} {v : Verdict TypedStmt} → Returning around node value w v →
     IfPasses (FormDone around node (form.return_value value) w) v
 returning_done (Returning.value_refused d) = not_passed
-returning_done {around} {node} {w = w} (Returning.returned {g = g} {fit = fit} d fits j) =
-    let more : Grows w.found g = grows d in
+returning_done {around} {node} {value} {w} (Returning.returned {g = g} {fit = fit} d fits j) =
+    let more : Grows w.found g = grows w.env value w.found d in
     at_node (with_fault_if (with_fault_if node kind.Return (is_misplaced around true)) kind.Type (not fit)) _ _ j
     (λ clean.
     let placed : IsClean node × (is_misplaced around true ≡ false) =
@@ -188,8 +188,8 @@ returning_done {around} {node} {w = w} (Returning.returned {g = g} {fit = fit} d
 printing_done : {around : Around} {node : Node} {value : PlainExpr} {w : Walk} {v : Verdict TypedStmt} → Printing node value w v →
     IfPasses (FormDone around node (form.print value) w) v
 printing_done (Printing.value_refused d) = not_passed
-printing_done {node = node} {w = w} (Printing.printed {t = t} {g = g} d j) =
-    let more : Grows w.found g = grows d in
+printing_done {node = node} {value = value} {w = w} (Printing.printed {t = t} {g = g} d j) =
+    let more : Grows w.found g = grows w.env value w.found d in
     at_node (with_fault_if node kind.Type (not (may_print (type_in t)))) _ _ j
     (λ clean. record { keeps = tt; clean = (if_clean node kind.Type (not (may_print (type_in t))) clean).0; reaches = grown more })
 
@@ -366,14 +366,14 @@ once_opened (it_opened done) = done
 
 cut_grows : {env : Env} {array : PlainExpr} {f g : Found} {t : PlainType} {source : Source} {fault : Option Kind} → Cutting env array f t source fault g → Grows f g
 cut_grows (Cutting.a_part is) = λ n. n
-cut_grows (Cutting.an_array is d) = grows d
+cut_grows {env} {array} {f} (Cutting.an_array is d) = grows env array f d
 
 opened_done : {node : Node} {view var : Named} {array count : PlainExpr} {w : Walk} {o : Opened} → Opening node view var array count w o → IfOpened node w o
 opened_done (Opening.array_refused is d) = it_stopped
 opened_done (Opening.count_refused c d) = it_stopped
-opened_done {node} {view} {var} {w = w} (Opening.both_given t {fault = fault} {g = g} {h = h} {u = u} c d) =
+opened_done {node} {view} {var} {count = count} {w = w} (Opening.both_given t {fault = fault} {g = g} {h = h} {u = u} c d) =
     let first : Grows w.found g = cut_grows c in
-    let second : Grows g h = grows d in
+    let second : Grows g h = grows w.env count g d in
     it_opened (record {
       clean = λ is.
           found_clean node fault
@@ -457,13 +457,13 @@ mutual
   form_done (Checking.of_choice d) = choice_form_done (choices_done d)
   form_done (Checking.of_choice_else d) = choice_else_done (choices_done d)
   form_done (Checking.while_refused d) = not_passed
-  form_done (Checking.of_while {t = t} {g = g} d i j) = while_done g (not (may_be is_boolean (type_in t))) _ (grows d) (scopes_done i) j
+  form_done {w = w} (Checking.of_while {test = test} {t = t} {g = g} d i j) = while_done g (not (may_be is_boolean (type_in t))) _ (grows w.env test w.found d) (scopes_done i) j
   form_done (Checking.of_cobegin d) = forks_done d
   form_done (Checking.start_refused d) = not_passed
   form_done (Checking.count_refused d i) = not_passed
-  form_done {w = w} (Checking.of_foreach {t = t} {u = u} {g = g} {h = h} d i r) =
-      let first : Grows w.found g = grows d in
-      let second : Grows g h = grows i in
+  form_done {w = w} (Checking.of_foreach {start = start} {count = count} {t = t} {u = u} {g = g} {h = h} d i r) =
+      let first : Grows w.found g = grows w.env start w.found d in
+      let second : Grows g h = grows w.env count g i in
       foreach_done h (not (may_be is_int (type_in t))) (not (may_be is_int (type_in u))) (λ n. second (first n)) (loops_done r)
   form_done (Checking.of_parts d) = all_parts_done d
   form_done (Checking.block_refused d) = not_passed
@@ -473,7 +473,7 @@ mutual
       Choosing params around node test first other w v → IfPasses (ChoiceDone around node first other w) v
   choices_done (Choosing.test_refused d) = not_passed
   choices_done (Choosing.first_refused d i) = not_passed
-  choices_done (Choosing.chosen {t = t} {g = g} d i o j) = choice_done g (not (may_be is_boolean (type_in t))) _ (grows d) (at_end (scopes_done i)) (others_done o) j
+  choices_done {test = test} {w = w} (Choosing.chosen {t = t} {g = g} d i o j) = choice_done g (not (may_be is_boolean (type_in t))) _ (grows w.env test w.found d) (at_end (scopes_done i)) (others_done o) j
 
   others_done : {params : List Bool} {around : Around} {other : Option PlainStmt} {w : Walk} {v : Verdict (Option TypedStmt)} → InOther params around other w v →
       IfPasses (OtherDone around other w) v

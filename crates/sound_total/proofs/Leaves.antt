@@ -18,9 +18,9 @@ use Rattle.body_exprs.specs.declared.found.Found.{Found}
 use Rattle.body_exprs.specs.Answer.{gives}
 use Rattle.body_exprs.specs.Answer.{Answer as answer}
 use Rattle.body_exprs.specs.Env.{table_of, supers_of, local_of}
-use Rattle.body_exprs.specs.Targeting.{PlainTarget, TargetAnswer, aims, misses, Targeting}
+use Rattle.body_exprs.specs.Targeting.{PlainTarget, TargetAnswer, aims, misses, type_target, Targeting}
 use Rattle.body_exprs.specs.Typed.{may_be, is_value, type_in, FitsAs}
-use Rattle.body_exprs.specs.Typing.{Typing}
+use Rattle.body_exprs.specs.Typing.{type_expr, Typing}
 use Rattle.body_check.specs.declared.node.Around.{Around}
 use Rattle.body_check.specs.declared.node.Node.{Node}
 use Rattle.body_check.specs.Deciding.{Returned}
@@ -28,9 +28,7 @@ use Rattle.body_check.specs.Simple.{declared_type, declared_reported, Declaring,
 use Rattle.body_check.specs.Walks.{Walk, Verdict, refused}
 use Rattle.body_check.proofs.Noting.{noted_reported}
 use Rattle.sound_total.proofs.Decided.{Decided, tested}
-use Rattle.sound_total.proofs.Expressions.{judged}
 use Rattle.sound_total.proofs.Fitting.{fits_decided}
-use Rattle.sound_total.proofs.Targets.{target_judged}
 
 -- each plain type is that of a type of the code
 abbrev pub of_plain : PlainType → Ty
@@ -61,7 +59,7 @@ value_declared {tree = tree} {w = w} (answer.gives t g) is d =
 type_declared : (node : Node) (is_final : Bool) (tree : TypeTree) (name : ℕ) (value : PlainExpr) (w : Walk) (said : Option Refusal) → declared_reported w.env tree ≡ said →
     (v : Verdict TypedStmt) × Declaring node is_final tree name value w v
 type_declared node is_final tree name value w (Some q) is = (refused q, Declaring.type_refused is)
-type_declared node is_final tree name value w None is = let one = judged w.env value w.found in value_declared one.0 is one.1
+type_declared node is_final tree name value w None is = value_declared (type_expr w.env value w.found) is refl
 
 pub declaring_judged : (node : Node) (is_final : Bool) (tree : TypeTree) (name : ℕ) (value : PlainExpr) (w : Walk) → (v : Verdict TypedStmt) × Declaring node is_final tree name value w v
 declaring_judged node is_final tree name value w = type_declared node is_final tree name value w (declared_reported w.env tree) refl
@@ -80,7 +78,7 @@ value_to_local (answer.refused q) d = (refused q, AssigningLocal.value_refused d
 value_to_local {target = target} {w = w} (answer.gives t g) d = to_local (local_of w.env target.name) d refl
 
 pub local_assigned : (node : Node) (target : Named) (value : PlainExpr) (w : Walk) → (v : Verdict TypedStmt) × AssigningLocal node target value w v
-local_assigned node target value w = let one = judged w.env value w.found in value_to_local one.0 one.1
+local_assigned node target value w = value_to_local (type_expr w.env value w.found) refl
 
 -- `target = value;` for a field or an element
 to_place : {node : Node} {target value : PlainExpr} {w : Walk} {g h : Found} {t : Option TypedExpr} (aim : Option PlainTarget) →
@@ -98,10 +96,10 @@ value_to_place aim (answer.gives t h) d i = to_place aim d i
 aimed_at : {node : Node} {target value : PlainExpr} {w : Walk} (a : TargetAnswer) → Targeting w.env target w.found a →
     (v : Verdict TypedStmt) × AssigningPlace node target value w v
 aimed_at (misses q) d = (refused q, AssigningPlace.target_refused d)
-aimed_at {value = value} {w = w} (aims aim g) d = let two = judged w.env value g in value_to_place aim two.0 d two.1
+aimed_at {value = value} {w = w} (aims aim g) d = value_to_place aim (type_expr w.env value g) d refl
 
 pub place_assigned : (node : Node) (target value : PlainExpr) (w : Walk) → (v : Verdict TypedStmt) × AssigningPlace node target value w v
-place_assigned node target value w = let one = target_judged w.env target w.found in aimed_at one.0 one.1
+place_assigned node target value w = aimed_at (type_target w.env target w.found) refl
 
 -- a call or a creation
 value_performed : {node : Node} {value : PlainExpr} {w : Walk} (a : answer) → Typing w.env value w.found a → (v : Verdict TypedStmt) × Performing node value w v
@@ -109,7 +107,7 @@ value_performed (answer.refused q) d = (refused q, Performing.refused_itself d)
 value_performed (answer.gives t g) d = (_, Performing.performed d refl)
 
 pub performing_judged : (node : Node) (value : PlainExpr) (w : Walk) → (v : Verdict TypedStmt) × Performing node value w v
-performing_judged node value w = let one = judged w.env value w.found in value_performed one.0 one.1
+performing_judged node value w = value_performed (type_expr w.env value w.found) refl
 
 -- `return value;`
 returned_decided : (supers : List Super) (has_result : Bool) (row : Option MethodRow) (value : Option PlainType) → Decided (Returned supers has_result row value)
@@ -125,7 +123,7 @@ value_returned {around} {w = w} (answer.gives t g) d =
     (_, Returning.returned d fit.1 refl)
 
 pub returning_judged : (around : Around) (node : Node) (value : PlainExpr) (w : Walk) → (v : Verdict TypedStmt) × Returning around node value w v
-returning_judged around node value w = let one = judged w.env value w.found in value_returned one.0 one.1
+returning_judged around node value w = value_returned (type_expr w.env value w.found) refl
 
 -- `print(value);`
 value_printed : {node : Node} {value : PlainExpr} {w : Walk} (a : answer) → Typing w.env value w.found a → (v : Verdict TypedStmt) × Printing node value w v
@@ -133,4 +131,4 @@ value_printed (answer.refused q) d = (refused q, Printing.value_refused d)
 value_printed (answer.gives t g) d = (_, Printing.printed d refl)
 
 pub printing_judged : (node : Node) (value : PlainExpr) (w : Walk) → (v : Verdict TypedStmt) × Printing node value w v
-printing_judged node value w = let one = judged w.env value w.found in value_printed one.0 one.1
+printing_judged node value w = value_printed (type_expr w.env value w.found) refl

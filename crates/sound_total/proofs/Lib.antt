@@ -1,15 +1,11 @@
 pub mod Bodies
 pub mod BodiesKept
-pub mod Cases
 pub mod Clean
 pub mod Decided
-pub mod Expressions
 pub mod Fitting
 pub mod Growing
 pub mod Kept
 pub mod Leaves
 pub mod Listed
 pub mod Statements
-pub mod Targets
 pub mod Touching
-pub mod Uses

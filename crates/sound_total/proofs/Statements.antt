@@ -23,7 +23,7 @@ use Rattle.body_exprs.specs.declared.found.Found.{Found}
 use Rattle.body_exprs.specs.Answer.{gives}
 use Rattle.body_exprs.specs.Answer.{Answer as answer}
 use Rattle.body_exprs.specs.Env.{given_in, part_of}
-use Rattle.body_exprs.specs.Typing.{Typing}
+use Rattle.body_exprs.specs.Typing.{type_expr, Typing}
 use Rattle.body_check.specs.declared.node.Around.{Around}
 use Rattle.body_check.specs.declared.node.Node.{Node}
 use Rattle.body_check.specs.Checking.{TouchedBy, ClashIs, AssignsIs, cut_type, cut_fault, Cutting, Opened, opened, not_opened, Opening, BranchesVerdict, all_pass, one_refused, iteration_begun, variable_noted, Checking, Choosing, InOther, no_other, an_other, Standing, standing, InScope, in_scope, InBlock, in_block, InOrder, Branching, Forking, Iterating, Parting}
@@ -35,7 +35,6 @@ use Rattle.body_check.specs.Noting.{node_at, with_fault_if, fault_of}
 use Rattle.body_check.specs.Simple.{node_of}
 use Rattle.body_check.specs.Walks.{Walk, Verdict, passes, refused, apart_from}
 use Rattle.sound_total.proofs.Decided.{Decided, fails, holds, tested, both, below, refuted, all_pairs}
-use Rattle.sound_total.proofs.Expressions as expression
 use Rattle.sound_total.proofs.Leaves.{of_plain, plain_again, declaring_judged, local_assigned, place_assigned, performing_judged, returning_judged, printing_judged}
 use Rattle.sound_total.proofs.Listed.{IsListed}
 use Rattle.sound_total.proofs.Touching.{all_reads, all_assigns, no_clash_decided}
@@ -95,7 +94,7 @@ test_after {around = around} {w = w} (answer.gives t g) d only next = let one = 
 
 chosen : {params : List Bool} {first : PlainStmt} {other : Option PlainStmt} (test : PlainExpr) → ScopeJudged params first → OtherJudged params other →
     (around : Around) (node : Node) (w : Walk) → Chosen params around node test first other w
-chosen test only next around node w = let one = expression.judged w.env test w.found in test_after one.0 one.1 only next
+chosen test only next around node w = test_after (type_expr w.env test w.found) refl only next
 
 -- a `while`
 body_after : {params : List Bool} {around : Around} {node : Node} {test : PlainExpr} {body : PlainStmt} {w : Walk} (a : answer) →
@@ -104,7 +103,7 @@ body_after (answer.refused q) d only = (refused q, Checking.while_refused d)
 body_after {around = around} {w = w} (answer.gives t g) d only = let one = only around (record w { found = g }) in (_, Checking.of_while d one.1 refl)
 
 of_while : {params : List Bool} {body : PlainStmt} (test : PlainExpr) → ScopeJudged params body → FormJudged params (form.while_loop test body)
-of_while test only around node w = let one = expression.judged w.env test w.found in body_after one.0 one.1 only
+of_while test only around node w = body_after (type_expr w.env test w.found) refl only
 
 -- whether branches clash over locals, whether they interfere, and whether a body assigns outer locals
 clash_said : (branches : List Touched) (none : Bool) → IsTrue none ↔ NoPair Clash branches → ClashIs branches (not none)
@@ -205,11 +204,11 @@ count_after {around = around} {nd = nd} {var} {w = w} t (answer.gives u h) d i o
 start_after : {params : List Bool} {around : Around} {node : Node} {nd : Bool} {var : Named} {start count : PlainExpr} {body : PlainStmt} {w : Walk} (a : answer) →
     Typing w.env start w.found a → ScopeJudged params body → Foreach params around node nd var start count body w
 start_after (answer.refused q) d only = (refused q, Checking.start_refused d)
-start_after {count = count} {w = w} (answer.gives t g) d only = let two = expression.judged w.env count g in count_after t two.0 d two.1 only
+start_after {count = count} {w = w} (answer.gives t g) d only = count_after t (type_expr w.env count g) d refl only
 
 of_foreach : {params : List Bool} {nd : Bool} {var : Named} {body : PlainStmt} (start count : PlainExpr) → ScopeJudged params body →
     FormJudged params (form.foreach nd var start count body)
-of_foreach start count only around node w = let one = expression.judged w.env start w.found in start_after one.0 one.1 only
+of_foreach start count only around node w = start_after (type_expr w.env start w.found) refl only
 
 -- a `foreach_parts`
 abbrev OpenedBy : Node → Named → Named → PlainExpr → PlainExpr → Walk → Type 0
@@ -222,7 +221,7 @@ both_after t (answer.gives u h) c d = (_, Opening.both_given t c d)
 
 cut_after : {node : Node} {view var : Named} {array : PlainExpr} {w : Walk} (count : PlainExpr) (t : Ty) {source : Source} {fault : Option Kind} {g : Found} →
     Cutting w.env array w.found (plain_type t) source fault g → OpenedBy node view var array count w
-cut_after {w = w} count t {g = g} c = let two = expression.judged w.env count g in both_after t two.0 c two.1
+cut_after {w = w} count t {g = g} c = both_after t (type_expr w.env count g) c refl
 
 array_after : {node : Node} {view var : Named} {array : PlainExpr} {w : Walk} (count : PlainExpr) (a : answer) → part_of w.env array ≡ None → Typing w.env array w.found a →
     OpenedBy node view var array count w
@@ -233,7 +232,7 @@ array_after {array = array} {w = w} count (answer.gives t g) is d =
 
 opening_of : (node : Node) (view var : Named) (array count : PlainExpr) (w : Walk) (part : Option LocalRow) → part_of w.env array ≡ part → OpenedBy node view var array count w
 opening_of node view var array count w (Some row) is = cut_after count row.ty (Cutting.a_part is)
-opening_of node view var array count w None is = let one = expression.judged w.env array w.found in array_after count one.0 is one.1
+opening_of node view var array count w None is = array_after count (type_expr w.env array w.found) is refl
 
 abbrev Parted : List Bool → Around → Node → Named → Named → PlainExpr → PlainExpr → PlainStmt → Walk → Type 0
 Parted params around node view var array count body w = (v : Verdict TypedStmt) × Parting params around node view var array count body w v

@@ -42,7 +42,7 @@ use Rattle.body_exprs.specs.declared.env.Env.{Env}
 use Rattle.body_exprs.specs.declared.env.LocalRow.{LocalRow}
 use Rattle.body_exprs.specs.declared.found.Found.{Found}
 use Rattle.body_exprs.specs.Answer.{Answer, gives, refused, read}
-use Rattle.body_exprs.specs.Arrays.{array_reported, array_with, type_reported, own_path, own_place, created_array, front_of}
+use Rattle.body_exprs.specs.Arrays.{made_names, array_reported, array_with, type_reported, own_path, own_place, created_array, front_of}
 use Rattle.body_exprs.specs.Elements.{array_element, element_read, read_element, index_of, element_in_part, part_read, read_part}
 use Rattle.body_exprs.specs.Env.{table_of, scope_of, local_of, as_part, part_of, is_length_name}
 use Rattle.body_exprs.specs.Fields.{owned_field, named_field, field_through, field_read, read_field}
@@ -50,9 +50,10 @@ use Rattle.body_exprs.specs.Locals.{local_typed}
 use Rattle.body_exprs.specs.Operations.{unary_takes, binary_takes, binary_gives, binary_form, node_if}
 use Rattle.body_exprs.specs.Targeting.{TargetAnswer, aims, misses, aimed, field_target, element_target, part_target, PlainTarget, Targeting}
 use Rattle.body_exprs.specs.Typed.{type_in, node_at, may_be, is_int, is_array}
-use Rattle.body_exprs.specs.Typing.{answer, created, leaf_typed, AllAnswer, all_give, one_refused, Typing, TypingArray, TypingAll}
-use Rattle.body_exprs.specs.Uses.{args_of, owned_method, named_method, method_through, with_constructor, CallOf, CallOn, Call, CreationOf, Creation}
+use Rattle.body_exprs.specs.Typing.{answer, created, AllAnswer, all_give, one_refused, Typing}
+use Rattle.body_exprs.specs.Uses.{args_of, owned_method, named_method, method_through, with_constructor}
 use Rattle.sound_lemmas.proofs.Lists.{some_same, ok_same}
+use Rattle.sound_lemmas.proofs.Rules.{leaf_typed, CallOf, Call, CreationOf, Creation, Rules, AllRules, TargetRules, rules, target_rules}
 use Rattle.sound_bodies.proofs.reach.Reached.{Adds, adds_none, adds_then, adds_more, adds_later, adds_call}
 use Rattle.sound_bodies.proofs.reach.TypeShapes.{IsShape, shape_with, shape_at, judged_shaped}
 
@@ -301,8 +302,7 @@ module _ (env : Env) (locals : Names Shape) (rows : AreShallow (table_of env))
 
     call_made : (s : Shape) (name : ℕ) (ids : List ℕ) (e : TypedExpr) (class : ℕ) (row : MethodRow) (owned : List Rpl) (args : ReadArgs) (ts : List (Option TypedExpr)) (place : Place) (f h : Found) (a : Answer) → Named' s name row →
         More f ids h → CallOf env e class row owned args ts place h a → Answered (call_shape T s name) (ids ++ id_of (called_row T s name)) f a
-    call_made s name ids e class row owned args ts place f h a n more (CallOf.unknown_args unknown) = tt
-    call_made s name ids e class row owned args ts place f h a n more (CallOf.faulty_call given faulty) = tt
+    call_made s name ids e class row owned args ts place f h a n more CallOf.call_refused = tt
     call_made s name ids e class row owned args ts place f h a n more (CallOf.fitting_call {regions = regions} given right) = (
       subst (λ o. IsShape (option_map_or (λ (r : MethodRow). type_shape (plain_type r.result)) o no_class) (type_with (owned ++ regions) (plain_type row.result))) (sym n.row_is)
           (shape_with (owned ++ regions) (type_shape (plain_type row.result)) (plain_type row.result) (rows.results n.class name row n.there)),
@@ -312,17 +312,15 @@ module _ (env : Env) (locals : Names Shape) (rows : AreShallow (table_of env))
 
     call_answered : (s : Shape) (name : ℕ) (ids : List ℕ) (t : Option TypedExpr) (args : ReadArgs) (ts : List (Option TypedExpr)) (place : Place) (f h : Found) (a : Answer) → Shown s t → More f ids h → Call env t name args ts place h a →
         Answered (call_shape T s name) (ids ++ id_of (called_row T s name)) f a
-    call_answered s name ids t args ts place f h a shown more (Call.on_type (CallOn.no_method is)) = tt
-    call_answered s name ids t args ts place f h a shown more (Call.on_type {e = e} (CallOn.of_method {class = class} {row = row} {owned = owned} is d)) =
+    call_answered s name ids t args ts place f h a shown more (Call.of_method {e = e} {class = class} {row = row} {owned = owned} is d) =
         call_made s name ids e class row owned args ts place f h a (method_seen s (type_of e) name place class row owned shown is) more d
-    call_answered s name ids t args ts place f h a shown more (Call.on_anything all) = (tt, adds_more (table_of env) f.reaches_nd h.reaches_nd ids (id_of (called_row T s name)) more)
-    call_answered s name ids t args ts place f h a shown more (Call.no_value_passed all) = tt
+    call_answered s name ids t args ts place f h a shown more Call.on_anything = (tt, adds_more (table_of env) f.reaches_nd h.reaches_nd ids (id_of (called_row T s name)) more)
+    call_answered s name ids t args ts place f h a shown more Call.use_refused = tt
 
     -- creations
     creation_made : (name at : ℕ) (ids : List ℕ) (args : ReadArgs) (ts : List (Option TypedExpr)) (place : Place) (f g : Found) (a : Answer) → class_of (headers_of (table_of env)) name ≡ Some at → More f ids g →
         CreationOf env at args ts place g a → Answered (create_shape T name) (ids ++ id_of (run_row T name)) f a
-    creation_made name at ids args ts place f g a is more (CreationOf.unknown_args unknown) = tt
-    creation_made name at ids args ts place f g a is more (CreationOf.faulty_creation given faulty) = tt
+    creation_made name at ids args ts place f g a is more CreationOf.creation_refused = tt
     creation_made name at ids args ts place f g a is more (CreationOf.created {regions = regions} given right) = (
       subst (λ o. object_of (option_map_or object_shape o no_class) ≡ Some at) (sym is) refl,
       subst (λ o. More f (ids ++ id_of (option_and_then (constructor_of T) o)) (with_constructor (table_of env) g (constructor_of (table_of env) at) regions)) (sym is) (by (constructor_of (table_of env) at)),
@@ -335,7 +333,7 @@ module _ (env : Env) (locals : Names Shape) (rows : AreShallow (table_of env))
 
     creation_answered : (class : Named) (ids : List ℕ) (args : ReadArgs) (ts : List (Option TypedExpr)) (place : Place) (f g : Found) (a : Answer) → More f ids g → Creation env class args ts place g a →
         Answered (create_shape T class.name) (ids ++ id_of (run_row T class.name)) f a
-    creation_answered class ids args ts place f g a more (Creation.no_class is) = tt
+    creation_answered class ids args ts place f g a more Creation.object_refused = tt
     creation_answered class ids args ts place f g a more (Creation.of_class {at = at} is d) = creation_made class.name at ids args ts place f g a is more d
 
     array_shown : (around : PlainIndex) (base : BaseTree) (len : Option PlainType) (rpl : Option RplTree) (place : Place) (t : PlainType) → created_array env around (front_of env around base) len rpl place ≡ Ok t →
@@ -367,59 +365,45 @@ module _ (env : Env) (locals : Names Shape) (rows : AreShallow (table_of env))
     created_shown s place len (Err refusal) h made e = cc
 
     mutual
-      pub typing_answered : {e : tree.PlainExpr} {f : Found} {a : Answer} → Typing env e f a → Of e f a
-      typing_answered (Typing.no_parts {place = place} {form = leaf} {f = f} {r = r} l s) = subst (Of (tree.expression place leaf) f) s (leaf_answered place leaf f r l)
-      typing_answered (Typing.part_length {of = of} {f = f} l) = (tt, adds_later (table_of env) f.reaches_nd f.reaches_nd [] (calls of) (λ h. inl h))
-      typing_answered (Typing.field_receiver_refused l d) = tt
-      typing_answered (Typing.field_read {place = place} {of = of} {name = name} {f = f} {g = g} {t = t} l d r) =
-          let w = typing_answered d in
+      steps_answered : {e : tree.PlainExpr} {f : Found} {a : Answer} → Rules env e f a → Of e f a
+      steps_answered (Rules.no_parts {place = place} {form = leaf} {f = f} {r = r} l s) = subst (Of (tree.expression place leaf) f) s (leaf_answered place leaf f r l)
+      steps_answered (Rules.part_length {of = of} {f = f} l) = (tt, adds_later (table_of env) f.reaches_nd f.reaches_nd [] (calls of) (λ h. inl h))
+      steps_answered Rules.is_refused = tt
+      steps_answered (Rules.field_read {place = place} {of = of} {name = name} {f = f} {g = g} {t = t} l d r) =
+          let w = steps_answered d in
           subst (Of (tree.expression place (tree.field of name)) f) r (field_answered place of name f g t w.0 w.1)
-      typing_answered (Typing.part_index_refused l d) = tt
-      typing_answered (Typing.part_element_read {place = place} {array = array} {index = index} {f = f} {g = g} {row = row} {t = t} l d r) =
-          subst (Of (tree.expression place (tree.element array index)) f) r (part_answered place array index f g row t l (typing_answered d).1)
-      typing_answered (Typing.array_refused l d) = tt
-      typing_answered (Typing.index_refused l d i) = tt
-      typing_answered (Typing.element_read {place = place} {array = array} {index = index} {f = f} {g = g} {h = h} {t = t} {u = u} l d i r) =
-          let w = typing_answered d in
+      steps_answered (Rules.part_element_read {place = place} {array = array} {index = index} {f = f} {g = g} {row = row} {t = t} l d r) =
+          subst (Of (tree.expression place (tree.element array index)) f) r (part_answered place array index f g row t l (steps_answered d).1)
+      steps_answered (Rules.element_read {place = place} {array = array} {index = index} {f = f} {g = g} {h = h} {t = t} {u = u} l d i r) =
+          let w = steps_answered d in
           subst (Of (tree.expression place (tree.element array index)) f) r
-          (element_answered place array index f h t u w.0 (then_more f g h (calls array) (calls index) w.1 (typing_answered i).1))
-      typing_answered (Typing.operand_refused d) = tt
-      typing_answered (Typing.operation {place = place} {op = op} {arg = arg} {f = f} {g = g} {t = t} d r) =
+          (element_answered place array index f h t u w.0 (then_more f g h (calls array) (calls index) w.1 (steps_answered i).1))
+      steps_answered (Rules.operation {place = place} {op = op} {arg = arg} {f = f} {g = g} {t = t} d r) =
           subst (Of (tree.expression place (tree.unary op arg)) f) r
-          (node_answered no_class (calls arg) f g (unary_takes op (type_in t)) (unary_type op) (form.unary op (node_at place t)) place (unary_shown no_class op) (typing_answered d).1)
-      typing_answered (Typing.left_refused d) = tt
-      typing_answered (Typing.right_refused d i) = tt
-      typing_answered (Typing.both_operands {place = place} {op = op} {left = left} {right = right} {f = f} {g = g} {h = h} {t = t} {u = u} d i r) =
+          (node_answered no_class (calls arg) f g (unary_takes op (type_in t)) (unary_type op) (form.unary op (node_at place t)) place (unary_shown no_class op) (steps_answered d).1)
+      steps_answered (Rules.both_operands {place = place} {op = op} {left = left} {right = right} {f = f} {g = g} {h = h} {t = t} {u = u} d i r) =
           subst (Of (tree.expression place (tree.binary op left right)) f) r
           (node_answered no_class (calls left ++ calls right) f h (binary_takes op (type_in t) (type_in u)) (binary_gives op) (binary_form op (node_at place t) (node_at place u)) place (binary_shown no_class op)
-          (then_more f g h (calls left) (calls right) (typing_answered d).1 (typing_answered i).1))
-      typing_answered (Typing.receiver_refused d) = tt
-      typing_answered (Typing.call_args_refused d l) = tt
-      typing_answered (Typing.call_actual_refused d l i) = tt
-      typing_answered (Typing.method_call {place = place} {of = of} {regions = regions} {name = name} {actuals = actuals} {f = f} {g = g} {h = h} {t = t} {types = types} {a = a} d l i r) =
-          let w = typing_answered d in
+          (then_more f g h (calls left) (calls right) (steps_answered d).1 (steps_answered i).1))
+      steps_answered (Rules.method_call {place = place} {of = of} {regions = regions} {name = name} {actuals = actuals} {f = f} {g = g} {h = h} {t = t} {types = types} {a = a} d l i r) =
+          let w = steps_answered d in
           call_answered (shape of) name (calls of ++ every actuals) t (args_of env regions) types place f h a w.0 (then_more f g h (calls of) (every actuals) w.1 (all_answered i)) r
-      typing_answered (Typing.new_args_refused l) = tt
-      typing_answered (Typing.new_actual_refused l i) = tt
-      typing_answered (Typing.new_object {place = place} {class = class} {regions = regions} {actuals = actuals} {f = f} {g = g} {types = types} {a = a} l i r) =
+      steps_answered (Rules.new_object {place = place} {class = class} {regions = regions} {actuals = actuals} {f = f} {g = g} {types = types} {a = a} l i r) =
           creation_answered class (every actuals) (args_of env regions) types place f g a (all_answered i) r
-      typing_answered (Typing.new_array {base = base} {suffixes = suffixes} {len = len} {rpl = rpl} {index = index} d) = array_answered d
-
-      array_answered : {around : PlainIndex} {base : BaseTree} {len : tree.PlainExpr} {rpl : Option RplTree} {place : Place} {f : Found} {a : Answer} → TypingArray env around base len rpl place f a →
-          Answered (written_shape (headers_of T) base (length around.suffixes + 1)) (calls len) f a
-      array_answered (TypingArray.front_refused l) = tt
-      array_answered (TypingArray.length_refused l d) = tt
-      array_answered (TypingArray.array_created {around = around} {base = base} {len = len} {rpl = rpl} {place = place} {f = f} {g = g} {t = t} l d r) =
-          let s = written_shape (headers_of T) base (length around.suffixes + 1) in
+      steps_answered (Rules.new_array {place = place} {base = base} {suffixes = suffixes} {len = len} {rpl = rpl} {index = index} {f = f} {g = g} {t = t} l d r) =
+          let around = made_names suffixes index in
+          let s = written_shape (headers_of T) base (length suffixes + 1) in
           let made = created_array env around (front_of env around base) (type_in t) rpl place in
           subst (Answered s (calls len) f) r
-          (made_answered s (calls len) f g (created place (node_at place t) made) (created_shown s place (node_at place t) made (array_shown around base (type_in t) rpl place)) (typing_answered d).1)
+          (made_answered s (calls len) f g (created place (node_at place t) made) (created_shown s place (node_at place t) made (array_shown around base (type_in t) rpl place)) (steps_answered d).1)
 
-      all_answered : {es : tree.PlainExprs} {f : Found} {a : AllAnswer} → TypingAll env es f a → AllAnswered (every es) f a
-      all_answered (TypingAll.none_left {f = f}) = none_more f
-      all_answered (TypingAll.first_refused d) = tt
-      all_answered (TypingAll.later_refused d i) = tt
-      all_answered (TypingAll.one_more {e = e} {es = es} {f = f} {g = g} {h = h} d i) = then_more f g h (calls e) (every es) (typing_answered d).1 (all_answered i)
+      all_answered : {es : tree.PlainExprs} {f : Found} {a : AllAnswer} → AllRules env es f a → AllAnswered (every es) f a
+      all_answered (AllRules.none_left {f = f}) = none_more f
+      all_answered AllRules.some_refused = tt
+      all_answered (AllRules.one_more {e = e} {es = es} {f = f} {g = g} {h = h} d i) = then_more f g h (calls e) (every es) (steps_answered d).1 (all_answered i)
+
+    pub typing_answered : (e : tree.PlainExpr) (f : Found) {a : Answer} → Typing env e f a → Of e f a
+    typing_answered e f d = steps_answered (rules env e f d)
 
     -- what is assigned to
     abbrev pub Targeted : tree.PlainExpr → Found → TargetAnswer → Type 0
@@ -430,18 +414,16 @@ module _ (env : Env) (locals : Names Shape) (rows : AreShallow (table_of env))
     aimed_so e f g (Ok target) more = more
     aimed_so e f g (Err refusal) more = tt
 
-    pub targeting_answered : {e : tree.PlainExpr} {f : Found} {a : TargetAnswer} → Targeting env e f a → Targeted e f a
-    targeting_answered (Targeting.length_assigned l) = tt
-    targeting_answered (Targeting.receiver_refused l d) = tt
-    targeting_answered (Targeting.field_assigned {place = place} {of = of} {name = name} {f = f} {g = g} {t = t} l d r) =
-        subst (Targeted (tree.expression place (tree.field of name)) f) r (aimed_so (tree.expression place (tree.field of name)) f g (field_target env t name place) (typing_answered d).1)
-    targeting_answered (Targeting.part_index_refused l d) = tt
-    targeting_answered (Targeting.part_element_assigned {place = place} {array = array} {index = index} {f = f} {g = g} {row = row} {t = t} l d r) =
+    aims_answered : {e : tree.PlainExpr} {f : Found} {a : TargetAnswer} → TargetRules env e f a → Targeted e f a
+    aims_answered TargetRules.is_missed = tt
+    aims_answered (TargetRules.field_assigned {place = place} {of = of} {name = name} {f = f} {g = g} {t = t} l d r) =
+        subst (Targeted (tree.expression place (tree.field of name)) f) r (aimed_so (tree.expression place (tree.field of name)) f g (field_target env t name place) (steps_answered d).1)
+    aims_answered (TargetRules.part_element_assigned {place = place} {array = array} {index = index} {f = f} {g = g} {row = row} {t = t} l d r) =
         subst (Targeted (tree.expression place (tree.element array index)) f) r
-        (aimed_so (tree.expression place (tree.element array index)) f g (part_target row t place) (adds_later (table_of env) f.reaches_nd g.reaches_nd (calls array) (calls index) (typing_answered d).1))
-    targeting_answered (Targeting.array_refused l d) = tt
-    targeting_answered (Targeting.index_refused l d i) = tt
-    targeting_answered (Targeting.element_assigned {place = place} {array = array} {index = index} {f = f} {g = g} {h = h} {t = t} {u = u} l d i r) =
+        (aimed_so (tree.expression place (tree.element array index)) f g (part_target row t place) (adds_later (table_of env) f.reaches_nd g.reaches_nd (calls array) (calls index) (steps_answered d).1))
+    aims_answered (TargetRules.element_assigned {place = place} {array = array} {index = index} {f = f} {g = g} {h = h} {t = t} {u = u} l d i r) =
         subst (Targeted (tree.expression place (tree.element array index)) f) r
-        (aimed_so (tree.expression place (tree.element array index)) f h (element_target env t index u place) (then_more f g h (calls array) (calls index) (typing_answered d).1 (typing_answered i).1))
-    targeting_answered (Targeting.no_target is) = tt
+        (aimed_so (tree.expression place (tree.element array index)) f h (element_target env t index u place) (then_more f g h (calls array) (calls index) (steps_answered d).1 (steps_answered i).1))
+
+    pub targeting_answered : (e : tree.PlainExpr) (f : Found) {a : TargetAnswer} → Targeting env e f a → Targeted e f a
+    targeting_answered e f d = aims_answered (target_rules env e f d)

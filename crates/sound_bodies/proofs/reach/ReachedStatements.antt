@@ -76,17 +76,17 @@ module _ (table : Table) (class : ℕ) (rows : AreShallow table)
 
     -- expressions
 
-    expr_at : {locals : Names Shape} {env : Env} {e : PlainExpr} {f g : Found} {t : Option TypedExpr} → Shaped table class locals env → Typing env e f (gives t g) → Shown (shape locals e) t × More f false (calls locals e) g
-    expr_at {locals} {env} {e} {f} {g} {t} at d =
+    expr_at : {locals : Names Shape} {env : Env} (e : PlainExpr) (f : Found) {g : Found} {t : Option TypedExpr} → Shaped table class locals env → Typing env e f (gives t g) → Shown (shape locals e) t × More f false (calls locals e) g
+    expr_at {locals} {env} e f {g} {t} at d =
         subst (λ z. Shown (shape_of (without_forks z) class locals e) t × Adds z f.reaches_nd false (calls_of (without_forks z) class locals e) g.reaches_nd) at.table_is
         (subst (λ c. Shown (shape_of (without_forks (table_of env)) c locals e) t × Adds (table_of env) f.reaches_nd false (calls_of (without_forks (table_of env)) c locals e) g.reaches_nd) at.class_is
-        (typing_answered env locals (subst AreShallow (sym at.table_is) rows) (local_shaped at) d))
+        (typing_answered env locals (subst AreShallow (sym at.table_is) rows) (local_shaped at) e f d))
 
-    target_at : {locals : Names Shape} {env : Env} {e : PlainExpr} {f g : Found} {aim : _} → Shaped table class locals env → Targeting env e f (aims aim g) → More f false (calls locals e) g
-    target_at {locals} {env} {e} {f} {g} {aim} at d =
+    target_at : {locals : Names Shape} {env : Env} (e : PlainExpr) (f : Found) {g : Found} {aim : _} → Shaped table class locals env → Targeting env e f (aims aim g) → More f false (calls locals e) g
+    target_at {locals} {env} e f {g} {aim} at d =
         subst (λ z. Adds z f.reaches_nd false (calls_of (without_forks z) class locals e) g.reaches_nd) at.table_is
         (subst (λ c. Adds (table_of env) f.reaches_nd false (calls_of (without_forks (table_of env)) c locals e) g.reaches_nd) at.class_is
-        (targeting_answered env locals (subst AreShallow (sym at.table_is) rows) (local_shaped at) d))
+        (targeting_answered env locals (subst AreShallow (sym at.table_is) rows) (local_shaped at) e f d))
 
     -- what a `foreach_parts` cuts has the shape of its part
     cutting_at : {locals : Names Shape} {env : Env} {array : PlainExpr} {f g : Found} {t : PlainType} {source : Source} {fault : Option Kind} → Shaped table class locals env → Cutting env array f t source fault g →
@@ -97,7 +97,7 @@ module _ (table : Table) (class : ℕ) (rows : AreShallow table)
           (part_shown env locals (subst AreShallow (sym at.table_is) rows) (local_shaped at) array row is)),
       λ h. inl h,
     )
-    cutting_at {locals} {env} {array} at (Cutting.an_array {t = t} none d) = let w = expr_at at d in (by t w.0, w.1)
+    cutting_at {locals} {env} {array} {f} at (Cutting.an_array {t = t} none d) = let w = expr_at array f at d in (by t w.0, w.1)
       where
         by : (o : Option TypedExpr) → Shown (shape locals array) o → IsShape (shape locals array) (cut_type o)
         by None h = tt
@@ -117,7 +117,7 @@ module _ (table : Table) (class : ℕ) (rows : AreShallow table)
           env = local_added name made is_final (tree_shape (headers_of table) written) (room_free w.env name node.place node f.0)
               (subst (λ z. IsShape (tree_shape (headers_of z) written) (plain_type made)) at.table_is
               (subst (IsShape (tree_shape (headers_of (table_of w.env)) written)) (sym same) (declared_shaped (scope_of w.env) written))) at;
-          adds = (expr_at at d).1;
+          adds = (expr_at value w.found at d).1;
         }))
 
     assigning : {locals : Names Shape} {node : Node} {target : Named} {value : PlainExpr} {w : Walk} {v : Verdict TypedStmt} → Shaped table class locals w.env → AssigningLocal node target value w v →
@@ -126,7 +126,7 @@ module _ (table : Table) (class : ℕ) (rows : AreShallow table)
     assigning at (AssigningLocal.no_local d is reported) = tt
     assigning {locals} {node} {target} {value} {w} at (AssigningLocal.assigned d is fits j) =
         subst (If (λ made u. Goes false (calls locals value) locals w u)) j
-        (judged_if (λ made u. Goes false (calls locals value) locals w u) _ _ _ (λ free. record { env = at; adds = (expr_at at d).1 }))
+        (judged_if (λ made u. Goes false (calls locals value) locals w u) _ _ _ (λ free. record { env = at; adds = (expr_at value w.found at d).1 }))
 
     placing : {locals : Names Shape} {node : Node} {target value : PlainExpr} {w : Walk} {v : Verdict TypedStmt} → Shaped table class locals w.env → AssigningPlace node target value w v →
         If (λ made u. Goes false (calls locals target ++ calls locals value) locals w u) v
@@ -135,33 +135,33 @@ module _ (table : Table) (class : ℕ) (rows : AreShallow table)
     placing {locals} {node} {target} {value} {w} at (AssigningPlace.anything_assigned {g = g} {h = h} d i j) =
         subst (If (λ made u. Goes false (calls locals target ++ calls locals value) locals w u)) j
         (judged_if (λ made u. Goes false (calls locals target ++ calls locals value) locals w u) _ _ _
-        (λ free. record { env = at; adds = then_more w.found g h false false (calls locals target) (calls locals value) (target_at at d) (expr_at at i).1 }))
+        (λ free. record { env = at; adds = then_more w.found g h false false (calls locals target) (calls locals value) (target_at target w.found at d) (expr_at value g at i).1 }))
     placing {locals} {node} {target} {value} {w} at (AssigningPlace.place_assigned {aim = aim} {g = g} {h = h} d i fits j) =
         subst (If (λ made u. Goes false (calls locals target ++ calls locals value) locals w u)) j
         (judged_if (λ made u. Goes false (calls locals target ++ calls locals value) locals w u) _ _ _ (λ free. record {
           env = at;
           adds = subst (Adds table w.found.reaches_nd false (calls locals target ++ calls locals value)) (sym (write_same h aim))
-              (then_more w.found g h false false (calls locals target) (calls locals value) (target_at at d) (expr_at at i).1);
+              (then_more w.found g h false false (calls locals target) (calls locals value) (target_at target w.found at d) (expr_at value g at i).1);
         }))
 
     performing : {locals : Names Shape} {node : Node} {value : PlainExpr} {w : Walk} {v : Verdict TypedStmt} → Shaped table class locals w.env → Performing node value w v → If (λ made u. Goes false (calls locals value) locals w u) v
     performing at (Performing.refused_itself d) = tt
     performing {locals} {node} {value} {w} at (Performing.performed d j) =
         subst (If (λ made u. Goes false (calls locals value) locals w u)) j
-        (judged_if (λ made u. Goes false (calls locals value) locals w u) _ _ _ (λ free. record { env = at; adds = (expr_at at d).1 }))
+        (judged_if (λ made u. Goes false (calls locals value) locals w u) _ _ _ (λ free. record { env = at; adds = (expr_at value w.found at d).1 }))
 
     returning : {locals : Names Shape} {around : Around} {node : Node} {value : PlainExpr} {w : Walk} {v : Verdict TypedStmt} → Shaped table class locals w.env → Returning around node value w v →
         If (λ made u. Goes false (calls locals value) locals w u) v
     returning at (Returning.value_refused d) = tt
     returning {locals} {around} {node} {value} {w} at (Returning.returned d fits j) =
         subst (If (λ made u. Goes false (calls locals value) locals w u)) j
-        (judged_if (λ made u. Goes false (calls locals value) locals w u) _ _ _ (λ free. record { env = at; adds = (expr_at at d).1 }))
+        (judged_if (λ made u. Goes false (calls locals value) locals w u) _ _ _ (λ free. record { env = at; adds = (expr_at value w.found at d).1 }))
 
     printing : {locals : Names Shape} {node : Node} {value : PlainExpr} {w : Walk} {v : Verdict TypedStmt} → Shaped table class locals w.env → Printing node value w v → If (λ made u. Goes false (calls locals value) locals w u) v
     printing at (Printing.value_refused d) = tt
     printing {locals} {node} {value} {w} at (Printing.printed d j) =
         subst (If (λ made u. Goes false (calls locals value) locals w u)) j
-        (judged_if (λ made u. Goes false (calls locals value) locals w u) _ _ _ (λ free. record { env = at; adds = (expr_at at d).1 }))
+        (judged_if (λ made u. Goes false (calls locals value) locals w u) _ _ _ (λ free. record { env = at; adds = (expr_at value w.found at d).1 }))
 
     -- the scope of the body of a loop
 
@@ -188,7 +188,7 @@ module _ (table : Table) (class : ℕ) (rows : AreShallow table)
         let first = room_free w.env view.name view.place plain (declared_free (part_declared w.env view.name t) var.name var.place noted free) in
         record {
           env = local_added var.name variant.Int true no_class second (int_shaped no_class) (part_added view.name t (shape locals array) first cut.0 at);
-          adds = then_more w.found g h false false (calls locals array) (calls locals count) cut.1 (expr_at at d).1;
+          adds = then_more w.found g h false false (calls locals array) (calls locals count) cut.1 (expr_at count g at d).1;
         }
 
     -- branches and blocks
@@ -296,7 +296,7 @@ module _ (table : Table) (class : ℕ) (rows : AreShallow table)
           subst (If (WhileGoes locals test body w)) j
           (after_if (ScopeGoes locals body (record w { found = g })) (WhileGoes locals test body w) (fault_of (with_fault_if node kind.Type (not (may_be is_boolean (type_in t)))))
           (λ s. typed.statement node.place (typed.while_loop (node_of test t) s)) u (scope_reaches locals at i)
-          (λ made x free h. record { env = h.env; adds = then_more w.found g x.found false (holds_nd body) (calls locals test) (inner locals body) (expr_at at d).1 h.adds }))
+          (λ made x free h. record { env = h.env; adds = then_more w.found g x.found false (holds_nd body) (calls locals test) (inner locals body) (expr_at test w.found at d).1 h.adds }))
       checking_goes place locals at (Checking.of_cobegin d) = forking_goes locals at d
       checking_goes place locals at (Checking.start_refused d) = tt
       checking_goes place locals at (Checking.count_refused d i) = tt
@@ -304,7 +304,7 @@ module _ (table : Table) (class : ℕ) (rows : AreShallow table)
           by v (iterating_goes locals at n)
         where
           range : More w.found false (calls locals start ++ calls locals count) h
-          range = then_more w.found g h false false (calls locals start) (calls locals count) (expr_at at d).1 (expr_at at i).1
+          range = then_more w.found g h false false (calls locals start) (calls locals count) (expr_at start w.found at d).1 (expr_at count g at i).1
 
           by : (x : Verdict TypedStmt) → If (λ made u. Goes (nd || holds_nd body) (inner (with_name locals var.name no_class) body) locals (record w { found = h }) u) x →
               If (λ made u. Goes (nd || holds_nd body) (calls locals start ++ calls locals count ++ inner (with_name locals var.name no_class) body) locals w u) x
@@ -330,7 +330,7 @@ module _ (table : Table) (class : ℕ) (rows : AreShallow table)
           subst (If (λ made u. Goes (choice_nd first other) (choice_calls locals test first other) locals w u)) j
           (after_if (OtherGoes locals other x) (λ made u. Goes (choice_nd first other) (choice_calls locals test first other) locals w u)
           (fault_of (with_fault_if node kind.Type (not (may_be is_boolean (type_in t))))) (λ part. typed.statement node.place (typed.choice_form (node_of test t) made part)) u
-          (other_reaches locals h.env n) (λ part z free o. chosen_goes locals test first other w x z g made part (expr_at at d).1 h o))
+          (other_reaches locals h.env n) (λ part z free o. chosen_goes locals test first other w x z g made part (expr_at test w.found at d).1 h o))
 
       other_reaches : {params : List Bool} {around : Around} {other : Option PlainStmt} {w : Walk} {v : Verdict (Option TypedStmt)} (locals : Names Shape) → Shaped table class locals w.env → InOther params around other w v →
           If (OtherGoes locals other w) v

@@ -17,6 +17,7 @@ use Rattle.lang_base.specs.declared.place.Place.{Place}
 use Rattle.lang_base.specs.declared.refusal.Kind.TheVariants as kind
 use Rattle.lang_base.specs.declared.refusal.Refusal.{Refusal}
 use Rattle.lang_base.specs.declared.region.Rpl.{Rpl}
+use Rattle.lang_base.specs.declared.ty.Super.{Super}
 use Rattle.lang_base.specs.declared.ty.Ty.{Ty}
 use Rattle.lang_base.specs.Regions.{is_any, fully_specified, substituted}
 use Rattle.lang_base.specs.Operators.{operands_of}
@@ -64,11 +65,14 @@ use Rattle.body_exprs.specs.Found.{effect_with}
 use Rattle.body_exprs.specs.Locals.{local_typed, measured}
 use Rattle.body_exprs.specs.Operations.{unary_typed, both, comparable, operands_fit, binary_takes, binary_gives, binary_form, binary_typed, node_if}
 use Rattle.body_exprs.specs.Partial.{is_partial_call, some_mention_partial, rigid_in_partial}
-use Rattle.body_exprs.specs.Typed.{type_in, node_at, nodes_at, is_int, is_boolean, is_reference, is_array, AllFit}
-use Rattle.body_exprs.specs.Typing.{answer, created, leaf_typed, AllAnswer, all_give, one_refused, Typing, TypingArray, TypingAll}
-use Rattle.body_exprs.specs.Uses.{args_of, args_reported, args_noted, callee_params, created_params, owned_method, named_method, method_through, formals_of, with_constructor, UseReported, use_faults, CallOf, CallOn, Call, CreationOf, Creation}
+use Rattle.body_exprs.specs.Fits.{fits_as, all_fit}
+use Rattle.body_exprs.specs.Typed.{type_in, node_at, nodes_at, is_int, is_boolean, is_reference, is_array, FitsAs}
+use Rattle.body_exprs.specs.Typing.{answer, created, AllAnswer, all_give, one_refused, Typing}
+use Rattle.body_exprs.specs.Uses.{args_of, args_reported, args_noted, callee_params, created_params, owned_method, named_method, method_through, formals_of, with_constructor, use_reported, use_faults}
+use Rattle.body_exprs.proofs.Fitted.{fits_is}
 use Rattle.sound_lemmas.proofs.Free.{noted_reported, none_reported, parts_free, append_none, fault_none, not_false}
 use Rattle.sound_lemmas.proofs.Lists.{some_same, ok_same}
+use Rattle.sound_lemmas.proofs.Rules.{leaf_typed, CallOf, Call, CreationOf, Creation, Rules, AllRules, rules}
 use Rattle.sound_bodies.specs.Gathered.{Gathers}
 use Rattle.sound_bodies.specs.Laws.{Stands}
 use Rattle.sound_bodies.specs.Seen.{AllStand, RowIs, Tells, Sees, FieldSeen, MethodSeen, ClassSeen}
@@ -80,6 +84,21 @@ use Rattle.sound_bodies.proofs.effects.Gathered.{nothing_gathered, one_gathered,
 use Rattle.sound_bodies.proofs.effects.Partial.{readable_from, all_known}
 use Rattle.sound_decls.proofs.written.Paths.{Meaning}
 use Rattle.sound_bodies.proofs.table.Subtypes.{fits_subtype}
+
+-- as many values as declared types, each of which fits the one at its place with region arguments put in
+abbrev AllFit : List Super → List Rpl → List (Option PlainType) → List Ty → Type 0
+AllFit supers args [] [] = Unit {0}
+AllFit supers args [] (t ∷ declared) = ⊥
+AllFit supers args (v ∷ values) [] = ⊥
+AllFit supers args (v ∷ values) (t ∷ declared) = FitsAs supers v (type_with args (plain_type t)) × AllFit supers args values declared
+
+each_fits : (supers : List Super) (args : List Rpl) (values : List (Option PlainType)) (declared : List Ty) → all_fit supers args values declared ≡ true → AllFit supers args values declared
+each_fits supers args [] [] fit = tt
+each_fits supers args [] (t ∷ declared) fit = cc
+each_fits supers args (v ∷ values) [] fit = cc
+each_fits supers args (v ∷ values) (t ∷ declared) fit =
+    let both = and_parts (fits_as supers v (type_with args (plain_type t))) (all_fit supers args values declared) fit in
+    ((fits_is supers v (type_with args (plain_type t))).0 both.0, each_fits supers args values declared both.1)
 
 -- tests of types
 
@@ -500,16 +519,17 @@ module _ (P : PlainProgram) (L : Scope) (env : Env) (may_read may_assign : ℕ �
 
     -- a use without a fault
     used_right : (before : Faults) (args : List Rpl) (ts : List (Option TypedExpr)) (declared : List Ty) (partial hold : Bool) (place : Place) →
-        UseReported env before args (map type_in ts) declared partial hold place None →
+        use_reported env before args (map type_in ts) declared partial hold place ≡ None →
         (partial ≡ false) × AllFit (supers_of env) args (map type_in ts) declared × (hold ≡ true) × (reported before ≡ None)
     used_right before args ts declared partial hold place unreported =
-        let none = none_reported before (use_faults partial unreported.fit hold place) unreported.tells in
-        let f = append_none (fault_if partial kind.PartialWrite place ++ fault_if (not unreported.fit) kind.Type place) (fault_if (not hold) kind.Constraint place) none in
-        let g = append_none (fault_if partial kind.PartialWrite place) (fault_if (not unreported.fit) kind.Type place) f.0 in (
+        let fit = all_fit (supers_of env) args (map type_in ts) declared in
+        let none = none_reported before (use_faults partial fit hold place) unreported in
+        let f = append_none (fault_if partial kind.PartialWrite place ++ fault_if (not fit) kind.Type place) (fault_if (not hold) kind.Constraint place) none in
+        let g = append_none (fault_if partial kind.PartialWrite place) (fault_if (not fit) kind.Type place) f.0 in (
           fault_none partial kind.PartialWrite place g.0,
-          unreported.fits.0 (not_false unreported.fit (fault_none (not unreported.fit) kind.Type place g.1)),
+          each_fits (supers_of env) args (map type_in ts) declared (not_false fit (fault_none (not fit) kind.Type place g.1)),
           not_false hold (fault_none (not hold) kind.Constraint place f.1),
-          reported_before before (use_faults partial unreported.fit hold place) unreported.tells,
+          reported_before before (use_faults partial fit hold place) unreported,
         )
 
     -- region arguments of a use without a fault
@@ -563,8 +583,7 @@ module _ (P : PlainProgram) (L : Scope) (env : Env) (may_read may_assign : ℕ �
     call_made : (x : tree.PlainExpr) (f g h : Found) (e : TypedExpr) (name class : ℕ) (row : MethodRow) (owned : List Rpl) (trees : List RplTree) (ts : List (Option TypedExpr)) (place : Place) (a : Answer) →
         index_of env x ≡ None → Stands P L f e g → Given ts g h → MethodOf e name class row owned → args_reported env row.regions trees ≡ None →
         CallOf env e class row owned (args_of env trees) ts place h a → Passed x f a
-    call_made x f g h e name class row owned trees ts place a none s k m unreported (CallOf.unknown_args unknown) = tt
-    call_made x f g h e name class row owned trees ts place a none s k m unreported (CallOf.faulty_call given faulty) = tt
+    call_made x f g h e name class row owned trees ts place a none s k m unreported CallOf.call_refused = tt
     call_made x f g h e name class row owned trees ts place a none s k m unreported (CallOf.fitting_call {regions = regions} given right) =
         let all = owned ++ regions in
         let n = m.known in
@@ -600,20 +619,18 @@ module _ (P : PlainProgram) (L : Scope) (env : Env) (may_read may_assign : ℕ �
     call_passed : (place : Place) (of : tree.PlainExpr) (trees : List RplTree) (name : ℕ) (actuals : tree.PlainExprs) (f g h : Found) (t : Option TypedExpr) (ts : List (Option TypedExpr)) (a : Answer) →
         Passed of f (gives t g) → args_reported env (callee_params (table_of env) (type_in t) name) trees ≡ None → Given ts g h → Call env t name (args_of env trees) ts place h a →
         Passed (tree.expression place (tree.call of trees name actuals)) f a
-    call_passed place of trees name actuals f g h t ts a m unreported k (Call.on_type (CallOn.no_method is)) = tt
-    call_passed place of trees name actuals f g h t ts a m unreported k (Call.on_type {e = e} (CallOn.of_method {class = class} {row = row} {owned = owned} is d)) =
+    call_passed place of trees name actuals f g h t ts a m unreported k (Call.of_method {e = e} {class = class} {row = row} {owned = owned} is d) =
         let n = method_seen e name place class row owned is in
         call_made (tree.expression place (tree.call of trees name actuals)) f g h e name class row owned trees ts place a refl m.stands k n
         (sym (ap (λ z. args_reported env z trees) (callee_is (type_of e) name class n.args row n.is n.named)) ∙ unreported) d
-    call_passed place of trees name actuals f g h t ts a m unreported k (Call.on_anything all) = absurd m
-    call_passed place of trees name actuals f g h t ts a m unreported k (Call.no_value_passed all) = tt
+    call_passed place of trees name actuals f g h t ts a m unreported k Call.on_anything = absurd m
+    call_passed place of trees name actuals f g h t ts a m unreported k Call.use_refused = tt
 
     -- the creation of an object
     creation_made : (place : Place) (class : Named) (trees : List RplTree) (actuals : tree.PlainExprs) (f g : Found) (at : ℕ) (ts : List (Option TypedExpr)) (a : Answer) →
         Given ts f g → ClassSeen P (table_of env) L.member_nd_free at → args_reported env (params_in (headers_of (table_of env)) at) trees ≡ None →
         CreationOf env at (args_of env trees) ts place g a → Passed (tree.expression place (tree.create class trees actuals)) f a
-    creation_made place class trees actuals f g at ts a k n unreported (CreationOf.unknown_args unknown) = tt
-    creation_made place class trees actuals f g at ts a k n unreported (CreationOf.faulty_creation given faulty) = tt
+    creation_made place class trees actuals f g at ts a k n unreported CreationOf.creation_refused = tt
     creation_made place class trees actuals f g at ts a k n unreported (CreationOf.created {regions = regions} given right) =
         by (constructor_of (table_of env) at) refl w.1
       where
@@ -662,7 +679,7 @@ module _ (P : PlainProgram) (L : Scope) (env : Env) (may_read may_assign : ℕ �
     creation_passed : (place : Place) (class : Named) (trees : List RplTree) (actuals : tree.PlainExprs) (f g : Found) (ts : List (Option TypedExpr)) (a : Answer) →
         Given ts f g → args_reported env (created_params (table_of env) class) trees ≡ None → Creation env class (args_of env trees) ts place g a →
         Passed (tree.expression place (tree.create class trees actuals)) f a
-    creation_passed place class trees actuals f g ts a k unreported (Creation.no_class is) = tt
+    creation_passed place class trees actuals f g ts a k unreported Creation.object_refused = tt
     creation_passed place class trees actuals f g ts a k unreported (Creation.of_class {at = at} is d) =
         creation_made place class trees actuals f g at ts a k (tells.classes class.name at is)
         (sym (ap (λ o. args_reported env (option_map_or (params_in (headers_of (table_of env))) o []) trees) is) ∙ unreported) d
@@ -682,68 +699,55 @@ module _ (P : PlainProgram) (L : Scope) (env : Env) (may_read may_assign : ℕ �
 
     mutual
       -- what is made of an expression that passes
-      pub typing_passed : {e : tree.PlainExpr} {f : Found} {a : Answer} → Fitting e → ((x : ℕ) → IsTrue (expr_reads x e) → IsTrue (may_read x)) → Typing env e f a → Passed e f a
-      typing_passed fits all (Typing.no_parts {place = place} {form = leaf} {f = f} {r = r} l s) =
+      pub steps_passed : {e : tree.PlainExpr} {f : Found} {a : Answer} → Fitting e → ((x : ℕ) → IsTrue (expr_reads x e) → IsTrue (may_read x)) → Rules env e f a → Passed e f a
+      steps_passed fits all (Rules.no_parts {place = place} {form = leaf} {f = f} {r = r} l s) =
           subst (Passed (tree.expression place leaf) f) s (leaf_passed place leaf f r fits all l)
-      typing_passed fits all (Typing.part_length {place = place} {of = of} {name = name} {f = f} {row = row} l) =
+      steps_passed fits all (Rules.part_length {place = place} {of = of} {name = name} {f = f} {row = row} l) =
           let w = part_seen of row (measured_part of name row l) in
           made_leaf (tree.expression place (tree.field of name)) f (typed place ty.int (form.part_length row.slot)) (Has.length_of_part w.2) (λ _. refl)
-      typing_passed fits all (Typing.field_receiver_refused l d) = tt
-      typing_passed fits all (Typing.field_read {place = place} {of = of} {name = name} {f = f} {g = g} {t = t} l d r) =
-          subst (Passed (tree.expression place (tree.field of name)) f) r (field_passed place of name f g t (typing_passed fits all d))
-      typing_passed fits all (Typing.part_index_refused l d) = tt
-      typing_passed fits all (Typing.part_element_read {place = place} {array = array} {index = index} {f = f} {g = g} {row = row} {t = t} l d r) =
+      steps_passed fits all Rules.is_refused = tt
+      steps_passed fits all (Rules.field_read {place = place} {of = of} {name = name} {f = f} {g = g} {t = t} l d r) =
+          subst (Passed (tree.expression place (tree.field of name)) f) r (field_passed place of name f g t (steps_passed fits all d))
+      steps_passed fits all (Rules.part_element_read {place = place} {array = array} {index = index} {f = f} {g = g} {row = row} {t = t} l d r) =
           subst (Passed (tree.expression place (tree.element array index)) f) r
-          (part_passed place array index f g row t l (typing_passed fits.1 (λ x h. all x (or_right (expr_reads x array) (expr_reads x index) h)) d))
-      typing_passed fits all (Typing.array_refused l d) = tt
-      typing_passed fits all (Typing.index_refused l d i) = tt
-      typing_passed fits all (Typing.element_read {place = place} {array = array} {index = index} {f = f} {g = g} {h = h} {t = t} {u = u} l d i r) =
+          (part_passed place array index f g row t l (steps_passed fits.1 (λ x h. all x (or_right (expr_reads x array) (expr_reads x index) h)) d))
+      steps_passed fits all (Rules.element_read {place = place} {array = array} {index = index} {f = f} {g = g} {h = h} {t = t} {u = u} l d i r) =
           subst (Passed (tree.expression place (tree.element array index)) f) r
           (element_passed place array index f g h t u
-          (typing_passed fits.0 (λ x h. all x (or_left (expr_reads x array) (expr_reads x index) h)) d)
-          (typing_passed fits.1 (λ x h. all x (or_right (expr_reads x array) (expr_reads x index) h)) i))
-      typing_passed fits all (Typing.operand_refused d) = tt
-      typing_passed fits all (Typing.operation {place = place} {op = op} {arg = arg} {f = f} {g = g} {t = t} d r) =
-          subst (Passed (tree.expression place (tree.unary op arg)) f) r (unary_passed place op arg f g t (typing_passed fits all d))
-      typing_passed fits all (Typing.left_refused d) = tt
-      typing_passed fits all (Typing.right_refused d i) = tt
-      typing_passed fits all (Typing.both_operands {place = place} {op = op} {left = left} {right = right} {f = f} {g = g} {h = h} {t = t} {u = u} d i r) =
+          (steps_passed fits.0 (λ x h. all x (or_left (expr_reads x array) (expr_reads x index) h)) d)
+          (steps_passed fits.1 (λ x h. all x (or_right (expr_reads x array) (expr_reads x index) h)) i))
+      steps_passed fits all (Rules.operation {place = place} {op = op} {arg = arg} {f = f} {g = g} {t = t} d r) =
+          subst (Passed (tree.expression place (tree.unary op arg)) f) r (unary_passed place op arg f g t (steps_passed fits all d))
+      steps_passed fits all (Rules.both_operands {place = place} {op = op} {left = left} {right = right} {f = f} {g = g} {h = h} {t = t} {u = u} d i r) =
           subst (Passed (tree.expression place (tree.binary op left right)) f) r
           (binary_passed place op left right f g h t u
-          (typing_passed fits.0 (λ x h. all x (or_left (expr_reads x left) (expr_reads x right) h)) d)
-          (typing_passed fits.1 (λ x h. all x (or_right (expr_reads x left) (expr_reads x right) h)) i))
-      typing_passed fits all (Typing.receiver_refused d) = tt
-      typing_passed fits all (Typing.call_args_refused d l) = tt
-      typing_passed fits all (Typing.call_actual_refused d l i) = tt
-      typing_passed fits all (Typing.method_call {place = place} {of = of} {regions = regions} {name = name} {actuals = actuals} {f = f} {g = g} {h = h} {t = t} {types = types} {a = a} d l i r) =
+          (steps_passed fits.0 (λ x h. all x (or_left (expr_reads x left) (expr_reads x right) h)) d)
+          (steps_passed fits.1 (λ x h. all x (or_right (expr_reads x left) (expr_reads x right) h)) i))
+      steps_passed fits all (Rules.method_call {place = place} {of = of} {regions = regions} {name = name} {actuals = actuals} {f = f} {g = g} {h = h} {t = t} {types = types} {a = a} d l i r) =
           call_passed place of regions name actuals f g h t types a
-          (typing_passed fits.0 (λ x h. all x (or_left (expr_reads x of || list_any (path_reads x) regions) (exprs_read x actuals) (or_left (expr_reads x of) (list_any (path_reads x) regions) h))) d)
+          (steps_passed fits.0 (λ x h. all x (or_left (expr_reads x of || list_any (path_reads x) regions) (exprs_read x actuals) (or_left (expr_reads x of) (list_any (path_reads x) regions) h))) d)
           l (all_passed fits.1 (λ x h. all x (or_right (expr_reads x of || list_any (path_reads x) regions) (exprs_read x actuals) h)) i) r
-      typing_passed fits all (Typing.new_args_refused l) = tt
-      typing_passed fits all (Typing.new_actual_refused l i) = tt
-      typing_passed fits all (Typing.new_object {place = place} {class = class} {regions = regions} {actuals = actuals} {f = f} {g = g} {types = types} {a = a} l i r) =
+      steps_passed fits all (Rules.new_object {place = place} {class = class} {regions = regions} {actuals = actuals} {f = f} {g = g} {types = types} {a = a} l i r) =
           creation_passed place class regions actuals f g types a (all_passed fits (λ x h. all x (or_right (list_any (path_reads x) regions) (exprs_read x actuals) h)) i) l r
-      typing_passed fits all (Typing.new_array {place = place} {base = base} {suffixes = suffixes} {len = len} {rpl = rpl} {index = index} {f = f} d) =
-          made_passed suffixes index fits.0 (tree.expression place (tree.create_array base suffixes len rpl index)) refl fits.1 (λ x h. all x (or_right (made_reads x base suffixes rpl index) (expr_reads x len) h)) d
+      steps_passed fits all (Rules.new_array {place = place} {base = base} {suffixes = suffixes} {len = len} {rpl = rpl} {index = index} {f = f} {g = g} {t = t} l d r) =
+          let x = tree.expression place (tree.create_array base suffixes len rpl index) in
+          subst (Passed x f) r
+          (array_passed x len suffixes index fits.0 base rpl place f g t refl l
+          (steps_passed fits.1 (λ x h. all x (or_right (made_reads x base suffixes rpl index) (expr_reads x len) h)) d))
 
-      made_passed : (suffixes : List Suffix) (index : Option Named) → length suffixes ≤ 4294967295 → {base : BaseTree} {len : tree.PlainExpr} {rpl : Option RplTree} {place : Place} {f : Found} {a : Answer} (x : tree.PlainExpr) → index_of env x ≡ None →
-          Fitting len → ((x : ℕ) → IsTrue (expr_reads x len) → IsTrue (may_read x)) → TypingArray env (made_names suffixes index) base len rpl place f a → Passed x f a
-      made_passed suffixes index few x none fits all (TypingArray.front_refused l) = tt
-      made_passed suffixes index few x none fits all (TypingArray.length_refused l d) = tt
-      made_passed suffixes index few x none fits all (TypingArray.array_created {base = base} {len = len} {rpl = rpl} {place = place} {f = f} {g = g} {t = t} l d r) =
-          subst (Passed x f) r (array_passed x len suffixes index few base rpl place f g t none l (typing_passed fits all d))
-
-      all_passed : {es : tree.PlainExprs} {f : Found} {a : AllAnswer} → AllFitting es → ((x : ℕ) → IsTrue (exprs_read x es) → IsTrue (may_read x)) → TypingAll env es f a → AllPassed f a
-      all_passed fits all TypingAll.none_left = Given.no_more
-      all_passed fits all (TypingAll.first_refused d) = tt
-      all_passed fits all (TypingAll.later_refused d i) = tt
-      all_passed fits all (TypingAll.one_more {e = e} {es = es} {f = f} {g = g} {h = h} {t = t} {types = types} d i) =
+      all_passed : {es : tree.PlainExprs} {f : Found} {a : AllAnswer} → AllFitting es → ((x : ℕ) → IsTrue (exprs_read x es) → IsTrue (may_read x)) → AllRules env es f a → AllPassed f a
+      all_passed fits all AllRules.none_left = Given.no_more
+      all_passed fits all AllRules.some_refused = tt
+      all_passed fits all (AllRules.one_more {e = e} {es = es} {f = f} {g = g} {h = h} {t = t} {types = types} d i) =
           given_more t types e f g h
-          (typing_passed fits.0 (λ x h. all x (or_left (expr_reads x e) (exprs_read x es) h)) d)
+          (steps_passed fits.0 (λ x h. all x (or_left (expr_reads x e) (exprs_read x es) h)) d)
           (all_passed fits.1 (λ x h. all x (or_right (expr_reads x e) (exprs_read x es) h)) i)
+
+    pub typing_passed : (e : tree.PlainExpr) (f : Found) {a : Answer} → Fitting e → ((x : ℕ) → IsTrue (expr_reads x e) → IsTrue (may_read x)) → Typing env e f a → Passed e f a
+    typing_passed e f fits all d = steps_passed fits all (rules env e f d)
 
     -- an expression that passes has its type
     pub expression_agrees : (e : tree.PlainExpr) (f g : Found) (made : Option TypedExpr) → Fitting e → ((x : ℕ) → IsTrue (expr_reads x e) → IsTrue (may_read x)) → Typing env e f (gives made g) →
         (t : TypedExpr) × (made ≡ Some t) × Stands P L f t g
-    expression_agrees e f g None fits all d = absurd (typing_passed fits all d)
-    expression_agrees e f g (Some t) fits all d = (t, refl, (typing_passed fits all d).stands)
+    expression_agrees e f g None fits all d = absurd (typing_passed e f fits all d)
+    expression_agrees e f g (Some t) fits all d = (t, refl, (typing_passed e f fits all d).stands)

@@ -25,8 +25,7 @@ use Rattle.body_exprs.specs.declared.found.Found.{Found}
 use Rattle.body_exprs.specs.Answer.{Answer, gives, refused}
 use Rattle.body_exprs.specs.Env.{table_of, supers_of}
 use Rattle.body_exprs.specs.Typed.{type_in, is_int, is_boolean, FitsAs}
-use Rattle.body_exprs.specs.Typing.{leaf_typed, Typing}
-use Rattle.body_exprs.specs.Uses.{CallOf, CallOn, Call, CreationOf, Creation}
+use Rattle.body_exprs.specs.Typing.{Typing}
 use Rattle.body_check.specs.declared.node.Around.{Around}
 use Rattle.body_check.specs.declared.node.Node.{Node}
 use Rattle.body_check.specs.Deciding.{is_misplaced, local_fault, Returned}
@@ -34,6 +33,7 @@ use Rattle.body_check.specs.Noting.{with_found, with_fault_if, fault_of}
 use Rattle.body_check.specs.Simple.{node_of, AssigningLocal, Performing, Returning, Printing, may_print, printed_form}
 use Rattle.body_check.specs.Walks.{Walk, passes, judged, found_so}
 use Rattle.sound_lemmas.proofs.Free.{noted_reported, not_false}
+use Rattle.sound_lemmas.proofs.Rules.{leaf_typed, CallOf, Call, CreationOf, Creation, Rules, rules}
 use Rattle.sound_bodies.specs.Laws.{Stands, Passing}
 use Rattle.sound_bodies.specs.Seen.{RowIs, Tells, Sees, Returns}
 use Rattle.syntax_laws.specs.Written.{Fitting}
@@ -81,21 +81,15 @@ module _ (env : Env)
   where
     call_of_form : {e : TypedExpr} {class : ℕ} {row : _} {owned : _} {args : _} {actuals : List (Option TypedExpr)} {place : _} {f : Found} {a : Answer} →
         CallOf env e class row owned args actuals place f a → AnswerPerformed a
-    call_of_form (CallOf.unknown_args unknown) = tt
-    call_of_form (CallOf.faulty_call given faulty) = tt
+    call_of_form CallOf.call_refused = tt
     call_of_form (CallOf.fitting_call given right) = inl (_, _, _, _, _, refl)
 
-    call_form : {e : TypedExpr} {name : ℕ} {args : _} {actuals : List (Option TypedExpr)} {place : _} {f : Found} {a : Answer} → CallOn env e name args actuals place f a → AnswerPerformed a
-    call_form (CallOn.no_method is) = tt
-    call_form (CallOn.of_method is d) = call_of_form d
-
     creation_of_form : {at : ℕ} {args : _} {actuals : List (Option TypedExpr)} {place : _} {f : Found} {a : Answer} → CreationOf env at args actuals place f a → AnswerPerformed a
-    creation_of_form (CreationOf.unknown_args unknown) = tt
-    creation_of_form (CreationOf.faulty_creation given faulty) = tt
+    creation_of_form CreationOf.creation_refused = tt
     creation_of_form (CreationOf.created given right) = inr (_, refl)
 
     creation_form : {class : _} {args : _} {actuals : List (Option TypedExpr)} {place : _} {f : Found} {a : Answer} → Creation env class args actuals place f a → AnswerPerformed a
-    creation_form (Creation.no_class is) = tt
+    creation_form Creation.object_refused = tt
     creation_form (Creation.of_class is d) = creation_of_form d
 
     no_leaf : (place : _) (e : tree.ExprForm) (r : Result TypedExpr Refusal) → leaf_typed env place e ≡ Some r → IsPerformed (tree.expression place e) → ⊥
@@ -112,31 +106,20 @@ module _ (env : Env)
     no_leaf place (tree.unary op arg) r is p = p
     no_leaf place (tree.binary op left right) r is p = p
 
-    performed_form : {e : tree.PlainExpr} {f : Found} {a : Answer} → Typing env e f a → IsPerformed e → AnswerPerformed a
-    performed_form (Typing.no_parts {place = place} {form = leaf} {r = r} l s) p = absurd (no_leaf place leaf r l p)
-    performed_form (Typing.part_length l) p = absurd p
-    performed_form (Typing.field_receiver_refused l d) p = absurd p
-    performed_form (Typing.field_read l d r) p = absurd p
-    performed_form (Typing.part_index_refused l d) p = absurd p
-    performed_form (Typing.part_element_read l d r) p = absurd p
-    performed_form (Typing.array_refused l d) p = absurd p
-    performed_form (Typing.index_refused l d i) p = absurd p
-    performed_form (Typing.element_read l d i r) p = absurd p
-    performed_form (Typing.operand_refused d) p = absurd p
-    performed_form (Typing.operation d r) p = absurd p
-    performed_form (Typing.left_refused d) p = absurd p
-    performed_form (Typing.right_refused d i) p = absurd p
-    performed_form (Typing.both_operands d i r) p = absurd p
-    performed_form (Typing.receiver_refused d) p = tt
-    performed_form (Typing.call_args_refused d l) p = tt
-    performed_form (Typing.call_actual_refused d l i) p = tt
-    performed_form (Typing.method_call d l i (Call.on_type r)) p = call_form r
-    performed_form (Typing.method_call d l i (Call.on_anything all)) p = tt
-    performed_form (Typing.method_call d l i (Call.no_value_passed all)) p = tt
-    performed_form (Typing.new_args_refused l) p = tt
-    performed_form (Typing.new_actual_refused l i) p = tt
-    performed_form (Typing.new_object l i r) p = creation_form r
-    performed_form (Typing.new_array d) p = absurd p
+    performed_form : {e : tree.PlainExpr} {f : Found} {a : Answer} → Rules env e f a → IsPerformed e → AnswerPerformed a
+    performed_form (Rules.no_parts {place = place} {form = leaf} {r = r} l s) p = absurd (no_leaf place leaf r l p)
+    performed_form (Rules.part_length l) p = absurd p
+    performed_form (Rules.field_read l d r) p = absurd p
+    performed_form (Rules.part_element_read l d r) p = absurd p
+    performed_form (Rules.element_read l d i r) p = absurd p
+    performed_form (Rules.operation d r) p = absurd p
+    performed_form (Rules.both_operands d i r) p = absurd p
+    performed_form (Rules.method_call d l i (Call.of_method is r)) p = call_of_form r
+    performed_form (Rules.method_call d l i Call.on_anything) p = tt
+    performed_form (Rules.method_call d l i Call.use_refused) p = tt
+    performed_form (Rules.new_object l i r) p = creation_form r
+    performed_form (Rules.new_array l d r) p = absurd p
+    performed_form Rules.is_refused p = tt
 
 module _ (P : PlainProgram) (L : Scope) (w : Walk) (may_read may_assign : ℕ → Bool) (tells : Tells P (table_of w.env) L.member_nd_free) (sees : Sees P L w.env may_read may_assign)
   where
@@ -160,7 +143,7 @@ module _ (P : PlainProgram) (L : Scope) (w : Walk) (may_read may_assign : ℕ �
         with_value value g t s u fits all d r.2 (λ e is stands.
         passing_on w.found g e s stands
         (λ E h. subst (λ z. Passes P L z E) (ap (λ z. statement node.place (stmt.perform (node_of value z))) (sym is) ∙ r.1)
-        (Passes.perform (subst (λ z. AnswerPerformed (gives z g)) is (performed_form w.env d p)) h)))
+        (Passes.perform (subst (λ z. AnswerPerformed (gives z g)) is (performed_form w.env (rules w.env value w.found d) p)) h)))
 
     pub printing : (node : Node) (value : tree.PlainExpr) (u : Walk) (s : TypedStmt) → Fitting value → Reads value → Printing node value w (passes s u) → Passing P L w.found s u.found
     printing node value u s fits all (Printing.printed {t = t} {g = g} d j) =

@@ -38,12 +38,13 @@ use Rattle.body_exprs.specs.Typed.{type_in, is_int, FitsAs}
 use Rattle.body_check.specs.declared.node.Node.{Node}
 use Rattle.body_check.specs.Simple.{node_of, place_of, stored, target_fault, AssigningPlace}
 use Rattle.body_check.specs.Walks.{Walk, passes, found_so}
+use Rattle.sound_lemmas.proofs.Rules.{TargetRules, target_rules}
 use Rattle.sound_bodies.specs.Gathered.{Gathers}
 use Rattle.sound_bodies.specs.Laws.{Stands, Passing}
 use Rattle.sound_bodies.specs.Naming.{IsIndex, IsRegion, TypeNames, LocalsName, Signed}
 use Rattle.sound_bodies.specs.Seen.{can_stand, Tells, Sees}
 use Rattle.syntax_laws.specs.Written.{Fitting}
-use Rattle.sound_bodies.proofs.statements.Expressions.{Made, Passed, int_is, part_seen, SeenRight, field_seen, typing_passed, expression_agrees}
+use Rattle.sound_bodies.proofs.statements.Expressions.{Made, Passed, int_is, part_seen, SeenRight, field_seen, steps_passed, expression_agrees}
 use Rattle.sound_bodies.proofs.effects.Gathered.{one_gathered, use_gathered, then_gathered}
 use Rattle.sound_bodies.proofs.scope.InScope.{stands_with, stands_at, has_names}
 use Rattle.sound_bodies.proofs.statements.Singles.{free_found, judged_passes}
@@ -190,30 +191,28 @@ module _ (P : PlainProgram) (L : Scope) (w : Walk) (may_read may_assign : ℕ �
     element_answer array index f g h place (Some e) (Some i) m n = element_aim index f g h e i place m.stands n
 
     -- a target that is found
-    pub aiming : {e : tree.PlainExpr} {f : Found} {a : TargetAnswer} → Fitting e → Reads e → Targeting env e f a → Aiming f a
-    aiming fits all (Targeting.length_assigned l) = tt
-    aiming fits all (Targeting.receiver_refused l d) = tt
-    aiming fits all (Targeting.field_assigned {place = place} {of = of} {name = name} {f = f} {g = g} {t = t} l d r) =
-        subst (Aiming f) r (field_answer of f g name place t (typing_passed P L env may_read may_assign tells sees fits all d))
-    aiming fits all (Targeting.part_index_refused l d) = tt
-    aiming fits all (Targeting.part_element_assigned {place = place} {array = array} {index = index} {f = f} {g = g} {row = row} {t = t} l d r) =
+    steps_aim : {e : tree.PlainExpr} {f : Found} {a : TargetAnswer} → Fitting e → Reads e → TargetRules env e f a → Aiming f a
+    steps_aim fits all TargetRules.is_missed = tt
+    steps_aim fits all (TargetRules.field_assigned {place = place} {of = of} {name = name} {f = f} {g = g} {t = t} l d r) =
+        subst (Aiming f) r (field_answer of f g name place t (steps_passed P L env may_read may_assign tells sees fits all d))
+    steps_aim fits all (TargetRules.part_element_assigned {place = place} {array = array} {index = index} {f = f} {g = g} {row = row} {t = t} l d r) =
         subst (Aiming f) r
-        (part_answer array index f g row place t l (typing_passed P L env may_read may_assign tells sees fits.1 (λ x h. all x (or_right (expr_reads x array) (expr_reads x index) h)) d))
-    aiming fits all (Targeting.array_refused l d) = tt
-    aiming fits all (Targeting.index_refused l d i) = tt
-    aiming fits all (Targeting.element_assigned {place = place} {array = array} {index = index} {f = f} {g = g} {h = h} {t = t} {u = u} l d i r) =
+        (part_answer array index f g row place t l (steps_passed P L env may_read may_assign tells sees fits.1 (λ x h. all x (or_right (expr_reads x array) (expr_reads x index) h)) d))
+    steps_aim fits all (TargetRules.element_assigned {place = place} {array = array} {index = index} {f = f} {g = g} {h = h} {t = t} {u = u} l d i r) =
         subst (Aiming f) r
-        (element_answer array index f g h place t u (typing_passed P L env may_read may_assign tells sees fits.0 (λ x h. all x (or_left (expr_reads x array) (expr_reads x index) h)) d)
-        (typing_passed P L env may_read may_assign tells sees fits.1 (λ x h. all x (or_right (expr_reads x array) (expr_reads x index) h)) i))
-    aiming fits all (Targeting.no_target is) = tt
+        (element_answer array index f g h place t u (steps_passed P L env may_read may_assign tells sees fits.0 (λ x h. all x (or_left (expr_reads x array) (expr_reads x index) h)) d)
+        (steps_passed P L env may_read may_assign tells sees fits.1 (λ x h. all x (or_right (expr_reads x array) (expr_reads x index) h)) i))
+
+    pub aiming : (e : tree.PlainExpr) (f : Found) {a : TargetAnswer} → Fitting e → Reads e → Targeting env e f a → Aiming f a
+    aiming e f fits all d = steps_aim fits all (target_rules env e f d)
 
     -- an assignment to a field or an element
     pub placing : (node : Node) (target value : tree.PlainExpr) (u : Walk) (s : TypedStmt) → Fitting target → Fitting value → Reads target → Reads value → AssigningPlace node target value w (passes s u) → Passing P L w.found s u.found
-    placing node target value u s fit_target fit_value reads_target reads_value (AssigningPlace.anything_assigned d i j) = absurd (aiming fit_target reads_target d)
+    placing node target value u s fit_target fit_value reads_target reads_value (AssigningPlace.anything_assigned d i j) = absurd (aiming target w.found fit_target reads_target d)
     placing node target value u s fit_target fit_value reads_target reads_value (AssigningPlace.place_assigned {aim = aim} {g = g} {h = h} {t = t} {fit = fit} d i fits_so j) =
         let r = judged_passes _ (statement (place_of target) (stored aim.spot (node_of value t))) s (found_so w (with_write h aim)) u j in
         let q = fit_written fit aim.may_write (free_found node (target_fault fit aim.may_write) r.0).1 in
-        let a = aiming fit_target reads_target d in
+        let a = aiming target w.found fit_target reads_target d in
         let x = expression_agrees P L env may_read may_assign tells sees value g h t fit_value reads_value i in
         subst (λ (z : Walk). Passing P L w.found s z.found) r.2
         (subst (λ z. Passing P L w.found z (with_write h aim)) (ap (λ z. statement (place_of target) (stored aim.spot (node_of value z))) (sym x.1) ∙ r.1)

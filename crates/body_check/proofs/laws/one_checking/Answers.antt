@@ -2,4 +2,4 @@ use Rattle.body_check.proofs.OnceBodies.{bodies-unique}
 use Rattle.body_check.proofs.laws.one_checking.Goals as goal
 
 pub returns : goal.returns
-returns c = bodies-unique c.one_typing.ensures
+returns c = bodies-unique

@@ -1,4 +1,4 @@
-use Rattle.std.proofs.Common.{◌≡◌, Ok, Err, option_map, sym, ap}
+use Rattle.std.proofs.Common.{◌≡◌, Ok, Err, option_map}
 use Rattle.syntax_tree.specs.Plain.{expression, element, plain_expr}
 use Rattle.body_exprs.specs.Targeting.{plain_target, aims, misses, aimed, element_target, part_target, Targeting}
 use Rattle.body_exprs.specs.Typed.{plain_typed}
@@ -11,7 +11,7 @@ returns-in_err-at-in-Some-clause-answer c =
     passed_on (Refuses c.args.env.now c.args.index.now c.args.found.now)
     (Targeting c.args.env.now (expression c.args.place (element (plain_expr c.args.array.now) (plain_expr c.args.index.now))) c.args.found.now)
     (λ t. aims (option_map plain_target t) c.expr.new.found) misses c.from_residual.result c.in_err-at-in-Some.field-0.0 c.from_residual.ensures.1
-    (λ q d. Targeting.part_index_refused (sym c.in-Some.ensures) d)
+    (λ q d. rw (← c.in-Some.ensures, d))
     c.in_err-at-in-Some.ensures.answer
 
 pub returns-in_err-array-in-None-clause-answer : goal.returns-in_err-array-in-None-clause-answer
@@ -20,7 +20,7 @@ returns-in_err-array-in-None-clause-answer c =
     (Targeting c.args.env.now (expression c.args.place (element (plain_expr c.args.array.now) (plain_expr c.args.index.now))) c.args.found.now)
     (λ t. aims (option_map plain_target t) c.expr-in-None.new.found) misses
     c.from_residual-in_err-array-in-None.result c.in_err-array-in-None.field-0.0 c.from_residual-in_err-array-in-None.ensures.1
-    (λ q d. Targeting.array_refused (sym c.in-None.ensures) d)
+    (λ q d. rw (← c.in-None.ensures, d))
     c.in_err-array-in-None.ensures.answer
 
 pub returns-in_err-at-in-None-clause-answer : goal.returns-in_err-at-in-None-clause-answer
@@ -29,7 +29,7 @@ returns-in_err-at-in-None-clause-answer c =
     (Targeting c.args.env.now (expression c.args.place (element (plain_expr c.args.array.now) (plain_expr c.args.index.now))) c.args.found.now)
     (λ t. aims (option_map plain_target t) c.expr-in-None-2.new.found) misses
     c.from_residual-in_err-at-in-None.result c.in_err-at-in-None.field-0.0 c.from_residual-in_err-at-in-None.ensures.1
-    (λ q d. Targeting.index_refused (sym c.in-None.ensures) c.in_ok-array-in-None.ensures.answer d)
+    (λ q d. rw (← c.in-None.ensures, c.in_ok-array-in-None.ensures.answer, d))
     c.in_err-at-in-None.ensures.answer
 
 pub returns-in_ok-at-in-Some-clause-answer : goal.returns-in_ok-at-in-Some-clause-answer
@@ -37,7 +37,7 @@ returns-in_ok-at-in-Some-clause-answer c =
     says_to (λ r. part_target c.in-Some.row.now (plain_typed c.in_ok-at-in-Some.at) c.args.place ≡ r)
     (Targeting c.args.env.now (expression c.args.place (element (plain_expr c.args.array.now) (plain_expr c.args.index.now))) c.args.found.now)
     (λ r. aimed r c.expr.new.found) (λ t. Ok (option_map plain_target t)) Err c.in_part.result
-    (λ r d. Targeting.part_element_assigned (sym c.in-Some.ensures) c.in_ok-at-in-Some.ensures.answer (ap (λ z. aimed z c.expr.new.found) d))
+    (λ r d. rw (← c.in-Some.ensures, c.in_ok-at-in-Some.ensures.answer, d))
     c.in_part.ensures
 
 pub returns-in_ok-at-in-None-clause-answer : goal.returns-in_ok-at-in-None-clause-answer
@@ -45,5 +45,5 @@ returns-in_ok-at-in-None-clause-answer c =
     says_to (λ r. element_target c.args.env.now (plain_typed c.in_ok-array-in-None.array) (plain_expr c.args.index.now) (plain_typed c.in_ok-at-in-None.at) c.args.place ≡ r)
     (Targeting c.args.env.now (expression c.args.place (element (plain_expr c.args.array.now) (plain_expr c.args.index.now))) c.args.found.now)
     (λ r. aimed r c.expr-in-None-2.new.found) (λ t. Ok (option_map plain_target t)) Err c.in_array.result
-    (λ r d. Targeting.element_assigned (sym c.in-None.ensures) c.in_ok-array-in-None.ensures.answer c.in_ok-at-in-None.ensures.answer (ap (λ z. aimed z c.expr-in-None-2.new.found) d))
+    (λ r d. rw (← c.in-None.ensures, c.in_ok-array-in-None.ensures.answer, c.in_ok-at-in-None.ensures.answer, d))
     c.in_array.ensures

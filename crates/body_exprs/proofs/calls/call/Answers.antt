@@ -1,8 +1,8 @@
-use Rattle.std.proofs.Common.{Some, map}
+use Rattle.std.proofs.Common.{◌≡◌, ◌∙◌, Some, map}
 use Rattle.body_exprs.specs.Answer.{gives, refused}
 use Rattle.body_exprs.specs.Typed.{plain_node, plain_typed}
-use Rattle.body_exprs.specs.Uses.{CallOn, Call}
-use Rattle.body_exprs.proofs.Calling.{on_known, on_any, on_any_faulty}
+use Rattle.body_exprs.specs.Uses.{type_call_on, type_call}
+use Rattle.body_exprs.proofs.Calling.{on_known, on_any}
 use Rattle.body_exprs.proofs.Passing.{passed_on}
 use Rattle.body_exprs.proofs.calls.call.Goals as goal
 
@@ -11,8 +11,8 @@ returns-in_err-called-in-Known-clause-answer c =
     let env = c.args.env.now in
     let all = map plain_typed c.args.actuals in
     passed_on
-    (λ q. CallOn env (plain_node c.in-Known.of) c.args.name c.args.regions all c.args.place c.args.found.now (refused q))
-    (Call env (plain_typed c.args.of) c.args.name c.args.regions all c.args.place c.args.found.now)
+    (λ q. type_call_on env (plain_node c.in-Known.of) c.args.name c.args.regions all c.args.place c.args.found.now ≡ refused q)
+    (λ a. type_call env (plain_typed c.args.of) c.args.name c.args.regions all c.args.place c.args.found.now ≡ a)
     (λ t. gives (plain_typed t) c.call_on.new.found) refused
     c.from_residual.result c.in_err-called-in-Known.field-0.0 c.from_residual.ensures.1
     (λ q d. on_known env c.args.of c.in-Known.of c.args.name c.args.regions all c.args.place c.args.found.now (refused q) c.in-Known.is d)
@@ -26,9 +26,12 @@ returns-in-Known-clause-answer c =
 pub returns-then-all_values-clause-answer : goal.returns-then-all_values-clause-answer
 returns-then-all_values-clause-answer c =
     on_any c.args.env.now c.args.of c.args.name c.args.regions c.args.actuals c.as_slice.result.now c.args.place c.args.found.now
-    c.all_values.result c.in-Any.is c.as_slice.ensures c.all_values.ensures c.if-all_values.true
+    c.all_values.result c.in-Any.is c.as_slice.ensures c.all_values.ensures
+    ∙ rw c.if-all_values.true
 
 pub returns-clause-answer : goal.returns-clause-answer
 returns-clause-answer c =
-    on_any_faulty c.args.env.now c.args.of c.args.name c.args.regions c.args.actuals c.as_slice.result.now c.args.place c.args.found.now
-    c.all_values.result c.refused.result c.in-Any.is c.as_slice.ensures c.all_values.ensures c.if-all_values.false c.refused.ensures
+    rw c.refused.ensures
+    (on_any c.args.env.now c.args.of c.args.name c.args.regions c.args.actuals c.as_slice.result.now c.args.place c.args.found.now
+    c.all_values.result c.in-Any.is c.as_slice.ensures c.all_values.ensures
+    ∙ rw c.if-all_values.false)

@@ -1,9 +1,9 @@
-use Rattle.std.proofs.Common.{◌∙◌, Some, map, ap}
+use Rattle.std.proofs.Common.{◌≡◌, ◌∙◌, Some, map, ap}
 use Rattle.decl_table.specs.declared.table.Table.{Table}
 use Rattle.decl_table.specs.Table.{headers_of, row_of}
 use Rattle.body_exprs.specs.Answer.{gives, refused}
 use Rattle.body_exprs.specs.Typed.{plain_node, plain_typed, value_type}
-use Rattle.body_exprs.specs.Uses.{CallOf}
+use Rattle.body_exprs.specs.Uses.{type_call_of}
 use Rattle.body_exprs.proofs.Calling.{CallReported, given_for, noted_for, all_for, fit_for, of_used, of_faulty, of_unknown}
 use Rattle.body_exprs.proofs.Passing.{passed_on}
 use Rattle.body_exprs.proofs.calls.call_of.Goals as goal
@@ -14,7 +14,7 @@ returns-in_err-ty-in-Some-clause-answer c =
     let row = c.args.row.now in
     let shown = c.as_slice-in-Some-2.result.now in
     passed_on (λ q. CallReported env row (map value_type shown) c.args.place (Some q) c.as_slice-args.result.now c.fit_args.new.faults c.is_partial-partial.result)
-    (CallOf env (plain_node c.args.of) c.args.class row c.args.owned.now c.args.regions (map plain_typed c.args.actuals) c.args.place c.args.found.now)
+    (λ a. type_call_of env (plain_node c.args.of) c.args.class row c.args.owned.now c.args.regions (map plain_typed c.args.actuals) c.args.place c.args.found.now ≡ a)
     (λ e. gives (Some (plain_node e)) c.call_with.new.found) refused
     c.from_residual-in_err-ty-in-Some.result c.in_err-ty-in-Some.field-0.0 c.from_residual-in_err-ty-in-Some.ensures.1
     (λ q d. of_faulty env (plain_node c.args.of) c.args.class row c.args.owned.now c.args.regions c.args.actuals shown c.args.place c.args.found.now

@@ -3,7 +3,7 @@ use Rattle.lang_base.specs.Types.{plain_type}
 use Rattle.body_exprs.specs.Answer.{gives, refused}
 use Rattle.body_exprs.specs.Env.{table_of}
 use Rattle.body_exprs.specs.Typed.{plain_node, plain_typed}
-use Rattle.body_exprs.specs.Uses.{method_through, CallOn}
+use Rattle.body_exprs.specs.Uses.{method_through, type_call_on}
 use Rattle.body_exprs.proofs.Calling.{of_found}
 use Rattle.body_exprs.proofs.Passing.{passed_on}
 use Rattle.body_exprs.proofs.calls.call_on.Goals as goal
@@ -13,9 +13,9 @@ returns-in_err-class-clause-answer c =
     let env = c.args.env.now in
     passed_on
     (λ q. method_through (table_of env) (plain_type c.args.of.ty) c.args.name c.args.place ≡ Err q)
-    (CallOn env (plain_node c.args.of) c.args.name c.args.regions (map plain_typed c.args.actuals) c.args.place c.args.found.now)
+    (λ a. type_call_on env (plain_node c.args.of) c.args.name c.args.regions (map plain_typed c.args.actuals) c.args.place c.args.found.now ≡ a)
     (λ u. gives (Some (plain_node u)) c.args.found.now) refused
-    c.from_residual.result c.in_err-class.field-0.0 c.from_residual.ensures.1 (λ q e. CallOn.no_method e) c.in_err-class.ensures.answer
+    c.from_residual.result c.in_err-class.field-0.0 c.from_residual.ensures.1 (λ q e. rw e) c.in_err-class.ensures.answer
 
 pub returns-clause-answer : goal.returns-clause-answer
 returns-clause-answer c =

@@ -1,8 +1,8 @@
-use Rattle.std.proofs.Common.{◌∙◌, Some, map, ap}
+use Rattle.std.proofs.Common.{◌≡◌, ◌∙◌, Some, map, ap}
 use Rattle.decl_table.specs.Table.{headers_of}
 use Rattle.body_exprs.specs.Answer.{gives, refused}
 use Rattle.body_exprs.specs.Typed.{plain_node, plain_typed, value_type}
-use Rattle.body_exprs.specs.Uses.{CreationOf}
+use Rattle.body_exprs.specs.Uses.{type_creation_of}
 use Rattle.body_exprs.proofs.Calling.{given_for, noted_for, fit_for}
 use Rattle.body_exprs.proofs.Creating.{params_at, CreationReported, of_used, of_faulty, of_unknown}
 use Rattle.body_exprs.proofs.Passing.{passed_on}
@@ -14,7 +14,7 @@ returns-in_err-ty-in-Some-clause-answer c =
     let params = params_at env c.args.class in
     let shown = c.as_slice-shown.result.now in
     passed_on (λ q. CreationReported env c.args.class (map value_type shown) c.args.place (Some q) c.in-Some.args c.fit_args.new.faults)
-    (CreationOf env c.args.class c.args.regions (map plain_typed c.args.actuals) c.args.place c.args.found.now)
+    (λ a. type_creation_of env c.args.class c.args.regions (map plain_typed c.args.actuals) c.args.place c.args.found.now ≡ a)
     (λ e. gives (Some (plain_node e)) c.creation_with.new.found) refused
     c.from_residual-in_err-ty-in-Some.result c.in_err-ty-in-Some.field-0.0 c.from_residual-in_err-ty-in-Some.ensures.1
     (λ q d. of_faulty env c.args.class c.args.regions c.args.actuals shown c.args.place c.args.found.now c.in-Some.args c.fit_args.new.faults q

@@ -8,7 +8,7 @@ use Rattle.lang_base.specs.declared.refusal.Refusal.{Refusal}
 use Rattle.lang_base.specs.Types.{plain_type}
 use Rattle.lang_base.specs.Types.{PlainType as ty}
 use Rattle.decl_resolve.specs.declared.args.ReadArgs.{ReadArgs}
-use Rattle.syntax_tree.specs.Plain.{expression, int, boolean, null, this, local, field, element, call, create, create_array, unary, binary, plain_expr, plain_exprs}
+use Rattle.syntax_tree.specs.Plain.{PlainExpr, expression, int, boolean, null, this, local, field, element, call, create, create_array, unary, binary, plain_expr, plain_exprs}
 use Rattle.lang_typed.specs.Plain.{TypedExpr, typed}
 use Rattle.lang_typed.specs.Plain.{ExprForm as node}
 use Rattle.body_exprs.specs.Answer.{gives, refused}
@@ -19,11 +19,11 @@ use Rattle.body_exprs.specs.Fields.{read_field}
 use Rattle.body_exprs.specs.Locals.{local_typed}
 use Rattle.body_exprs.specs.Operations.{unary_typed, binary_typed}
 use Rattle.body_exprs.specs.Typed.{plain_node, plain_typed, type_in, node_at}
-use Rattle.body_exprs.specs.Typing.{answer, all_give, one_refused, Typing, TypingAll, TypingArray}
-use Rattle.body_exprs.specs.Uses.{args_reported, callee_params, created_params, Call, Creation}
+use Rattle.body_exprs.specs.Typing.{answer, all_give, one_refused, Typing, TypingAll}
+use Rattle.body_exprs.specs.Uses.{args_reported, callee_params, created_params, type_call, type_creation}
 use Rattle.body_exprs.proofs.Built.{array_built}
-use Rattle.body_exprs.proofs.Constructs.{Refuses, Reported, exits, ends, of_leaf, field_parts, element_parts, call_parts, object_parts, array_parts, unary_parts, binary_parts, array_answer}
-use Rattle.body_exprs.proofs.Forms.{at_Int, at_Bool, at_Null, at_This, at_Local}
+use Rattle.body_exprs.proofs.Constructs.{Refuses, Reported, exits, ends, of_leaf, array_parts}
+use Rattle.body_exprs.proofs.Forms.{at_Int, at_Bool, at_Null, at_This, at_Local, at_Call}
 use Rattle.body_exprs.proofs.Passing.{passed_on}
 use Rattle.body_exprs.proofs.Several.{one_so_far, one_stopped, all_so_far}
 use Rattle.body_exprs.proofs.typing.+exprs.Goals as goal
@@ -50,55 +50,60 @@ pub expr-returns-in-Local-clause-answer : goal.expr-returns-in-Local-clause-answ
 expr-returns-in-Local-clause-answer t c =
     of_leaf c.args.env.now c.args.e.now (local c.in-Local.name) c.args.found.now (local_typed (local_of c.args.env.now c.in-Local.name) c.args.e.now.place) c.local.result (at_Local c.args.e.now c.in-Local.name c.in-Local.is) refl (c.local.ensures c.args.found.now)
 
+pub expr-returns-in-Call-clause-answer : goal.expr-returns-in-Call-clause-answer
+expr-returns-in-Call-clause-answer t c =
+    subst (λ (z : PlainExpr). Reported c.method_call.result c.method_call.new.found (Typing c.args.env.now z c.args.found.now))
+    (sym (at_Call c.args.e.now c.in-Call.of c.in-Call.regions c.in-Call.name c.in-Call.actuals c.in-Call.is)) c.method_call.ensures.answer
+
 pub field-returns-in-Some-clause-answer : goal.field-returns-in-Some-clause-answer
 field-returns-in-Some-clause-answer t c =
     subst (λ (z : TypedExpr). Typing c.args.env.now (expression c.args.place (field (plain_expr c.args.of.now) c.args.name)) c.args.found.now (gives (Some z) c.args.found.now))
-    (sym c.part_length.ensures) (field_parts c.get-of.ensures (Typing.part_length (sym c.in-Some.ensures)))
+    (sym c.part_length.ensures) (rw (← c.get-of.ensures, ← c.in-Some.ensures))
 
 pub field-returns-in_err-of-in-None-clause-answer : goal.field-returns-in_err-of-in-None-clause-answer
 field-returns-in_err-of-in-None-clause-answer t c =
     exits (Typing c.args.env.now (expression c.args.place (field (plain_expr c.args.of.now) c.args.name)) c.args.found.now) _ (Refuses c.args.env.now c.get-of.result.now c.args.found.now)
     c.from_residual.result c.in_err-of-in-None.field-0.0 c.from_residual.ensures.1
-    (λ q d. field_parts c.get-of.ensures (Typing.field_receiver_refused (sym c.in-None.ensures) d))
+    (λ q d. rw (← c.get-of.ensures, ← c.in-None.ensures, d))
     c.in_err-of-in-None.ensures.answer
 
 pub field-returns-in_ok-of-in-None-clause-answer : goal.field-returns-in_ok-of-in-None-clause-answer
 field-returns-in_ok-of-in-None-clause-answer t c =
     ends (Typing c.args.env.now (expression c.args.place (field (plain_expr c.args.of.now) c.args.name)) c.args.found.now) _ (λ a. read_field c.args.env.now (plain_typed c.in_ok-of-in-None.of) c.args.name c.args.place c.expr.new.found ≡ a) c.read_field.result
-    (λ a d. field_parts c.get-of.ensures (Typing.field_read (sym c.in-None.ensures) c.in_ok-of-in-None.ensures.answer d))
+    (λ a d. rw (← c.get-of.ensures, ← c.in-None.ensures, c.in_ok-of-in-None.ensures.answer) d)
     c.read_field.ensures.answer
 
 pub element-returns-in_err-at-in-Some-clause-answer : goal.element-returns-in_err-at-in-Some-clause-answer
 element-returns-in_err-at-in-Some-clause-answer t c =
     exits (Typing c.args.env.now (expression c.args.place (element (plain_expr c.args.array.now) (plain_expr c.args.index.now))) c.args.found.now) _ (Refuses c.args.env.now c.get-index.result.now c.args.found.now)
     c.from_residual.result c.in_err-at-in-Some.field-0.0 c.from_residual.ensures.1
-    (λ q d. element_parts c.get-array.ensures c.get-index.ensures (Typing.part_index_refused (sym c.in-Some.ensures) d))
+    (λ q d. rw (← c.get-array.ensures, ← c.get-index.ensures, ← c.in-Some.ensures, d))
     c.in_err-at-in-Some.ensures.answer
 
 pub element-returns-in_ok-at-in-Some-clause-answer : goal.element-returns-in_ok-at-in-Some-clause-answer
 element-returns-in_ok-at-in-Some-clause-answer t c =
     ends (Typing c.args.env.now (expression c.args.place (element (plain_expr c.args.array.now) (plain_expr c.args.index.now))) c.args.found.now) _ (λ a. read_part c.in-Some.row.now (plain_typed c.in_ok-at-in-Some.at) c.args.place c.expr.new.found ≡ a) c.read_part.result
-    (λ a d. element_parts c.get-array.ensures c.get-index.ensures (Typing.part_element_read (sym c.in-Some.ensures) c.in_ok-at-in-Some.ensures.answer d))
+    (λ a d. rw (← c.get-array.ensures, ← c.get-index.ensures, ← c.in-Some.ensures, c.in_ok-at-in-Some.ensures.answer) d)
     c.read_part.ensures.answer
 
 pub element-returns-in_err-array-in-None-clause-answer : goal.element-returns-in_err-array-in-None-clause-answer
 element-returns-in_err-array-in-None-clause-answer t c =
     exits (Typing c.args.env.now (expression c.args.place (element (plain_expr c.args.array.now) (plain_expr c.args.index.now))) c.args.found.now) _ (Refuses c.args.env.now c.get-array.result.now c.args.found.now)
     c.from_residual-in_err-array-in-None.result c.in_err-array-in-None.field-0.0 c.from_residual-in_err-array-in-None.ensures.1
-    (λ q d. element_parts c.get-array.ensures c.get-index.ensures (Typing.array_refused (sym c.in-None.ensures) d))
+    (λ q d. rw (← c.get-array.ensures, ← c.get-index.ensures, ← c.in-None.ensures, d))
     c.in_err-array-in-None.ensures.answer
 
 pub element-returns-in_err-at-in-None-clause-answer : goal.element-returns-in_err-at-in-None-clause-answer
 element-returns-in_err-at-in-None-clause-answer t c =
     exits (Typing c.args.env.now (expression c.args.place (element (plain_expr c.args.array.now) (plain_expr c.args.index.now))) c.args.found.now) _ (Refuses c.args.env.now c.get-index.result.now c.expr-in-None.new.found)
     c.from_residual-in_err-at-in-None.result c.in_err-at-in-None.field-0.0 c.from_residual-in_err-at-in-None.ensures.1
-    (λ q d. element_parts c.get-array.ensures c.get-index.ensures (Typing.index_refused (sym c.in-None.ensures) c.in_ok-array-in-None.ensures.answer d))
+    (λ q d. rw (← c.get-array.ensures, ← c.get-index.ensures, ← c.in-None.ensures, c.in_ok-array-in-None.ensures.answer, d))
     c.in_err-at-in-None.ensures.answer
 
 pub element-returns-in_ok-at-in-None-clause-answer : goal.element-returns-in_ok-at-in-None-clause-answer
 element-returns-in_ok-at-in-None-clause-answer t c =
     ends (Typing c.args.env.now (expression c.args.place (element (plain_expr c.args.array.now) (plain_expr c.args.index.now))) c.args.found.now) _ (λ a. read_element c.args.env.now (plain_typed c.in_ok-array-in-None.array) (plain_expr c.get-index.result.now) (plain_typed c.in_ok-at-in-None.at) c.args.place c.expr-in-None-2.new.found ≡ a) c.read_element.result
-    (λ a d. element_parts c.get-array.ensures c.get-index.ensures (Typing.element_read (sym c.in-None.ensures) c.in_ok-array-in-None.ensures.answer c.in_ok-at-in-None.ensures.answer d))
+    (λ a d. rw (← c.get-array.ensures, ← c.get-index.ensures, ← c.in-None.ensures, c.in_ok-array-in-None.ensures.answer, c.in_ok-at-in-None.ensures.answer) d)
     c.read_element.ensures.answer
 
 pub exprs-returns-in_err-expr-clause-answer : goal.exprs-returns-in_err-expr-clause-answer
@@ -122,127 +127,124 @@ pub method_call-returns-in_err-of-clause-answer : goal.method_call-returns-in_er
 method_call-returns-in_err-of-clause-answer t c =
     exits (Typing c.args.env.now (expression c.args.place (call (plain_expr c.args.of.now) c.args.regions.now c.args.name (plain_exprs (map plain_expr c.args.actuals.now)))) c.args.found.now) _ (Refuses c.args.env.now c.get.result.now c.args.found.now)
     c.from_residual.result c.in_err-of.field-0.0 c.from_residual.ensures.1
-    (λ q d. call_parts {shown = c.args.regions.now} {all = c.args.actuals.now} c.get.ensures refl refl (Typing.receiver_refused d))
+    (λ q d. rw (← c.get.ensures, d))
     c.in_err-of.ensures.answer
 
 pub method_call-returns-in_err-regions-clause-answer : goal.method_call-returns-in_err-regions-clause-answer
 method_call-returns-in_err-regions-clause-answer t c =
     exits (Typing c.args.env.now (expression c.args.place (call (plain_expr c.args.of.now) c.args.regions.now c.args.name (plain_exprs (map plain_expr c.args.actuals.now)))) c.args.found.now) _ (λ q. args_reported c.args.env.now (callee_params (table_of c.args.env.now) (type_in (plain_typed c.in_ok-of.of)) c.args.name) c.as_slice.result.now ≡ Some q)
     c.from_residual-in_err-regions.result c.in_err-regions.field-0.0 c.from_residual-in_err-regions.ensures.1
-    (λ q d. call_parts {all = c.args.actuals.now} c.get.ensures c.as_slice.ensures refl (Typing.call_args_refused c.in_ok-of.ensures.answer d))
+    (λ q d. rw (← c.get.ensures, ← c.as_slice.ensures, c.in_ok-of.ensures.answer, d))
     c.in_err-regions.ensures.reported
 
 pub method_call-returns-in_err-actuals-clause-answer : goal.method_call-returns-in_err-actuals-clause-answer
 method_call-returns-in_err-actuals-clause-answer t c =
     exits (Typing c.args.env.now (expression c.args.place (call (plain_expr c.args.of.now) c.args.regions.now c.args.name (plain_exprs (map plain_expr c.args.actuals.now)))) c.args.found.now) _ (λ q. TypingAll c.args.env.now (plain_exprs (map plain_expr c.as_slice-2.result.now)) c.expr.new.found (one_refused q))
     c.from_residual-in_err-actuals.result c.in_err-actuals.field-0.0 c.from_residual-in_err-actuals.ensures.1
-    (λ q d. call_parts c.get.ensures c.as_slice.ensures c.as_slice-2.ensures (Typing.call_actual_refused c.in_ok-of.ensures.answer c.in_ok-regions.ensures.reported d))
+    (λ q d. rw (← c.get.ensures, ← c.as_slice.ensures, ← c.as_slice-2.ensures, c.in_ok-of.ensures.answer, c.in_ok-regions.ensures.reported, d))
     c.in_err-actuals.ensures.answer
 
 pub method_call-returns-clause-answer : goal.method_call-returns-clause-answer
 method_call-returns-clause-answer t c =
-    ends (Typing c.args.env.now (expression c.args.place (call (plain_expr c.args.of.now) c.args.regions.now c.args.name (plain_exprs (map plain_expr c.args.actuals.now)))) c.args.found.now) _ (Call c.args.env.now (plain_typed c.in_ok-of.of) c.args.name c.in_ok-regions.regions (map plain_typed c.in_ok-actuals.actuals) c.args.place c.exprs.new.found) c.call.result
-    (λ a d. call_parts c.get.ensures c.as_slice.ensures c.as_slice-2.ensures (Typing.method_call c.in_ok-of.ensures.answer c.in_ok-regions.ensures.reported c.in_ok-actuals.ensures.answer
-    (subst (λ (z : ReadArgs). Call c.args.env.now (plain_typed c.in_ok-of.of) c.args.name z (map plain_typed c.in_ok-actuals.actuals) c.args.place c.exprs.new.found a) c.in_ok-regions.ensures.read d)))
+    ends (Typing c.args.env.now (expression c.args.place (call (plain_expr c.args.of.now) c.args.regions.now c.args.name (plain_exprs (map plain_expr c.args.actuals.now)))) c.args.found.now) _ (λ a. type_call c.args.env.now (plain_typed c.in_ok-of.of) c.args.name c.in_ok-regions.regions (map plain_typed c.in_ok-actuals.actuals) c.args.place c.exprs.new.found ≡ a) c.call.result
+    (λ a d. rw (← c.get.ensures, ← c.as_slice.ensures, ← c.as_slice-2.ensures, c.in_ok-of.ensures.answer, c.in_ok-regions.ensures.reported, c.in_ok-actuals.ensures.answer, ← c.in_ok-regions.ensures.read) d)
     c.call.ensures.answer
 
 pub new_array-returns-in_err-read-clause-answer : goal.new_array-returns-in_err-read-clause-answer
 new_array-returns-in_err-read-clause-answer t c =
     exits (Typing c.args.env.now (expression c.args.place (create_array c.args.base.now c.args.suffixes.now (plain_expr c.args.length.now) c.args.rpl.now c.args.index.now)) c.args.found.now) _ (λ q. front_reported c.args.env.now (made_names c.as_slice.result.now c.args.index.now) c.args.base.now ≡ Some q)
     c.from_residual.result c.in_err-read.field-0.0 c.from_residual.ensures.1
-    (λ q d. array_parts {x = c.args.length.now} c.as_slice.ensures refl refl (TypingArray.front_refused d))
+    (λ q d. array_parts {x = c.args.length.now} {rpl = c.args.rpl.now} c.args.env.now c.args.place c.args.base.now c.args.index.now c.args.found.now (refused q) c.as_slice.ensures refl refl (rw d))
     c.in_err-read.ensures.reported
 
 pub new_array-returns-in_err-length-clause-answer : goal.new_array-returns-in_err-length-clause-answer
 new_array-returns-in_err-length-clause-answer t c =
     exits (Typing c.args.env.now (expression c.args.place (create_array c.args.base.now c.args.suffixes.now (plain_expr c.args.length.now) c.args.rpl.now c.args.index.now)) c.args.found.now) _ (Refuses c.args.env.now c.get.result.now c.args.found.now)
     c.from_residual-in_err-length.result c.in_err-length.field-0.0 c.from_residual-in_err-length.ensures.1
-    (λ q d. array_parts c.as_slice.ensures c.get.ensures refl (TypingArray.length_refused c.in_ok-read.ensures.reported d))
+    (λ q d. array_parts {rpl = c.args.rpl.now} c.args.env.now c.args.place c.args.base.now c.args.index.now c.args.found.now (refused q) c.as_slice.ensures c.get.ensures refl (rw (c.in_ok-read.ensures.reported, d)))
     c.in_err-length.ensures.answer
 
 pub new_array-returns-in_err-ty-clause-answer : goal.new_array-returns-in_err-ty-clause-answer
 new_array-returns-in_err-ty-clause-answer t c =
     exits (Typing c.args.env.now (expression c.args.place (create_array c.args.base.now c.args.suffixes.now (plain_expr c.args.length.now) c.args.rpl.now c.args.index.now)) c.args.found.now) _ (λ q. created_array c.args.env.now (made_names c.as_slice.result.now c.args.index.now) c.in_ok-read.read (type_in (plain_typed c.in_ok-length.length)) (option_copied c.as_ref.result) c.args.place ≡ Err q)
     c.from_residual-in_err-ty.result c.in_err-ty.field-0.0 c.from_residual-in_err-ty.ensures.1
-    (λ q d. array_parts c.as_slice.ensures c.get.ensures c.as_ref.ensures.value (TypingArray.array_created c.in_ok-read.ensures.reported c.in_ok-length.ensures.answer
-    (array_answer c.args.env.now (made_names c.as_slice.result.now c.args.index.now) c.args.base.now (option_copied c.as_ref.result) c.args.place c.expr.new.found (plain_typed c.in_ok-length.length) c.in_ok-read.read (Err q) (Err q) c.in_ok-read.ensures.read d refl)))
+    (λ q d. array_parts c.args.env.now c.args.place c.args.base.now c.args.index.now c.args.found.now (refused q) c.as_slice.ensures c.get.ensures c.as_ref.ensures.value
+    (rw (c.in_ok-read.ensures.reported, c.in_ok-length.ensures.answer, ← c.in_ok-read.ensures.read, d)))
     c.in_err-ty.ensures.answer
 
 pub new_array-returns-clause-answer : goal.new_array-returns-clause-answer
 new_array-returns-clause-answer t c =
-    array_parts c.as_slice.ensures c.get.ensures c.as_ref.ensures.value (TypingArray.array_created c.in_ok-read.ensures.reported c.in_ok-length.ensures.answer
-    (array_answer c.args.env.now (made_names c.as_slice.result.now c.args.index.now) c.args.base.now (option_copied c.as_ref.result) c.args.place c.expr.new.found (plain_typed c.in_ok-length.length) c.in_ok-read.read
-    (Ok (plain_type c.in_ok-ty.ty)) (Ok (plain_node c.in_ok-create_array.field-0)) c.in_ok-read.ensures.read c.in_ok-ty.ensures.answer
-    (array_built c.args.place (plain_type c.in_ok-ty.ty) (node_at c.args.place (plain_typed c.in_ok-length.length)) (plain_node c.into_node-length.result) (plain_node c.in_ok-create_array.field-0) (Ok (plain_type c.in_ok-ty.ty))
-    refl c.in_ok-create_array.ensures c.into_node-length.ensures)))
+    array_parts c.args.env.now c.args.place c.args.base.now c.args.index.now c.args.found.now (gives (Some (plain_node c.in_ok-create_array.field-0)) c.expr.new.found) c.as_slice.ensures c.get.ensures c.as_ref.ensures.value
+    (rw (c.in_ok-read.ensures.reported, c.in_ok-length.ensures.answer, ← c.in_ok-read.ensures.read, c.in_ok-ty.ensures.answer)
+    (ap (λ (z : Result TypedExpr Refusal). answer z c.expr.new.found) (array_built c.args.place (plain_type c.in_ok-ty.ty) (node_at c.args.place (plain_typed c.in_ok-length.length)) (plain_node c.into_node-length.result) (plain_node c.in_ok-create_array.field-0) (Ok (plain_type c.in_ok-ty.ty)) refl c.in_ok-create_array.ensures c.into_node-length.ensures)))
 
 pub new_object-returns-in_err-regions-clause-answer : goal.new_object-returns-in_err-regions-clause-answer
 new_object-returns-in_err-regions-clause-answer t c =
     exits (Typing c.args.env.now (expression c.args.place (create c.args.class c.args.regions.now (plain_exprs (map plain_expr c.args.actuals.now)))) c.args.found.now) _ (λ q. args_reported c.args.env.now (created_params (table_of c.args.env.now) c.args.class) c.as_slice.result.now ≡ Some q)
     c.from_residual.result c.in_err-regions.field-0.0 c.from_residual.ensures.1
-    (λ q d. object_parts {all = c.args.actuals.now} c.as_slice.ensures refl (Typing.new_args_refused d))
+    (λ q d. rw (← c.as_slice.ensures, d))
     c.in_err-regions.ensures.reported
 
 pub new_object-returns-in_err-actuals-clause-answer : goal.new_object-returns-in_err-actuals-clause-answer
 new_object-returns-in_err-actuals-clause-answer t c =
     exits (Typing c.args.env.now (expression c.args.place (create c.args.class c.args.regions.now (plain_exprs (map plain_expr c.args.actuals.now)))) c.args.found.now) _ (λ q. TypingAll c.args.env.now (plain_exprs (map plain_expr c.as_slice-2.result.now)) c.args.found.now (one_refused q))
     c.from_residual-in_err-actuals.result c.in_err-actuals.field-0.0 c.from_residual-in_err-actuals.ensures.1
-    (λ q d. object_parts c.as_slice.ensures c.as_slice-2.ensures (Typing.new_actual_refused c.in_ok-regions.ensures.reported d))
+    (λ q d. rw (← c.as_slice.ensures, ← c.as_slice-2.ensures, c.in_ok-regions.ensures.reported, d))
     c.in_err-actuals.ensures.answer
 
 pub new_object-returns-in_err-made-clause-answer : goal.new_object-returns-in_err-made-clause-answer
 new_object-returns-in_err-made-clause-answer t c =
-    exits (Typing c.args.env.now (expression c.args.place (create c.args.class c.args.regions.now (plain_exprs (map plain_expr c.args.actuals.now)))) c.args.found.now) _ (λ q. Creation c.args.env.now c.args.class c.in_ok-regions.regions (map plain_typed c.in_ok-actuals.actuals) c.args.place c.exprs.new.found (refused q))
+    exits (Typing c.args.env.now (expression c.args.place (create c.args.class c.args.regions.now (plain_exprs (map plain_expr c.args.actuals.now)))) c.args.found.now) _ (λ q. type_creation c.args.env.now c.args.class c.in_ok-regions.regions (map plain_typed c.in_ok-actuals.actuals) c.args.place c.exprs.new.found ≡ refused q)
     c.from_residual-in_err-made.result c.in_err-made.field-0.0 c.from_residual-in_err-made.ensures.1
-    (λ q d. object_parts c.as_slice.ensures c.as_slice-2.ensures (Typing.new_object c.in_ok-regions.ensures.reported c.in_ok-actuals.ensures.answer
-    (subst (λ (z : ReadArgs). Creation c.args.env.now c.args.class z (map plain_typed c.in_ok-actuals.actuals) c.args.place c.exprs.new.found (refused q)) c.in_ok-regions.ensures.read d)))
+    (λ q d. rw (← c.as_slice.ensures, ← c.as_slice-2.ensures, c.in_ok-regions.ensures.reported, c.in_ok-actuals.ensures.answer)
+    (subst (λ (z : ReadArgs). type_creation c.args.env.now c.args.class z (map plain_typed c.in_ok-actuals.actuals) c.args.place c.exprs.new.found ≡ refused q) c.in_ok-regions.ensures.read d))
     c.in_err-made.ensures.answer
 
 pub new_object-returns-clause-answer : goal.new_object-returns-clause-answer
 new_object-returns-clause-answer t c =
-    object_parts c.as_slice.ensures c.as_slice-2.ensures (Typing.new_object c.in_ok-regions.ensures.reported c.in_ok-actuals.ensures.answer
-    (subst (λ (z : ReadArgs). Creation c.args.env.now c.args.class z (map plain_typed c.in_ok-actuals.actuals) c.args.place c.exprs.new.found (gives (Some (plain_node c.in_ok-made.made)) c.creation.new.found))
-    c.in_ok-regions.ensures.read c.in_ok-made.ensures.answer))
+    rw (← c.as_slice.ensures, ← c.as_slice-2.ensures, c.in_ok-regions.ensures.reported, c.in_ok-actuals.ensures.answer)
+    (subst (λ (z : ReadArgs). type_creation c.args.env.now c.args.class z (map plain_typed c.in_ok-actuals.actuals) c.args.place c.exprs.new.found ≡ gives (Some (plain_node c.in_ok-made.made)) c.creation.new.found)
+    c.in_ok-regions.ensures.read c.in_ok-made.ensures.answer)
 
 pub one_operand-returns-in_err-arg-clause-answer : goal.one_operand-returns-in_err-arg-clause-answer
 one_operand-returns-in_err-arg-clause-answer t c =
     exits (Typing c.args.env.now (expression c.args.place (unary c.args.op (plain_expr c.args.arg.now))) c.args.found.now) _ (Refuses c.args.env.now c.get.result.now c.args.found.now)
     c.from_residual.result c.in_err-arg.field-0.0 c.from_residual.ensures.1
-    (λ q d. unary_parts c.get.ensures (Typing.operand_refused d))
+    (λ q d. rw (← c.get.ensures, d))
     c.in_err-arg.ensures.answer
 
 pub one_operand-returns-in_err-unary-clause-answer : goal.one_operand-returns-in_err-unary-clause-answer
 one_operand-returns-in_err-unary-clause-answer t c =
     exits (Typing c.args.env.now (expression c.args.place (unary c.args.op (plain_expr c.args.arg.now))) c.args.found.now) _ (λ q. unary_typed c.args.op (plain_typed c.in_ok-arg.arg) c.args.place ≡ Err q)
     c.from_residual-in_err-unary.result c.in_err-unary.field-0.0 c.from_residual-in_err-unary.ensures.1
-    (λ q d. unary_parts c.get.ensures (Typing.operation c.in_ok-arg.ensures.answer (ap (λ (z : Result TypedExpr Refusal). answer z c.expr.new.found) d)))
+    (λ q d. rw (← c.get.ensures, c.in_ok-arg.ensures.answer, d))
     c.in_err-unary.ensures
 
 pub one_operand-returns-clause-answer : goal.one_operand-returns-clause-answer
 one_operand-returns-clause-answer t c =
-    unary_parts c.get.ensures (Typing.operation c.in_ok-arg.ensures.answer (ap (λ (z : Result TypedExpr Refusal). answer z c.expr.new.found) c.in_ok-unary.ensures))
+    rw (← c.get.ensures, c.in_ok-arg.ensures.answer, c.in_ok-unary.ensures)
 
 pub two_operands-returns-in_err-left-clause-answer : goal.two_operands-returns-in_err-left-clause-answer
 two_operands-returns-in_err-left-clause-answer t c =
     exits (Typing c.args.env.now (expression c.args.place (binary c.args.op (plain_expr c.args.left.now) (plain_expr c.args.right.now))) c.args.found.now) _ (Refuses c.args.env.now c.get.result.now c.args.found.now)
     c.from_residual.result c.in_err-left.field-0.0 c.from_residual.ensures.1
-    (λ q d. binary_parts {y = c.args.right.now} c.get.ensures refl (Typing.left_refused d))
+    (λ q d. rw (← c.get.ensures, d))
     c.in_err-left.ensures.answer
 
 pub two_operands-returns-in_err-right-clause-answer : goal.two_operands-returns-in_err-right-clause-answer
 two_operands-returns-in_err-right-clause-answer t c =
     exits (Typing c.args.env.now (expression c.args.place (binary c.args.op (plain_expr c.args.left.now) (plain_expr c.args.right.now))) c.args.found.now) _ (Refuses c.args.env.now c.get-2.result.now c.expr.new.found)
     c.from_residual-in_err-right.result c.in_err-right.field-0.0 c.from_residual-in_err-right.ensures.1
-    (λ q d. binary_parts c.get.ensures c.get-2.ensures (Typing.right_refused c.in_ok-left.ensures.answer d))
+    (λ q d. rw (← c.get.ensures, ← c.get-2.ensures, c.in_ok-left.ensures.answer, d))
     c.in_err-right.ensures.answer
 
 pub two_operands-returns-in_err-binary-clause-answer : goal.two_operands-returns-in_err-binary-clause-answer
 two_operands-returns-in_err-binary-clause-answer t c =
     exits (Typing c.args.env.now (expression c.args.place (binary c.args.op (plain_expr c.args.left.now) (plain_expr c.args.right.now))) c.args.found.now) _ (λ q. binary_typed c.args.op (plain_typed c.in_ok-left.left) (plain_typed c.in_ok-right.right) c.args.place ≡ Err q)
     c.from_residual-in_err-binary.result c.in_err-binary.field-0.0 c.from_residual-in_err-binary.ensures.1
-    (λ q d. binary_parts c.get.ensures c.get-2.ensures (Typing.both_operands c.in_ok-left.ensures.answer c.in_ok-right.ensures.answer (ap (λ (z : Result TypedExpr Refusal). answer z c.expr-2.new.found) d)))
+    (λ q d. rw (← c.get.ensures, ← c.get-2.ensures, c.in_ok-left.ensures.answer, c.in_ok-right.ensures.answer, d))
     c.in_err-binary.ensures
 
 pub two_operands-returns-clause-answer : goal.two_operands-returns-clause-answer
 two_operands-returns-clause-answer t c =
-    binary_parts c.get.ensures c.get-2.ensures (Typing.both_operands c.in_ok-left.ensures.answer c.in_ok-right.ensures.answer (ap (λ (z : Result TypedExpr Refusal). answer z c.expr-2.new.found) c.in_ok-binary.ensures))
+    rw (← c.get.ensures, ← c.get-2.ensures, c.in_ok-left.ensures.answer, c.in_ok-right.ensures.answer, c.in_ok-binary.ensures)
