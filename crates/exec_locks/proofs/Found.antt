@@ -1,18 +1,21 @@
 -- The least task that hinders, put together from parts of the index.
 use Rattle.std.proofs.Common.{◌≡◌, ℕ, ◌+◌, ◌<◌, ◌≤◌, List, [], ◌∷◌, length, drop, get_or, refl, sym, ap, subst, ◌∙◌, Option, Some, None, Bool, true, false, cond, ◌||◌, nat_lt, IfSome, MatchBool, ◌⊎◌, inl, inr, arith}
-use Rattle.std.specs.Prelude.{find}
+use Rattle.std.specs.Prelude.{find, nat_eq}
 use Rattle.std.specs.List.{list_any, AllByRecursion}
 use Rattle.std.specs.List.Sorted.{IsStrictlySortedBy}
 use Rattle.std.specs.Ordering.{nat_cmp, is_eq}
 use Rattle.std.specs.Cmp.{ranked, Equal-is}
 use Rattle.std.specs.FinMap.{nat_cmp-IsAntisymmetric}
 use Rattle.std.specs.BTreeMap.{is_at}
+use Rattle.std.specs.HashMap.{hash_map_len}
+use Rattle.std.specs.Map.{lookup}
 use Rattle.std.specs.declared.cmp.Ordering.TheVariants.{Less}
 use Rattle.std.proofs.lemmas.List.{drop_more}
-use Rattle.std.proofs.lemmas.Bool.{ltb-true, ltb-false}
+use Rattle.std.proofs.lemmas.Bool.{ltb-true, ltb-false, false≢true}
 use Rattle.lang_base.specs.declared.elems.Elem.{Elem}
 use Rattle.lang_base.specs.Matching.{is_concrete}
-use Rattle.exec_locks.specs.Index.{Sets, has, mixed, Met, lesser, AtMost}
+use Rattle.exec_locks.specs.declared.task_set.TaskSet.{TaskSet}
+use Rattle.exec_locks.specs.Index.{Sets, has, has_in, mixed, Met, lesser, AtMost}
 
 same_number : (q x : ℕ) → is_eq (nat_cmp q x) ≡ true → q ≡ x
 same_number q x e = nat_cmp-IsAntisymmetric q x ((Equal-is (nat_cmp q x)).0 e)
@@ -134,4 +137,27 @@ reach_end under ending q number rest least one two is found below so_far =
         | inl here ↦ most_left (lesser least one) two q (most_right least one q (found here))
         | inr on ↦ most_right (lesser least one) two q (below on)
       ]
+    ]
+
+none_among : (es : List (ℕ × TaskSet)) (k q : ℕ) → length es ≡ 0 → has_in (lookup (nat_eq k) es) q ≡ false
+none_among [] k q none = refl
+none_among (e ∷ es) k q none = absurd (omega (arith, none))
+
+-- no task is found in an empty map
+none_there : (sets : Sets) (k q : ℕ) → hash_map_len sets ≡ 0 → has sets k q ≡ true → ⊥
+none_there sets k q none there = false≢true (sym (none_among sets.entries k q none) ∙ there)
+
+met_none : (under ending : Sets) (q number : ℕ) (x : Elem) (xs : List Elem) (b : Bool) → hash_map_len under ≡ 0
+    → (Met under ending q (mixed number x) xs → ⊥) → MatchBool b (Met under ending q (mixed number x) xs) (has under number q ≡ true) → ⊥
+met_none under ending q number x xs true none deeper met = deeper met
+met_none under ending q number x xs false none deeper met = none_there under number q none met
+
+-- a search of an empty index meets nobody
+pub never_met : (under ending : Sets) (q number : ℕ) (xs : List Elem) → hash_map_len under ≡ 0 → hash_map_len ending ≡ 0 → Met under ending q number xs → ⊥
+never_met under ending q number [] no_under no_ending met =
+    elim met [ inl here ↦ none_there ending number q no_ending here | inr on ↦ none_there under number q no_under on ]
+never_met under ending q number (x ∷ xs) no_under no_ending met =
+    elim met [
+      | inl here ↦ none_there ending number q no_ending here
+      | inr on ↦ met_none under ending q number x xs (is_concrete x) no_under (never_met under ending q (mixed number x) xs no_under no_ending) on
     ]

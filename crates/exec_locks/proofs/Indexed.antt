@@ -35,15 +35,15 @@ others_kept task q old new apart kept = record { under = λ k h. kept.under k q 
 
 noted_match : (old new : Index) (q n : ℕ) (x : Elem) (xs : List Elem) (b : Bool) → Keeps q old new
     → (NotedFrom old.under old.ending q (mixed n x) xs → NotedFrom new.under new.ending q (mixed n x) xs)
-    → MatchBool b (NotedFrom old.under old.ending q (mixed n x) xs) (has old.ending n q ≡ true)
-    → MatchBool b (NotedFrom new.under new.ending q (mixed n x) xs) (has new.ending n q ≡ true)
-noted_match old new q n x xs true keeps more noted = more noted
+    → MatchBool b ((has old.under n q ≡ true) × NotedFrom old.under old.ending q (mixed n x) xs) (has old.ending n q ≡ true)
+    → MatchBool b ((has new.under n q ≡ true) × NotedFrom new.under new.ending q (mixed n x) xs) (has new.ending n q ≡ true)
+noted_match old new q n x xs true keeps more noted = (keeps.under n noted.0, more noted.1)
 noted_match old new q n x xs false keeps more noted = keeps.ending n noted
 
 noted_kept : (old new : Index) (q n : ℕ) (xs : List Elem) → Keeps q old new → NotedFrom old.under old.ending q n xs → NotedFrom new.under new.ending q n xs
-noted_kept old new q n [] keeps noted = (keeps.under n noted.0, keeps.ending n noted.1)
+noted_kept old new q n [] keeps noted = keeps.ending n noted
 noted_kept old new q n (x ∷ xs) keeps noted =
-    (keeps.under n noted.0, noted_match old new q n x xs (is_concrete x) keeps (noted_kept old new q (mixed n x) xs keeps) noted.1)
+    noted_match old new q n x xs (is_concrete x) keeps (noted_kept old new q (mixed n x) xs keeps) noted
 
 by_kept : (r w r' w' : Index) (q : ℕ) (a : Access) (xs : List Elem) → Keeps q r r' → Keeps q w w' → NotedBy r w q a xs → NotedBy r' w' q a xs
 by_kept r w r' w' q Read xs kr kw noted = noted_kept r r' q first_number xs kr noted

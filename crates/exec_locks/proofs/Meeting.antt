@@ -34,9 +34,10 @@ front_same x y a b h k near =
     ⊎_elim {C = (x ≡ y) × (apart_front a b ≡ false)} (λ same. (same, parts.1)) (λ other. absurd (false≢true (sym parts.0 ∙ other))) (same_or_distinct x y h k)
 
 module _ (under ending : Sets) (q : ℕ) where
-  fixed_noted : (n : ℕ) (y : Elem) (b : List Elem) (c : Bool) → is_concrete y ≡ c → MatchBool c (NotedFrom under ending q (mixed n y) b) (has ending n q ≡ true)
-      → ((is_concrete y ≡ true) × NotedFrom under ending q (mixed n y) b) ⊎ (has ending n q ≡ true)
-  fixed_noted n y b true is noted = inl (is, noted)
+  fixed_noted : (n : ℕ) (y : Elem) (b : List Elem) (c : Bool) → is_concrete y ≡ c
+      → MatchBool c ((has under n q ≡ true) × NotedFrom under ending q (mixed n y) b) (has ending n q ≡ true)
+      → ((is_concrete y ≡ true) × (has under n q ≡ true) × NotedFrom under ending q (mixed n y) b) ⊎ (has ending n q ≡ true)
+  fixed_noted n y b true is noted = inl (is, noted.0, noted.1)
   fixed_noted n y b false is noted = inr noted
 
   met_match : (n : ℕ) (x : Elem) (a : List Elem) (c : Bool) → is_concrete x ≡ c → (c ≡ true → Met under ending q (mixed n x) a) → has under n q ≡ true
@@ -46,15 +47,16 @@ module _ (under ending : Sets) (q : ℕ) where
 
   -- paths that aren't apart from the left: one begins with the fixed front of the other
   pub met : (n : ℕ) (a b : List Elem) → apart_front a b ≡ false → NotedFrom under ending q n b → Met under ending q n a
-  met n [] [] near noted = inr noted.0
-  met n [] (y ∷ b) near noted = inr noted.0
-  met n (x ∷ a) [] near noted = inl noted.1
+  met n [] [] near noted = inl noted
+  met n [] (y ∷ b) near noted =
+      ⊎_elim {C = Met under ending q n []} (λ fixed. inr fixed.1) (λ here. inl here) (fixed_noted n y b (is_concrete y) refl noted)
+  met n (x ∷ a) [] near noted = inl noted
   met n (x ∷ a) (y ∷ b) near noted =
       ⊎_elim {C = Met under ending q n (x ∷ a)}
       (λ fixed. inr (met_match n x a (is_concrete x) refl
       (λ h. let parts = front_same x y a b h fixed.0 near in
-      met (mixed n x) a b parts.1 (subst (λ z. NotedFrom under ending q (mixed n z) b) (sym parts.0) fixed.1)) noted.0))
-      (λ here. inl here) (fixed_noted n y b (is_concrete y) refl noted.1)
+      met (mixed n x) a b parts.1 (subst (λ z. NotedFrom under ending q (mixed n z) b) (sym parts.0) fixed.2)) fixed.1))
+      (λ here. inl here) (fixed_noted n y b (is_concrete y) refl noted)
 
 not_true : (b : Bool) → not b ≡ true → b ≡ false
 not_true true is = cc

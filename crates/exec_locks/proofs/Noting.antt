@@ -14,14 +14,14 @@ Leads now task number rest all =
 pub leads_all : (now : Sets) (task : ℕ) (all : List Elem) → Leads now task first_number all all
 leads_all now task all under ending kept noted = noted
 
-fixed_more : (under ending : Sets) (task number : ℕ) (x : Elem) (xs : List Elem) (b : Bool) → is_concrete x ≡ b → b ≡ true
+fixed_more : (under ending : Sets) (task number : ℕ) (x : Elem) (xs : List Elem) (b : Bool) → is_concrete x ≡ b → b ≡ true → has under number task ≡ true
     → NotedFrom under ending task (mixed number x) xs
-    → MatchBool b (NotedFrom under ending task (mixed number x) xs) (has ending number task ≡ true)
-fixed_more under ending task number x xs true is fixed noted = noted
-fixed_more under ending task number x xs false is fixed noted = cc
+    → MatchBool b ((has under number task ≡ true) × NotedFrom under ending task (mixed number x) xs) (has ending number task ≡ true)
+fixed_more under ending task number x xs true is fixed there noted = (there, noted)
+fixed_more under ending task number x xs false is fixed there noted = cc
 
 open_here : (under ending : Sets) (task number : ℕ) (x : Elem) (xs : List Elem) (b : Bool) → is_concrete x ≡ b → b ≡ false → has ending number task ≡ true
-    → MatchBool b (NotedFrom under ending task (mixed number x) xs) (has ending number task ≡ true)
+    → MatchBool b ((has under number task ≡ true) × NotedFrom under ending task (mixed number x) xs) (has ending number task ≡ true)
 open_here under ending task number x xs true is wild there = cc
 open_here under ending task number x xs false is wild there = there
 
@@ -32,20 +32,17 @@ pub leads_more : (now new : Sets) (task number i : ℕ) (x : Elem) (all : List E
 leads_more now new task number i x all lt at fixed there grown leads under ending kept noted =
     leads under ending (λ k h. kept k (grown k task h))
     (subst (NotedFrom under ending task number) (ap (λ y. y ∷ drop (i + 1) all) at ∙ sym (drop_more all i x lt))
-    (kept number there, fixed_more under ending task number x (drop (i + 1) all) (is_concrete x) refl fixed noted))
+    (fixed_more under ending task number x (drop (i + 1) all) (is_concrete x) refl fixed (kept number there) noted))
 
 -- an element that isn't fixed
-pub noted_open : (now under ending : Sets) (task number i : ℕ) (x : Elem) (all : List Elem) → i < length all → x ≡ get_or all i x → is_concrete x ≡ false
-    → ((k q : ℕ) → has now k q ≡ true → has under k q ≡ true) → has under number task ≡ true → has ending number task ≡ true
-    → Leads now task number (drop i all) all → NotedFrom under ending task first_number all
-noted_open now under ending task number i x all lt at wild grown there last leads =
-    leads under ending (λ k h. grown k task h)
+pub noted_open : (under ending : Sets) (task number i : ℕ) (x : Elem) (all : List Elem) → i < length all → x ≡ get_or all i x → is_concrete x ≡ false
+    → has ending number task ≡ true → Leads under task number (drop i all) all → NotedFrom under ending task first_number all
+noted_open under ending task number i x all lt at wild last leads =
+    leads under ending (λ k h. h)
     (subst (NotedFrom under ending task number) (ap (λ y. y ∷ drop (i + 1) all) at ∙ sym (drop_more all i x lt))
-    (there, open_here under ending task number x (drop (i + 1) all) (is_concrete x) refl wild last))
+    (open_here under ending task number x (drop (i + 1) all) (is_concrete x) refl wild last))
 
 -- the end of the path
-pub noted_end : (now under ending : Sets) (task number : ℕ) (rest all : List Elem) → rest ≡ []
-    → ((k q : ℕ) → has now k q ≡ true → has under k q ≡ true) → has under number task ≡ true → has ending number task ≡ true
-    → Leads now task number rest all → NotedFrom under ending task first_number all
-noted_end now under ending task number rest all is grown there last leads =
-    leads under ending (λ k h. grown k task h) (subst (NotedFrom under ending task number) (sym is) (there, last))
+pub noted_end : (under ending : Sets) (task number : ℕ) (rest all : List Elem) → rest ≡ [] → has ending number task ≡ true
+    → Leads under task number rest all → NotedFrom under ending task first_number all
+noted_end under ending task number rest all is last leads = leads under ending (λ k h. h) (subst (NotedFrom under ending task number) (sym is) last)

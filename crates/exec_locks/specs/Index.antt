@@ -1,11 +1,10 @@
 -- How the blocks are found that may interfere: by numbers of the fixed elements at the front of a path.
-use Rattle.std.specs.Prelude.{◌≡◌, ℕ, ◌++◌, ◌≤◌, ◌≢◌, ◌⊎◌, cond, fold, nat_lt, Bool, true, false, List, [], ◌∷◌, Option, Some, None, MatchBool}
+use Rattle.std.specs.Prelude.{◌≡◌, ℕ, ◌++◌, ◌≤◌, ◌≢◌, ◌⊎◌, ◌||◌, ◌==◌, nat_eq, cond, fold, nat_lt, Bool, true, false, List, [], ◌∷◌, Option, Some, None, MatchBool}
 use Rattle.std.specs.Ordering.{nat_cmp}
-use Rattle.std.specs.BTreeMap.{get}
+use Rattle.std.specs.HashMap.{HashMap, get}
 use Rattle.std.specs.BTreeSet.{contains}
-use Rattle.std.specs.declared.collections.BTreeMap.{BTreeMap}
-use Rattle.std.specs.declared.collections.BTreeSet.{BTreeSet}
-use Rattle.std.specs.declared.alloc.Global.{Global}
+use Rattle.std.specs.declared.hash.BuildHasherDefault.{BuildHasherDefault}
+use Rattle.std.specs.declared.hash.FoldHasher.{FoldHasher}
 use Rattle.lang_base.specs.declared.elems.Elem.{Elem}
 use Rattle.lang_base.specs.declared.effect.Access.{Access}
 use Rattle.lang_base.specs.declared.effect.Access.TheVariants.{Read, Write}
@@ -14,23 +13,31 @@ use Rattle.lang_base.specs.Matching.{is_concrete}
 use Rattle.exec_locks.specs.declared.index.Index.{Index}
 use Rattle.exec_locks.specs.declared.standing.Standing.{Standing}
 use Rattle.exec_locks.specs.declared.standing.Standing.TheVariants.{Opener}
-use Rattle.exec_locks.specs.Locks.{Standings, AllRoot}
+use Rattle.exec_locks.specs.declared.task_set.TaskSet.{TaskSet}
+use Rattle.exec_locks.specs.declared.task_set.TaskSet.TheVariants.{One, Two, Many}
+use Rattle.exec_locks.specs.Locks.{Standings, AllRoot, hinders}
 use Rattle.std.specs.FinMap as map
 use Rattle.std.specs.Hash as fed
 use Rattle.std.specs.Hash.FoldHasher as folding
 use Rattle.lang_base.specs.contracts.elems.ElemHash.TheImpl as hashed
 
+-- the task is one of these
+abbrev pub holds : TaskSet → ℕ → Bool
+holds (One one) q = one == q
+holds (Two one other) q = one == q || other == q
+holds (Many set) q = contains nat_cmp set q
+
 -- sets of tasks under numbers
 abbrev pub Sets : Type 0
-Sets = BTreeMap ℕ (BTreeSet ℕ Global) Global
+Sets = HashMap ℕ TaskSet (BuildHasherDefault FoldHasher)
 
-abbrev pub has_in : Option (BTreeSet ℕ Global) → ℕ → Bool
+abbrev pub has_in : Option TaskSet → ℕ → Bool
 has_in None q = false
-has_in (Some set) q = contains nat_cmp set q
+has_in (Some set) q = holds set q
 
 -- the task is in the set under the number
 abbrev pub has : Sets → ℕ → ℕ → Bool
-has sets number q = has_in (get nat_cmp sets number) q
+has sets number q = has_in (get nat_eq sets number) q
 
 abbrev pub first_number : ℕ
 first_number = 7
@@ -39,13 +46,13 @@ first_number = 7
 unfoldable pub mixed : ℕ → Elem → ℕ
 mixed number x = folding.finish (fold folding.write folding.initial (fed.u64 number ++ (hashed.ghosts).hash_input x))
 
--- the task is found under the numbers of all fixed fronts of its path, and as ending there under that of the longest
+-- the task is found under the numbers of the fixed fronts of its path, and as ending there under that of the longest
 abbrev pub NotedFrom : Sets → Sets → ℕ → ℕ → List Elem → Type 0
-NotedFrom under ending q number [] = (has under number q ≡ true) × (has ending number q ≡ true)
+NotedFrom under ending q number [] = has ending number q ≡ true
 NotedFrom under ending q number (x ∷ xs) =
-    (has under number q ≡ true) × MatchBool (is_concrete x) (NotedFrom under ending q (mixed number x) xs) (has ending number q ≡ true)
+    MatchBool (is_concrete x) ((has under number q ≡ true) × NotedFrom under ending q (mixed number x) xs) (has ending number q ≡ true)
 
--- a search for a path meets the task: among those that end at some fixed front of it, or among all under the longest
+-- a search for a path meets the task: among those that end at some fixed front of it, or among those that go on after the longest
 abbrev pub Met : Sets → Sets → ℕ → ℕ → List Elem → Type 0
 Met under ending q number [] = (has ending number q ≡ true) ⊎ (has under number q ≡ true)
 Met under ending q number (x ∷ xs) =
@@ -79,6 +86,10 @@ pub record IsGrown (old new : Index) : Type 0 where
 pub record KeepsOthers (task : ℕ) (old new : Index) : Type 0 where
   pub under : (k q : ℕ) → q ≢ task → has old.under k q ≡ true → has new.under k q ≡ true
   pub ending : (k q : ℕ) → q ≢ task → has old.ending k q ≡ true → has new.ending k q ≡ true
+
+-- the task, if it hinders
+abbrev pub hindering : Standings → ℕ → List Effect → ℕ → Option ℕ
+hindering locks task wants q = cond (hinders locks task wants q) (Some q) None
 
 -- the lesser of two numbers, as far as there are any
 abbrev pub lesser : Option ℕ → Option ℕ → Option ℕ

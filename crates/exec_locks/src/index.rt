@@ -1,11 +1,12 @@
-ghost use Rattle.std.specs.Prelude.{◌≡◌, ◌≢◌, ℕ, true, OnOk};
+ghost use Rattle.std.specs.Prelude.{◌≡◌, ◌≢◌, ◌↔◌, ℕ, true, IsTrue, OnOk};
+ghost use Rattle.std.specs.HashMap.{hash_map_len};
 ghost use Rattle.lang_base.specs.Matching.{is_concrete};
 ghost use Rattle.exec_locks.specs.Index.{has, first_number, mixed, NotedFrom, NotedBy, AllNoted, IsGrown, KeepsOthers};
 
 use crate::sets::{Sets, add, take_out};
 use lang_base::{Access, Effect, Elem, Index as ElemIndex, NoMemory};
 use std::alloc::Global;
-use std::collections::BTreeMap;
+use std::collections::HashMap;
 use std::hash::{FoldHasher, Hash, Hasher};
 
 /// The number of the path without elements.
@@ -14,8 +15,8 @@ pub const FIRST_NUMBER: u64 = 7;
 /// Under which numbers tasks are found, by the paths of effects that they hold.
 #[derive(Drop)]
 pub struct Index {
-    /// Under the numbers of all fixed fronts of a path: its first elements as long as each is a name, a whole number
-    /// or a local region.
+    /// Under the numbers of the fixed fronts of a path, its first elements as long as each is a name, a whole number or
+    /// a local region, but for the longest one.
     pub under: Sets,
     /// Under the number of its longest fixed front.
     pub ending: Sets,
@@ -45,9 +46,16 @@ pub fn mixed(number: u64, elem: Elem) -> u64
 impl Index {
     pub fn new(alloc: Global) -> Index {
         Index {
-            under: BTreeMap::new(alloc),
-            ending: BTreeMap::new(alloc),
+            under: HashMap::new(alloc),
+            ending: HashMap::new(alloc),
         }
+    }
+
+    /// Whether no task is found in it.
+    pub fn is_empty(&self) -> bool
+        ensures { IsTrue result ↔ ((hash_map_len self.now.under ≡ 0) × (hash_map_len self.now.ending ≡ 0)) }
+    {
+        self.under.is_empty() && self.ending.is_empty()
     }
 }
 
@@ -59,16 +67,13 @@ pub fn note(alloc: Global, index: &mut Index, task: u32, elems: &[Elem]) -> Resu
 {
     let mut number = FIRST_NUMBER;
     for elem in elems {
-        add(alloc, &mut index.under, number, task)?;
         if !is_fixed(*elem) {
-            add(alloc, &mut index.ending, number, task)?;
-            return Ok(());
+            return add(alloc, &mut index.ending, number, task);
         }
+        add(alloc, &mut index.under, number, task)?;
         number = mixed(number, *elem);
     }
-    add(alloc, &mut index.under, number, task)?;
-    add(alloc, &mut index.ending, number, task)?;
-    Ok(())
+    add(alloc, &mut index.ending, number, task)
 }
 
 /// Takes a task out from under the fronts of a path. Other tasks stay.
@@ -78,14 +83,13 @@ pub fn forget(index: &mut Index, task: u32, elems: &[Elem])
 {
     let mut number = FIRST_NUMBER;
     for elem in elems {
-        take_out(&mut index.under, number, task);
         if !is_fixed(*elem) {
             take_out(&mut index.ending, number, task);
             return;
         }
+        take_out(&mut index.under, number, task);
         number = mixed(number, *elem);
     }
-    take_out(&mut index.under, number, task);
     take_out(&mut index.ending, number, task);
 }
 

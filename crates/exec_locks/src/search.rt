@@ -2,13 +2,14 @@ ghost use Rattle.std.specs.Prelude.{◌≡◌, ℕ, true, IfSome, find};
 ghost use Rattle.std.specs.Option.{option_copied};
 ghost use Rattle.std.specs.Ordering.{nat_cmp};
 ghost use Rattle.std.specs.BTreeSet.{IsOrdered};
-ghost use Rattle.exec_locks.specs.Index.{has, first_number, Met, MetBy, lesser, AtMost};
+ghost use Rattle.exec_locks.specs.Index.{has, holds, hindering, first_number, Met, MetBy, lesser, AtMost};
 ghost use Rattle.exec_locks.specs.Locks.{some_interferes, lists_interfere, opened_for, block_interferes, hinders};
 
 use crate::index::{FIRST_NUMBER, Index, is_fixed, mixed};
 use crate::sets::Sets;
 use crate::standing::Standing;
 use crate::standings::StandingMap;
+use crate::task_set::TaskSet;
 use lang_base::{Access, Effect, Elem};
 use region_effects::interferes;
 use std::collections::BTreeSet;
@@ -80,6 +81,13 @@ fn least_of(search: Search<'_>, set: &BTreeSet<u32>) -> Option<u32>
     set.iter().copied().find(|holder| hinders(search, *holder))
 }
 
+/// A task, if it hinders.
+fn hindering(search: Search<'_>, holder: u32) -> Option<u32>
+    ensures { result ≡ hindering search.entry.standings.now search.entry.task search.entry.wants.now holder }
+{
+    hinders(search, holder).then_some(holder)
+}
+
 /// The lesser of two tasks, as far as there are any.
 pub fn lesser(one: Option<u32>, other: Option<u32>) -> Option<u32>
     ensures { result ≡ lesser one other }
@@ -92,6 +100,19 @@ pub fn lesser(one: Option<u32>, other: Option<u32>) -> Option<u32>
     }
 }
 
+/// The least of some tasks that hinders.
+fn least_in(search: Search<'_>, set: &TaskSet) -> Option<u32>
+    ensures sound { IfSome result (λ h. hinders search.entry.standings.now search.entry.task search.entry.wants.now h ≡ true) }
+    ensures found { (q : ℕ) → holds set.now q ≡ true
+        → hinders search.entry.standings.now search.entry.task search.entry.wants.now q ≡ true → AtMost result q }
+{
+    match set {
+        TaskSet::One(one) => hindering(search, *one),
+        TaskSet::Two(one, other) => lesser(hindering(search, *one), hindering(search, *other)),
+        TaskSet::Many(tasks) => least_of(search, tasks),
+    }
+}
+
 /// The least task of the set under a number that hinders.
 fn least_under(search: Search<'_>, sets: &Sets, number: u64) -> Option<u32>
     ensures sound { IfSome result (λ h. hinders search.entry.standings.now search.entry.task search.entry.wants.now h ≡ true) }
@@ -99,7 +120,7 @@ fn least_under(search: Search<'_>, sets: &Sets, number: u64) -> Option<u32>
         → hinders search.entry.standings.now search.entry.task search.entry.wants.now q ≡ true → AtMost result q }
 {
     let set = sets.get(&number)?;
-    least_of(search, set)
+    least_in(search, set)
 }
 
 /// The least task that hinders, of those that hold a path which may have a region in common with this one.
@@ -108,6 +129,9 @@ fn least_meeting(search: Search<'_>, index: &Index, elems: &[Elem]) -> Option<u3
     ensures found { (q : ℕ) → Met index.now.under index.now.ending q first_number elems.now
         → hinders search.entry.standings.now search.entry.task search.entry.wants.now q ≡ true → AtMost result q }
 {
+    if index.is_empty() {
+        return None;
+    }
     let mut number = FIRST_NUMBER;
     let mut least = None;
     for elem in elems {
