@@ -114,39 +114,49 @@ fn constraint(alloc: Global, left: &str, right: &str) -> Result<Constraint, NoMe
     })
 }
 
+/// The pairs of the constraints in force that a row names by a number.
+fn pairs(number: &str) -> &'static [(&'static str, &'static str)] {
+    match number {
+        "1" => &[("p", "q")],
+        "2" => &[("p*", "q*")],
+        "3" => &[("p*", "RA*")],
+        "4" => &[("RA*", "p*"), ("q", "RB")],
+        _ => &[],
+    }
+}
+
 /// The constraints in force that a row names by a number.
 fn given(alloc: Global, number: &str) -> Result<Vec<Constraint>, NoMemory> {
     let mut all = Vec::new(alloc);
-    match number {
-        "1" => all.push(constraint(alloc, "p", "q")?)?,
-        "2" => all.push(constraint(alloc, "p*", "q*")?)?,
-        "3" => all.push(constraint(alloc, "p*", "RA*")?)?,
-        "4" => {
-            all.push(constraint(alloc, "RA*", "p*")?)?;
-            all.push(constraint(alloc, "q", "RB")?)?;
-        }
-        _ => {}
+    for (left, right) in pairs(number) {
+        all.push(constraint(alloc, left, right)?)?;
     }
     Ok(all)
 }
 
-/// What the two calls answer at each pair is what the rules say, and never more than the paths mean.
+/// Whether the two answers are what the rules say, and never more than the paths mean.
+fn is_so(inside: bool, apart: bool, answers: &str) -> bool {
+    inside == answers.contains('i')
+        && apart == answers.contains('d')
+        && (!inside || answers.contains('I'))
+        && (!apart || answers.contains('D'))
+}
+
+/// Whether what the two calls answer at the pair of a row is so.
+fn is_answered(alloc: Global, row: &str) -> Result<bool, NoMemory> {
+    let mut words = row.split(' ');
+    let a = path(alloc, words.next().unwrap_or(""))?;
+    let b = path(alloc, words.next().unwrap_or(""))?;
+    let constraints = given(alloc, words.next().unwrap_or(""))?;
+    let apart = disjoint(&a, &b, constraints.as_slice());
+    Ok(is_so(includes(&b, &a), apart, words.next().unwrap_or("")))
+}
+
 #[test]
 fn pairs_of_paths(rt: HostRuntime) -> Result<(), Fail> {
-    let alloc = rt.alloc();
     let mut rows = 0u32;
     for row in TABLE.split("; ") {
-        let mut words = row.split(' ');
-        let a = path(alloc, words.next().unwrap_or(""))?;
-        let b = path(alloc, words.next().unwrap_or(""))?;
-        let constraints = given(alloc, words.next().unwrap_or(""))?;
-        let answers = words.next().unwrap_or("");
-        let inside = includes(&b, &a);
-        let apart = disjoint(&a, &b, constraints.as_slice());
-        assert_eq!(rt; inside, answers.contains('i'), "{row}");
-        assert_eq!(rt; apart, answers.contains('d'), "{row}");
-        assert!(rt; !inside || answers.contains('I'), "{row}");
-        assert!(rt; !apart || answers.contains('D'), "{row}");
+        assert!(rt; is_answered(rt.alloc(), row)?, "{row}");
         rows = rows.wrapping_add(1);
     }
     assert_eq!(rt; rows, 520);
