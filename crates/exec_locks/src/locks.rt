@@ -1,7 +1,7 @@
 ghost use Rattle.std.specs.Prelude.{◌≡◌, ◌↔◌, IfOk, OnOk, OnErr, MatchOption, IsTrue, false};
 ghost use Rattle.std.specs.Option.{option_copied};
 ghost use Rattle.std.specs.FinMap.{get};
-ghost use Rattle.exec_locks.specs.Locks.{opener_of, effects_of};
+ghost use Rattle.exec_locks.specs.Locks.{opener_of, effects_of, is_outermost};
 
 use crate::index::{Index, forget_all, note_all};
 use crate::search::{Search, least_holder, lesser};
@@ -84,6 +84,16 @@ impl Locks {
         ensures { IsTrue result ↔ HasEntry (get self.now task) }
     {
         self.standings.has_entry(task)
+    }
+
+    /// Whether the next exit of a task releases a block, which it opened. It takes no memory.
+    pub fn is_outermost(&self, task: u32) -> bool
+        ensures { result ≡ is_outermost (get self.now task) }
+    {
+        match self.standings.get(task) {
+            Some(Standing::Opener { depth, .. }) => *depth <= 1,
+            _ => false,
+        }
     }
 
     /// Enters a block. Where the task stands inside a block already that is a further entry of it, and what it wants

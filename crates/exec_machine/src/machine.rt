@@ -89,16 +89,18 @@ impl Machine {
         self.run.world.is_ready(task)
     }
 
-    /// The greatest task that can. It takes no memory.
-    pub fn next_ready(&self) -> Option<u32>
-        ensures { MatchOption result (NoneReady self.now.world) (IsGreatestReady self.now.world) }
+    /// The greatest task that can.
+    pub fn next_ready(&mut self) -> Option<u32>
+        ensures same { self.new ≡ self.old }
+        ensures next { MatchOption result (NoneReady self.old.world) (IsGreatestReady self.old.world) }
     {
         self.run.world.next_ready()
     }
 
-    /// The greatest below a bound that can. It takes no memory.
-    pub fn ready_below(&self, bound: u32) -> Option<u32>
-        ensures { MatchOption result (NoneReadyBelow self.now.world bound) (IsGreatestBelow self.now.world bound) }
+    /// The greatest below a bound that can.
+    pub fn ready_below(&mut self, bound: u32) -> Option<u32>
+        ensures same { self.new ≡ self.old }
+        ensures next { MatchOption result (NoneReadyBelow self.old.world bound) (IsGreatestBelow self.old.world bound) }
     {
         self.run.world.ready_below(bound)
     }
@@ -185,7 +187,7 @@ impl Machine {
     pub fn steps(&self) -> u64
         ensures { result ≡ self.now.world.steps }
     {
-        self.run.world.steps
+        self.run.world.world().steps
     }
 
     pub fn code(&self) -> &Code

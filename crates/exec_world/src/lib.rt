@@ -19,6 +19,8 @@ mod acts;
 mod cost;
 mod event;
 mod fits;
+mod queued;
+mod queues;
 mod ready;
 mod seen;
 mod stop;
@@ -27,6 +29,7 @@ mod world;
 
 pub use cost::first_fields;
 pub use event::Event;
+pub use queued::QueuedWorld;
 pub use stop::Stop;
 pub use waits::Waits;
 pub use world::World;

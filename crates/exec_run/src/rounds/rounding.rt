@@ -38,8 +38,9 @@ pub fn run_rounds<R: Threads + Sync>(
 }
 
 /// Whether the machine has finished, or no task is ready, or 40000002 events were made.
-fn has_ended(machine: &Machine) -> bool
-    ensures { IsTrue result ↔ HasEnded machine.now }
+fn has_ended(machine: &mut Machine) -> bool
+    ensures same { machine.new ≡ machine.old }
+    ensures ended { IsTrue result ↔ HasEnded machine.old }
 {
     machine.finished() || machine.next_ready().is_none() || MOST_EVENTS <= machine.schedule().len()
 }
