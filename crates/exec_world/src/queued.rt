@@ -88,6 +88,15 @@ impl QueuedWorld {
         self.world.is_ready(task)
     }
 
+    /// Whether a task can make its next event. One that can't isn't looked at again before that may have changed.
+    pub fn still_ready(&mut self, task: u32) -> bool
+        ensures same { self.new ≡ self.old }
+        ensures yes { IsTrue result → IsReady self.old task }
+        ensures no { result ≡ false → IsReady self.old task → ⊥ }
+    {
+        self.queues.is_ready(&self.world, task)
+    }
+
     /// The greatest task that is ready.
     pub fn next_ready(&mut self) -> Option<u32>
         ensures same { self.new ≡ self.old }

@@ -1,7 +1,7 @@
-ghost use Rattle.std.specs.Prelude.{◌≡◌, ℕ, true, IfOk, OnOk, MatchOption};
+ghost use Rattle.std.specs.Prelude.{◌≡◌, ℕ, true, false, IsTrue, IfOk, OnOk, MatchOption};
 ghost use Rattle.exec_locks.specs.Index.{has};
 ghost use Rattle.exec_world.specs.Queues.{parent_of, is_end};
-ghost use Rattle.exec_world.specs.Ready.{NoneReadyBelow, IsGreatestBelow};
+ghost use Rattle.exec_world.specs.Ready.{IsReady, NoneReadyBelow, IsGreatestBelow};
 
 use crate::event::Event;
 use crate::ready::Readiness;
@@ -91,25 +91,49 @@ impl Queues {
     pub fn ready_below(&mut self, world: &World, bound: u32) -> Option<u32>
         requires { AllHavePlaces world.now self.old }
         ensures places { AllHavePlaces world.now self.new }
-        ensures ready { MatchOption result (NoneReadyBelow world.now bound) (IsGreatestBelow world.now bound) }
+        ensures next { MatchOption result (NoneReadyBelow world.now bound) (IsGreatestBelow world.now bound) }
     {
         let mut rest = bound;
         while let Some(task) = self.last_below(rest) {
-            match world.readiness(task) {
-                Readiness::Ready => return Some(task),
-                Readiness::Unready => self.forget(task),
-                Readiness::Hindered { by } => self.put_aside(task, by),
+            if self.is_ready(world, task) {
+                return Some(task);
             }
             rest = task;
         }
         None
     }
 
+    /// Whether a task is ready. One that isn't leaves the run queue.
+    pub fn is_ready(&mut self, world: &World, task: u32) -> bool
+        requires { AllHavePlaces world.now self.old }
+        ensures places { AllHavePlaces world.now self.new }
+        ensures others { KeepsOthers task self.old self.new }
+        ensures yes { IsTrue result → IsReady world.now task }
+        ensures no { result ≡ false → IsReady world.now task → ⊥ }
+    {
+        match world.readiness(task) {
+            Readiness::Ready => true,
+            Readiness::Unready => {
+                self.forget(task);
+                false
+            }
+            Readiness::Hindered { by } => {
+                self.put_aside(task, by);
+                false
+            }
+        }
+    }
+
     /// The last task below a bound in the run queue.
     fn last_below(&self, bound: u32) -> Option<u32>
         ensures { MatchOption result (NoneBelow self.now bound) (IsLastBelow self.now bound) }
     {
-        self.run.range(..bound).next_back().copied()
+        let last = *self.run.last()?;
+        if last < bound {
+            return Some(last);
+        }
+        let last = self.run.range(..bound).next_back()?;
+        Some(*last)
     }
 
     /// Moves a task into the wait queue of one that hinders it. Where there is no memory for that it stays in the run queue.
