@@ -1,5 +1,5 @@
 -- The greatest task that is ready.
-use Rattle.std.proofs.Common.{arith, ◌≡◌, ◌<◌, ◌≤◌, ◌⊎◌, inl, inr, ℕ, IsTrue, Option, Some, None, MatchOption, sym, subst, ◌∙◌, true≢false}
+use Rattle.std.proofs.Common.{arith, ◌≡◌, ◌<◌, ◌≤◌, ◌⊎◌, inl, inr, ℕ, IsTrue, Option, Some, None, MatchOption, sym, subst, true≢false}
 use Rattle.std.proofs.lemmas.Bool.{cases_lt, cases_order}
 use Rattle.exec_tasks.specs.Tree.{task_at, ready}
 use Rattle.exec_world.proofs.Places.{absent}

@@ -1,31 +1,30 @@
 -- Where tasks are in the queues, through changes of these and through an event of a task.
-use Rattle.std.proofs.Common.{◌≡◌, ◌≢◌, ◌⊎◌, inl, inr, ◌+◌, ◌<◌, ◌≤◌, arith, ℕ, refl, sym, ap, subst, ◌∙◌, Bool, true, false, not, cond, ◌&&◌, ◌||◌, ◌==◌, nat_lt, length, List, [], ◌∷◌, Option, Some, None, is_some, IsTrue, true≢false, rules, Result, Ok, Err, OnOk}
+use Rattle.std.proofs.Common.{◌≡◌, ◌≢◌, ◌⊎◌, inl, inr, ◌<◌, ℕ, refl, sym, ap, subst, ◌∙◌, Bool, true, false, not, cond, ◌&&◌, ◌||◌, ◌==◌, nat_lt, length, List, [], Option, Some, None, is_some, IsTrue, true≢false, rules, Result, Ok, Err, OnOk}
 use Rattle.std.specs.Result.{is_err}
-use Rattle.std.specs.Ordering.{nat_cmp, eq_by_cmp}
+use Rattle.std.specs.Ordering.{nat_cmp}
 use Rattle.std.specs.Cmp.{nat_cmp_total}
 use Rattle.std.specs.FinMap.{FinMap, get, insert, remove, get-remove}
-use Rattle.std.proofs.lemmas.Bool.{cases_lt, cases_order}
 use Rattle.lang_base.specs.declared.effect.Effect.{Effect}
 use Rattle.code_instrs.specs.declared.code.Code.{Code}
 use Rattle.exec_task.specs.declared.action.Action.{Action}
 use Rattle.exec_task.specs.declared.action.Action.TheVariants as action
 use Rattle.exec_locks.specs.declared.standing.Standing.{Standing}
 use Rattle.exec_locks.specs.declared.standing.Standing.TheVariants.{Opener, Adopted}
-use Rattle.exec_locks.specs.Locks.{Standings, is_inside, hinders, opened_for, block_interferes, lists_interfere, MayEnter, IsFree, HasEntry, is_inner, is_outermost, entered, entered_from, exited, exited_from, adopted, deepened, shallower}
+use Rattle.exec_locks.specs.Locks.{Standings, is_inside, opened_for, block_interferes, HasEntry, is_inner, is_outermost, entered, entered_from, exited, exited_from, adopted, shallower}
 use Rattle.exec_tasks.specs.declared.task.Origin.{Origin}
 use Rattle.exec_tasks.specs.declared.task.State.{State}
 use Rattle.exec_tasks.specs.declared.task.State.TheVariants.{Running, Forked}
 use Rattle.exec_tasks.specs.declared.task.Task.{Task}
 use Rattle.exec_tasks.specs.declared.end.TaskEnd.{TaskEnd}
-use Rattle.exec_tasks.specs.Scope.{Branches, can_go_on, all_ended}
-use Rattle.exec_tasks.specs.Tree.{Tree, Tasks, OfTask, OfScope, Runs as RunsInTree, CanBegin, CanJoin, ready, state_ready, is_ready, task_at, changed, changed_to, end_noted, with_task, without_task, origin_of, end_of, forked, joined, printed, fresh, next_origin}
-use Rattle.exec_tasks.proofs.Numbers.{same_number, itself, other_number, get_inserted, get_beside}
+use Rattle.exec_tasks.specs.Scope.{Branches, all_ended}
+use Rattle.exec_tasks.specs.Tree.{Tree, Tasks, OfTask, OfScope, Runs as RunsInTree, CanBegin, CanJoin, ready, state_ready, is_ready, task_at, changed, changed_to, end_noted, with_task, origin_of, end_of, forked, joined, printed, fresh, next_origin}
+use Rattle.exec_tasks.proofs.Numbers.{itself, other_number, get_inserted, get_beside}
 use Rattle.exec_world.proofs.Maps.{same_or_apart}
 use Rattle.exec_world.specs.Queues.{Runs, Waits, NoneWaits, HasPlace, AllHavePlaces, Keeps, KeepsOthers, IsPutAside, AdmitsAt, Admits, RunsSome, parent_in, parent_of, is_end}
 use Rattle.exec_world.specs.Queues.HasPlace.{runs, unready, hindered}
-use Rattle.exec_world.specs.Ready.{IsReady, IsFreeFor, IsFreeToEnter, IsHindrance, IsHindered}
+use Rattle.exec_world.specs.Ready.{IsReady, IsFreeFor, IsHindrance, IsHindered}
 use Rattle.exec_world.specs.Waits.{Waiting, wanted}
-use Rattle.exec_world.specs.World.{Fits, FitsAt, world_after, CanEnter, IsOutside, acted_at, adopted_by, rested, with_entry, trap_in, slots_in}
+use Rattle.exec_world.specs.World.{Fits, FitsAt, world_after, CanEnter, IsOutside, acted_at, adopted_by, rested, trap_in, slots_in}
 use Rattle.exec_world.specs.declared.event.Event.{Event}
 use Rattle.exec_world.specs.declared.queues.Queues.{Queues}
 use Rattle.exec_world.specs.declared.world.World.{World}

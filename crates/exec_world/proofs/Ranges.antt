@@ -1,11 +1,11 @@
 -- The last of the run queue below a bound, and a wait queue that comes into it.
-use Rattle.std.proofs.Common.{◌≡◌, ◌≢◌, ◌⊎◌, inl, inr, ◌<◌, ◌≤◌, arith, ℕ, List, [], ◌∷◌, ◌++◌, refl, sym, ap, subst, ◌∙◌, Bool, true, false, ◌||◌, IsTrue, true≢false, Option, Some, None, IsSome}
+use Rattle.std.proofs.Common.{◌≡◌, ◌≢◌, ◌⊎◌, inl, inr, ◌<◌, ℕ, List, [], ◌∷◌, ◌++◌, refl, sym, ap, subst, ◌∙◌, Bool, true, false, ◌||◌, true≢false, Option, Some, None, IsSome}
 use Rattle.std.specs.Ordering.{nat_cmp, is_lt, eq_by_cmp}
 use Rattle.std.specs.Cmp.{nat_cmp_is, ranked}
 use Rattle.std.specs.List.{list_any}
 use Rattle.std.specs.BTreeMap as tree
-use Rattle.std.specs.BTreeMap.{is_at, Updates, WritesThrough}
-use Rattle.std.specs.BTreeSet.{IsKeyRangeOf, IsUpperBound, MovesPrefix, InsertsAll, contains}
+use Rattle.std.specs.BTreeMap.{Updates, WritesThrough}
+use Rattle.std.specs.BTreeSet.{IsKeyRangeOf, MovesPrefix, contains}
 use Rattle.std.specs.declared.alloc.Global.{Global}
 use Rattle.std.specs.declared.collections.BTreeSet.{BTreeSet}
 use Rattle.std.specs.declared.cmp.Ordering.TheVariants.{Less}

@@ -1,8 +1,7 @@
 -- Each task has a place after the event, since what may become ready by it was put into the run queue.
-use Rattle.std.proofs.Common.{◌≡◌, ℕ, sym, ap, subst, ◌∙◌}
-use Rattle.exec_task.specs.declared.action.Action.{Action}
+use Rattle.std.proofs.Common.{sym, subst, ◌∙◌}
 use Rattle.exec_world.specs.Queues.{AllHavePlaces}
-use Rattle.exec_world.specs.World.{Fits, FitsAt, world_after}
+use Rattle.exec_world.specs.World.{Fits, world_after}
 use Rattle.exec_world.specs.declared.world.World.{World}
 use Rattle.exec_world.proofs.Places.{all_kept, acted_places, ended, forgotten, on_ok}
 use Rattle.exec_world.proofs.queued.QueuedWorld.perform.Goals as goal
