@@ -89,6 +89,15 @@ impl Machine {
         self.run.world.is_ready(task)
     }
 
+    /// The same of a task that may be ready no longer. Where it isn't, it isn't looked for again before that may have changed.
+    pub fn still_ready(&mut self, task: u32) -> bool
+        ensures same { self.new ≡ self.old }
+        ensures yes { IsTrue result → IsReady self.old.world task }
+        ensures no { result ≡ false → IsReady self.old.world task → ⊥ }
+    {
+        self.run.world.still_ready(task)
+    }
+
     /// The greatest task that can.
     pub fn next_ready(&mut self) -> Option<u32>
         ensures same { self.new ≡ self.old }

@@ -253,7 +253,7 @@ impl Run {
         ensures ok { OnOk result (OfSlot (get self.old.slots event.task) (λ slot. (child : Slot) × IsFirst self.old.world.tree.begun start child × Comes code.now limits self.old event (with_answer (insert self.old.slots self.old.world.tree.begun child) event.task slot (answer_to self.old.world event)) self.old.outcome self.new)) }
         ensures err { OnErr result (self.new ≡ self.old) }
     {
-        let number = self.world.world().tree.begun();
+        let number = self.world.begun();
         let task = event.task;
         self.slots
             .insert(number, Slot::start(alloc, number, start))?;

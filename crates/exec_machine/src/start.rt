@@ -28,8 +28,9 @@ pub fn start(alloc: Global, code: &Code, limits: Limits, argument: i32) -> Resul
     let mut slots = Slots::new(alloc);
     let root = main_start(alloc, code, 0, argument)?;
     slots.insert(0, Slot::start(alloc, 0, root))?;
+    let queued = QueuedWorld::open(alloc, world)?;
     Ok(Run {
-        world: QueuedWorld::open(alloc, world)?,
+        world: queued,
         slots,
         schedule: Schedule::new(alloc),
         outcome,

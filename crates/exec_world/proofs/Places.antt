@@ -102,8 +102,8 @@ stays_hindered : (locks new : Standings) (q h : ℕ) (wants : List Effect) → g
 stays_hindered locks new q h wants task block x = record {
   outside = ap is_some task ∙ x.outside;
   itself =
-    ap (λ o. not (h == q) && not (opened_for o h) && block_interferes (get new h) wants) task
-    ∙ ap (λ b. not (h == q) && not (opened_for (get locks q) h) && b) block ∙ x.itself;
+      ap (λ o. not (h == q) && not (opened_for o h) && block_interferes (get new h) wants) task
+      ∙ ap (λ b. not (h == q) && not (opened_for (get locks q) h) && b) block ∙ x.itself;
 }
 
 wants_none : (standing : Option Standing) → block_interferes standing [] ≡ true → ⊥

@@ -52,6 +52,13 @@ impl QueuedWorld {
         &self.world
     }
 
+    /// The number of the next task.
+    pub fn begun(&self) -> u32
+        ensures { result ≡ self.now.tree.begun }
+    {
+        self.world.tree.begun()
+    }
+
     /// Whether a task may make this event here. It takes no memory.
     pub fn fits(&self, event: &Event) -> bool
         ensures { IsTrue result ↔ Fits self.now event.now }

@@ -19,6 +19,8 @@ pub struct Queues {
     pub run: BTreeSet<u32>,
     /// The wait queues: under the number of a task those that its open block was found to hinder.
     pub wait: BTreeMap<u32, BTreeSet<u32>>,
+    /// Who hindered a task when one was last found hindered: likely the next one too.
+    likely: Option<u32>,
     alloc: Global,
 }
 
@@ -34,6 +36,7 @@ impl Queues {
         Ok(Queues {
             run,
             wait: BTreeMap::new(alloc),
+            likely: None,
             alloc,
         })
     }
@@ -111,7 +114,7 @@ impl Queues {
         ensures yes { IsTrue result → IsReady world.now task }
         ensures no { result ≡ false → IsReady world.now task → ⊥ }
     {
-        match world.readiness(task) {
+        match world.readiness(task, self.likely) {
             Readiness::Ready => true,
             Readiness::Unready => {
                 self.forget(task);
@@ -132,6 +135,10 @@ impl Queues {
         if last < bound {
             return Some(last);
         }
+        let first = *self.run.first()?;
+        if bound <= first {
+            return None;
+        }
         let last = self.run.range(..bound).next_back()?;
         Some(*last)
     }
@@ -143,6 +150,7 @@ impl Queues {
         if add(self.alloc, &mut self.wait, holder, task).is_ok() {
             let _ = self.run.remove(&task);
         }
+        self.likely = Some(holder);
     }
 }
 

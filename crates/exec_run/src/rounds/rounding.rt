@@ -95,7 +95,7 @@ fn turn(machine: &mut Machine, task: u32) -> Result<(), Halted>
     if machine.finished() {
         return Ok(());
     }
-    if !machine.ready(task) {
+    if !machine.still_ready(task) {
         return Ok(());
     }
     let _ = machine.step(task)?;

@@ -8,8 +8,8 @@ loop-task-preserved c = record {
   places = c.is_ready.ensures.places;
   within = omega (arith, c.in-Some.ensures.below, c.loop-task.invariant.within);
   none =
-    passed c.args.world.now c.loop-task.self c.args.bound c.loop-task.rest c.in-Some.task c.loop-task.invariant.places c.in-Some.ensures
-    (c.is_ready.ensures.no c.if-is_ready.false) c.loop-task.invariant.none;
+      passed c.args.world.now c.loop-task.self c.args.bound c.loop-task.rest c.in-Some.task c.loop-task.invariant.places c.in-Some.ensures
+      (c.is_ready.ensures.no c.if-is_ready.false) c.loop-task.invariant.none;
 }
 
 pub returns-then-is_ready-clause-next : goal.returns-then-is_ready-clause-next
