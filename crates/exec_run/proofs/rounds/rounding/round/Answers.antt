@@ -23,7 +23,7 @@ pub overflow_sub-result : goal.overflow_sub-result
 overflow_sub-result g c =
     let turns = subst (λ p. HadTurns p (reverse c.in_ok-tasks.tasks) c.turns.new.machine) (c.prepare.ensures ∙ c.in_ok-tasks.ensures.same) c.in_ok-turns.ensures.turns in
     let grown = turns_grow c.args.machine.now c.turns.new.machine (reverse c.in_ok-tasks.tasks) turns in
-    omega (arith, grown, ap length c.schedule-begun.ensures.schedule, ap length c.schedule.ensures.schedule)
+    omega (arith, grown, ap length c.schedule.ensures.schedule, ap length c.schedule-2.ensures.schedule)
 
 pub returns-clause-round : goal.returns-clause-round
 returns-clause-round g c =
@@ -34,7 +34,7 @@ pub returns-clause-length : goal.returns-clause-length
 returns-clause-length g c =
     let turns = subst (λ p. HadTurns p (reverse c.in_ok-tasks.tasks) c.turns.new.machine) (c.prepare.ensures ∙ c.in_ok-tasks.ensures.same) c.in_ok-turns.ensures.turns in
     let grown = turns_grow c.args.machine.now c.turns.new.machine (reverse c.in_ok-tasks.tasks) turns in
-    omega (arith, grown, ap length c.schedule-begun.ensures.schedule, ap length c.schedule.ensures.schedule)
+    omega (arith, grown, ap length c.schedule.ensures.schedule, ap length c.schedule-2.ensures.schedule)
 
 pub returns-clause-idle : goal.returns-clause-idle
 returns-clause-idle g c =
@@ -42,4 +42,4 @@ returns-clause-idle g c =
     let grown = turns_grow c.args.machine.now c.turns.new.machine (reverse c.in_ok-tasks.tasks) turns in
     let round = round_made c.args.machine.now c.turns.new.machine (reverse c.in_ok-tasks.tasks) c.in_ok-tasks.ensures.ready c.requires.unfinished turns in
     idle c.args.machine.now c.turns.new.machine _ round
-    (omega (arith, grown, ap length c.schedule-begun.ensures.schedule, ap length c.schedule.ensures.schedule))
+    (omega (arith, grown, ap length c.schedule.ensures.schedule, ap length c.schedule-2.ensures.schedule))
