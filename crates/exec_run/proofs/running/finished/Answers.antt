@@ -10,9 +10,13 @@ returns-in_default c =
 
 pub overflow_sub-own : goal.overflow_sub-own
 overflow_sub-own c =
-    omega (arith, c.len-made.ensures, c.len.ensures,
-    made_more c.args.worked.machine.schedule c.finish.new.machine.schedule c.schedule.result.now c.schedule-2.result.now c.schedule.ensures.schedule
-    c.schedule-2.ensures.schedule (grows c.args.worked.machine c.finish.new.machine c.finish.ensures.greedily))
+    omega (
+      arith,
+      c.len-made.ensures,
+      c.len.ensures,
+      made_more c.args.worked.machine.schedule c.finish.new.machine.schedule c.schedule.result.now c.schedule-2.result.now c.schedule.ensures.schedule
+          c.schedule-2.ensures.schedule (grows c.args.worked.machine c.finish.new.machine c.finish.ensures.greedily),
+    )
 
 pub returns : goal.returns
 returns c =
