@@ -1,5 +1,5 @@
 -- A map of standings seen as a finite map.
-use Rattle.std.proofs.Common.{◌≡◌, ℕ, List, [], ◌∷◌, refl, sym, ap, ◌∙◌, Some, None, Bool, true, false, cond, subst, IsSome}
+use Rattle.std.proofs.Common.{arith, ◌≡◌, ℕ, List, [], ◌∷◌, length, refl, sym, ap, ◌∙◌, Some, None, Bool, true, false, cond, subst, IsSome}
 use Rattle.std.specs.Ordering.{nat_cmp, is_eq, eq_by_cmp}
 use Rattle.std.specs.Cmp.{nat_cmp_total, eq_by_cmp_equiv, Equal-is}
 use Rattle.std.specs.FinMap.{from_entries, find, get, insert, remove, get-from_entries, get-insert, get-remove, get_tied, same_map, nat_cmp-IsAntisymmetric}
@@ -51,3 +51,10 @@ put_same m k t at = same_standings (insert (seen m) k t) (seen m) (λ q. get-ins
     found : (q : ℕ) (b : Bool) → eq_by_cmp nat_cmp q k ≡ b → cond b (Some t) (get (seen m) q) ≡ get (seen m) q
     found q false e = refl
     found q true e = at ∙ sym (get_seen m k) ∙ get_tied nat_cmp_total (seen m) q k ((Equal-is (nat_cmp q k)).0 e)
+
+pub none_in : (m : Map) → length m.entries ≡ 0 → (q : ℕ) → get (seen m) q ≡ None
+none_in m e q = get_seen m q ∙ at m.entries e
+  where
+    at : (es : List (ℕ × Standing)) → length es ≡ 0 → lookup (is_at (nat_cmp q)) es ≡ None
+    at [] e = refl
+    at (x ∷ es) e = absurd (omega (arith, e))

@@ -90,6 +90,11 @@ abbrev pub is_inner : Standing → Bool
 is_inner (Opener effects depth) = nat_lt 1 depth
 is_inner (Adopted opener depth) = true
 
+-- the next exit of the task is from the outermost entry of an opener
+abbrev pub is_outermost : Option Standing → Bool
+is_outermost None = false
+is_outermost (Some standing) = not (is_inner standing)
+
 abbrev pub shallower : Standing → Standing
 shallower (Opener effects depth) = Opener effects (depth - 1)
 shallower (Adopted opener depth) = Adopted opener (depth - 1)

@@ -1,10 +1,10 @@
 ghost use Rattle.std.specs.Prelude.{◌≡◌, ◌↔◌, IfOk, OnOk, OnErr, MatchOption, IsTrue, false};
 ghost use Rattle.std.specs.Option.{option_copied};
 ghost use Rattle.std.specs.FinMap.{get};
-ghost use Rattle.exec_locks.specs.Locks.{opener_of, effects_of};
+ghost use Rattle.exec_locks.specs.Locks.{opener_of, effects_of, is_outermost};
 
 use crate::index::{Index, forget_all, note_all};
-use crate::search::{Search, least_holder, lesser};
+use crate::search::{Search, hinders, least_holder, lesser};
 use crate::standing::Standing;
 use crate::standings::StandingMap;
 use lang_base::{Effect, Items, NoMemory};
@@ -40,7 +40,7 @@ impl Model for Locks {
 
 impl Locks {
     ghost use Rattle.std.specs.FinMap.{empty, remove};
-    ghost use Rattle.exec_locks.specs.Locks.{AllRoot, IsFree, IsLeastHolder, is_inside, MayEnter, entered, HasEntry, exited, adopted};
+    ghost use Rattle.exec_locks.specs.Locks.{AllRoot, IsFree, IsLeastHolder, is_inside, hinders, MayEnter, entered, HasEntry, exited, adopted};
 
     /// No blocks, which takes no memory.
     pub fn new(alloc: Global) -> Locks
@@ -60,6 +60,9 @@ impl Locks {
         requires { AllRoot wants.now }
         ensures { MatchOption result (IsFree self.now task wants.now) (IsLeastHolder self.now task wants.now) }
     {
+        if self.standings.is_empty() {
+            return None;
+        }
         let search = Search {
             standings: &self.standings,
             task,
@@ -70,6 +73,18 @@ impl Locks {
             least = lesser(least, least_holder(search, &self.reads, &self.writes, e));
         }
         least
+    }
+
+    /// Whether the block of a holder hinders a task in what it wants. It takes no memory.
+    pub fn hinders(&self, task: u32, wants: &[Effect], holder: u32) -> bool
+        ensures { result ≡ hinders self.now task wants.now holder }
+    {
+        let search = Search {
+            standings: &self.standings,
+            task,
+            wants,
+        };
+        hinders(search, holder)
     }
 
     /// Whether a task stands inside a block. It takes no memory.
@@ -84,6 +99,16 @@ impl Locks {
         ensures { IsTrue result ↔ HasEntry (get self.now task) }
     {
         self.standings.has_entry(task)
+    }
+
+    /// Whether the next exit of a task releases a block, which it opened. It takes no memory.
+    pub fn is_outermost(&self, task: u32) -> bool
+        ensures { result ≡ is_outermost (get self.now task) }
+    {
+        match self.standings.get(task) {
+            Some(Standing::Opener { depth, .. }) => *depth <= 1,
+            _ => false,
+        }
     }
 
     /// Enters a block. Where the task stands inside a block already that is a further entry of it, and what it wants

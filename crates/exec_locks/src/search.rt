@@ -64,7 +64,7 @@ pub struct Search<'a> {
 }
 
 /// Whether the block of a task hinders.
-fn hinders(search: Search<'_>, holder: u32) -> bool
+pub fn hinders(search: Search<'_>, holder: u32) -> bool
     ensures { result ≡ hinders search.entry.standings.now search.entry.task search.entry.wants.now holder }
 {
     holder != search.task

@@ -1,4 +1,4 @@
-ghost use Rattle.std.specs.Prelude.{◌≡◌, ◌↔◌, IsTrue, OnOk, OnErr, true, false};
+ghost use Rattle.std.specs.Prelude.{◌≡◌, ◌↔◌, ℕ, IsTrue, OnOk, OnErr, None, true, false};
 ghost use Rattle.std.specs.Option.{option_copied};
 ghost use Rattle.std.specs.FinMap.{empty, get, insert, remove};
 ghost use Rattle.exec_locks.specs.Locks.{is_inside, deepened_from, exited, HasEntry};
@@ -35,6 +35,12 @@ impl StandingMap {
         StandingMap {
             map: BTreeMap::new(alloc),
         }
+    }
+
+    pub fn is_empty(&self) -> bool
+        ensures { IsTrue result → (q : ℕ) → get self.now q ≡ None }
+    {
+        self.map.is_empty()
     }
 
     pub fn get(&self, task: u32) -> Option<&Standing>

@@ -18,8 +18,8 @@
 //! A machine keeps no event. `EventMachine` does, from the start on, each with its answer and with the place in the text where its task
 //! stood (`specs/Events.antt`).
 //!
-//! A step takes the time of the leg that its task makes and of what its event touches; `next_ready` and `ready_below` the logarithm
-//! of the live tasks, and the tasks that they pass over.
+//! A step takes the time of the leg that its task makes and of what its event touches. `next_ready` and `ready_below` take that of
+//! the queues of `exec_world`: a task that waits isn't asked again before what it waits for has come.
 #![tactic(auto)]
 
 mod answers;

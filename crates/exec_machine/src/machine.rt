@@ -89,16 +89,27 @@ impl Machine {
         self.run.world.is_ready(task)
     }
 
-    /// The greatest task that can. It takes no memory.
-    pub fn next_ready(&self) -> Option<u32>
-        ensures { MatchOption result (NoneReady self.now.world) (IsGreatestReady self.now.world) }
+    /// The same of a task that may be ready no longer. Where it isn't, it isn't looked for again before that may have changed.
+    pub fn still_ready(&mut self, task: u32) -> bool
+        ensures same { self.new ≡ self.old }
+        ensures yes { IsTrue result → IsReady self.old.world task }
+        ensures no { result ≡ false → IsReady self.old.world task → ⊥ }
+    {
+        self.run.world.still_ready(task)
+    }
+
+    /// The greatest task that can.
+    pub fn next_ready(&mut self) -> Option<u32>
+        ensures same { self.new ≡ self.old }
+        ensures next { MatchOption result (NoneReady self.old.world) (IsGreatestReady self.old.world) }
     {
         self.run.world.next_ready()
     }
 
-    /// The greatest below a bound that can. It takes no memory.
-    pub fn ready_below(&self, bound: u32) -> Option<u32>
-        ensures { MatchOption result (NoneReadyBelow self.now.world bound) (IsGreatestBelow self.now.world bound) }
+    /// The greatest below a bound that can.
+    pub fn ready_below(&mut self, bound: u32) -> Option<u32>
+        ensures same { self.new ≡ self.old }
+        ensures next { MatchOption result (NoneReadyBelow self.old.world bound) (IsGreatestBelow self.old.world bound) }
     {
         self.run.world.ready_below(bound)
     }
@@ -185,7 +196,7 @@ impl Machine {
     pub fn steps(&self) -> u64
         ensures { result ≡ self.now.world.steps }
     {
-        self.run.world.steps
+        self.run.world.world().steps
     }
 
     pub fn code(&self) -> &Code

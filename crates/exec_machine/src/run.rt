@@ -26,14 +26,14 @@ use crate::slots::Slots;
 use crate::wants::wants_at;
 use code_instrs::Code;
 use exec_task::{Action, Answer, Start, Task};
-use exec_world::{Event, Stop, World};
+use exec_world::{Event, QueuedWorld, Stop};
 use lang_base::{Bytes, Ending as Came, Limits, NoMemory, Outcome, Place, Plain};
 use std::alloc::Global;
 
 /// What a machine changes.
 #[derive(Drop)]
 pub struct Run {
-    pub world: World,
+    pub world: QueuedWorld,
     pub slots: Slots,
     /// The tasks of all events, in their order.
     pub schedule: Schedule,
@@ -253,7 +253,7 @@ impl Run {
         ensures ok { OnOk result (OfSlot (get self.old.slots event.task) (λ slot. (child : Slot) × IsFirst self.old.world.tree.begun start child × Comes code.now limits self.old event (with_answer (insert self.old.slots self.old.world.tree.begun child) event.task slot (answer_to self.old.world event)) self.old.outcome self.new)) }
         ensures err { OnErr result (self.new ≡ self.old) }
     {
-        let number = self.world.tree.begun();
+        let number = self.world.begun();
         let task = event.task;
         self.slots
             .insert(number, Slot::start(alloc, number, start))?;
@@ -315,7 +315,7 @@ impl Run {
     fn output(&self, alloc: Global) -> Result<Bytes, NoMemory>
         ensures { IfOk result (λ out. out ≡ out_of (task_at self.now.world.tree 0)) }
     {
-        match self.world.tree.get(0) {
+        match self.world.world().tree.get(0) {
             Some(root) => root.out.copy(alloc),
             None => Ok(Bytes::new(alloc)),
         }
@@ -327,8 +327,8 @@ impl Run {
         self.outcome = Some(Outcome {
             ending: came,
             out,
-            steps: self.world.steps,
-            cells: self.world.heap.cells(),
+            steps: self.world.world().steps,
+            cells: self.world.world().heap.cells(),
         });
     }
 }

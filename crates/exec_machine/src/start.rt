@@ -12,7 +12,7 @@ use crate::slots::Slots;
 use code_instrs::Code;
 use exec_heap::{Heap, HeapStop};
 use exec_task::main_start;
-use exec_world::{World, first_fields};
+use exec_world::{QueuedWorld, World, first_fields};
 use lang_base::{Items, Limits, NoMemory, Outcome};
 use std::alloc::Global;
 
@@ -28,8 +28,9 @@ pub fn start(alloc: Global, code: &Code, limits: Limits, argument: i32) -> Resul
     let mut slots = Slots::new(alloc);
     let root = main_start(alloc, code, 0, argument)?;
     slots.insert(0, Slot::start(alloc, 0, root))?;
+    let queued = QueuedWorld::open(alloc, world)?;
     Ok(Run {
-        world,
+        world: queued,
         slots,
         schedule: Schedule::new(alloc),
         outcome,

@@ -60,19 +60,18 @@ pub opened_none : (P : PlainProgram) (L : Limits) (argument : ℤ) → IsOpened 
 opened_none P L argument (too_wide wide) = never_begun wide
 
 -- what the caller made is what isn't the workers'
-pub own_counted : (before after ks ls : List ℕ) (many more made : ℕ) → ks ≡ before → ls ≡ after → many ≡ length ks → more ≡ length ls →
-    length before ≡ made → length before ≤ length after → length after ≡ made + (more - many)
-own_counted before after ks ls many more made k l m n counted grown =
+pub own_counted : (before after ks ls : List ℕ) (made : ℕ) → ks ≡ before → ls ≡ after → length before ≡ made → length before ≤ length after
+    → length after ≡ made + (length ls - length ks)
+own_counted before after ks ls made k l counted grown =
     let x : length ks ≡ length before = ap length k in
     let y : length ls ≡ length after = ap length l in
-    omega (arith, x, y, m, n, counted, grown)
+    omega (arith, x, y, counted, grown)
 
-pub made_more : (before after ks ls : List ℕ) (many more : ℕ) → ks ≡ before → ls ≡ after → many ≡ length ks → more ≡ length ls →
-    length before ≤ length after → many ≤ more
-made_more before after ks ls many more k l m n grown =
+pub made_more : (before after ks ls : List ℕ) → ks ≡ before → ls ≡ after → length before ≤ length after → length ks ≤ length ls
+made_more before after ks ls k l grown =
     let x : length ks ≡ length before = ap length k in
     let y : length ls ≡ length after = ap length l in
-    omega (arith, x, y, m, n, grown)
+    omega (arith, x, y, grown)
 
 -- the run that workers began is recorded where it is finished
 record_of : (P : PlainProgram) (L : Limits) (argument : ℤ) (w : Worked) → IsRunOf P L argument w.machine → (r : Option Recorded) → IsFinished w r

@@ -14,8 +14,9 @@ pub fn next_state(state: u64) -> u64
 }
 
 /// The ready task that a state draws, if any is ready.
-pub fn drawn(machine: &Machine, state: u64) -> Option<u32>
-    ensures { MatchOption result (NoneReady machine.now.world) (IsDrawn machine.now.world state) }
+pub fn drawn(machine: &mut Machine, state: u64) -> Option<u32>
+    ensures same { machine.new ≡ machine.old }
+    ensures drawn { MatchOption result (NoneReady machine.old.world) (IsDrawn machine.old.world state) }
 {
     let greatest = machine.next_ready()?;
     let bound = number_drawn(state, greatest);

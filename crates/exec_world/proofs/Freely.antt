@@ -1,73 +1,48 @@
--- When a task is hindered in front of an entry, and the greatest that isn't.
-use Rattle.std.proofs.Common.{arith, ◌≡◌, ◌<◌, ◌≤◌, ◌⊎◌, inl, inr, ℕ, List, Bool, true, false, IsTrue, is_some, Option, Some, None, MatchOption, sym, subst, ◌∙◌, true≢false}
-use Rattle.std.specs.FinMap.{get}
+-- The greatest task that is ready.
+use Rattle.std.proofs.Common.{arith, ◌≡◌, ◌<◌, ◌≤◌, ◌⊎◌, inl, inr, ℕ, IsTrue, Option, Some, None, MatchOption, sym, subst, true≢false}
 use Rattle.std.proofs.lemmas.Bool.{cases_lt, cases_order}
-use Rattle.lang_base.specs.declared.effect.Effect.{Effect}
-use Rattle.exec_locks.specs.Locks.{Standings, MayEnter, IsFree, IsLeastHolder, is_inside, hinders}
-use Rattle.exec_tasks.specs.Tree.{is_ready, task_at, ready}
-use Rattle.exec_tasks.specs.Tree as tree
-use Rattle.exec_world.specs.Ready.{IsFreeToEnter, IsFreeFor, IsReady, NoneReady, IsGreatestReady, NoneReadyBelow, IsGreatestBelow}
+use Rattle.exec_tasks.specs.Tree.{task_at, ready}
+use Rattle.exec_world.proofs.Places.{absent}
+use Rattle.exec_world.specs.Queues.{AllHavePlaces, IsLastBelow, NoneBelow}
+use Rattle.exec_world.specs.Ready.{IsReady, NoneReady, IsGreatestReady, NoneReadyBelow, IsGreatestBelow}
+use Rattle.exec_world.specs.declared.queues.Queues.{Queues}
 use Rattle.exec_world.specs.declared.world.World.{World}
-
-clash : (b : Bool) → IsTrue b → b ≡ false → ⊥
-clash true t e = true≢false e
-clash false t e = true≢false (sym t)
-
-pub free : (locks : Standings) (task : ℕ) (wants : List Effect) (o : Option ℕ) → MatchOption o (IsFree locks task wants) (IsLeastHolder locks task wants)
-    → is_some o ≡ false → MayEnter locks task wants
-free locks task wants None m e = inr m
-free locks task wants (Some h) m e = absurd (true≢false e)
-
-pub hindered : (locks : Standings) (task : ℕ) (wants : List Effect) (o : Option ℕ) → MatchOption o (IsFree locks task wants) (IsLeastHolder locks task wants)
-    → is_some o ≡ true → is_inside locks task ≡ false → MayEnter locks task wants → ⊥
-hindered locks task wants None m e i may = true≢false (sym e)
-hindered locks task wants (Some h) m e i (inl inside) = clash (is_inside locks task) inside i
-hindered locks task wants (Some h) m e i (inr none) = clash (hinders locks task wants h) m.itself (none h)
-
--- in front of an entry with these effects
-pub wants_these : (w : World) (task : ℕ) (wants : List Effect) → get w.waits task ≡ Some wants → MayEnter w.locks task wants → IsFreeToEnter w task
-wants_these w task wants is may = subst (IsFreeFor w.locks task) (sym is) may
-
-pub wanted_these : (w : World) (task : ℕ) (wants : List Effect) → get w.waits task ≡ Some wants → IsFreeToEnter w task → MayEnter w.locks task wants
-wanted_these w task wants is free = subst (IsFreeFor w.locks task) is free
-
-pub wants_nothing : (w : World) (task : ℕ) → get w.waits task ≡ None → IsFreeToEnter w task
-wants_nothing w task is = subst (IsFreeFor w.locks task) (sym is) tt
 
 -- no task from the number of the next on is ready
 pub none_yet : (w : World) → ((q : ℕ) → w.tree.begun ≤ q → task_at w.tree q ≡ None) → (q : ℕ) → w.tree.begun ≤ q → IsReady w q → ⊥
 none_yet w none q from r = true≢false (sym (subst (λ o. IsTrue (ready o)) (none q from) r.0))
 
--- none between one that is hindered and a bound is ready, where none is between what is left and the bound
-pub passed : (w : World) (bound rest task : ℕ) → tree.IsGreatestReady w.tree.tasks rest task → (IsFreeToEnter w task → ⊥)
+-- none from a task that isn't ready to a bound is, where none of the run queue is between it and what is left
+pub passed : (w : World) (queues : Queues) (bound rest task : ℕ) → AllHavePlaces w queues → IsLastBelow queues rest task → (IsReady w task → ⊥)
     → ((q : ℕ) → rest ≤ q → q < bound → IsReady w q → ⊥) → (q : ℕ) → task ≤ q → q < bound → IsReady w q → ⊥
-passed w bound rest task great stuck above q from within r = by_case (cases_order q task)
+passed w queues bound rest task places last stuck above q from within r = by_case (cases_order q task)
   where
     further : task < q → (q < rest) ⊎ (rest ≤ q) → ⊥
-    further lt (inl below) = clash (is_ready w.tree q) r.0 (great.greatest q lt below)
+    further lt (inl below) = absent w queues q (places q) (last.last q lt below) r
     further lt (inr over) = above q over within r
 
     by_case : (q ≡ task) ⊎ ((q < task) ⊎ (task < q)) → ⊥
-    by_case (inl same) = stuck (subst (IsFreeToEnter w) same r.1)
+    by_case (inl same) = stuck (subst (IsReady w) same r)
     by_case (inr (inl less)) = omega (arith, less, from)
     by_case (inr (inr more)) = further more (cases_lt q rest)
 
--- none below the bound is ready, where none of what is left can go on
-pub none_left : (w : World) (bound rest : ℕ) → tree.NoneReady w.tree.tasks rest → ((q : ℕ) → rest ≤ q → q < bound → IsReady w q → ⊥) → NoneReadyBelow w bound
-none_left w bound rest none above q within r = by_case (cases_lt q rest)
+-- none below the bound is ready, where none of what is left is in the run queue
+pub none_left : (w : World) (queues : Queues) (bound rest : ℕ) → AllHavePlaces w queues → NoneBelow queues rest
+    → ((q : ℕ) → rest ≤ q → q < bound → IsReady w q → ⊥) → NoneReadyBelow w bound
+none_left w queues bound rest places none above q within r = by_case (cases_lt q rest)
   where
     by_case : (q < rest) ⊎ (rest ≤ q) → ⊥
-    by_case (inl below) = clash (is_ready w.tree q) r.0 (none q below)
+    by_case (inl below) = absent w queues q (places q) (none q below) r
     by_case (inr over) = above q over within r
 
--- the greatest of what is left that can go on is the greatest below the bound that is ready, if it isn't hindered
-pub greatest_is : (w : World) (bound rest task : ℕ) → rest ≤ bound → tree.IsGreatestReady w.tree.tasks rest task → IsFreeToEnter w task
+-- the last of what is left in the run queue is the greatest below the bound that is ready, if it is
+pub greatest_is : (w : World) (queues : Queues) (bound rest task : ℕ) → rest ≤ bound → AllHavePlaces w queues → IsLastBelow queues rest task → IsReady w task
     → ((q : ℕ) → rest ≤ q → q < bound → IsReady w q → ⊥) → IsGreatestBelow w bound task
-greatest_is w bound rest task within great free above =
-    record { itself = (great.goes_on, free); below = omega (arith, within, great.below); greatest = λ q lt less r. by_case q lt less r (cases_lt q rest) }
+greatest_is w queues bound rest task within places last ready above =
+    record { itself = ready; below = omega (arith, within, last.below); greatest = λ q lt less r. by_case q lt less r (cases_lt q rest) }
   where
     by_case : (q : ℕ) → task < q → q < bound → IsReady w q → (q < rest) ⊎ (rest ≤ q) → ⊥
-    by_case q lt less r (inl below) = clash (is_ready w.tree q) r.0 (great.greatest q lt below)
+    by_case q lt less r (inl below) = absent w queues q (places q) (last.last q lt below) r
     by_case q lt less r (inr over) = above q over less r
 
 -- below the number of the next stand all that are ready

@@ -1,2 +1,4 @@
 pub mod Maps
+pub mod Places
 pub mod Freely
+pub mod Ranges

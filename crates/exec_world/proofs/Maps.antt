@@ -1,17 +1,24 @@
 -- A map from numbers seen as a finite map.
-use Rattle.std.proofs.Common.{◌≡◌, ◌≢◌, ℕ, List, [], ◌∷◌, refl, sym, ap, ◌∙◌, Option, Some, None, Bool, true, false, cond, subst, true≢false}
+use Rattle.std.proofs.Common.{◌≡◌, ◌≢◌, ◌⊎◌, inl, inr, ℕ, List, [], ◌∷◌, refl, sym, ap, ◌∙◌, Option, Some, None, Bool, true, false, cond, subst, true≢false}
 use Rattle.std.specs.Ordering.{nat_cmp, is_eq, eq_by_cmp}
-use Rattle.std.specs.Cmp.{nat_cmp_total, eq_by_cmp_equiv, Equal-is, tied_itself}
+use Rattle.std.specs.Cmp.{nat_cmp_total, eq_by_cmp_equiv}
 use Rattle.std.specs.FinMap.{FinMap, from_entries, find, get, insert, remove, get-from_entries, get-insert, get-remove, same_map, nat_cmp-IsAntisymmetric}
 use Rattle.std.specs.Map.{lookup}
 use Rattle.std.specs.BTreeMap as tree
 use Rattle.std.specs.BTreeMap.{is_at, Updates}
 use Rattle.std.specs.declared.collections.BTreeMap.{BTreeMap}
 use Rattle.std.specs.declared.alloc.Global.{Global}
-use Rattle.exec_tasks.proofs.Numbers.{same_number}
+use Rattle.exec_tasks.proofs.Numbers.{same_number, itself}
 
 symmetric : (k q : ℕ) → eq_by_cmp nat_cmp k q ≡ eq_by_cmp nat_cmp q k
 symmetric k q = (eq_by_cmp_equiv nat_cmp_total).symm k q
+
+pub same_or_apart : (q k : ℕ) → (q ≡ k) ⊎ (q ≢ k)
+same_or_apart q k = by_case (eq_by_cmp nat_cmp q k) refl
+  where
+    by_case : (b : Bool) → eq_by_cmp nat_cmp q k ≡ b → (q ≡ k) ⊎ (q ≢ k)
+    by_case true e = inl (same_number q k e)
+    by_case false e = inr (λ same. true≢false (sym (ap (λ n. eq_by_cmp nat_cmp n k) same ∙ itself k) ∙ e))
 
 module _ {A : Type 0} where
   abbrev pub seen : BTreeMap ℕ A Global → FinMap nat_cmp A

@@ -2,3 +2,4 @@ pub mod Waits
 pub mod Costs
 pub mod World
 pub mod Ready
+pub mod Queues

@@ -11,14 +11,20 @@
 //! entries and exits. It takes at most the logarithm of the live tasks, and the effects of an entry.
 //!
 //! An event takes the time of the store that it touches, and besides that only what it copies: the regions of an object that
-//! is looked at, the effects of an entry, the bytes of a line, and what a join puts together. `next_ready` takes the logarithm
-//! of the live tasks, and the tasks that it passes over: those in front of their joins, and those that are hindered.
+//! is looked at, the effects of an entry, the bytes of a line, and what a join puts together.
+//!
+//! `QueuedWorld` is a world that finds its ready tasks by queues; a contract sees the world alone. Each task that is ready is in
+//! the run queue. One that is found hindered moves into the wait queue of a task that hinders it, and isn't asked again before
+//! that one leaves its block, which moves the whole wait queue back. So `next_ready` and `ready_below` take the logarithm of the
+//! queues for each task that they find, and for each that they take out of the run queue, which an event has put there.
 #![tactic(auto)]
 
 mod acts;
 mod cost;
 mod event;
 mod fits;
+mod queued;
+mod queues;
 mod ready;
 mod seen;
 mod stop;
@@ -27,6 +33,7 @@ mod world;
 
 pub use cost::first_fields;
 pub use event::Event;
+pub use queued::QueuedWorld;
 pub use stop::Stop;
 pub use waits::Waits;
 pub use world::World;

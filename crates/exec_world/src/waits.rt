@@ -4,20 +4,20 @@ ghost use Rattle.std.specs.FinMap.{empty, get, insert, remove};
 ghost use Rattle.exec_locks.specs.Locks.{AllRoot};
 ghost use Rattle.exec_world.specs.Waits.{wanted};
 
+use exec_tasks::Numbered;
 use lang_base::{Effect, Items, NoMemory};
 use std::alloc::Global;
-use std::collections::BTreeMap;
 use std::marker::Model;
 
 /// The tasks that have rested in front of an entry, with the effects with which they are to enter. A contract sees a finite map
 /// from their numbers.
 #[derive(Drop)]
 pub struct Waits {
-    map: BTreeMap<u32, Items<Effect>>,
+    map: Numbered<Items<Effect>>,
 }
 
 impl Model for Waits {
-    ghost use Rattle.std.specs.FinMap.{from_entries, code};
+    ghost use Rattle.std.specs.FinMap.{code};
     ghost use Rattle.std.specs.Coded.{coded_ℕ, coded_list};
     ghost use Rattle.exec_world.specs.Waits.{Waiting, AllWantRoots};
     ghost use Rattle.lang_base.specs.contracts.effect.Effect as effect;
@@ -26,9 +26,9 @@ impl Model for Waits {
 
     ghost coded = { code coded_ℕ (coded_list effect.the_row.coded) };
 
-    ghost view = { λ w. from_entries w.map.entries };
+    ghost view = { λ w. w.map };
 
-    ghost invariant = { λ w. AllWantRoots (from_entries w.map.entries) };
+    ghost invariant = { λ w. AllWantRoots w.map };
 }
 
 impl Waits {
@@ -37,7 +37,7 @@ impl Waits {
         ensures { result ≡ empty }
     {
         Waits {
-            map: BTreeMap::new(alloc),
+            map: Numbered::new(alloc),
         }
     }
 
@@ -46,7 +46,7 @@ impl Waits {
         ensures value { option_copied result ≡ get self.now task }
         ensures roots { AllRoot (wanted (get self.now task)) }
     {
-        self.map.get(&task)
+        self.map.get(task)
     }
 
     /// A task has rested in front of an entry.
@@ -55,7 +55,7 @@ impl Waits {
         ensures ok { OnOk result (self.new ≡ insert self.old task effects) }
         ensures err { OnErr result (self.new ≡ self.old) }
     {
-        let _ = self.map.insert(task, effects)?;
+        self.map.insert(task, effects)?;
         Ok(())
     }
 
@@ -63,6 +63,6 @@ impl Waits {
     pub fn remove(&mut self, task: u32)
         ensures { self.new ≡ remove self.old task }
     {
-        let _ = self.map.remove(&task);
+        let _ = self.map.remove(task);
     }
 }

@@ -1,4 +1,4 @@
-ghost use Rattle.std.specs.Prelude.{◌≡◌, ◌≤◌, IfOk, IfErr, OnOk, OnErr};
+ghost use Rattle.std.specs.Prelude.{◌≡◌, ◌↔◌, ◌≤◌, IsTrue, IfOk, IfErr, OnOk, OnErr};
 ghost use Rattle.exec_world.specs.Costs.{Within, Stops};
 ghost use Rattle.exec_world.specs.World.{at_start, Fits, answer_to, world_after};
 
@@ -55,14 +55,32 @@ impl World {
         ensures after { OnOk result (self.new ≡ world_after code.now self.old event) }
         ensures err { OnErr result (self.new ≡ self.old) }
     {
-        let turns = event.turns;
-        let more = steps_of(&event.action);
-        let cells = cells_of(code, &event.action);
-        if !has_steps(self.steps, self.most_steps, turns, more) || !self.heap.has_room(cells) {
+        if !self.allows(code, &event) {
             return Err(Stop::Limited);
         }
+        let cost = u64::from(event.turns) + steps_of(&event.action);
         let answer = self.act(alloc, code, event)?;
-        self.steps += u64::from(turns) + more;
+        self.steps += cost;
         Ok(answer)
+    }
+
+    /// Whether an event keeps to the limits.
+    fn allows(&self, code: &Code, event: &Event) -> bool
+        ensures { IsTrue result ↔ Within code.now self.now event.now }
+    {
+        let more = steps_of(&event.action);
+        has_steps(self.steps, self.most_steps, event.turns, more)
+            && self.heap.has_room(cells_of(code, &event.action))
+    }
+
+    /// Why an event isn't made for which there is no memory: limits come first.
+    pub fn refusal(&self, code: &Code, event: &Event) -> Stop
+        ensures { Stops code.now self.now event.now result }
+    {
+        if self.allows(code, event) {
+            Stop::NoMemory
+        } else {
+            Stop::Limited
+        }
     }
 }

@@ -1,10 +1,11 @@
 -- A round by its turns, and rounds one after another.
-use Rattle.std.proofs.Common.{arith, ◌≡◌, ◌≤◌, ◌<◌, ◌-◌, ◌+◌, ◌⊎◌, ℕ, inl, inr, List, length, None}
+use Rattle.std.proofs.Common.{arith, ◌≡◌, ◌≤◌, ◌<◌, ◌-◌, ◌+◌, ◌⊎◌, ℕ, inl, inr, List, [], ◌∷◌, length, None, ap, sym, subst}
 use Rattle.std.proofs.lemmas.Bool.{cases_lt}
 use Rattle.exec_machine.specs.Keeping.{Played, HasEnded, most_events}
 use Rattle.exec_machine.specs.declared.halted.Halted.{Halted}
 use Rattle.exec_world.specs.Ready.{NoneReady}
-use Rattle.exec_run.specs.rounds.Rounds.{AreReady, HadTurns, IsRound, TurnsBreakOff, BreaksOff, within}
+use Rattle.exec_run.specs.rounds.Rounds.{AreReady, HadTurns, IsOver, IsRound, TurnsBreakOff, BreaksOff, within}
+use Rattle.exec_run.proofs.rounds.Collecting.{first-in}
 use Rattle.exec_run.proofs.rounds.Turning.{round_grows}
 
 module _ (before after : Played) (tasks : List ℕ) (ready : AreReady before.world tasks) where
@@ -18,6 +19,28 @@ module _ (before after : Played) (tasks : List ℕ) (ready : AreReady before.wor
 pub idle : (before after : Played) (made : ℕ) → IsRound before after → length after.schedule ≡ length before.schedule + made → made ≡ 0
     → NoneReady before.world
 idle before after made round is none = λ q ready. let more = round_grows before after round (λ all. all q ready) in absurd (omega (arith, more))
+
+-- a round in which no task is ready changes nothing
+pub unchanged : (before after : Played) → IsRound before after → NoneReady before.world → after ≡ before
+unchanged before after round none = at round.tasks round.ready round.turns
+  where
+    at : (ks : List ℕ) → AreReady before.world ks → HadTurns before ks after → after ≡ before
+    at [] are same = same
+    at (k ∷ ks) are turns = absurd (none k ((are.all k).0 (first-in k ks)))
+
+-- rounds end where one makes no event
+pub ended_idle : (before after : Played) (made : ℕ) → IsRound before after → length after.schedule ≡ length before.schedule + made → made ≡ 0
+    → HasEnded after
+ended_idle before after made round is none = let no = idle before after made round is none in
+    subst HasEnded (sym (unchanged before after round no)) (inr (inl no))
+
+-- and go on where one makes some
+pub goes_on : (before after : Played) (made : ℕ) → (IsOver before → ⊥) → IsRound before after → length after.schedule ≡ length before.schedule + made
+    → (made ≡ 0 → ⊥) → HasEnded before → ⊥
+goes_on before after made going round is some (inl out) = going (inl out)
+goes_on before after made going round is some (inr (inl none)) =
+    some (omega (arith, is, ap (λ (p : Played). length p.schedule) (unchanged before after round none)))
+goes_on before after made going round is some (inr (inr over)) = going (inr over)
 
 -- a machine that goes on has made fewer events than a run has at most
 pub few_made : (p : Played) → (HasEnded p → ⊥) → length p.schedule < most_events

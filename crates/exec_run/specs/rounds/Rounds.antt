@@ -1,9 +1,9 @@
 -- What a round of a machine makes.
-use Rattle.std.specs.Prelude.{◌≡◌, ◌↔◌, ℕ, ◌+◌, List, [], ◌∷◌, ◌++◌, Contains, None, IsSome}
+use Rattle.std.specs.Prelude.{◌≡◌, ◌↔◌, ◌⊎◌, ℕ, ◌+◌, ◌≤◌, length, List, [], ◌∷◌, ◌++◌, Contains, None, IsSome}
 use Rattle.std.specs.List.Sorted.{IsStrictlyIncreasing}
 use Rattle.exec_world.specs.Ready.{IsReady}
 use Rattle.exec_world.specs.declared.world.World.{World}
-use Rattle.exec_machine.specs.Keeping.{Played, IsAfter, HasEnded, WhyHaltedAt}
+use Rattle.exec_machine.specs.Keeping.{Played, IsAfter, HasEnded, WhyHaltedAt, most_events}
 use Rattle.exec_machine.specs.declared.halted.Halted.{Halted}
 use Rattle.exec_machine.specs.declared.halted.Halted.TheVariants.{NoMemory}
 
@@ -22,6 +22,10 @@ pub data IsTurn (before : Played) (k : ℕ) : Played → Type 0 where
 abbrev pub HadTurns : Played → List ℕ → Played → Type 0
 HadTurns before [] after = after ≡ before
 HadTurns before (k ∷ ks) after = (middle : Played) × IsTurn before k middle × HadTurns middle ks after
+
+-- the machine has finished, or has made as many events as a run has at most
+abbrev pub IsOver : Played → Type 0
+IsOver p = IsSome p.outcome ⊎ (most_events ≤ length p.schedule)
 
 -- a round of a machine that hasn't finished: each task that is ready as it begins has its turn
 pub record IsRound (before after : Played) : Type 0 where

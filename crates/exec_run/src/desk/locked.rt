@@ -129,7 +129,7 @@ impl<L: Run> Locked<L> {
             let front = self.machine.schedule().len() as u64;
             return Ok(DeskStep::Finished { front });
         }
-        let Some(task) = picked(&self.machine, wish) else {
+        let Some(task) = picked(&mut self.machine, wish) else {
             let front = self.machine.schedule().len() as u64;
             return Ok(DeskStep::NoneReady { front });
         };
@@ -143,8 +143,9 @@ impl<L: Run> Locked<L> {
 }
 
 /// The wished task if it is ready, and else the greatest ready one.
-fn picked(machine: &Machine, wish: Option<u32>) -> Option<u32>
-    ensures { MatchOption result (NoneReady machine.now.world) (IsPicked machine.now.world wish) }
+fn picked(machine: &mut Machine, wish: Option<u32>) -> Option<u32>
+    ensures same { machine.new ≡ machine.old }
+    ensures picked { MatchOption result (NoneReady machine.old.world) (IsPicked machine.old.world wish) }
 {
     match wish {
         Some(task) if machine.ready(task) => Some(task),

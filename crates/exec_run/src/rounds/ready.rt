@@ -1,4 +1,4 @@
-ghost use Rattle.std.specs.Prelude.{reverse, IfOk};
+ghost use Rattle.std.specs.Prelude.{◌≡◌, reverse, IfOk};
 ghost use Rattle.exec_run.specs.rounds.Rounds.{AreReady};
 
 use exec_machine::Machine;
@@ -6,8 +6,9 @@ use lang_base::{Items, NoMemory};
 use std::alloc::Global;
 
 /// The tasks that are ready, the greatest first.
-pub fn ready_tasks(alloc: Global, machine: &Machine) -> Result<Items<u32>, NoMemory>
-    ensures { IfOk result (λ tasks. AreReady machine.now.world (reverse tasks)) }
+pub fn ready_tasks(alloc: Global, machine: &mut Machine) -> Result<Items<u32>, NoMemory>
+    ensures same { machine.new ≡ machine.old }
+    ensures ready { IfOk result (λ tasks. AreReady machine.old.world (reverse tasks)) }
 {
     let mut tasks = Items::new(alloc);
     let mut next = machine.next_ready();

@@ -1,7 +1,7 @@
 ghost use Rattle.std.specs.Prelude.{◌≡◌, ◌↔◌, ◌+◌, None, length, reverse, IsTrue, IfOk, IfErr, OnOk, OnErr};
 ghost use Rattle.exec_world.specs.Ready.{NoneReady};
 ghost use Rattle.exec_machine.specs.Keeping.{HasEnded, WhyHaltedAt};
-ghost use Rattle.exec_run.specs.rounds.Rounds.{IsTurn, HadTurns, IsRound, RoundsOn, BreaksOff, RoundsBreakOff, TurnsBreakOff};
+ghost use Rattle.exec_run.specs.rounds.Rounds.{IsTurn, HadTurns, IsOver, IsRound, RoundsOn, BreaksOff, RoundsBreakOff, TurnsBreakOff};
 
 use crate::rounds::mark::Mark;
 use crate::rounds::ready::ready_tasks;
@@ -28,20 +28,23 @@ pub fn run_rounds<R: Threads + Sync>(
 {
     let mut useful = 1;
     let mut rounds = 0;
-    while !has_ended(machine) {
+    while !is_over(machine) {
         let begun = Mark::of(machine);
-        round(rt, alloc, machine, useful)?;
+        let made = round(rt, alloc, machine, useful)?;
+        if made == 0 {
+            return Ok(rounds);
+        }
         rounds += 1;
         useful = begun.useful_threads(machine, threads);
     }
     Ok(rounds)
 }
 
-/// Whether the machine has finished, or no task is ready, or 40000002 events were made.
-fn has_ended(machine: &Machine) -> bool
-    ensures { IsTrue result ↔ HasEnded machine.now }
+/// Whether the machine has finished, or 40000002 events were made.
+fn is_over(machine: &Machine) -> bool
+    ensures { IsTrue result ↔ IsOver machine.now }
 {
-    machine.finished() || machine.next_ready().is_none() || MOST_EVENTS <= machine.schedule().len()
+    machine.finished() || MOST_EVENTS <= machine.schedule().len()
 }
 
 /// Makes a round. The answer is its length, the number of events: 0 only where no task is ready.
@@ -94,7 +97,7 @@ fn turn(machine: &mut Machine, task: u32) -> Result<(), Halted>
     if machine.finished() {
         return Ok(());
     }
-    if !machine.ready(task) {
+    if !machine.still_ready(task) {
         return Ok(());
     }
     let _ = machine.step(task)?;

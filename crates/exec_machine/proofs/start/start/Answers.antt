@@ -24,6 +24,8 @@ returns-clause-opens c =
     main slots_are c.start.ensures starts in (
       o.0,
       o.1,
-      λ go. subst (λ w. Keeps (plain_code c.args.code.now) (record { world = with_heap w c.make_main.new.heap; slots = c.insert.new.self; schedule = c.new.result; outcome = c.in_ok-outcome.outcome }) o.0)
-          (sym c.in_ok-world.ensures) (o.2 go),
+      λ go. subst (λ w. Keeps (plain_code c.args.code.now) (record { world = w; slots = c.insert.new.self; schedule = c.new.result; outcome = c.in_ok-outcome.outcome }) o.0)
+          (sym c.in_ok-queued.ensures)
+          (subst (λ w. Keeps (plain_code c.args.code.now) (record { world = with_heap w c.make_main.new.heap; slots = c.insert.new.self; schedule = c.new.result; outcome = c.in_ok-outcome.outcome }) o.0)
+          (sym c.in_ok-world.ensures) (o.2 go)),
     )

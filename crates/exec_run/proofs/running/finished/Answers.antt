@@ -1,4 +1,4 @@
-use Rattle.std.proofs.Common.{◌≡◌, Some, IfSome, refl, subst, sum}
+use Rattle.std.proofs.Common.{arith, ◌≡◌, Some, IfSome, refl, subst, sum}
 use Rattle.exec_run.specs.Run.{finished_so, unfinished_so}
 use Rattle.exec_run.proofs.Coming.{grows, made_more, own_counted, same_run}
 use Rattle.exec_run.proofs.running.finished.Goals as goal
@@ -10,13 +10,18 @@ returns-in_default c =
 
 pub overflow_sub-own : goal.overflow_sub-own
 overflow_sub-own c =
-    made_more c.args.worked.machine.schedule c.finish.new.machine.schedule c.schedule.result.now c.schedule-2.result.now _ _ c.schedule.ensures.schedule
-    c.schedule-2.ensures.schedule c.len-made.ensures c.len.ensures (grows c.args.worked.machine c.finish.new.machine c.finish.ensures.greedily)
+    omega (
+      arith,
+      c.len-made.ensures,
+      c.len.ensures,
+      made_more c.args.worked.machine.schedule c.finish.new.machine.schedule c.schedule.result.now c.schedule-2.result.now c.schedule.ensures.schedule
+          c.schedule-2.ensures.schedule (grows c.args.worked.machine c.finish.new.machine c.finish.ensures.greedily),
+    )
 
 pub returns : goal.returns
 returns c =
     finished_so _ (same_run c.args.worked.machine c.finish.new.machine c.finish.ensures.greedily c.finish.ensures.replayed)
     (subst (λ o. IfSome o (λ outcome. c.finish.new.machine.outcome ≡ Some outcome)) c.in-Some.is c.in_ok-outcome.ensures.came) refl
-    (own_counted c.args.worked.machine.schedule c.finish.new.machine.schedule c.schedule.result.now c.schedule-2.result.now _ _ (sum c.args.worked.shares)
-    c.schedule.ensures.schedule c.schedule-2.ensures.schedule c.len-made.ensures c.len.ensures c.requires.counted
-    (grows c.args.worked.machine c.finish.new.machine c.finish.ensures.greedily))
+    (rw (c.len.ensures, c.len-made.ensures)
+    (own_counted c.args.worked.machine.schedule c.finish.new.machine.schedule c.schedule.result.now c.schedule-2.result.now (sum c.args.worked.shares)
+    c.schedule.ensures.schedule c.schedule-2.ensures.schedule c.requires.counted (grows c.args.worked.machine c.finish.new.machine c.finish.ensures.greedily)))

@@ -1,7 +1,7 @@
 -- Each step is that of the greatest ready task.
-use Rattle.std.proofs.Common.{◌∷◌, [], ap, length, arith}
+use Rattle.std.proofs.Common.{◌∷◌, [], ap, length, arith, subst}
 use Rattle.std.proofs.lemmas.List.{length-append}
-use Rattle.exec_machine.specs.Keeping.{here, further}
+use Rattle.exec_machine.specs.Keeping.{Played, IsAfter, here, further}
 use Rattle.exec_machine.proofs.machine.Machine.finish.Goals as goal
 
 pub loop-turn-init : goal.loop-turn-init
@@ -9,9 +9,9 @@ loop-turn-init c = (here, omega (arith))
 
 pub loop-turn-preserved : goal.loop-turn-preserved
 loop-turn-preserved c =
-    let stepped = c.in_ok-step.ensures.stepped in
+    let stepped = subst (λ (m : Played). IsAfter m c.in-Some.task c.step.new.self) c.in-Some.ensures.same c.in_ok-step.ensures.stepped in
     let more = ap length stepped.schedule in
     let le = c.loop-turn.invariant.1 in (
-      further c.loop-turn.self c.step.new.self c.in-Some.task c.loop-turn.invariant.0 c.in-Some.ensures stepped,
+      further c.loop-turn.self c.step.new.self c.in-Some.task c.loop-turn.invariant.0 c.in-Some.ensures.next stepped,
       omega (arith, le, more, length-append c.loop-turn.self.schedule (c.in-Some.task ∷ [])),
     )
