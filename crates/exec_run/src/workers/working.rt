@@ -62,9 +62,24 @@ fn work_at<L: Run + Send + Sync, R: Threads + Wait + Sync, G: Gate + Sync>(
     ensures len { IfOk result (λ worked. length worked.shares ≡ workers) }
     ensures sum { IfOk result (λ worked. length worked.machine.schedule ≡ sum worked.shares) }
 {
-    let (desk, mut seats) = Desk::<L>::open(alloc, blank, machine, workers)?;
-    let shared = &desk;
-    // The first in a thread of its own, from which the other workers' start: this one waits.
+    let (desk, seats) = Desk::<L>::open(alloc, blank, machine, workers)?;
+    let seats = step_side_by_side(rt, &desk, workers, gate, seats);
+    let (machine, shares) = desk.close(alloc, seats)?;
+    Ok(Worked { machine, shares })
+}
+
+/// Has each worker step on at its seat. The first is in a thread of its own, from which the other workers' start: the caller waits.
+fn step_side_by_side<L: Run + Send + Sync, R: Threads + Wait + Sync, G: Gate + Sync>(
+    rt: &R,
+    desk: &Desk<L>,
+    workers: u32,
+    gate: &G,
+    seats: Vec<Seat<L>>,
+) -> Vec<Seat<L>>
+    requires { 1 ≤ workers }
+    ensures { vec_len result ≡ vec_len seats }
+{
+    let mut seats = seats;
     join_mut(
         rt,
         &mut ||
@@ -75,13 +90,12 @@ fn work_at<L: Run + Send + Sync, R: Threads + Wait + Sync, G: Gate + Sync>(
                 rt,
                 seats.as_mut_slice(),
                 workers as usize,
-                &|_, seat: &mut Seat<L>| step_on(rt, shared, gate, seat),
+                &|_, seat: &mut Seat<L>| step_on(rt, desk, gate, seat),
             )
         },
         &mut || (),
     );
-    let (machine, shares) = desk.close(alloc, seats)?;
-    Ok(Worked { machine, shares })
+    seats
 }
 
 /// Steps until the machine has finished, or no task is ready, or a step is not made. It wishes the task of its last step.
