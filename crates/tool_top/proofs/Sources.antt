@@ -187,3 +187,8 @@ module _ (words : List (List ℕ)) (given : Job) (is_job : Some given ≡ job wo
       → OnOk result (asks_text (job words) ≡ true → ReadToEnd (job words) before after)
   read-to-end-so (Ok reply) before after is = λ e. end-so before after is
   read-to-end-so (Err unread) before after is = tt
+
+-- what has been read to its end is so whatever is asked of the text besides
+pub read-to-end : (o : Option (List ℕ)) (P : List ℕ → Type 0) (Q : Type 0) → IfSome o (λ text. Q) → IfSome o (λ text. P text → Q)
+read-to-end None P Q h = h
+read-to-end (Some text) P Q h = λ short. h
