@@ -1,4 +1,5 @@
 mod Mended
+pub mod Parts
 mod Refused
 pub mod Resolved
 mod Single
