@@ -7,8 +7,8 @@ use Rattle.lang_typed.specs.Plain.{StmtForm as form}
 use Rattle.lang_typed.specs.declared.stmt.Forking.{Forking}
 use Rattle.lang_typed.specs.declared.stmt.Forking.TheVariants.{Deterministic}
 use Rattle.lang_typed.specs.Resolved.{is_void}
-use Rattle.lang_typed.specs.Parts.{each_stmt}
-use Rattle.lang_typed.proofs.Parts.{each_all}
+use Rattle.lang_typed.specs.Parts.{each_stmt, each_branch, parts_of}
+use Rattle.lang_typed.proofs.Parts.{Each, each_all}
 use Rattle.code_instrs.specs.declared.instr.Instr.{Instr}
 use Rattle.code_instrs.specs.declared.instr.Instr.TheVariants as i
 use Rattle.code_instrs.specs.Plain.{Line, Site, fork_site, spread_site, of_branch, PlainCode, body_at}
@@ -191,3 +191,27 @@ module _ (C : PlainCode) where
     pub stmts_at : (c : List Line) (k : Next) (p : ℕ) (ss : TypedStmts) → Laid C c k p (stmts_piece k p ss) → StmtsAt C c p ss
     stmts_at c k p no_stmts h = tt
     stmts_at c k p (more_stmts s ss) h = let x = cut C (stmt_far k p s) h in (stmt_at c k p s x.0, stmts_at c _ _ ss x.1)
+
+  -- the parts of a statement are somewhere in the code too
+  abbrev pub Somewhere : TypedStmt → Type 0
+  Somewhere s = (at : List Line × ℕ) × StmtAt C at.0 at.1 s
+
+  pub each_somewhere : (c : List Line) (p : ℕ) (ss : TypedStmts) → StmtsAt C c p ss → Each Somewhere (each_stmt ss)
+  each_somewhere c p no_stmts h = tt
+  each_somewhere c p (more_stmts s ss) h = (((c, p), h.0), each_somewhere c _ ss h.1)
+
+  branches_somewhere : (bs : TypedBranches) (js : List ℕ) → BranchesAt C bs js → Each Somewhere (each_branch bs)
+  branches_somewhere no_branches js h = tt
+  branches_somewhere (more_branches copies s bs) js h = (((_, _), h.3.0), branches_somewhere bs h.1 h.4)
+
+  pub parts_somewhere : (at : List Line × ℕ) (s : TypedStmt) → StmtAt C at.0 at.1 s → Each Somewhere (parts_of s)
+  parts_somewhere i (statement at (form.block ss)) h = each_somewhere _ _ ss h
+  parts_somewhere i (statement at (form.choice e s)) h = (((_, _), h.2), tt)
+  parts_somewhere i (statement at (form.choice_else e s t)) h = (((_, _), h.2), (((_, _), h.4), tt))
+  parts_somewhere i (statement at (form.while_loop e s)) h = (((_, _), h.3), tt)
+  parts_somewhere i (statement at (form.atomic effects ss)) h = each_somewhere _ _ ss h.1
+  parts_somewhere i (statement at (form.cobegin forking bs)) h = branches_somewhere bs h.0 h.2
+  parts_somewhere i (statement at (form.foreach forking x start count s)) h = (((_, _), h.4.0), tt)
+  parts_somewhere i (statement at (form.foreach_parts x (of_array a) count s)) h = (((_, _), h.8.1), tt)
+  parts_somewhere i (statement at (form.foreach_parts x (of_part y) count s)) h = (((_, _), h.10.1), tt)
+  parts_somewhere i s h = tt

@@ -1,4 +1,5 @@
 mod Mended
+pub mod Narrow
 pub mod Parts
 mod Refused
 pub mod Resolved

@@ -85,12 +85,15 @@ module _ (Q : TypedStmt → Type 0) (step : (s : TypedStmt) → Each Q (parts_of
     branches_by_parts no_branches = tt
     branches_by_parts (more_branches copies s bs) = (stmt_by_parts s, branches_by_parts bs)
 
--- what each statement hands on to its direct parts, as it is of each of them in a place of its own, is so throughout
+-- what each statement hands on to its direct parts, as it is of each of them in a place of its own, and what follows from theirs
 module _ (I : Type 0) (R : I → TypedStmt → Type 0) (Q : TypedStmt → Type 0)
-    (parts : (i : I) (s : TypedStmt) → R i s → Each (λ t. (j : I) × R j t) (parts_of s)) (gives : (i : I) (s : TypedStmt) → R i s → Q s) where
-  pub handed_on : (s : TypedStmt) (i : I) → R i s → Throughout parts_of Q s
-  handed_on = stmt_by_parts (λ s. (i : I) → R i s → Throughout parts_of Q s) (λ s each i r. throughout parts_of Q (gives i s r) (all (parts_of s) each (parts i s r)))
-    where
-      all : (ts : List TypedStmt) → Each (λ t. (j : I) → R j t → Throughout parts_of Q t) ts → Each (λ t. (j : I) × R j t) ts → Each (Throughout parts_of Q) ts
-      all [] f h = tt
-      all (t ∷ ts) f h = (f.0 h.0.0 h.0.1, all ts f.1 h.1)
+    (parts : (i : I) (s : TypedStmt) → R i s → Each (λ t. (j : I) × R j t) (parts_of s)) (gives : (i : I) (s : TypedStmt) → R i s → Each Q (parts_of s) → Q s) where
+  all_handed : (ts : List TypedStmt) → Each (λ t. (i : I) → R i t → Q t) ts → Each (λ t. (j : I) × R j t) ts → Each Q ts
+  all_handed [] f h = tt
+  all_handed (t ∷ ts) f h = (f.0 h.0.0 h.0.1, all_handed ts f.1 h.1)
+
+  pub handed_on : (s : TypedStmt) (i : I) → R i s → Q s
+  handed_on = stmt_by_parts (λ s. (i : I) → R i s → Q s) (λ s each i r. gives i s r (all_handed (parts_of s) each (parts i s r)))
+
+  pub all_handed_on : (ss : TypedStmts) → Each (λ t. (j : I) × R j t) (each_stmt ss) → Each Q (each_stmt ss)
+  all_handed_on ss h = all_handed (each_stmt ss) (stmts_by_parts (λ s. (i : I) → R i s → Q s) (λ s each i r. gives i s r (all_handed (parts_of s) each (parts i s r))) ss) h
