@@ -5,7 +5,7 @@ use Rattle.lang_base.specs.declared.place.Place.{Place}
 use Rattle.lang_typed.specs.Plain.{TypedStmt, statement, TypedStmts, no_stmts, more_stmts, TypedBranches, no_branches, more_branches, PlainMember, PlainProgram}
 use Rattle.lang_typed.specs.Plain.{StmtForm as form}
 use Rattle.lang_typed.specs.Resolved.{is_void, gives_value, StmtFits, StmtsFit, BranchesFit, Resolved}
-use Rattle.lang_typed.specs.Parts.{each_stmt, parts_of}
+use Rattle.lang_typed.specs.Parts.{each_stmt, substatements}
 use Rattle.lang_typed.specs.Scope.{member_at}
 use Rattle.lang_typed.proofs.Parts.{Each}
 use Rattle.lang_typed.proofs.Resolved.{each_fits, parts_fit}
@@ -57,8 +57,8 @@ module _ (P : PlainProgram) (y : Bool) (n r : ℕ) where
   both_kept [] f w = tt
   both_kept (s ∷ ss) f w = ((f.0, w.0), both_kept ss f.1 w.1)
 
-  parts_kept : (s : TypedStmt) → Kept s → Each Kept (parts_of s)
-  parts_kept s h = both_kept (parts_of s) (parts_fit P y s h.0) (parts_within P n r s h.1)
+  parts_kept : (s : TypedStmt) → Kept s → Each Kept (substatements s)
+  parts_kept s h = both_kept (substatements s) (parts_fit P y s h.0) (parts_within P n r s h.1)
 
   good_built : Built Kept (λ p a q m. Goods a)
   good_built = record {

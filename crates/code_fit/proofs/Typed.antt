@@ -13,7 +13,7 @@ use Rattle.lang_base.specs.Types.{type_with, PlainType, int, array}
 use Rattle.lang_base.specs.declared.region.Rpl.{Rpl}
 use Rattle.lang_typed.specs.Plain.{PlainProgram, PlainClass, PlainParent, PlainMember, TypedExpr, TypedExprs, Source, TypedStmt, statement, TypedStmts, no_stmts, more_stmts, TypedBranches, no_branches, more_branches}
 use Rattle.lang_typed.specs.Plain.{StmtForm as stmt}
-use Rattle.lang_typed.specs.Parts.{each_stmt, each_branch, parts_of}
+use Rattle.lang_typed.specs.Parts.{each_stmt, each_branch, substatements}
 use Rattle.lang_typed.proofs.Parts.{Each}
 use Rattle.lang_typed.specs.Scope.{Scope, Local, variable, frozen, constant, part, reserved, with_local, in_loop_branch, read_alone, seen_in_branch, class_at, row_at, member_at, parent_of, constructor_of}
 use Rattle.lang_typed.specs.Effects.{Own}
@@ -44,7 +44,7 @@ module _ (P : PlainProgram) (n r : ℕ) where
   branch_within no_branches w = tt
   branch_within (more_branches copies s bs) w = ((false, w.1), branch_within bs w.2)
 
-  pub parts_within : (s : TypedStmt) → Within s → Each Within (parts_of s)
+  pub parts_within : (s : TypedStmt) → Within s → Each Within (substatements s)
   parts_within (statement at (stmt.block ss)) w = each_within w.0 ss w.1
   parts_within (statement at (stmt.choice e s)) w = ((w.0, w.1.1), tt)
   parts_within (statement at (stmt.choice_else e s t)) w = ((w.0, w.1.1), ((w.0, w.1.2), tt))

@@ -5,7 +5,7 @@ use Rattle.lang_base.specs.Types.{PlainType}
 use Rattle.lang_base.specs.Types.{PlainType as ty}
 use Rattle.lang_typed.specs.declared.stmt.Forking.{Forking}
 use Rattle.lang_typed.specs.declared.stmt.Forking.TheVariants.{Deterministic}
-use Rattle.lang_typed.specs.Parts.{each_stmt, parts_of}
+use Rattle.lang_typed.specs.Parts.{each_stmt, substatements}
 use Rattle.lang_typed.specs.Plain.{TypedExpr, typed, type_of, TypedExprs, no_exprs, more_exprs, Source, of_array, of_part, TypedStmt, statement, TypedStmts, no_stmts, more_stmts, TypedBranches}
 use Rattle.lang_typed.specs.Plain.{ExprForm as expr}
 use Rattle.lang_typed.specs.Plain.{StmtForm as form}
@@ -48,11 +48,11 @@ pub record Built (H : TypedStmt → Type 0) (Q : ℕ → Piece → ℕ → ℕ �
 abbrev pub Nothing_asked : TypedStmt → Type 0
 Nothing_asked s = Unit {0}
 
-pub none_asked : (s : TypedStmt) → Nothing_asked s → Each Nothing_asked (parts_of s)
-none_asked s h = each_all Nothing_asked (λ t. tt) (parts_of s)
+pub none_asked : (s : TypedStmt) → Nothing_asked s → Each Nothing_asked (substatements s)
+none_asked s h = each_all Nothing_asked (λ t. tt) (substatements s)
 
 -- H is handed on to the parts of a statement
-module _ (H : TypedStmt → Type 0) (Q : ℕ → Piece → ℕ → ℕ → Type 0) (parts : (s : TypedStmt) → H s → Each H (parts_of s)) (b : Built H Q) where
+module _ (H : TypedStmt → Type 0) (Q : ℕ → Piece → ℕ → ℕ → Type 0) (parts : (s : TypedStmt) → H s → Each H (substatements s)) (b : Built H Q) where
   by : {p q n m : ℕ} {a : Piece} → n ≡ m → Q p a q n → Q p a q m
   by {p} {q} {n} {m} {a} e h = subst (λ z. Q p a q z) e h
 

@@ -7,7 +7,7 @@ use Rattle.lang_typed.specs.Plain.{StmtForm as form}
 use Rattle.lang_typed.specs.declared.stmt.Forking.{Forking}
 use Rattle.lang_typed.specs.declared.stmt.Forking.TheVariants.{Deterministic}
 use Rattle.lang_typed.specs.Resolved.{is_void}
-use Rattle.lang_typed.specs.Parts.{each_stmt, each_branch, parts_of}
+use Rattle.lang_typed.specs.Parts.{each_stmt, each_branch, substatements}
 use Rattle.lang_typed.proofs.Parts.{Each, each_all}
 use Rattle.code_instrs.specs.declared.instr.Instr.{Instr}
 use Rattle.code_instrs.specs.declared.instr.Instr.TheVariants as i
@@ -204,7 +204,7 @@ module _ (C : PlainCode) where
   branches_somewhere no_branches js h = tt
   branches_somewhere (more_branches copies s bs) js h = (((_, _), h.3.0), branches_somewhere bs h.1 h.4)
 
-  pub parts_somewhere : (at : List Line × ℕ) (s : TypedStmt) → StmtAt C at.0 at.1 s → Each Somewhere (parts_of s)
+  pub parts_somewhere : (at : List Line × ℕ) (s : TypedStmt) → StmtAt C at.0 at.1 s → Each Somewhere (substatements s)
   parts_somewhere i (statement at (form.block ss)) h = each_somewhere _ _ ss h
   parts_somewhere i (statement at (form.choice e s)) h = (((_, _), h.2), tt)
   parts_somewhere i (statement at (form.choice_else e s t)) h = (((_, _), h.2), (((_, _), h.4), tt))

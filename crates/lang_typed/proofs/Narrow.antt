@@ -1,6 +1,6 @@
 -- Statements in which no `cobegin` has more than so many branches.
 use Rattle.std.proofs.Common.{◌≤◌, ℕ, suc}
-use Rattle.lang_typed.specs.Parts.{each_stmt, each_branch, parts_of}
+use Rattle.lang_typed.specs.Parts.{each_stmt, each_branch, substatements}
 use Rattle.lang_typed.specs.Plain.{TypedStmt, statement, TypedStmts, no_stmts, more_stmts, TypedBranches, no_branches, more_branches}
 use Rattle.lang_typed.specs.Plain.{StmtForm as form}
 use Rattle.lang_typed.proofs.Parts.{Each}
@@ -38,7 +38,7 @@ module _ (n : ℕ) where
   branch_narrow no_branches h = tt
   branch_narrow (more_branches copies s bs) h = (h.0, branch_narrow bs h.1)
 
-  pub parts_narrow : (s : TypedStmt) → Narrow n s → Each (Narrow n) (parts_of s)
+  pub parts_narrow : (s : TypedStmt) → Narrow n s → Each (Narrow n) (substatements s)
   parts_narrow (statement at (form.block ss)) h = each_narrow ss h
   parts_narrow (statement at (form.choice e s)) h = (h, tt)
   parts_narrow (statement at (form.choice_else e s t)) h = (h.0, (h.1, tt))
@@ -62,7 +62,7 @@ module _ (n : ℕ) where
   branches_narrow no_branches h = tt
   branches_narrow (more_branches copies s bs) h = (h.0, branches_narrow bs h.1)
 
-  pub narrow_by : (s : TypedStmt) → NarrowHere s → Each (Narrow n) (parts_of s) → Narrow n s
+  pub narrow_by : (s : TypedStmt) → NarrowHere s → Each (Narrow n) (substatements s) → Narrow n s
   narrow_by (statement at (form.block ss)) few h = all_narrow ss h
   narrow_by (statement at (form.choice e s)) few h = h.0
   narrow_by (statement at (form.choice_else e s t)) few h = (h.0, h.1.0)

@@ -5,7 +5,7 @@ use Rattle.lang_base.specs.Types.{PlainType, int, boolean, void, null, class, ar
 use Rattle.lang_typed.specs.Plain.{PlainProgram, PlainClass, PlainParent, PlainMember, TypedExpr, type_of, form_of, ExprForm, TypedExprs, of_array, of_part, TypedStmt, statement, TypedStmts, no_stmts, more_stmts, TypedBranches, no_branches, more_branches}
 use Rattle.lang_typed.specs.Plain.{ExprForm as form}
 use Rattle.lang_typed.specs.Plain.{StmtForm as stmt}
-use Rattle.lang_typed.specs.Parts.{each_stmt, each_branch, parts_of}
+use Rattle.lang_typed.specs.Parts.{each_stmt, each_branch, substatements}
 use Rattle.lang_typed.proofs.Parts.{Each}
 use Rattle.lang_typed.specs.Resolved.{is_void, gives_value, RowGives, ExprFits, ExprsFit, VoidCall, PerformFits, StmtFits, StmtsFit, BranchesFit, Resolved}
 use Rattle.lang_typed.specs.Scope.{Scope, class_at, member_at, constructor_of, parent_of}
@@ -202,7 +202,7 @@ module _ (P : PlainProgram) (y : Bool) where
   branch_fits no_branches h = tt
   branch_fits (more_branches copies s bs) h = (h.0, branch_fits bs h.1)
 
-  pub parts_fit : (s : TypedStmt) → StmtFits P y s → Each (StmtFits P y) (parts_of s)
+  pub parts_fit : (s : TypedStmt) → StmtFits P y s → Each (StmtFits P y) (substatements s)
   parts_fit (statement at (stmt.block ss)) h = each_fits ss h
   parts_fit (statement at (stmt.choice e s)) h = (h.1, tt)
   parts_fit (statement at (stmt.choice_else e s t)) h = (h.1, (h.2, tt))
