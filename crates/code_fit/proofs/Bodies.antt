@@ -5,9 +5,8 @@ use Rattle.lang_base.specs.declared.place.Place.{Place}
 use Rattle.lang_typed.specs.Plain.{TypedStmt, statement, TypedStmts, no_stmts, more_stmts, TypedBranches, no_branches, more_branches, PlainMember, PlainProgram}
 use Rattle.lang_typed.specs.Plain.{StmtForm as form}
 use Rattle.lang_typed.specs.Resolved.{is_void, gives_value, StmtFits, StmtsFit, BranchesFit, Resolved}
-use Rattle.lang_typed.specs.Parts.{each_stmt, substatements}
 use Rattle.lang_typed.specs.Scope.{member_at}
-use Rattle.lang_typed.proofs.Parts.{Each}
+use Rattle.lang_typed.proofs.Parts.{each_stmt, substatements, Each}
 use Rattle.lang_typed.proofs.Resolved.{each_fits, parts_fit}
 use Rattle.lang_typed.specs.Statements.{all_complete}
 use Rattle.code_instrs.specs.declared.instr.Instr.TheVariants as i

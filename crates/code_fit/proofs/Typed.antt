@@ -13,8 +13,7 @@ use Rattle.lang_base.specs.Types.{type_with, PlainType, int, array}
 use Rattle.lang_base.specs.declared.region.Rpl.{Rpl}
 use Rattle.lang_typed.specs.Plain.{PlainProgram, PlainClass, PlainParent, PlainMember, TypedExpr, TypedExprs, Source, TypedStmt, statement, TypedStmts, no_stmts, more_stmts, TypedBranches, no_branches, more_branches}
 use Rattle.lang_typed.specs.Plain.{StmtForm as stmt}
-use Rattle.lang_typed.specs.Parts.{each_stmt, each_branch, substatements}
-use Rattle.lang_typed.proofs.Parts.{Each}
+use Rattle.lang_typed.proofs.Parts.{each_stmt, each_branch, substatements, Each}
 use Rattle.lang_typed.specs.Scope.{Scope, Local, variable, frozen, constant, part, reserved, with_local, in_loop_branch, read_alone, seen_in_branch, class_at, row_at, member_at, parent_of, constructor_of}
 use Rattle.lang_typed.specs.Effects.{Own}
 use Rattle.lang_typed.specs.Typing.{Holds, Has, Fit}

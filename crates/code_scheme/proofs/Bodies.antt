@@ -3,8 +3,7 @@ use Rattle.std.proofs.Common.{◌≡◌, ◌<◌, ◌≤◌, ◌⊎◌, inl, inr
 use Rattle.lang_base.specs.declared.place.Place.{Place}
 use Rattle.lang_typed.specs.Plain.{TypedStmt, statement, TypedStmts, no_stmts, more_stmts, TypedBranches, no_branches, more_branches, PlainMember, PlainProgram}
 use Rattle.lang_typed.specs.Plain.{StmtForm as form}
-use Rattle.lang_typed.specs.Parts.{each_branch}
-use Rattle.lang_typed.proofs.Parts.{Each}
+use Rattle.lang_typed.proofs.Parts.{each_branch, Each}
 use Rattle.lang_typed.proofs.Resolved.{each_fits, parts_fit}
 use Rattle.lang_typed.specs.Resolved.{gives_value, StmtFits, StmtsFit, Resolved}
 use Rattle.lang_typed.specs.Scope.{member_at}

@@ -5,12 +5,11 @@ use Rattle.lang_base.specs.Types.{PlainType}
 use Rattle.lang_base.specs.Types.{PlainType as ty}
 use Rattle.lang_typed.specs.declared.stmt.Forking.{Forking}
 use Rattle.lang_typed.specs.declared.stmt.Forking.TheVariants.{Deterministic}
-use Rattle.lang_typed.specs.Parts.{each_stmt, substatements}
 use Rattle.lang_typed.specs.Plain.{TypedExpr, typed, type_of, TypedExprs, no_exprs, more_exprs, Source, of_array, of_part, TypedStmt, statement, TypedStmts, no_stmts, more_stmts, TypedBranches}
 use Rattle.lang_typed.specs.Plain.{ExprForm as expr}
 use Rattle.lang_typed.specs.Plain.{StmtForm as form}
 use Rattle.lang_typed.specs.Resolved.{is_void}
-use Rattle.lang_typed.proofs.Parts.{Each, each_all}
+use Rattle.lang_typed.proofs.Parts.{each_stmt, substatements, Each, each_all}
 use Rattle.code_instrs.specs.declared.instr.Instr.{Instr}
 use Rattle.code_instrs.specs.declared.instr.Instr.TheVariants as i
 use Rattle.code_instrs.specs.Machine.{branch_site}

@@ -7,8 +7,7 @@ use Rattle.lang_typed.specs.Plain.{StmtForm as form}
 use Rattle.lang_typed.specs.declared.stmt.Forking.{Forking}
 use Rattle.lang_typed.specs.declared.stmt.Forking.TheVariants.{Deterministic}
 use Rattle.lang_typed.specs.Resolved.{is_void}
-use Rattle.lang_typed.specs.Parts.{each_stmt, each_branch, substatements}
-use Rattle.lang_typed.proofs.Parts.{Each, each_all}
+use Rattle.lang_typed.proofs.Parts.{each_stmt, each_branch, substatements, Each, each_all}
 use Rattle.code_instrs.specs.declared.instr.Instr.{Instr}
 use Rattle.code_instrs.specs.declared.instr.Instr.TheVariants as i
 use Rattle.code_instrs.specs.Plain.{Line, Site, fork_site, spread_site, of_branch, PlainCode, body_at}

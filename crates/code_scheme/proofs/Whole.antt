@@ -5,8 +5,7 @@ use Rattle.lang_typed.specs.Plain.{TypedStmt, TypedStmts, TypedBranches, no_bran
 use Rattle.lang_typed.specs.Resolved.{is_void, gives_value, Resolved}
 use Rattle.lang_typed.specs.Scope.{member_at}
 use Rattle.lang_typed.specs.Statements.{all_complete}
-use Rattle.lang_typed.specs.Parts.{each_stmt}
-use Rattle.lang_typed.proofs.Parts.{each_all}
+use Rattle.lang_typed.proofs.Parts.{each_stmt, each_all}
 use Rattle.code_instrs.specs.declared.instr.Instr.{Instr}
 use Rattle.code_instrs.specs.declared.instr.Instr.TheVariants as i
 use Rattle.code_instrs.specs.Plain.{Line, Title, Site, PlainBody, body_or_none, PlainCode, body_at}

@@ -1,9 +1,8 @@
 -- Statements in which no `cobegin` has more than so many branches.
 use Rattle.std.proofs.Common.{◌≤◌, ℕ, suc}
-use Rattle.lang_typed.specs.Parts.{each_stmt, each_branch, substatements}
 use Rattle.lang_typed.specs.Plain.{TypedStmt, statement, TypedStmts, no_stmts, more_stmts, TypedBranches, no_branches, more_branches}
 use Rattle.lang_typed.specs.Plain.{StmtForm as form}
-use Rattle.lang_typed.proofs.Parts.{Each}
+use Rattle.lang_typed.proofs.Parts.{each_stmt, each_branch, substatements, Each}
 
 abbrev pub width : TypedBranches → ℕ
 width no_branches = 0

@@ -5,8 +5,7 @@ use Rattle.lang_base.specs.Types.{PlainType, int, boolean, void, null, class, ar
 use Rattle.lang_typed.specs.Plain.{PlainProgram, PlainClass, PlainParent, PlainMember, TypedExpr, type_of, form_of, ExprForm, TypedExprs, of_array, of_part, TypedStmt, statement, TypedStmts, no_stmts, more_stmts, TypedBranches, no_branches, more_branches}
 use Rattle.lang_typed.specs.Plain.{ExprForm as form}
 use Rattle.lang_typed.specs.Plain.{StmtForm as stmt}
-use Rattle.lang_typed.specs.Parts.{each_stmt, each_branch, substatements}
-use Rattle.lang_typed.proofs.Parts.{Each}
+use Rattle.lang_typed.proofs.Parts.{each_stmt, each_branch, substatements, Each}
 use Rattle.lang_typed.specs.Resolved.{is_void, gives_value, RowGives, ExprFits, ExprsFit, VoidCall, PerformFits, StmtFits, StmtsFit, BranchesFit, Resolved}
 use Rattle.lang_typed.specs.Scope.{Scope, class_at, member_at, constructor_of, parent_of}
 use Rattle.lang_typed.specs.Types.{Subtype, ints, booleans, null_object, null_array, objects, arrays, inherits}

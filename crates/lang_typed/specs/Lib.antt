@@ -1,7 +1,6 @@
 pub mod Effects
 pub mod Laws
 pub mod Names
-pub mod Parts
 pub mod Plain
 pub mod Resolved
 pub mod Samples

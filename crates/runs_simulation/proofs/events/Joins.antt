@@ -9,8 +9,7 @@ use Rattle.code_instrs.specs.Machine.{branch_site}
 use Rattle.code_scheme.specs.Pieces.{Branch, Piece, Next, past, nothing, line, with_site, with_text, with_branches, beside}
 use Rattle.code_scheme.specs.Scheme.{closes}
 use Rattle.code_scheme.proofs.Built.{Nothing_asked, none_asked, Built, branch_built, member_built}
-use Rattle.lang_typed.specs.Parts.{each_stmt}
-use Rattle.lang_typed.proofs.Parts.{each_all}
+use Rattle.lang_typed.proofs.Parts.{each_stmt, each_all}
 use Rattle.code_scheme.specs.Whole.{weight_all, branch_piece_of, branch_piece, place_of, member_piece, generate, in_member, member_output, past_output, members_output, first, compiled}
 
 -- what stands after a fork or a spread
