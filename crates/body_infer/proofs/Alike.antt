@@ -148,12 +148,9 @@ mutual
   effects_alike P L K h (statement at (form.choice e s)) = both_same (done_alike P L K h e) (effects_alike P L K h s)
   effects_alike P L K h (statement at (form.choice_else e s t)) = both_same (done_alike P L K h e) (both_same (effects_alike P L K h s) (effects_alike P L K h t))
   effects_alike P L K h (statement at (form.while_loop e s)) = both_same (done_alike P L K h e) (effects_alike P L K h s)
-  effects_alike P L K h (statement at form.return_nothing) = refl
   effects_alike P L K h (statement at (form.return_value e)) = done_alike P L K h e
   effects_alike P L K h (statement at (form.print_int e)) = done_alike P L K h e
   effects_alike P L K h (statement at (form.print_boolean e)) = done_alike P L K h e
-  effects_alike P L K h (statement at (form.print_text text)) = refl
-  effects_alike P L K h (statement at (form.local_regions rs)) = refl
   effects_alike P L K h (statement at (form.atomic entry ss)) = ap after_block (all_alike P L K h ss)
   effects_alike P L K h (statement at (form.cobegin forking bs)) = ap (after_branches forking) (branches_alike P L K h bs)
   effects_alike P L K h (statement at (form.foreach forking x start count s)) =
@@ -163,6 +160,7 @@ mutual
       let inner = ap (λ E. outside_variable (k + 4) (after_branches Deterministic (after_parts k source E)))
       (effects_alike P (with_parts k (part_of L source) L) (with_parts k (part_of K source) K) (parts_alike L K k (part_of L source) (part_of K source) h (part_alike L K h source)) s) in
       both_same (source_alike P L K h source) (both_same (done_alike P L K h count) (inner))
+  effects_alike P L K h s = refl
 
   pub all_alike : (P : PlainProgram) (L K : Scope) → Agree L K → (ss : TypedStmts) → effects_of_all P L ss ≡ effects_of_all P K ss
   all_alike P L K h no_stmts = refl
@@ -170,24 +168,7 @@ mutual
       let later = ap (outside_variable x) (all_alike P (with_local x (declared_as is_final t) L) (with_local x (declared_as is_final t) K) (with_same L K x (declared_as is_final t) h) ss) in
       both_same (done_alike P L K h e) later
   all_alike P L K h (more_stmts (statement at (form.local_regions rs)) ss) = ap (outside_regions rs) (all_alike P L K h ss)
-  all_alike P L K h (more_stmts (statement at (form.store x e)) ss) = both_same (effects_alike P L K h (statement at (form.store x e))) (all_alike P L K h ss)
-  all_alike P L K h (more_stmts (statement at (form.store_field o c k e)) ss) = both_same (effects_alike P L K h (statement at (form.store_field o c k e))) (all_alike P L K h ss)
-  all_alike P L K h (more_stmts (statement at (form.store_element a i e)) ss) = both_same (effects_alike P L K h (statement at (form.store_element a i e))) (all_alike P L K h ss)
-  all_alike P L K h (more_stmts (statement at (form.store_part k i e)) ss) = both_same (effects_alike P L K h (statement at (form.store_part k i e))) (all_alike P L K h ss)
-  all_alike P L K h (more_stmts (statement at (form.perform e)) ss) = both_same (effects_alike P L K h (statement at (form.perform e))) (all_alike P L K h ss)
-  all_alike P L K h (more_stmts (statement at (form.block ts)) ss) = both_same (effects_alike P L K h (statement at (form.block ts))) (all_alike P L K h ss)
-  all_alike P L K h (more_stmts (statement at (form.choice e s)) ss) = both_same (effects_alike P L K h (statement at (form.choice e s))) (all_alike P L K h ss)
-  all_alike P L K h (more_stmts (statement at (form.choice_else e s t)) ss) = both_same (effects_alike P L K h (statement at (form.choice_else e s t))) (all_alike P L K h ss)
-  all_alike P L K h (more_stmts (statement at (form.while_loop e s)) ss) = both_same (effects_alike P L K h (statement at (form.while_loop e s))) (all_alike P L K h ss)
-  all_alike P L K h (more_stmts (statement at form.return_nothing) ss) = both_same (effects_alike P L K h (statement at form.return_nothing)) (all_alike P L K h ss)
-  all_alike P L K h (more_stmts (statement at (form.return_value e)) ss) = both_same (effects_alike P L K h (statement at (form.return_value e))) (all_alike P L K h ss)
-  all_alike P L K h (more_stmts (statement at (form.print_int e)) ss) = both_same (effects_alike P L K h (statement at (form.print_int e))) (all_alike P L K h ss)
-  all_alike P L K h (more_stmts (statement at (form.print_boolean e)) ss) = both_same (effects_alike P L K h (statement at (form.print_boolean e))) (all_alike P L K h ss)
-  all_alike P L K h (more_stmts (statement at (form.print_text text)) ss) = both_same (effects_alike P L K h (statement at (form.print_text text))) (all_alike P L K h ss)
-  all_alike P L K h (more_stmts (statement at (form.atomic entry ts)) ss) = both_same (effects_alike P L K h (statement at (form.atomic entry ts))) (all_alike P L K h ss)
-  all_alike P L K h (more_stmts (statement at (form.cobegin forking bs)) ss) = both_same (effects_alike P L K h (statement at (form.cobegin forking bs))) (all_alike P L K h ss)
-  all_alike P L K h (more_stmts (statement at (form.foreach forking x start count s)) ss) = both_same (effects_alike P L K h (statement at (form.foreach forking x start count s))) (all_alike P L K h ss)
-  all_alike P L K h (more_stmts (statement at (form.foreach_parts k source count s)) ss) = both_same (effects_alike P L K h (statement at (form.foreach_parts k source count s))) (all_alike P L K h ss)
+  all_alike P L K h (more_stmts s ss) = both_same (effects_alike P L K h s) (all_alike P L K h ss)
 
   pub branches_alike : (P : PlainProgram) (L K : Scope) → Agree L K → (bs : TypedBranches) → effects_of_branches P L bs ≡ effects_of_branches P K bs
   branches_alike P L K h no_branches = refl

@@ -1,5 +1,5 @@
 -- What a block does, as its loop goes on.
-use Rattle.std.proofs.Common.{◌≡◌, ◌∙◌, ◌≤◌, ℕ, Bool, false, List, [], ◌∷◌, ◌++◌, length, take, map, fold, Some, get_or, add-one, drop, drop-cons, ◌+◌, ◌<◌, suc, arith, refl, ap, sym, append_assoc}
+use Rattle.std.proofs.Common.{◌≡◌, ◌∙◌, ◌≤◌, ℕ, false, List, [], ◌∷◌, ◌++◌, length, take, fold, Some, get_or, add-one, drop, drop-cons, ◌+◌, ◌<◌, suc, arith, refl, ap, sym, append_assoc}
 use Rattle.std.proofs.lemmas.List.{append-nil, length-append, take-append-le}
 use Rattle.std.proofs.lemmas.List.Sums.{fold-append}
 use Rattle.lang_typed.specs.Plain.{PlainProgram, PlainClass, PlainMember, TypedStmt, statement, TypedStmts, more_stmts}
@@ -27,24 +27,7 @@ block_step P L (statement at (form.declare x t is_final e)) ss =
     (ap (outside_variable x) (sym (all_alike P (with_local x (local_of (known_as is_final t)) L) (with_local x (declared_as is_final t) L) h ss))
     ∙ sym (outside_one x (effects_of_all P (with_local x (local_of (known_as is_final t)) L) ss)))
 block_step P L (statement at (form.local_regions rs)) ss = sym (outside_some rs (effects_of_all P L ss))
-block_step P L (statement at (form.store x e)) ss = ap (λ E. effects_of P L (statement at (form.store x e)) ++ E) (sym (outside_none (effects_of_all P L ss)))
-block_step P L (statement at (form.store_field o c k e)) ss = ap (λ E. effects_of P L (statement at (form.store_field o c k e)) ++ E) (sym (outside_none (effects_of_all P L ss)))
-block_step P L (statement at (form.store_element a i e)) ss = ap (λ E. effects_of P L (statement at (form.store_element a i e)) ++ E) (sym (outside_none (effects_of_all P L ss)))
-block_step P L (statement at (form.store_part k i e)) ss = ap (λ E. effects_of P L (statement at (form.store_part k i e)) ++ E) (sym (outside_none (effects_of_all P L ss)))
-block_step P L (statement at (form.perform e)) ss = ap (λ E. effects_of P L (statement at (form.perform e)) ++ E) (sym (outside_none (effects_of_all P L ss)))
-block_step P L (statement at (form.block ts)) ss = ap (λ E. effects_of P L (statement at (form.block ts)) ++ E) (sym (outside_none (effects_of_all P L ss)))
-block_step P L (statement at (form.choice e s)) ss = ap (λ E. effects_of P L (statement at (form.choice e s)) ++ E) (sym (outside_none (effects_of_all P L ss)))
-block_step P L (statement at (form.choice_else e s t)) ss = ap (λ E. effects_of P L (statement at (form.choice_else e s t)) ++ E) (sym (outside_none (effects_of_all P L ss)))
-block_step P L (statement at (form.while_loop e s)) ss = ap (λ E. effects_of P L (statement at (form.while_loop e s)) ++ E) (sym (outside_none (effects_of_all P L ss)))
-block_step P L (statement at form.return_nothing) ss = ap (λ E. effects_of P L (statement at form.return_nothing) ++ E) (sym (outside_none (effects_of_all P L ss)))
-block_step P L (statement at (form.return_value e)) ss = ap (λ E. effects_of P L (statement at (form.return_value e)) ++ E) (sym (outside_none (effects_of_all P L ss)))
-block_step P L (statement at (form.print_int e)) ss = ap (λ E. effects_of P L (statement at (form.print_int e)) ++ E) (sym (outside_none (effects_of_all P L ss)))
-block_step P L (statement at (form.print_boolean e)) ss = ap (λ E. effects_of P L (statement at (form.print_boolean e)) ++ E) (sym (outside_none (effects_of_all P L ss)))
-block_step P L (statement at (form.print_text text)) ss = ap (λ E. effects_of P L (statement at (form.print_text text)) ++ E) (sym (outside_none (effects_of_all P L ss)))
-block_step P L (statement at (form.atomic entry ts)) ss = ap (λ E. effects_of P L (statement at (form.atomic entry ts)) ++ E) (sym (outside_none (effects_of_all P L ss)))
-block_step P L (statement at (form.cobegin forking bs)) ss = ap (λ E. effects_of P L (statement at (form.cobegin forking bs)) ++ E) (sym (outside_none (effects_of_all P L ss)))
-block_step P L (statement at (form.foreach forking x start count s)) ss = ap (λ E. effects_of P L (statement at (form.foreach forking x start count s)) ++ E) (sym (outside_none (effects_of_all P L ss)))
-block_step P L (statement at (form.foreach_parts k source count s)) ss = ap (λ E. effects_of P L (statement at (form.foreach_parts k source count s)) ++ E) (sym (outside_none (effects_of_all P L ss)))
+block_step P L s ss = ap (λ E. effects_of P L s ++ E) (sym (outside_none (effects_of_all P L ss)))
 
 scope_joined : (ps qs : List Placed) → scope_of (ps ++ qs) ≡ fold with_placed (scope_of ps) qs
 scope_joined ps qs = fold-append with_placed nowhere ps qs

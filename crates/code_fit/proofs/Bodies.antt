@@ -2,25 +2,29 @@
 use Rattle.std.proofs.Common.{◌≡◌, ◌<◌, ◌≤◌, ◌⊎◌, inl, inr, ℕ, zero, suc, ◌+◌, Bool, true, false, not, List, [], ◌∷◌, ◌++◌, length, refl, sym, ap, ◌∙◌, subst, arith, Option, Some, None, slice_get, slice_index_or, length-append}
 use Rattle.std.proofs.lemmas.Option.{slice_get_within}
 use Rattle.lang_base.specs.declared.place.Place.{Place}
-use Rattle.lang_typed.specs.Plain.{of_array, of_part, TypedStmt, statement, TypedStmts, no_stmts, more_stmts, TypedBranches, no_branches, more_branches, PlainMember, PlainProgram}
+use Rattle.lang_typed.specs.Plain.{TypedStmt, statement, TypedStmts, no_stmts, more_stmts, TypedBranches, no_branches, more_branches, PlainMember, PlainProgram}
 use Rattle.lang_typed.specs.Plain.{StmtForm as form}
 use Rattle.lang_typed.specs.Resolved.{is_void, gives_value, StmtFits, StmtsFit, BranchesFit, Resolved}
 use Rattle.lang_typed.specs.Scope.{member_at}
+use Rattle.lang_typed.proofs.Parts.{each_stmt, substatements, Each}
+use Rattle.lang_typed.proofs.Resolved.{each_fits, parts_fit}
 use Rattle.lang_typed.specs.Statements.{all_complete}
 use Rattle.code_instrs.specs.declared.instr.Instr.TheVariants as i
 use Rattle.code_instrs.specs.Plain.{PlainBody, body_or_none, PlainCode, body_at}
 use Rattle.code_instrs.specs.Fit.{is_branch, MemberBody}
 use Rattle.code_scheme.specs.Pieces.{Branch, Piece, Next, past, beside}
-use Rattle.code_scheme.specs.Scheme.{closes, after_stmts, stmt_piece, stmts_piece, branches_of}
+use Rattle.code_scheme.specs.Scheme.{closes, after_stmts, stmts_piece, branches_of}
 use Rattle.code_scheme.specs.Stands.{LineAt, first_place, BeginsAt, StmtsAt, MemberEnds}
 use Rattle.code_scheme.specs.Whole.{weight_all, place_of, branch_piece_of, branch_piece, closing, member_piece, generate, in_member, member_output, past_output, members_output, member_numbers, first, number_in, compiled}
 use Rattle.code_scheme.proofs.Closing.{leaves_nothing, never_ends}
-use Rattle.code_scheme.proofs.Branched.{AllAre, all_on, Each, each_none, each_both, each_after, each_line, each_nothing, each_branches, each_site}
+use Rattle.code_scheme.proofs.Branched.{AllAre, all_on, Branches, branches_none, branches_line, branches_both, branches_site, branches_text, branches_start}
+use Rattle.code_scheme.proofs.Built.{Built, branch_built, member_built}
 use Rattle.code_scheme.proofs.Pieces.{Holds, split, all_of, Queued, queued, Laid}
 use Rattle.code_scheme.proofs.Placed.{stmt_far, stmts_far}
-use Rattle.code_scheme.proofs.Whole.{need, need_on, expr_needs, stmt_needs, branch_needs, member_needs, OutputAt, generated, member_queued, member_is, first_output, bodies_at}
+use Rattle.code_scheme.proofs.Whole.{need, need_on, branch_needs, member_needs, OutputAt, generated, member_queued, member_is, first_output, bodies_at}
 use Rattle.code_fit.specs.Room.{StmtWithin, StmtsWithin, BranchesWithin, Roomy}
 use Rattle.code_fit.proofs.Lists.{index_is}
+use Rattle.code_fit.proofs.Typed.{Within, each_within, parts_within}
 use Rattle.code_fit.proofs.Linked.{Rooted, rooted, Stands, cut_here, skip, Linked, AllLinked, linked, all_linked}
 
 -- a branch that takes a part has slots for it
@@ -37,48 +41,50 @@ module _ (P : PlainProgram) (y : Bool) (n r : ℕ) where
     within : StmtWithin P n r false b.stmt
 
   abbrev Goods : Piece → Type 0
-  Goods a = Each Good a
+  Goods a = Branches Good a
 
   each_good : (s k : ℕ) (bs : TypedBranches) → BranchesFit P y bs → BranchesWithin P n r bs → AllAre Good (branches_of s k bs)
   each_good s k no_branches ok w = tt
   each_good s k (more_branches copies t bs) ok w =
       (record { titled = refl; takes = tt; fits = ok.0; within = w.1 }, each_good s (suc k) bs ok.1 w.2)
 
-  mutual
-    stmt_good : (may : Bool) (k : Next) (p : ℕ) (s : TypedStmt) → StmtFits P y s → StmtWithin P n r may s → Goods (stmt_piece k p s)
-    stmt_good may k p (statement at (form.block ss)) ok w = stmts_good may k p ss ok w
-    stmt_good may k p (statement at (form.choice e s)) ok w = each_after (expr_needs k p e) (each_line _ _ (stmt_good may _ _ s ok.1 w.1))
-    stmt_good may k p (statement at (form.choice_else e s t)) ok w =
-        each_after (expr_needs k p e) (each_line _ _ (each_both (stmt_good may _ _ s ok.1 w.1) (each_line _ _ (stmt_good may _ _ t ok.2 w.2))))
-    stmt_good may k p (statement at (form.while_loop e s)) ok w =
-        each_after (expr_needs k p e) (each_line _ _ (each_line _ _ (each_both (stmt_good may _ _ s ok.1 w.1) (each_line _ _ each_nothing))))
-    stmt_good may k p (statement at (form.atomic effects ss)) ok w =
-        each_both (each_site _ _ (each_line _ _ each_nothing)) (each_both (stmts_good false _ _ ss ok w) (each_line _ _ each_nothing))
-    stmt_good may k p (statement at (form.cobegin forking bs)) ok w = each_branches _ _ (each_good _ 0 bs ok w)
-    stmt_good may k p (statement at (form.foreach forking x start count s)) ok w =
-        each_after (expr_needs k p start) (each_after (expr_needs _ _ count)
-        (each_branches _ _ (record { titled = refl; takes = tt; fits = ok.2; within = w.3 }, tt)))
-    stmt_good may k p (statement at (form.foreach_parts x (of_array a) count s)) ok w =
-        each_after (expr_needs k p a) (each_line _ _ (each_line _ _ (each_line _ _ (each_after (expr_needs _ _ count)
-        (each_line _ _ (each_line _ _ (each_line _ _ (each_line _ _ (each_line _ _ (each_line _ _
-        (each_branches _ _ (record { titled = refl; takes = w.0; fits = ok.2; within = w.3 }, tt))))))))))))
-    stmt_good may k p (statement at (form.foreach_parts x (of_part z) count s)) ok w =
-        each_line _ _ (each_line _ _ (each_line _ _ (each_line _ _ (each_after (expr_needs _ _ count)
-        (each_line _ _ (each_line _ _ (each_line _ _ (each_line _ _ (each_line _ _
-        (each_branches _ _ (record { titled = refl; takes = w.0; fits = ok.1; within = w.3 }, tt)))))))))))
-    stmt_good may k p s ok w = each_none (stmt_needs k p s)
+  -- a statement that fits, within the bounds
+  abbrev Kept : TypedStmt → Type 0
+  Kept s = StmtFits P y s × Within P n r s
 
-    stmts_good : (may : Bool) (k : Next) (p : ℕ) (ss : TypedStmts) → StmtsFit P y ss → StmtsWithin P n r may ss → Goods (stmts_piece k p ss)
-    stmts_good may k p no_stmts ok w = each_nothing
-    stmts_good may k p (more_stmts s ss) ok w = each_both (stmt_good may k p s ok.0 w.0) (stmts_good may _ _ ss ok.2 w.1)
+  both_kept : (ss : List TypedStmt) → Each (StmtFits P y) ss → Each (Within P n r) ss → Each Kept ss
+  both_kept [] f w = tt
+  both_kept (s ∷ ss) f w = ((f.0, w.0), both_kept ss f.1 w.1)
+
+  parts_kept : (s : TypedStmt) → Kept s → Each Kept (substatements s)
+  parts_kept s h = both_kept (substatements s) (parts_fit P y s h.0) (parts_within P n r s h.1)
+
+  good_built : Built Kept (λ p a q m. Goods a)
+  good_built = record {
+    stop = λ p. branches_none;
+    next = λ x at e h. branches_line x at h;
+    both = λ h j. branches_both h j;
+    sited = λ s e h. branches_site s _ h;
+    texted = λ t h. branches_text t h;
+    cobegin = λ k p at forking bs h. branches_start _ _ (each_good k.site 0 bs h.0 h.1.1);
+    foreach = λ k p at forking x start count s h. branches_start _ _ (record { titled = refl; takes = tt; fits = h.0.2; within = h.1.1.3 }, tt);
+    foreach_parts = λ k p at x source count s h. branches_start _ _ (
+      record {
+        titled = refl;
+        takes = h.1.1.0;
+        fits = (parts_fit P y (statement at (form.foreach_parts x source count s)) h.0).0;
+        within = h.1.1.3;
+      },
+      tt,
+    );
+  }
 
   branch_good : (k : Next) (at : Place) (s : TypedStmt) (takes : Option ℕ) → StmtFits P y s → StmtWithin P n r false s → Goods (branch_piece_of k at s takes)
-  branch_good k at s None ok w = each_both (stmt_good false k 0 s ok w) (each_line _ _ each_nothing)
-  branch_good k at s (Some x) ok w = each_line _ _ (each_both (stmt_good false k 1 s ok w) (each_line _ _ each_nothing))
+  branch_good k at s takes ok w = branch_built Kept (λ p a q m. Goods a) parts_kept good_built k at s takes (ok, (false, w))
 
   member_good : (k : Next) (ss : TypedStmts) (z : Bool) → StmtsFit P y ss → StmtsWithin P n r true ss → Goods (beside (stmts_piece k 0 ss) (closing z))
-  member_good k ss true ok w = each_both (stmts_good true k 0 ss ok w) (each_line _ _ each_nothing)
-  member_good k ss false ok w = each_both (stmts_good true k 0 ss ok w) each_nothing
+  member_good k ss z ok w =
+      member_built Kept (λ p a q m. Goods a) parts_kept good_built k ss z (both_kept (each_stmt ss) (each_fits P y ss ok) (each_within P n r true ss w))
 
 module _ (C : PlainCode) (P : PlainProgram) (gives : ℕ → Bool) where
   -- how a body ends, where it comes to its end

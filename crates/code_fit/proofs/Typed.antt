@@ -11,7 +11,9 @@ use Rattle.lang_base.specs.declared.elems.Index.TheVariants.{Literal, Variable, 
 use Rattle.lang_base.specs.Regions.{fully_specified}
 use Rattle.lang_base.specs.Types.{type_with, PlainType, int, array}
 use Rattle.lang_base.specs.declared.region.Rpl.{Rpl}
-use Rattle.lang_typed.specs.Plain.{PlainProgram, PlainClass, PlainParent, PlainMember, TypedExpr, TypedExprs, Source, TypedStmt, TypedStmts, TypedBranches}
+use Rattle.lang_typed.specs.Plain.{PlainProgram, PlainClass, PlainParent, PlainMember, TypedExpr, TypedExprs, Source, TypedStmt, statement, TypedStmts, no_stmts, more_stmts, TypedBranches, no_branches, more_branches}
+use Rattle.lang_typed.specs.Plain.{StmtForm as stmt}
+use Rattle.lang_typed.proofs.Parts.{each_stmt, each_branch, substatements, Each}
 use Rattle.lang_typed.specs.Scope.{Scope, Local, variable, frozen, constant, part, reserved, with_local, in_loop_branch, read_alone, seen_in_branch, class_at, row_at, member_at, parent_of, constructor_of}
 use Rattle.lang_typed.specs.Effects.{Own}
 use Rattle.lang_typed.specs.Typing.{Holds, Has, Fit}
@@ -27,6 +29,30 @@ use Rattle.lang_typed.specs.WellTyped.{WellTyped}
 use Rattle.code_scheme.specs.Scheme.{many}
 use Rattle.code_fit.proofs.Lists.{some_is, index_is}
 use Rattle.code_fit.specs.Room.{IndexWithin, IsFull, AllFull, RowTakes, ExprWithin, ExprsWithin, SourceWithin, StmtWithin, StmtsWithin, BranchesWithin, Roomy}
+
+-- the parts of a statement within bounds are within them, whether or not a `return` may stand there
+module _ (P : PlainProgram) (n r : ℕ) where
+  abbrev pub Within : TypedStmt → Type 0
+  Within s = (may : Bool) × StmtWithin P n r may s
+
+  pub each_within : (may : Bool) (ss : TypedStmts) → StmtsWithin P n r may ss → Each Within (each_stmt ss)
+  each_within may no_stmts w = tt
+  each_within may (more_stmts s ss) w = ((may, w.0), each_within may ss w.1)
+
+  branch_within : (bs : TypedBranches) → BranchesWithin P n r bs → Each Within (each_branch bs)
+  branch_within no_branches w = tt
+  branch_within (more_branches copies s bs) w = ((false, w.1), branch_within bs w.2)
+
+  pub parts_within : (s : TypedStmt) → Within s → Each Within (substatements s)
+  parts_within (statement at (stmt.block ss)) w = each_within w.0 ss w.1
+  parts_within (statement at (stmt.choice e s)) w = ((w.0, w.1.1), tt)
+  parts_within (statement at (stmt.choice_else e s t)) w = ((w.0, w.1.1), ((w.0, w.1.2), tt))
+  parts_within (statement at (stmt.while_loop e s)) w = ((w.0, w.1.1), tt)
+  parts_within (statement at (stmt.atomic effects ss)) w = each_within false ss w.1
+  parts_within (statement at (stmt.cobegin forking bs)) w = branch_within bs w.1
+  parts_within (statement at (stmt.foreach forking x start count s)) w = ((false, w.1.3), tt)
+  parts_within (statement at (stmt.foreach_parts x source count s)) w = ((false, w.1.3), tt)
+  parts_within s w = tt
 
 -- how many slots a local needs beside its own
 abbrev beside : Local → ℕ

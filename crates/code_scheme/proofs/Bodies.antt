@@ -1,23 +1,25 @@
 -- Each body of the code, of a member or a branch, is some task's.
-use Rattle.std.proofs.Common.{◌≡◌, ◌<◌, ◌≤◌, ◌⊎◌, inl, inr, ℕ, zero, suc, ◌+◌, Bool, true, false, List, [], ◌∷◌, ◌++◌, length, refl, subst, arith, Option, Some, None, slice_get, length-append}
+use Rattle.std.proofs.Common.{◌≡◌, ◌<◌, ◌≤◌, ◌⊎◌, inl, inr, ℕ, zero, suc, ◌+◌, Bool, false, List, [], ◌∷◌, ◌++◌, length, refl, subst, arith, Option, Some, slice_get, length-append}
 use Rattle.lang_base.specs.declared.place.Place.{Place}
-use Rattle.lang_typed.specs.Plain.{of_array, of_part, TypedStmt, statement, TypedStmts, no_stmts, more_stmts, TypedBranches, no_branches, more_branches, PlainMember, PlainProgram}
+use Rattle.lang_typed.specs.Plain.{TypedStmt, statement, TypedStmts, no_stmts, more_stmts, TypedBranches, no_branches, more_branches, PlainMember, PlainProgram}
 use Rattle.lang_typed.specs.Plain.{StmtForm as form}
-use Rattle.lang_typed.specs.Resolved.{gives_value, StmtFits, StmtsFit, BranchesFit, Resolved}
+use Rattle.lang_typed.proofs.Parts.{each_branch, Each}
+use Rattle.lang_typed.proofs.Resolved.{each_fits, parts_fit}
+use Rattle.lang_typed.specs.Resolved.{gives_value, StmtFits, StmtsFit, Resolved}
 use Rattle.lang_typed.specs.Scope.{member_at}
 use Rattle.lang_meaning.specs.Actions.{Frame, Work}
-use Rattle.code_instrs.specs.declared.instr.Instr.{Instr}
-use Rattle.code_instrs.specs.Plain.{Site, PlainCode, body_at}
+use Rattle.code_instrs.specs.Plain.{PlainCode, body_at}
 use Rattle.code_instrs.specs.Machine.{copies_of}
-use Rattle.code_scheme.specs.Pieces.{Branch, Piece, Next, past, nothing, line, with_site, with_branches, beside}
-use Rattle.code_scheme.specs.Scheme.{closes, stmt_piece, stmts_piece, branches_of}
+use Rattle.code_scheme.specs.Pieces.{Branch, Piece, Next, past, beside}
+use Rattle.code_scheme.specs.Scheme.{closes, stmts_piece, branches_of}
 use Rattle.code_scheme.specs.Stands.{BodyIs}
 use Rattle.code_scheme.specs.Compiled.{Compiled}
 use Rattle.code_scheme.specs.Whole.{weight_all, place_of, branch_piece_of, branch_piece, closing, member_piece, generate, in_member, member_output, past_output, members_output, first, compiled}
 use Rattle.code_scheme.specs.Laws.{work_of}
-use Rattle.code_scheme.proofs.Branched.{AllAre, all_on, Each, each_none, each_both, each_after, each_line, each_nothing, each_branches, each_site}
+use Rattle.code_scheme.proofs.Branched.{AllAre, all_on, Branches, branches_none, branches_line, branches_both, branches_site, branches_text, branches_start}
+use Rattle.code_scheme.proofs.Built.{Built, branch_built, member_built}
 use Rattle.code_scheme.proofs.Pieces.{split, BranchStands}
-use Rattle.code_scheme.proofs.Whole.{need, need_on, Needs, expr_needs, stmt_needs, branch_needs, OutputAt, generated, first_output, bodies_at, member_needs, member_is, root_is}
+use Rattle.code_scheme.proofs.Whole.{need, need_on, branch_needs, OutputAt, generated, first_output, bodies_at, member_needs, member_is, root_is}
 
 module _ (P : PlainProgram) (y : Bool) where
   -- the statements of branches fit
@@ -25,44 +27,29 @@ module _ (P : PlainProgram) (y : Bool) where
   Fitting b = StmtFits P y b.stmt
 
   abbrev Fits : Piece → Type 0
-  Fits a = Each Fitting a
+  Fits a = Branches Fitting a
 
-  fit_branches : (s n : ℕ) (bs : TypedBranches) → BranchesFit P y bs → AllAre Fitting (branches_of s n bs)
+  fit_branches : (s n : ℕ) (bs : TypedBranches) → Each (StmtFits P y) (each_branch bs) → AllAre Fitting (branches_of s n bs)
   fit_branches s n no_branches ok = tt
   fit_branches s n (more_branches copies t bs) ok = (ok.0, fit_branches s (suc n) bs ok.1)
 
-  mutual
-    stmt_fit : (k : Next) (p : ℕ) (s : TypedStmt) → StmtFits P y s → Fits (stmt_piece k p s)
-    stmt_fit k p (statement at (form.block ss)) ok = stmts_fit k p ss ok
-    stmt_fit k p (statement at (form.choice e s)) ok = each_after (expr_needs k p e) (each_line _ _ (stmt_fit _ _ s ok.1))
-    stmt_fit k p (statement at (form.choice_else e s t)) ok =
-        each_after (expr_needs k p e) (each_line _ _ (each_both (stmt_fit _ _ s ok.1) (each_line _ _ (stmt_fit _ _ t ok.2))))
-    stmt_fit k p (statement at (form.while_loop e s)) ok =
-        each_after (expr_needs k p e) (each_line _ _ (each_line _ _ (each_both (stmt_fit _ _ s ok.1) (each_line _ _ each_nothing))))
-    stmt_fit k p (statement at (form.atomic effects ss)) ok =
-        each_both (each_site _ _ (each_line _ _ each_nothing)) (each_both (stmts_fit _ _ ss ok) (each_line _ _ each_nothing))
-    stmt_fit k p (statement at (form.cobegin forking bs)) ok = each_branches _ _ (fit_branches _ 0 bs ok)
-    stmt_fit k p (statement at (form.foreach forking x start count s)) ok =
-        each_after (expr_needs k p start) (each_after (expr_needs _ _ count) (each_branches _ _ (ok.2, tt)))
-    stmt_fit k p (statement at (form.foreach_parts x (of_array a) count s)) ok =
-        each_after (expr_needs k p a) (each_line _ _ (each_line _ _ (each_line _ _ (each_after (expr_needs _ _ count)
-        (each_line _ _ (each_line _ _ (each_line _ _ (each_line _ _ (each_line _ _ (each_line _ _ (each_branches _ _ (ok.2, tt))))))))))))
-    stmt_fit k p (statement at (form.foreach_parts x (of_part z) count s)) ok =
-        each_line _ _ (each_line _ _ (each_line _ _ (each_line _ _ (each_after (expr_needs _ _ count)
-        (each_line _ _ (each_line _ _ (each_line _ _ (each_line _ _ (each_line _ _ (each_branches _ _ (ok.1, tt)))))))))))
-    stmt_fit k p s ok = each_none (stmt_needs k p s)
-
-    stmts_fit : (k : Next) (p : ℕ) (ss : TypedStmts) → StmtsFit P y ss → Fits (stmts_piece k p ss)
-    stmts_fit k p no_stmts ok = each_nothing
-    stmts_fit k p (more_stmts s ss) ok = each_both (stmt_fit k p s ok.0) (stmts_fit _ _ ss ok.2)
+  fits_built : Built (StmtFits P y) (λ p a q n. Fits a)
+  fits_built = record {
+    stop = λ p. branches_none;
+    next = λ x at e h. branches_line x at h;
+    both = λ h j. branches_both h j;
+    sited = λ s e h. branches_site s _ h;
+    texted = λ t h. branches_text t h;
+    cobegin = λ k p at forking bs h. branches_start _ _ (fit_branches k.site 0 bs (parts_fit P y (statement at (form.cobegin forking bs)) h));
+    foreach = λ k p at forking x start count s h. branches_start _ _ (parts_fit P y (statement at (form.foreach forking x start count s)) h);
+    foreach_parts = λ k p at x source count s h. branches_start _ _ (parts_fit P y (statement at (form.foreach_parts x source count s)) h);
+  }
 
   branch_fit : (k : Next) (at : Place) (s : TypedStmt) (takes : Option ℕ) → StmtFits P y s → Fits (branch_piece_of k at s takes)
-  branch_fit k at s None ok = each_both (stmt_fit k 0 s ok) (each_line _ _ each_nothing)
-  branch_fit k at s (Some x) ok = each_line _ _ (each_both (stmt_fit k 1 s ok) (each_line _ _ each_nothing))
+  branch_fit = branch_built (StmtFits P y) (λ p a q n. Fits a) (parts_fit P y) fits_built
 
   member_fit : (k : Next) (ss : TypedStmts) (z : Bool) → StmtsFit P y ss → Fits (beside (stmts_piece k 0 ss) (closing z))
-  member_fit k ss true ok = each_both (stmts_fit k 0 ss ok) (each_line _ _ each_nothing)
-  member_fit k ss false ok = each_both (stmts_fit k 0 ss ok) each_nothing
+  member_fit k ss z ok = member_built (StmtFits P y) (λ p a q n. Fits a) (parts_fit P y) fits_built k ss z (each_fits P y ss ok)
 
 -- a body is some work's
 record Known (C : PlainCode) (P : PlainProgram) (j : ℕ) : Type 0 where

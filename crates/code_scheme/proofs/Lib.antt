@@ -10,6 +10,7 @@ pub mod Pieces
 pub mod Placed
 pub mod Whole
 pub mod Branched
+pub mod Built
 pub mod Bodies
 pub mod Samples
 pub mod Legs

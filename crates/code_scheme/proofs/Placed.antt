@@ -7,79 +7,41 @@ use Rattle.lang_typed.specs.Plain.{StmtForm as form}
 use Rattle.lang_typed.specs.declared.stmt.Forking.{Forking}
 use Rattle.lang_typed.specs.declared.stmt.Forking.TheVariants.{Deterministic}
 use Rattle.lang_typed.specs.Resolved.{is_void}
+use Rattle.lang_typed.proofs.Parts.{each_stmt, each_branch, substatements, Each, each_all}
 use Rattle.code_instrs.specs.declared.instr.Instr.{Instr}
 use Rattle.code_instrs.specs.declared.instr.Instr.TheVariants as i
 use Rattle.code_instrs.specs.Plain.{Line, Site, fork_site, spread_site, of_branch, PlainCode, body_at}
 use Rattle.code_instrs.specs.Machine.{copies_at, copies_of}
 use Rattle.code_scheme.specs.Pieces.{Next, nothing, line, with_site}
-use Rattle.code_scheme.specs.Scheme.{after_expr, after_exprs, after_stmt, after_stmts, after_regions, expr_piece, exprs_piece, stmt_piece, stmts_piece, regions_piece, numbers, copy_lists, branches_of, spread_piece}
+use Rattle.code_scheme.specs.Scheme.{after_expr, after_exprs, after_stmt, after_stmts, expr_piece, exprs_piece, stmt_piece, stmts_piece, regions_piece, numbers, copy_lists, branches_of, spread_piece}
 use Rattle.code_scheme.specs.Stands.{SitedAt, ExprAt, ExprsAt, PoppedAt, RegionsAt, first_place, BranchEnds, SpreadAt, StmtAt, StmtsAt, BranchesAt}
+use Rattle.code_scheme.proofs.Built.{Nothing_asked, none_asked, Built, expr_built, exprs_built, stmt_built, stmts_built}
 use Rattle.code_scheme.proofs.Pieces.{Holds, all_of, BranchStands, Far, far, next, stop, sited, texted, branched, Queued, Laid, cut, here, here_sited, here_texted, here_branched, one_line}
 
 -- how far the code of each construct reaches
-mutual
-  pub expr_far : (k : Next) (p : ℕ) (e : TypedExpr) → Far p (expr_piece k p e) (after_expr p e)
-  expr_far k p (typed at t (expr.int n)) = next _ _ stop
-  expr_far k p (typed at t (expr.boolean b)) = next _ _ stop
-  expr_far k p (typed at t expr.null) = next _ _ stop
-  expr_far k p (typed at t (expr.local x)) = next _ _ stop
-  expr_far k p (typed at t (expr.field e c f)) = far (expr_far k p e) (next _ _ stop)
-  expr_far k p (typed at t (expr.element a j)) = far (expr_far k p a) (far (expr_far _ _ j) (next _ _ stop))
-  expr_far k p (typed at t (expr.array_length a)) = far (expr_far k p a) (next _ _ stop)
-  expr_far k p (typed at t (expr.call e c r regions es)) = far (expr_far k p e) (far (exprs_far _ _ es) (sited _ (next _ _ stop)))
-  expr_far k p (typed at t (expr.create es)) = far (exprs_far k p es) (sited _ (next _ _ stop))
-  expr_far k p (typed at t (expr.create_array n)) = far (expr_far k p n) (sited _ (next _ _ stop))
-  expr_far k p (typed at t (expr.unary o e)) = far (expr_far k p e) (next _ _ stop)
-  expr_far k p (typed at t (expr.binary o a b)) = far (expr_far k p a) (far (expr_far _ _ b) (next _ _ stop))
-  expr_far k p (typed at t (expr.both a b)) = far (expr_far k p a) (next _ _ (far (expr_far _ _ b) (next _ _ (next _ _ stop))))
-  expr_far k p (typed at t (expr.either a b)) = far (expr_far k p a) (next _ _ (next _ _ (next _ _ (expr_far _ _ b))))
-  expr_far k p (typed at t (expr.part_length x)) = next _ _ stop
-  expr_far k p (typed at t (expr.part_element x j)) = far (expr_far k p j) (next _ _ (next _ _ stop))
+far_built : Built Nothing_asked (λ p a q n. Far p a q)
+far_built = record {
+  stop = λ p. stop;
+  next = λ x at e h. next x at h;
+  both = λ h j. far h j;
+  sited = λ s e h. sited s h;
+  texted = λ t h. texted t h;
+  cobegin = λ k p at forking bs h. branched _ (sited _ (next _ _ (next _ _ stop)));
+  foreach = λ k p at forking x start count s h. branched _ (sited _ (next _ _ (next _ _ stop)));
+  foreach_parts = λ k p at x source count s h. branched _ (sited _ (next _ _ (next _ _ stop)));
+}
 
-  pub exprs_far : (k : Next) (p : ℕ) (es : TypedExprs) → Far p (exprs_piece k p es) (after_exprs p es)
-  exprs_far k p no_exprs = stop
-  exprs_far k p (more_exprs e es) = far (expr_far k p e) (exprs_far _ _ es)
+pub expr_far : (k : Next) (p : ℕ) (e : TypedExpr) → Far p (expr_piece k p e) (after_expr p e)
+expr_far = expr_built Nothing_asked (λ p a q n. Far p a q) none_asked far_built
 
-pub popped_far : (z : Bool) (at : Place) (p : ℕ) → Far p (cond z nothing (line i.Pop at nothing)) (cond z p (suc p))
-popped_far true at p = stop
-popped_far false at p = next _ _ stop
+pub exprs_far : (k : Next) (p : ℕ) (es : TypedExprs) → Far p (exprs_piece k p es) (after_exprs p es)
+exprs_far = exprs_built Nothing_asked (λ p a q n. Far p a q) none_asked far_built
 
-pub regions_far : (p : ℕ) (at : Place) (rs : List ℕ) → Far p (regions_piece at rs) (after_regions p rs)
-regions_far p at [] = stop
-regions_far p at (r ∷ rs) = next _ _ (regions_far (suc p) at rs)
+pub stmt_far : (k : Next) (p : ℕ) (s : TypedStmt) → Far p (stmt_piece k p s) (after_stmt p s)
+stmt_far k p s = stmt_built Nothing_asked (λ p a q n. Far p a q) none_asked far_built k p s tt
 
-mutual
-  pub stmt_far : (k : Next) (p : ℕ) (s : TypedStmt) → Far p (stmt_piece k p s) (after_stmt p s)
-  stmt_far k p (statement at (form.declare x t is_final e)) = far (expr_far k p e) (next _ _ stop)
-  stmt_far k p (statement at (form.store x e)) = far (expr_far k p e) (next _ _ stop)
-  stmt_far k p (statement at (form.store_field o c f e)) = far (expr_far k p o) (far (expr_far _ _ e) (next _ _ stop))
-  stmt_far k p (statement at (form.store_element a j e)) = far (expr_far k p a) (far (expr_far _ _ j) (far (expr_far _ _ e) (next _ _ stop)))
-  stmt_far k p (statement at (form.store_part x j e)) = far (expr_far k p j) (far (expr_far _ _ e) (next _ _ (next _ _ stop)))
-  stmt_far k p (statement at (form.perform e)) = far (expr_far k p e) (popped_far (is_void (type_of e)) at (after_expr p e))
-  stmt_far k p (statement at (form.block ss)) = stmts_far k p ss
-  stmt_far k p (statement at (form.choice e s)) = far (expr_far k p e) (next _ _ (stmt_far _ _ s))
-  stmt_far k p (statement at (form.choice_else e s t)) = far (expr_far k p e) (next _ _ (far (stmt_far _ _ s) (next _ _ (stmt_far _ _ t))))
-  stmt_far k p (statement at (form.while_loop e s)) = far (expr_far k p e) (next _ _ (next _ _ (far (stmt_far _ _ s) (next _ _ stop))))
-  stmt_far k p (statement at form.return_nothing) = next _ _ stop
-  stmt_far k p (statement at (form.return_value e)) = far (expr_far k p e) (next _ _ stop)
-  stmt_far k p (statement at (form.print_int e)) = far (expr_far k p e) (next _ _ stop)
-  stmt_far k p (statement at (form.print_boolean e)) = far (expr_far k p e) (next _ _ stop)
-  stmt_far k p (statement at (form.print_text text)) = texted _ (next _ _ stop)
-  stmt_far k p (statement at (form.local_regions rs)) = regions_far p at rs
-  stmt_far k p (statement at (form.atomic effects ss)) = far (sited _ (next _ _ stop)) (far (stmts_far _ _ ss) (next _ _ stop))
-  stmt_far k p (statement at (form.cobegin forking bs)) = branched _ (sited _ (next _ _ (next _ _ stop)))
-  stmt_far k p (statement at (form.foreach forking x start count s)) =
-      far (expr_far k p start) (far (expr_far _ _ count) (branched _ (sited _ (next _ _ (next _ _ stop)))))
-  stmt_far k p (statement at (form.foreach_parts x (of_array a) count s)) =
-      far (expr_far k p a) (next _ _ (next _ _ (next _ _ (far (expr_far _ _ count)
-      (next _ _ (next _ _ (next _ _ (next _ _ (next _ _ (next _ _ (branched _ (sited _ (next _ _ (next _ _ stop))))))))))))))
-  stmt_far k p (statement at (form.foreach_parts x (of_part y) count s)) =
-      next _ _ (next _ _ (next _ _ (next _ _ (far (expr_far _ _ count)
-      (next _ _ (next _ _ (next _ _ (next _ _ (next _ _ (branched _ (sited _ (next _ _ (next _ _ stop)))))))))))))
-
-  pub stmts_far : (k : Next) (p : ℕ) (ss : TypedStmts) → Far p (stmts_piece k p ss) (after_stmts p ss)
-  stmts_far k p no_stmts = stop
-  stmts_far k p (more_stmts s ss) = far (stmt_far k p s) (stmts_far _ _ ss)
+pub stmts_far : (k : Next) (p : ℕ) (ss : TypedStmts) → Far p (stmts_piece k p ss) (after_stmts p ss)
+stmts_far k p ss = stmts_built Nothing_asked (λ p a q n. Far p a q) none_asked far_built k p ss (each_all Nothing_asked (λ s. tt) (each_stmt ss))
 
 get_or_is : {A : Type 0} (xs : List A) (n : ℕ) (d x : A) → slice_get xs n ≡ Some x → slice_index_or xs n d ≡ x
 get_or_is [] n d x e = absurd (cc)
@@ -228,3 +190,27 @@ module _ (C : PlainCode) where
     pub stmts_at : (c : List Line) (k : Next) (p : ℕ) (ss : TypedStmts) → Laid C c k p (stmts_piece k p ss) → StmtsAt C c p ss
     stmts_at c k p no_stmts h = tt
     stmts_at c k p (more_stmts s ss) h = let x = cut C (stmt_far k p s) h in (stmt_at c k p s x.0, stmts_at c _ _ ss x.1)
+
+  -- the parts of a statement are somewhere in the code too
+  abbrev pub Somewhere : TypedStmt → Type 0
+  Somewhere s = (at : List Line × ℕ) × StmtAt C at.0 at.1 s
+
+  pub each_somewhere : (c : List Line) (p : ℕ) (ss : TypedStmts) → StmtsAt C c p ss → Each Somewhere (each_stmt ss)
+  each_somewhere c p no_stmts h = tt
+  each_somewhere c p (more_stmts s ss) h = (((c, p), h.0), each_somewhere c _ ss h.1)
+
+  branches_somewhere : (bs : TypedBranches) (js : List ℕ) → BranchesAt C bs js → Each Somewhere (each_branch bs)
+  branches_somewhere no_branches js h = tt
+  branches_somewhere (more_branches copies s bs) js h = (((_, _), h.3.0), branches_somewhere bs h.1 h.4)
+
+  pub parts_somewhere : (at : List Line × ℕ) (s : TypedStmt) → StmtAt C at.0 at.1 s → Each Somewhere (substatements s)
+  parts_somewhere i (statement at (form.block ss)) h = each_somewhere _ _ ss h
+  parts_somewhere i (statement at (form.choice e s)) h = (((_, _), h.2), tt)
+  parts_somewhere i (statement at (form.choice_else e s t)) h = (((_, _), h.2), (((_, _), h.4), tt))
+  parts_somewhere i (statement at (form.while_loop e s)) h = (((_, _), h.3), tt)
+  parts_somewhere i (statement at (form.atomic effects ss)) h = each_somewhere _ _ ss h.1
+  parts_somewhere i (statement at (form.cobegin forking bs)) h = branches_somewhere bs h.0 h.2
+  parts_somewhere i (statement at (form.foreach forking x start count s)) h = (((_, _), h.4.0), tt)
+  parts_somewhere i (statement at (form.foreach_parts x (of_array a) count s)) h = (((_, _), h.8.1), tt)
+  parts_somewhere i (statement at (form.foreach_parts x (of_part y) count s)) h = (((_, _), h.10.1), tt)
+  parts_somewhere i s h = tt

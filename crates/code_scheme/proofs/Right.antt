@@ -22,7 +22,7 @@ use Rattle.lang_meaning.specs.Asking.{reported}
 use Rattle.code_instrs.specs.declared.instr.Instr.{Instr}
 use Rattle.code_instrs.specs.declared.instr.Instr.TheVariants as i
 use Rattle.code_instrs.specs.Plain.{PlainCode, call_site, new_site, body_at, parent_of, constructor_of}
-use Rattle.code_instrs.specs.Machine.{State, Level, Stand, Goes, Waits, spot, exec, exec_line, step, or_trap, deeper, unless_long, reads, writes, cell_read, cell_written, taken, operates, called, calls, enters, calls_method, entered, created, creates, makes_array, array_of, returned, left_with}
+use Rattle.code_instrs.specs.Machine.{State, Level, Stand, Goes, Waits, spot, exec, exec_line, step, or_trap, deeper, unless_long, reads, writes, cell_read, cell_written, taken, called, calls, enters, calls_method, entered, created, creates, makes_array, array_of, returned, left_with}
 use Rattle.code_scheme.specs.Scheme.{many, after_expr, after_exprs, first_constant, site_of_array, owner_of}
 use Rattle.code_scheme.specs.Stands.{LineAt, SitedAt, ExprAt, ExprsAt, LaidOut}
 use Rattle.code_scheme.proofs.Does.{after, does_on}

@@ -1,22 +1,22 @@
 -- The whole code is laid out by the scheme.
-use Rattle.std.proofs.Common.{◌≡◌, ◌≤◌, inl, inr, ℕ, zero, suc, ◌+◌, Bool, true, false, not, List, [], ◌∷◌, ◌++◌, length, map, refl, sym, ap, subst, arith, Option, Some, None, cond, slice_get, slice_index_or, length-append}
+use Rattle.std.proofs.Common.{◌≡◌, ◌≤◌, inl, inr, ℕ, zero, suc, ◌+◌, Bool, true, false, not, List, [], ◌∷◌, ◌++◌, length, map, refl, sym, ap, subst, arith, Option, Some, None, slice_get, slice_index_or, length-append}
 use Rattle.lang_base.specs.declared.place.Place.{Place}
-use Rattle.lang_typed.specs.Plain.{TypedExpr, typed, type_of, TypedExprs, no_exprs, more_exprs, of_array, of_part, TypedStmt, statement, TypedStmts, no_stmts, more_stmts, TypedBranches, no_branches, more_branches, PlainMember, PlainProgram}
-use Rattle.lang_typed.specs.Plain.{ExprForm as expr}
-use Rattle.lang_typed.specs.Plain.{StmtForm as form}
+use Rattle.lang_typed.specs.Plain.{TypedStmt, TypedStmts, TypedBranches, no_branches, more_branches, PlainMember, PlainProgram}
 use Rattle.lang_typed.specs.Resolved.{is_void, gives_value, Resolved}
 use Rattle.lang_typed.specs.Scope.{member_at}
 use Rattle.lang_typed.specs.Statements.{all_complete}
+use Rattle.lang_typed.proofs.Parts.{each_stmt, each_all}
 use Rattle.code_instrs.specs.declared.instr.Instr.{Instr}
 use Rattle.code_instrs.specs.declared.instr.Instr.TheVariants as i
 use Rattle.code_instrs.specs.Plain.{Line, Title, Site, PlainBody, body_or_none, PlainCode, body_at}
 use Rattle.code_scheme.specs.Pieces.{Branch, Piece, Next, past, nothing, line, with_site, with_text, with_branches, beside}
-use Rattle.code_scheme.specs.Scheme.{closes, after_expr, after_stmt, after_stmts, expr_piece, exprs_piece, stmt_piece, stmts_piece, regions_piece, branches_of, class_code}
+use Rattle.code_scheme.specs.Scheme.{closes, after_stmt, after_stmts, stmts_piece, branches_of, class_code}
 use Rattle.code_scheme.specs.Stands.{LineAt, StmtAt, StmtsAt, MemberEnds, MemberIs, EndsAt, BodyIs, LaidOut}
 use Rattle.code_scheme.specs.Compiled.{Compiled}
 use Rattle.code_scheme.specs.Laws.{work_of}
 use Rattle.lang_meaning.specs.Actions.{Frame}
 use Rattle.code_scheme.specs.Whole.{weight, weight_all, weight_branches, no_place, place_of, branch_piece_of, branch_piece, closing, member_piece, body_of, Output, generate, in_member, member_output, past_output, members_output, member_numbers, first, number_in, compiled}
+use Rattle.code_scheme.proofs.Built.{Nothing_asked, none_asked, Built, branch_built, member_built}
 use Rattle.code_scheme.proofs.Closing.{never_ends}
 use Rattle.code_scheme.proofs.Pieces.{Holds, split, all_of, BranchStands, Queued, queued, Laid, cut, here}
 use Rattle.code_scheme.proofs.Placed.{stmt_far, stmts_far, stmt_at, stmts_at}
@@ -37,9 +37,6 @@ pub record Needs (a : Piece) (n : ℕ) : Type 0 where
 both : {a b : Piece} {n m q : ℕ} → Needs a n → Needs b m → n + m ≡ q → Needs (beside a b) q
 unfolding beside
 both {a} {b} {n} {m} {q} x y e = let l = need_on a.branches b.branches in let u = x.is in let v = y.is in record { is = omega arith }
-
-clear : {a b : Piece} {m : ℕ} → Needs a 0 → Needs b m → Needs (beside a b) m
-clear x y = both x y (omega arith)
 
 skip : {a : Piece} {n : ℕ} (x : Instr) (at : Place) → Needs a n → Needs (line x at a) n
 unfolding line
@@ -67,78 +64,23 @@ many_branches : (s n : ℕ) (bs : TypedBranches) → need (branches_of s n bs) �
 many_branches s n no_branches = refl
 many_branches s n (more_branches copies t bs) = let r = many_branches s (suc n) bs in omega arith
 
-mutual
-  pub expr_needs : (k : Next) (p : ℕ) (e : TypedExpr) → Needs (expr_piece k p e) 0
-  expr_needs k p (typed at t (expr.int n)) = skip _ _ stop_here
-  expr_needs k p (typed at t (expr.boolean b)) = skip _ _ stop_here
-  expr_needs k p (typed at t expr.null) = skip _ _ stop_here
-  expr_needs k p (typed at t (expr.local x)) = skip _ _ stop_here
-  expr_needs k p (typed at t (expr.field e c f)) = clear (expr_needs k p e) (skip _ _ stop_here)
-  expr_needs k p (typed at t (expr.element a j)) = clear (expr_needs k p a) (clear (expr_needs _ _ j) (skip _ _ stop_here))
-  expr_needs k p (typed at t (expr.array_length a)) = clear (expr_needs k p a) (skip _ _ stop_here)
-  expr_needs k p (typed at t (expr.call e c r regions es)) = clear (expr_needs k p e) (clear (exprs_needs _ _ es) (site _ (skip _ _ stop_here)))
-  expr_needs k p (typed at t (expr.create es)) = clear (exprs_needs k p es) (site _ (skip _ _ stop_here))
-  expr_needs k p (typed at t (expr.create_array n)) = clear (expr_needs k p n) (site _ (skip _ _ stop_here))
-  expr_needs k p (typed at t (expr.unary o e)) = clear (expr_needs k p e) (skip _ _ stop_here)
-  expr_needs k p (typed at t (expr.binary o a b)) = clear (expr_needs k p a) (clear (expr_needs _ _ b) (skip _ _ stop_here))
-  expr_needs k p (typed at t (expr.both a b)) = clear (expr_needs k p a) (skip _ _ (clear (expr_needs _ _ b) (skip _ _ (skip _ _ stop_here))))
-  expr_needs k p (typed at t (expr.either a b)) = clear (expr_needs k p a) (skip _ _ (skip _ _ (skip _ _ (expr_needs _ _ b))))
-  expr_needs k p (typed at t (expr.part_length x)) = skip _ _ stop_here
-  expr_needs k p (typed at t (expr.part_element x j)) = clear (expr_needs k p j) (skip _ _ (skip _ _ stop_here))
-
-  pub exprs_needs : (k : Next) (p : ℕ) (es : TypedExprs) → Needs (exprs_piece k p es) 0
-  exprs_needs k p no_exprs = stop_here
-  exprs_needs k p (more_exprs e es) = clear (expr_needs k p e) (exprs_needs _ _ es)
-
-popped_needs : (z : Bool) (at : Place) (p : ℕ) → Needs (cond z nothing (line i.Pop at nothing)) 0
-popped_needs true at p = stop_here
-popped_needs false at p = skip _ _ stop_here
-
-regions_needs : (p : ℕ) (at : Place) (rs : List ℕ) → Needs (regions_piece at rs) 0
-regions_needs p at [] = stop_here
-regions_needs p at (r ∷ rs) = skip _ _ (regions_needs (suc p) at rs)
-
-mutual
-  pub stmt_needs : (k : Next) (p : ℕ) (s : TypedStmt) → Needs (stmt_piece k p s) (weight s)
-  stmt_needs k p (statement at (form.declare x t is_final e)) = clear (expr_needs k p e) (skip _ _ stop_here)
-  stmt_needs k p (statement at (form.store x e)) = clear (expr_needs k p e) (skip _ _ stop_here)
-  stmt_needs k p (statement at (form.store_field o c f e)) = clear (expr_needs k p o) (clear (expr_needs _ _ e) (skip _ _ stop_here))
-  stmt_needs k p (statement at (form.store_element a j e)) = clear (expr_needs k p a) (clear (expr_needs _ _ j) (clear (expr_needs _ _ e) (skip _ _ stop_here)))
-  stmt_needs k p (statement at (form.store_part x j e)) = clear (expr_needs k p j) (clear (expr_needs _ _ e) (skip _ _ (skip _ _ stop_here)))
-  stmt_needs k p (statement at (form.perform e)) = clear (expr_needs k p e) (popped_needs (is_void (type_of e)) at (after_expr p e))
-  stmt_needs k p (statement at (form.block ss)) = stmts_needs k p ss
-  stmt_needs k p (statement at (form.choice e s)) = clear (expr_needs k p e) (skip _ _ (stmt_needs _ _ s))
-  stmt_needs k p (statement at (form.choice_else e s t)) = clear (expr_needs k p e) (skip _ _ (both (stmt_needs _ _ s) (skip _ _ (stmt_needs _ _ t)) refl))
-  stmt_needs k p (statement at (form.while_loop e s)) =
-      clear (expr_needs k p e) (skip _ _ (skip _ _ (both (stmt_needs _ _ s) (skip _ _ stop_here) (omega arith))))
-  stmt_needs k p (statement at form.return_nothing) = skip _ _ stop_here
-  stmt_needs k p (statement at (form.return_value e)) = clear (expr_needs k p e) (skip _ _ stop_here)
-  stmt_needs k p (statement at (form.print_int e)) = clear (expr_needs k p e) (skip _ _ stop_here)
-  stmt_needs k p (statement at (form.print_boolean e)) = clear (expr_needs k p e) (skip _ _ stop_here)
-  stmt_needs k p (statement at (form.print_text text)) = its_text _ (skip _ _ stop_here)
-  stmt_needs k p (statement at (form.local_regions rs)) = regions_needs p at rs
-  stmt_needs k p (statement at (form.atomic effects ss)) = clear (site _ (skip _ _ stop_here)) (both (stmts_needs _ _ ss) (skip _ _ stop_here) (omega arith))
-  stmt_needs k p (statement at (form.cobegin forking bs)) = branch _ _ (many_branches _ 0 bs)
-  stmt_needs k p (statement at (form.foreach forking x start count s)) =
-      clear (expr_needs k p start) (clear (expr_needs _ _ count) (branch _ _ (one_more (weight s))))
-  stmt_needs k p (statement at (form.foreach_parts x (of_array a) count s)) =
-      clear (expr_needs k p a) (skip _ _ (skip _ _ (skip _ _ (clear (expr_needs _ _ count)
-      (skip _ _ (skip _ _ (skip _ _ (skip _ _ (skip _ _ (skip _ _ (branch _ _ (one_more (weight s)))))))))))))
-  stmt_needs k p (statement at (form.foreach_parts x (of_part y) count s)) =
-      skip _ _ (skip _ _ (skip _ _ (skip _ _ (clear (expr_needs _ _ count)
-      (skip _ _ (skip _ _ (skip _ _ (skip _ _ (skip _ _ (branch _ _ (one_more (weight s))))))))))))
-
-  pub stmts_needs : (k : Next) (p : ℕ) (ss : TypedStmts) → Needs (stmts_piece k p ss) (weight_all ss)
-  stmts_needs k p no_stmts = stop_here
-  stmts_needs k p (more_stmts s ss) = both (stmt_needs k p s) (stmts_needs _ _ ss) refl
+needs_built : Built Nothing_asked (λ p a q n. Needs a n)
+needs_built = record {
+  stop = λ p. stop_here;
+  next = λ x at e h. skip x at h;
+  both = λ h j. both h j refl;
+  sited = λ s e h. site s h;
+  texted = λ t h. its_text t h;
+  cobegin = λ k p at forking bs h. branch _ _ (many_branches k.site 0 bs);
+  foreach = λ k p at forking x start count s h. branch _ _ (one_more (weight s));
+  foreach_parts = λ k p at x source count s h. branch _ _ (one_more (weight s));
+}
 
 pub branch_needs : (k : Next) (at : Place) (s : TypedStmt) (takes : Option ℕ) → Needs (branch_piece_of k at s takes) (weight s)
-branch_needs k at s None = both (stmt_needs k 0 s) (skip _ _ stop_here) (omega arith)
-branch_needs k at s (Some x) = skip _ _ (both (stmt_needs k 1 s) (skip _ _ stop_here) (omega arith))
+branch_needs k at s takes = branch_built Nothing_asked (λ p a q n. Needs a n) none_asked needs_built k at s takes tt
 
 pub member_needs : (k : Next) (ss : TypedStmts) (z : Bool) → Needs (beside (stmts_piece k 0 ss) (closing z)) (weight_all ss)
-member_needs k ss true = both (stmts_needs k 0 ss) (skip _ _ stop_here) (omega arith)
-member_needs k ss false = both (stmts_needs k 0 ss) stop_here (omega arith)
+member_needs k ss z = member_built Nothing_asked (λ p a q n. Needs a n) none_asked needs_built k ss z (each_all Nothing_asked (λ s. tt) (each_stmt ss))
 
 module _ (C : PlainCode) where
   is_body : (j : ℕ) {b : PlainBody} → slice_get C.bodies j ≡ Some b → body_at C j ≡ b

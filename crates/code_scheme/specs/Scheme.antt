@@ -15,7 +15,6 @@ use Rattle.lang_typed.specs.Resolved.{is_void}
 use Rattle.lang_typed.specs.Scope.{member_at}
 use Rattle.lang_typed.specs.Statements.{all_complete}
 use Rattle.lang_meaning.specs.Expressions.{class_in}
-use Rattle.code_instrs.specs.declared.instr.Instr.{Instr}
 use Rattle.code_instrs.specs.declared.instr.Instr.TheVariants as i
 use Rattle.code_instrs.specs.Plain.{of_branch, Method, ClassCode, Site, fork_site, spread_site, block_site, call_site, new_site, array_site}
 use Rattle.code_scheme.specs.Pieces.{Branch, Piece, Next, nothing, line, with_site, with_text, with_branches, then_next}

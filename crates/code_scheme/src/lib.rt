@@ -6,7 +6,7 @@
 //!
 //! The laws say that the solo run of the code does what the meaning of the program says, whatever its tasks are answered.
 //! They are proved over `specs/Stands.antt`, which says what stands where in a code without saying how it was made: code
-//! that is made in another way and meets it has the same laws.
+//! that is made in another way and meets it has the same laws. What is so of all pieces of code is proved by `proofs/Built.antt`.
 #![tactic(auto)]
 
 pub mod laws;

@@ -114,10 +114,6 @@ module _ (P : PlainProgram) (d : ℕ) where
 
   pub expands : (e : TypedExpr) (is : List Item) (vs : List (Value ℕ)) (f : Frame ℕ LocalRegion) (w : Store)
       → items_run P d (evaluate e ∷ is) vs f w ≡ items_run P d (each (operands_of e) (operate e ∷ is)) vs f w
-  expands (typed at t (form.int k)) is vs f w = refl
-  expands (typed at t (form.boolean b)) is vs f w = refl
-  expands (typed at t form.null) is vs f w = refl
-  expands (typed at t (form.local x)) is vs f w = refl
   expands (typed at t (form.field e c k)) is vs f w = one_operand e _ _ _ f w (λ v g x. refl)
   expands (typed at t (form.element a i)) is vs f w = one_operand a _ _ _ f w (λ v g x. one_operand i _ _ _ g x (λ u h y. refl))
   expands (typed at t (form.array_length a)) is vs f w = one_operand a _ _ _ f w (λ v g x. refl)
@@ -128,8 +124,8 @@ module _ (P : PlainProgram) (d : ℕ) where
   expands (typed at t (form.binary o a b)) is vs f w = one_operand a _ _ _ f w (λ v g x. one_operand b _ _ _ g x (λ u h y. refl))
   expands (typed at t (form.both a b)) is vs f w = one_operand a _ _ _ f w (λ v g x. refl)
   expands (typed at t (form.either a b)) is vs f w = one_operand a _ _ _ f w (λ v g x. refl)
-  expands (typed at t (form.part_length k)) is vs f w = refl
   expands (typed at t (form.part_element k i)) is vs f w = one_operand i _ _ _ f w (λ v g x. refl)
+  expands e is vs f w = refl
 
   pub expands_stmt : (s : TypedStmt) (is : List Item) (vs : List (Value ℕ)) (f : Frame ℕ LocalRegion) (w : Store)
       → items_run P d (carry_out s ∷ is) vs f w ≡ items_run P d (each (needs s) (finish s ∷ is)) vs f w
@@ -140,19 +136,13 @@ module _ (P : PlainProgram) (d : ℕ) where
       one_operand a _ _ _ f w (λ v g x. one_operand i _ _ _ g x (λ j h y. one_operand e _ _ _ h y (λ u l z. refl)))
   expands_stmt (statement at (stmt.store_part k i e)) is vs f w = one_operand i _ _ _ f w (λ v g x. one_operand e _ _ _ g x (λ u h y. refl))
   expands_stmt (statement at (stmt.perform e)) is vs f w = one_operand e _ _ _ f w (λ v g y. refl)
-  expands_stmt (statement at (stmt.block ss)) is vs f w = refl
   expands_stmt (statement at (stmt.choice e s)) is vs f w = one_operand e _ _ _ f w (λ v g y. refl)
   expands_stmt (statement at (stmt.choice_else e s t)) is vs f w = one_operand e _ _ _ f w (λ v g y. refl)
-  expands_stmt (statement at (stmt.while_loop e s)) is vs f w = refl
-  expands_stmt (statement at stmt.return_nothing) is vs f w = refl
   expands_stmt (statement at (stmt.return_value e)) is vs f w = one_operand e _ _ _ f w (λ v g y. refl)
   expands_stmt (statement at (stmt.print_int e)) is vs f w = one_operand e _ _ _ f w (λ v g y. refl)
   expands_stmt (statement at (stmt.print_boolean e)) is vs f w = one_operand e _ _ _ f w (λ v g y. refl)
-  expands_stmt (statement at (stmt.print_text text)) is vs f w = refl
-  expands_stmt (statement at (stmt.local_regions rs)) is vs f w = refl
-  expands_stmt (statement at (stmt.atomic effects ss)) is vs f w = refl
-  expands_stmt (statement at (stmt.cobegin forking bs)) is vs f w = refl
   expands_stmt (statement at (stmt.foreach forking x start many s)) is vs f w =
       one_operand start _ _ _ f w (λ v g x. one_operand many _ _ _ g x (λ u h y. refl))
   expands_stmt (statement at (stmt.foreach_parts k (of_array a) many s)) is vs f w = one_operand a _ _ _ f w (λ v g y. refl)
   expands_stmt (statement at (stmt.foreach_parts k (of_part j) many s)) is vs f w = refl
+  expands_stmt s is vs f w = refl

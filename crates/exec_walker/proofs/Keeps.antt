@@ -47,29 +47,18 @@ module _ (P : PlainProgram) where
   chosen false p q K s t ws w h k = k
 
   operates_kept : (e : TypedExpr) (g : Level) (ws : List Waiting) (w : Store) → Stands (operate e) g ws w (operates P e g ws w)
-  operates_kept (typed at t (form.int k)) g ws w = operated (typed at t (form.int k)) g ws w
-  operates_kept (typed at t (form.boolean b)) g ws w = operated (typed at t (form.boolean b)) g ws w
-  operates_kept (typed at t form.null) g ws w = operated (typed at t form.null) g ws w
-  operates_kept (typed at t (form.local x)) g ws w = operated (typed at t (form.local x)) g ws w
-  operates_kept (typed at t (form.field e c k)) g ws w = operated (typed at t (form.field e c k)) g ws w
-  operates_kept (typed at t (form.element a i)) g ws w = operated (typed at t (form.element a i)) g ws w
-  operates_kept (typed at t (form.array_length a)) g ws w = operated (typed at t (form.array_length a)) g ws w
   operates_kept (typed at t (form.call e c r regions es)) g ws w =
       calls_kept P g.left at (slot_value g.operands (count es)) c r (map (concrete in_order (around g.frame)) regions) (reverse (take (count es) g.operands))
       (without (suc (count es)) g) ws w
   operates_kept (typed at t (form.create es)) g ws w =
       creates_kept P g.left at (class_in t).0 (map (concrete in_order (around g.frame)) (class_in t).1) (reverse (take (count es) g.operands)) (without (count es) g) ws w
-  operates_kept (typed at t (form.create_array n)) g ws w = operated (typed at t (form.create_array n)) g ws w
-  operates_kept (typed at t (form.unary o e)) g ws w = operated (typed at t (form.unary o e)) g ws w
-  operates_kept (typed at t (form.binary o a b)) g ws w = operated (typed at t (form.binary o a b)) g ws w
   operates_kept (typed at t (form.both a b)) g ws w =
       chosen (truth (slot_value g.operands 0)) (gives (Boolean false) g.frame) (of_expr in_order P (deeper_at P g.left) b g.frame)
       (λ v f x. items_run P g.left g.items (v ∷ drop 1 g.operands) f x) (At (doing (evaluate b) (without 1 g)) ws w) (At (pushed (Boolean false) (without 1 g)) ws w) ws w refl refl
   operates_kept (typed at t (form.either a b)) g ws w =
       chosen (truth (slot_value g.operands 0)) (of_expr in_order P (deeper_at P g.left) b g.frame) (gives (Boolean true) g.frame)
       (λ v f x. items_run P g.left g.items (v ∷ drop 1 g.operands) f x) (At (pushed (Boolean true) (without 1 g)) ws w) (At (doing (evaluate b) (without 1 g)) ws w) ws w refl refl
-  operates_kept (typed at t (form.part_length k)) g ws w = operated (typed at t (form.part_length k)) g ws w
-  operates_kept (typed at t (form.part_element k i)) g ws w = operated (typed at t (form.part_element k i)) g ws w
+  operates_kept e g ws w = operated e g ws w
 
   atomic_kept : (at : Place) (effects : List Effect) (ss : TypedStmts) (g : Level) (ws : List Waiting) (w : Store)
       → Stands (finish (statement at (stmt.atomic effects ss))) g ws w (finishes P (statement at (stmt.atomic effects ss)) g ws w)
@@ -79,12 +68,6 @@ module _ (P : PlainProgram) where
       (after (Enter (map (concrete_effect in_order (around g.frame)) effects)) (after Rest w)))
 
   finishes_kept : (s : TypedStmt) (g : Level) (ws : List Waiting) (w : Store) → Stands (finish s) g ws w (finishes P s g ws w)
-  finishes_kept (statement at (stmt.declare x t is_final e)) g ws w = performed (statement at (stmt.declare x t is_final e)) g ws w
-  finishes_kept (statement at (stmt.store x e)) g ws w = performed (statement at (stmt.store x e)) g ws w
-  finishes_kept (statement at (stmt.store_field o c k e)) g ws w = performed (statement at (stmt.store_field o c k e)) g ws w
-  finishes_kept (statement at (stmt.store_element a i e)) g ws w = performed (statement at (stmt.store_element a i e)) g ws w
-  finishes_kept (statement at (stmt.store_part k i e)) g ws w = performed (statement at (stmt.store_part k i e)) g ws w
-  finishes_kept (statement at (stmt.perform e)) g ws w = performed (statement at (stmt.perform e)) g ws w
   finishes_kept (statement at (stmt.block ss)) g ws w = refl
   finishes_kept (statement at (stmt.choice e s)) g ws w =
       chosen (truth (slot_value g.operands 0)) (gives none g.frame) (of_stmt in_order P (deeper_at P g.left) s g.frame)
@@ -93,12 +76,6 @@ module _ (P : PlainProgram) where
       chosen (truth (slot_value g.operands 0)) (of_stmt in_order P (deeper_at P g.left) t g.frame) (of_stmt in_order P (deeper_at P g.left) s g.frame)
       (λ v f x. items_run P g.left g.items (drop 1 g.operands) f x) (At (doing (carry_out s) (without 1 g)) ws w) (At (doing (carry_out t) (without 1 g)) ws w) ws w refl refl
   finishes_kept (statement at (stmt.while_loop e s)) g ws w = refl
-  finishes_kept (statement at stmt.return_nothing) g ws w = performed (statement at stmt.return_nothing) g ws w
-  finishes_kept (statement at (stmt.return_value e)) g ws w = performed (statement at (stmt.return_value e)) g ws w
-  finishes_kept (statement at (stmt.print_int e)) g ws w = performed (statement at (stmt.print_int e)) g ws w
-  finishes_kept (statement at (stmt.print_boolean e)) g ws w = performed (statement at (stmt.print_boolean e)) g ws w
-  finishes_kept (statement at (stmt.print_text text)) g ws w = performed (statement at (stmt.print_text text)) g ws w
-  finishes_kept (statement at (stmt.local_regions rs)) g ws w = performed (statement at (stmt.local_regions rs)) g ws w
   finishes_kept (statement at (stmt.atomic effects ss)) g ws w = atomic_kept at effects ss g ws w
   finishes_kept (statement at (stmt.cobegin forking bs)) g ws w = cobegin_kept P g.left at forking bs g ws w
   finishes_kept (statement at (stmt.foreach forking x start many s)) g ws w =
@@ -110,6 +87,7 @@ module _ (P : PlainProgram) where
       ap (whole P ws) (then_run sequential (of_expr in_order P (deeper_at P g.left) many (part_taken_over k j g.frame))
       (λ u f. (let h : Frame ℕ LocalRegion = with_value f (k + 3) u in parts (deeper_at P g.left) at k s (with_value h (k + 2) (slot_value h.values (j + 2)))))
       (λ v f x. items_run P g.left g.items g.operands f x) w)
+  finishes_kept s g ws w = performed s g ws w
 
   parts_kept : (at : Place) (k : ℕ) (s : TypedStmt) (g : Level) (ws : List Waiting) (w : Store)
       → whole P ws (bind (run sequential (parts (deeper_at P g.left) at k s g.frame) w) (λ r u. proceeds (λ v f x. items_run P g.left g.items g.operands f x) r u))
@@ -122,25 +100,7 @@ module _ (P : PlainProgram) where
       (λ n. parts_kept at k s (with_length k n w (record (without 1 g) { frame = with_value g.frame (k + 3) (slot_value g.operands 0) })) ws (after (Look n) w))
   counted_kept (statement at (stmt.foreach_parts k (of_part j) many s)) g ws w =
       parts_kept at k s (record (without 1 g) { frame = counts_to (statement at (stmt.foreach_parts k (of_part j) many s)) (slot_value g.operands 0) g.frame }) ws w
-  counted_kept (statement at (stmt.declare x t is_final e)) g ws w = refl
-  counted_kept (statement at (stmt.store x e)) g ws w = refl
-  counted_kept (statement at (stmt.store_field o c k e)) g ws w = refl
-  counted_kept (statement at (stmt.store_element a i e)) g ws w = refl
-  counted_kept (statement at (stmt.store_part k i e)) g ws w = refl
-  counted_kept (statement at (stmt.perform e)) g ws w = refl
-  counted_kept (statement at (stmt.block ss)) g ws w = refl
-  counted_kept (statement at (stmt.choice e s)) g ws w = refl
-  counted_kept (statement at (stmt.choice_else e s t)) g ws w = refl
-  counted_kept (statement at (stmt.while_loop e s)) g ws w = refl
-  counted_kept (statement at stmt.return_nothing) g ws w = refl
-  counted_kept (statement at (stmt.return_value e)) g ws w = refl
-  counted_kept (statement at (stmt.print_int e)) g ws w = refl
-  counted_kept (statement at (stmt.print_boolean e)) g ws w = refl
-  counted_kept (statement at (stmt.print_text text)) g ws w = refl
-  counted_kept (statement at (stmt.local_regions rs)) g ws w = refl
-  counted_kept (statement at (stmt.atomic effects ss)) g ws w = refl
-  counted_kept (statement at (stmt.cobegin forking bs)) g ws w = refl
-  counted_kept (statement at (stmt.foreach forking x start many s)) g ws w = refl
+  counted_kept s g ws w = refl
 
   test_kept : (e : TypedExpr) (s : TypedStmt) (g : Level) (ws : List Waiting) (w : Store) → Stands (test e s) g ws w (does_item P (test e s) g ws w)
   test_kept e s g ws w =

@@ -87,45 +87,14 @@ lands_less n g push ws w (Lost u) h k = tt
 
 -- the work of an expression and of a statement, put on the agenda
 expr_parts : (e : TypedExpr) → expr_work e ≡ suc (exprs_work (operands_of e) + operation_work e)
-expr_parts (typed at t (form.int k)) = omega arith
-expr_parts (typed at t (form.boolean b)) = omega arith
-expr_parts (typed at t form.null) = omega arith
-expr_parts (typed at t (form.local x)) = omega arith
-expr_parts (typed at t (form.field e c k)) = omega arith
-expr_parts (typed at t (form.element a i)) = omega arith
-expr_parts (typed at t (form.array_length a)) = omega arith
-expr_parts (typed at t (form.call e c r regions es)) = omega arith
-expr_parts (typed at t (form.create es)) = omega arith
-expr_parts (typed at t (form.create_array n)) = omega arith
-expr_parts (typed at t (form.unary o e)) = omega arith
-expr_parts (typed at t (form.binary o a b)) = omega arith
 expr_parts (typed at t (form.both a b)) = omega arith
 expr_parts (typed at t (form.either a b)) = omega arith
-expr_parts (typed at t (form.part_length k)) = omega arith
-expr_parts (typed at t (form.part_element k i)) = omega arith
+expr_parts e = omega arith
 
 stmt_parts : (s : TypedStmt) → stmt_work s ≡ suc (exprs_work (needs s) + finish_work s)
-stmt_parts (statement at (stmt.declare x t is_final e)) = omega arith
-stmt_parts (statement at (stmt.store x e)) = omega arith
-stmt_parts (statement at (stmt.store_field o c k e)) = omega arith
-stmt_parts (statement at (stmt.store_element a i e)) = omega arith
-stmt_parts (statement at (stmt.store_part k i e)) = omega arith
-stmt_parts (statement at (stmt.perform e)) = omega arith
-stmt_parts (statement at (stmt.block ss)) = omega arith
-stmt_parts (statement at (stmt.choice e s)) = omega arith
-stmt_parts (statement at (stmt.choice_else e s t)) = omega arith
-stmt_parts (statement at (stmt.while_loop e s)) = omega arith
-stmt_parts (statement at stmt.return_nothing) = omega arith
-stmt_parts (statement at (stmt.return_value e)) = omega arith
-stmt_parts (statement at (stmt.print_int e)) = omega arith
-stmt_parts (statement at (stmt.print_boolean e)) = omega arith
-stmt_parts (statement at (stmt.print_text text)) = omega arith
-stmt_parts (statement at (stmt.local_regions rs)) = omega arith
-stmt_parts (statement at (stmt.atomic effects ss)) = omega arith
-stmt_parts (statement at (stmt.cobegin forking bs)) = omega arith
-stmt_parts (statement at (stmt.foreach forking x start many s)) = omega arith
 stmt_parts (statement at (stmt.foreach_parts k (of_array a) many s)) = omega arith
 stmt_parts (statement at (stmt.foreach_parts k (of_part j) many s)) = omega arith
+stmt_parts s = omega arith
 
 each_work : (es : TypedExprs) (is : List Item) → items_work (each es is) ≡ exprs_work es + items_work is
 each_work no_exprs is = omega arith

@@ -1,5 +1,6 @@
 mod Coherent
 mod Entries
+mod Meant
 mod Modes
 mod Samples
 pub mod Tasks

@@ -8,7 +8,7 @@
 //! (what an unfitting value or answer counts as), `Core` (a task's work as a tree of seven forms, and how such a tree runs in
 //! a world), `Expressions` and `Statements` (one clause a construct, in the order of evaluation), `Asking` (the next
 //! action of a task after a list of answers), `Tasks` (what every task keeps to), `Costs`, `Outcomes` and `Elision` (the same meaning
-//! run in sequence with one heap: how a program comes out).
+//! run in sequence with one heap: how a program comes out). What is so of all that statements mean is proved by `proofs/Meant.antt`.
 #![tactic(auto)]
 
 pub mod laws;

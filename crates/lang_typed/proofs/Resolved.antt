@@ -2,8 +2,10 @@
 use Rattle.std.proofs.Common.{◌≡◌, ◌⊎◌, inl, inr, ℕ, Bool, true, false, not, List, refl, sym, ap, ◌∙◌, Option, Some, None, slice_get, option_and_then}
 use Rattle.lang_base.specs.declared.region.Rpl.{Rpl}
 use Rattle.lang_base.specs.Types.{PlainType, int, boolean, void, null, class, array, type_with, unnamed, SameType}
-use Rattle.lang_typed.specs.Plain.{PlainProgram, PlainClass, PlainParent, PlainMember, TypedExpr, type_of, form_of, ExprForm, TypedExprs, TypedStmt, TypedStmts, TypedBranches}
+use Rattle.lang_typed.specs.Plain.{PlainProgram, PlainClass, PlainParent, PlainMember, TypedExpr, type_of, form_of, ExprForm, TypedExprs, of_array, of_part, TypedStmt, statement, TypedStmts, no_stmts, more_stmts, TypedBranches, no_branches, more_branches}
 use Rattle.lang_typed.specs.Plain.{ExprForm as form}
+use Rattle.lang_typed.specs.Plain.{StmtForm as stmt}
+use Rattle.lang_typed.proofs.Parts.{each_stmt, each_branch, substatements, Each}
 use Rattle.lang_typed.specs.Resolved.{is_void, gives_value, RowGives, ExprFits, ExprsFit, VoidCall, PerformFits, StmtFits, StmtsFit, BranchesFit, Resolved}
 use Rattle.lang_typed.specs.Scope.{Scope, class_at, member_at, constructor_of, parent_of}
 use Rattle.lang_typed.specs.Types.{Subtype, ints, booleans, null_object, null_array, objects, arrays, inherits}
@@ -188,6 +190,28 @@ module _ (P : PlainProgram) where
       branches_fit : {L : Scope} {others : List ℕ} {bs : TypedBranches} {Es : List (List Own)} → BranchesPass P L others bs Es → BranchesFit P y bs
       branches_fit branches.no_branch = tt
       branches_fit (branches.one_branch c d a b) = ((all_fit a (λ t q. no_result t q)).0, branches_fit b)
+
+-- the parts of a statement that fits fit
+module _ (P : PlainProgram) (y : Bool) where
+  pub each_fits : (ss : TypedStmts) → StmtsFit P y ss → Each (StmtFits P y) (each_stmt ss)
+  each_fits no_stmts h = tt
+  each_fits (more_stmts s ss) h = (h.0, each_fits ss h.2)
+
+  branch_fits : (bs : TypedBranches) → BranchesFit P y bs → Each (StmtFits P y) (each_branch bs)
+  branch_fits no_branches h = tt
+  branch_fits (more_branches copies s bs) h = (h.0, branch_fits bs h.1)
+
+  pub parts_fit : (s : TypedStmt) → StmtFits P y s → Each (StmtFits P y) (substatements s)
+  parts_fit (statement at (stmt.block ss)) h = each_fits ss h
+  parts_fit (statement at (stmt.choice e s)) h = (h.1, tt)
+  parts_fit (statement at (stmt.choice_else e s t)) h = (h.1, (h.2, tt))
+  parts_fit (statement at (stmt.while_loop e s)) h = (h.1, tt)
+  parts_fit (statement at (stmt.atomic effects ss)) h = each_fits ss h
+  parts_fit (statement at (stmt.cobegin forking bs)) h = branch_fits bs h
+  parts_fit (statement at (stmt.foreach forking x start count s)) h = (h.2, tt)
+  parts_fit (statement at (stmt.foreach_parts x (of_array a) count s)) h = (h.2, tt)
+  parts_fit (statement at (stmt.foreach_parts x (of_part z) count s)) h = (h.1, tt)
+  parts_fit s h = tt
 
 some_is : {A : Type 0} {x y : A} → Some x ≡ Some y → x ≡ y
 some_is e = cc

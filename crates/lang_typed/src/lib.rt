@@ -11,6 +11,7 @@
 //! `specs/Plain.antt` has the same program as plain data, and `specs/WellTyped.antt` says when it keeps the rules
 //! of the language: the judgement that soundness and determinism are proved from. `specs/Resolved.antt` is the part of it that
 //! a run asks for: each row and member that is named is there, and a call gives a value exactly where one is used.
+//! A proof that only hands something on from a statement to those directly in it goes by `proofs/Parts.antt`.
 #![tactic(auto)]
 
 mod expr;

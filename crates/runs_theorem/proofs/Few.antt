@@ -3,7 +3,7 @@ use Rattle.std.proofs.Common.{◌≡◌, ◌<◌, ◌^◌, ℕ, zero, suc, List,
 use Rattle.std.specs.Prelude.{All}
 use Rattle.std.proofs.lemmas.List.Elements.{All-head, All-tail}
 use Rattle.lang_typed.specs.declared.stmt.Forking.{Forking}
-use Rattle.lang_typed.specs.Plain.{PlainProgram, of_array, of_part, TypedStmt, statement, TypedStmts, no_stmts, more_stmts, TypedBranches, no_branches, more_branches}
+use Rattle.lang_typed.specs.Plain.{PlainProgram, TypedStmt, statement, TypedStmts, TypedBranches, no_branches, more_branches}
 use Rattle.lang_typed.specs.Plain.{StmtForm as form}
 use Rattle.code_instrs.specs.Plain.{Line, PlainCode, fork_site, plain_code, plain_site}
 use Rattle.code_instrs.specs.declared.code.Code.{Code}
@@ -13,7 +13,10 @@ use Rattle.code_scheme.specs.Stands.{StmtAt, StmtsAt, BranchesAt}
 use Rattle.code_scheme.specs.Whole.{compiled}
 use Rattle.code_scheme.proofs.Whole.{laid_out}
 use Rattle.exec_task.specs.Halts.{IsWidthBounded}
-use Rattle.runs_sound.proofs.numbers.Small.{FewIn, FewInAll, FewInBranches, HasFew, many_branches}
+use Rattle.runs_sound.proofs.numbers.Small.{most, HasFew}
+use Rattle.lang_typed.proofs.Narrow.{width, Narrow, AllNarrow, NarrowHere, all_narrow, narrow_by}
+use Rattle.lang_typed.proofs.Parts.{all_handed_on}
+use Rattle.code_scheme.proofs.Placed.{each_somewhere, parts_somewhere}
 
 -- each fork of the code has few bodies
 abbrev SitesFew : PlainCode → Type 0
@@ -35,42 +38,18 @@ sites_few (s ∷ ss) few zero forking js copies e =
 sites_few (s ∷ ss) few (suc n) forking js copies e = sites_few ss (All-tail IsWidthBounded s ss few) n forking js copies e
 
 module _ (C : PlainCode) (few : SitesFew C) where
-  many_at : (bs : TypedBranches) (js : List ℕ) → BranchesAt C bs js → many_branches bs ≡ length js
+  many_at : (bs : TypedBranches) (js : List ℕ) → BranchesAt C bs js → width bs ≡ length js
   many_at no_branches js h = sym (ap (λ (l : List ℕ). length l) h)
   many_at (more_branches copies s bs) js h = ap (λ n. suc n) (many_at bs h.1 h.4) ∙ sym (ap (λ (l : List ℕ). length l) h.2)
 
-  mutual
-    few_stmt : (c : List Line) (p : ℕ) (s : TypedStmt) → StmtAt C c p s → FewIn s
-    few_stmt c p (statement at (form.declare x t is_final e)) h = tt
-    few_stmt c p (statement at (form.store x e)) h = tt
-    few_stmt c p (statement at (form.store_field o k f e)) h = tt
-    few_stmt c p (statement at (form.store_element a j e)) h = tt
-    few_stmt c p (statement at (form.store_part x j e)) h = tt
-    few_stmt c p (statement at (form.perform e)) h = tt
-    few_stmt c p (statement at (form.block ss)) h = few_stmts c p ss h
-    few_stmt c p (statement at (form.choice e s)) h = few_stmt c _ s h.2
-    few_stmt c p (statement at (form.choice_else e s t)) h = (few_stmt c _ s h.2, few_stmt c _ t h.4)
-    few_stmt c p (statement at (form.while_loop e s)) h = few_stmt c _ s h.3
-    few_stmt c p (statement at form.return_nothing) h = tt
-    few_stmt c p (statement at (form.return_value e)) h = tt
-    few_stmt c p (statement at (form.print_int e)) h = tt
-    few_stmt c p (statement at (form.print_boolean e)) h = tt
-    few_stmt c p (statement at (form.print_text text)) h = tt
-    few_stmt c p (statement at (form.local_regions rs)) h = tt
-    few_stmt c p (statement at (form.atomic effects ss)) h = few_stmts c _ ss h.1
-    few_stmt c p (statement at (form.cobegin forking bs)) h =
-        ((let n = many_at bs h.0 h.2 in let l = few h.1.forks.number forking h.0 _ h.1.forks.site_is in omega (arith, n, l)), few_branches bs h.0 h.2)
-    few_stmt c p (statement at (form.foreach forking x start count s)) h = few_stmt _ _ s h.4.0
-    few_stmt c p (statement at (form.foreach_parts x (of_array a) count s)) h = few_stmt _ _ s h.8.1
-    few_stmt c p (statement at (form.foreach_parts x (of_part y) count s)) h = few_stmt _ _ s h.10.1
+  few_here : (at : List Line × ℕ) (s : TypedStmt) → StmtAt C at.0 at.1 s → NarrowHere most s
+  few_here i (statement at (form.cobegin forking bs)) h = let n = many_at bs h.0 h.2 in let l = few h.1.forks.number forking h.0 _ h.1.forks.site_is in omega (arith, n, l)
+  few_here i s h = tt
 
-    few_stmts : (c : List Line) (p : ℕ) (ss : TypedStmts) → StmtsAt C c p ss → FewInAll ss
-    few_stmts c p no_stmts h = tt
-    few_stmts c p (more_stmts s ss) h = (few_stmt c p s h.0, few_stmts c _ ss h.1)
-
-    few_branches : (bs : TypedBranches) (js : List ℕ) → BranchesAt C bs js → FewInBranches bs
-    few_branches no_branches js h = tt
-    few_branches (more_branches copies s bs) js h = (few_stmt _ _ s h.3.0, few_branches bs h.1 h.4)
+  few_stmts : (c : List Line) (p : ℕ) (ss : TypedStmts) → StmtsAt C c p ss → AllNarrow most ss
+  few_stmts c p ss h =
+      all_narrow most ss (all_handed_on (List Line × ℕ) (λ i s. StmtAt C i.0 i.1 s) (Narrow most) (parts_somewhere C)
+      (λ i s at each. narrow_by most s (few_here i s at) each) ss (each_somewhere C c p ss h))
 
 pub has_few : (P : PlainProgram) (code : Code) → plain_code code ≡ compiled P → All IsWidthBounded code.sites → HasFew P
 has_few P code is few n m there =

@@ -9,25 +9,7 @@ use Rattle.sound_infer.proofs.Forms.{scope_behind, DeclaresNothing}
 
 pub first_entered : (P : PlainProgram) (L : Scope) (s : TypedStmt) (ss : TypedStmts) → entered_all P L (more_stmts s ss) ≡ more_stmts (entered P L s) (entered_all P (scope_behind s L) ss)
 first_entered P L (statement at (form.declare x t is_final e)) ss = refl
-first_entered P L (statement at (form.store x e)) ss = refl
-first_entered P L (statement at (form.store_field o c k e)) ss = refl
-first_entered P L (statement at (form.store_element a i e)) ss = refl
-first_entered P L (statement at (form.store_part k i e)) ss = refl
-first_entered P L (statement at (form.perform e)) ss = refl
-first_entered P L (statement at (form.block ts)) ss = refl
-first_entered P L (statement at (form.choice e s)) ss = refl
-first_entered P L (statement at (form.choice_else e s t)) ss = refl
-first_entered P L (statement at (form.while_loop e s)) ss = refl
-first_entered P L (statement at form.return_nothing) ss = refl
-first_entered P L (statement at (form.return_value e)) ss = refl
-first_entered P L (statement at (form.print_int e)) ss = refl
-first_entered P L (statement at (form.print_boolean e)) ss = refl
-first_entered P L (statement at (form.print_text text)) ss = refl
-first_entered P L (statement at (form.local_regions rs)) ss = refl
-first_entered P L (statement at (form.atomic entry ts)) ss = refl
-first_entered P L (statement at (form.cobegin forking bs)) ss = refl
-first_entered P L (statement at (form.foreach forking x start count s)) ss = refl
-first_entered P L (statement at (form.foreach_parts k source count s)) ss = refl
+first_entered P L s ss = refl
 
 pub then_entered : (P : PlainProgram) (L : Scope) (s : TypedStmt) (ss : TypedStmts) → DeclaresNothing s → entered_all P L (more_stmts s ss) ≡ more_stmts (entered P L s) (entered_all P L ss)
 then_entered P L s ss n = first_entered P L s ss ∙ ap (λ K. more_stmts (entered P L s) (entered_all P K ss)) (n.behind L)
@@ -38,26 +20,9 @@ alone_entered P L s = first_entered P L s no_stmts
 
 mutual
   pub still_completes : (P : PlainProgram) (L : Scope) (s : TypedStmt) → completes (entered P L s) ≡ completes s
-  still_completes P L (statement at (form.declare x t is_final e)) = refl
-  still_completes P L (statement at (form.store x e)) = refl
-  still_completes P L (statement at (form.store_field o c k e)) = refl
-  still_completes P L (statement at (form.store_element a i e)) = refl
-  still_completes P L (statement at (form.store_part k i e)) = refl
-  still_completes P L (statement at (form.perform e)) = refl
   still_completes P L (statement at (form.block ts)) = all_still_complete P L ts
-  still_completes P L (statement at (form.choice e s)) = refl
   still_completes P L (statement at (form.choice_else e s t)) = ap (λ b. b || completes (entered P L t)) (still_completes P L s) ∙ ap (λ b. completes s || b) (still_completes P L t)
-  still_completes P L (statement at (form.while_loop e s)) = refl
-  still_completes P L (statement at form.return_nothing) = refl
-  still_completes P L (statement at (form.return_value e)) = refl
-  still_completes P L (statement at (form.print_int e)) = refl
-  still_completes P L (statement at (form.print_boolean e)) = refl
-  still_completes P L (statement at (form.print_text text)) = refl
-  still_completes P L (statement at (form.local_regions rs)) = refl
-  still_completes P L (statement at (form.atomic entry ts)) = refl
-  still_completes P L (statement at (form.cobegin forking bs)) = refl
-  still_completes P L (statement at (form.foreach forking x start count s)) = refl
-  still_completes P L (statement at (form.foreach_parts k source count s)) = refl
+  still_completes P L s = refl
 
   pub all_still_complete : (P : PlainProgram) (L : Scope) (ss : TypedStmts) → all_complete (entered_all P L ss) ≡ all_complete ss
   all_still_complete P L no_stmts = refl

@@ -23,7 +23,7 @@ use Rattle.code_instrs.specs.Plain.{plain_code}
 use Rattle.code_scheme.specs.Whole.{compiled}
 use Rattle.exec_task.specs.Halts.{IsWidthBounded}
 use Rattle.sound_lemmas.specs.Accepted.{IsAccepted}
-use Rattle.sound_text.proofs.Narrow.{AllNarrow}
+use Rattle.lang_typed.proofs.Narrow.{AllNarrow}
 use Rattle.sound_text.proofs.Sites.{code_few, OfMember}
 use Rattle.sound_text.proofs.Statements.{If, BlockNarrow, block_narrow}
 

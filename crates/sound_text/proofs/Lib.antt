@@ -1,4 +1,3 @@
-pub mod Narrow
 pub mod Sites
 pub mod Statements
 pub mod Bodies

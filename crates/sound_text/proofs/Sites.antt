@@ -1,15 +1,10 @@
 -- The code of narrow bodies has no fork of more branches than that.
-use Rattle.std.proofs.Common.{◌≡◌, ◌≤◌, ◌<◌, ◌+◌, ◌^◌, ℕ, zero, suc, Bool, true, false, cond, List, [], ◌∷◌, ◌++◌, All, length, map, Option, Some, None, refl, sym, ap, subst, arith}
+use Rattle.std.proofs.Common.{◌≡◌, ◌≤◌, ◌<◌, ◌+◌, ◌^◌, ℕ, zero, suc, true, false, List, [], ◌∷◌, ◌++◌, All, length, map, Option, Some, None, refl, sym, ap, subst, arith}
 use Rattle.std.proofs.lemmas.List.Elements.{All-nil, All-cons, All-head, All-tail, All-append}
 use Rattle.lang_base.specs.declared.place.Place.{Place}
-use Rattle.lang_base.specs.Types.{PlainType}
-use Rattle.lang_base.specs.Types.{PlainType as ty}
 use Rattle.lang_typed.specs.declared.stmt.Forking.{Forking}
 use Rattle.lang_typed.specs.declared.stmt.Forking.TheVariants.{Deterministic}
-use Rattle.lang_typed.specs.Plain.{TypedExpr, typed, type_of, TypedExprs, no_exprs, more_exprs, of_array, of_part, TypedStmt, statement, TypedStmts, no_stmts, more_stmts, TypedBranches, no_branches, more_branches, PlainMember, PlainProgram}
-use Rattle.lang_typed.specs.Plain.{ExprForm as expr}
-use Rattle.lang_typed.specs.Plain.{StmtForm as form}
-use Rattle.lang_typed.specs.Resolved.{is_void}
+use Rattle.lang_typed.specs.Plain.{TypedStmt, TypedBranches, no_branches, more_branches, PlainMember, PlainProgram}
 use Rattle.code_instrs.specs.declared.code.Code.{Code}
 use Rattle.code_instrs.specs.declared.code.Site.{Site as DeclaredSite}
 use Rattle.code_instrs.specs.declared.code.Site.TheVariants as declared
@@ -17,10 +12,11 @@ use Rattle.code_instrs.specs.declared.instr.Instr.{Instr}
 use Rattle.code_instrs.specs.declared.instr.Instr.TheVariants as i
 use Rattle.code_instrs.specs.Plain.{of_branch, Site, fork_site, spread_site, block_site, call_site, new_site, array_site, plain_site, PlainCode, plain_code}
 use Rattle.code_scheme.specs.Pieces.{Branch, Piece, Next, past, nothing, line, with_site, with_text, with_branches, beside}
-use Rattle.code_scheme.specs.Scheme.{closes, numbers, site_of_array, branches_of, expr_piece, exprs_piece, stmt_piece, stmts_piece, regions_piece}
-use Rattle.code_scheme.specs.Whole.{weight_all, place_of, branch_piece_of, branch_piece, closing, member_piece, generate, in_member, member_output, past_output, members_output, first, compiled}
+use Rattle.code_scheme.specs.Scheme.{closes, numbers, branches_of}
+use Rattle.code_scheme.specs.Whole.{weight_all, place_of, branch_piece_of, branch_piece, member_piece, generate, in_member, member_output, past_output, members_output, first, compiled}
 use Rattle.exec_task.specs.Halts.{IsWidthBounded}
-use Rattle.sound_text.proofs.Narrow.{width, Narrow, AllNarrow, BranchesNarrow}
+use Rattle.lang_typed.proofs.Narrow.{width, Narrow, AllNarrow, BranchesNarrow, each_narrow, parts_narrow}
+use Rattle.code_scheme.proofs.Built.{has_branches, Built, branch_built, member_built}
 
 numbers_width : (j : ℕ) (bs : TypedBranches) → length (numbers j bs) ≡ width bs
 numbers_width j no_branches = refl
@@ -68,103 +64,44 @@ module _ (n : ℕ)
     unfolding with_branches
     branch bs narrow y = record { sites = y.sites; branches = narrow }
 
-    array_few : (t : PlainType) → Few (site_of_array t)
-    array_few ty.int = tt
-    array_few ty.boolean = tt
-    array_few ty.void = tt
-    array_few ty.null = tt
-    array_few (ty.class c args) = tt
-    array_few (ty.array t a named) = tt
+    few_of : (s : Site) → has_branches s ≡ false → Few s
+    few_of (fork_site forking bodies copies) e = absurd (let h : true ≡ false = e in cc)
+    few_of (spread_site forking body slot) e = tt
+    few_of (block_site effects) e = tt
+    few_of (call_site class row formals regions) e = tt
+    few_of (new_site class formals regions) e = tt
+    few_of (array_site region value) e = tt
 
     all_of_narrow : (s j : ℕ) (bs : TypedBranches) → BranchesNarrow n bs → All OfNarrow (branches_of s j bs)
     all_of_narrow s j no_branches narrow = All-nil OfNarrow
     all_of_narrow s j (more_branches copies t bs) narrow = All-cons OfNarrow _ _ narrow.0 (all_of_narrow s (suc j) bs narrow.1)
-
-    mutual
-      expr_slim : (k : Next) (p : ℕ) (e : TypedExpr) → Slim (expr_piece k p e)
-      expr_slim k p (typed at t (expr.int z)) = skip _ _ stop_here
-      expr_slim k p (typed at t (expr.boolean b)) = skip _ _ stop_here
-      expr_slim k p (typed at t expr.null) = skip _ _ stop_here
-      expr_slim k p (typed at t (expr.local x)) = skip _ _ stop_here
-      expr_slim k p (typed at t (expr.field e c f)) = both (expr_slim k p e) (skip _ _ stop_here)
-      expr_slim k p (typed at t (expr.element a j)) = both (expr_slim k p a) (both (expr_slim _ _ j) (skip _ _ stop_here))
-      expr_slim k p (typed at t (expr.array_length a)) = both (expr_slim k p a) (skip _ _ stop_here)
-      expr_slim k p (typed at t (expr.call e c r regions es)) = both (expr_slim k p e) (both (exprs_slim _ _ es) (site _ tt (skip _ _ stop_here)))
-      expr_slim k p (typed at t (expr.create es)) = both (exprs_slim k p es) (site _ tt (skip _ _ stop_here))
-      expr_slim k p (typed at t (expr.create_array e)) = both (expr_slim k p e) (site _ (array_few t) (skip _ _ stop_here))
-      expr_slim k p (typed at t (expr.unary o e)) = both (expr_slim k p e) (skip _ _ stop_here)
-      expr_slim k p (typed at t (expr.binary o a b)) = both (expr_slim k p a) (both (expr_slim _ _ b) (skip _ _ stop_here))
-      expr_slim k p (typed at t (expr.both a b)) = both (expr_slim k p a) (skip _ _ (both (expr_slim _ _ b) (skip _ _ (skip _ _ stop_here))))
-      expr_slim k p (typed at t (expr.either a b)) = both (expr_slim k p a) (skip _ _ (skip _ _ (skip _ _ (expr_slim _ _ b))))
-      expr_slim k p (typed at t (expr.part_length x)) = skip _ _ stop_here
-      expr_slim k p (typed at t (expr.part_element x j)) = both (expr_slim k p j) (skip _ _ (skip _ _ stop_here))
-
-      exprs_slim : (k : Next) (p : ℕ) (es : TypedExprs) → Slim (exprs_piece k p es)
-      exprs_slim k p no_exprs = stop_here
-      exprs_slim k p (more_exprs e es) = both (expr_slim k p e) (exprs_slim _ _ es)
-
-    popped_slim : (z : Bool) (at : Place) → Slim (cond z nothing (line i.Pop at nothing))
-    popped_slim true at = stop_here
-    popped_slim false at = skip _ _ stop_here
-
-    regions_slim : (at : Place) (rs : List ℕ) → Slim (regions_piece at rs)
-    regions_slim at [] = stop_here
-    regions_slim at (r ∷ rs) = skip _ _ (regions_slim at rs)
 
     spread_slim : (number body x : ℕ) (at : Place) (forking : Forking) (takes : Option ℕ) (s : TypedStmt) → Narrow n s →
         Slim (with_branches (record { title = of_branch number 0; takes = takes; stmt = s } ∷ [])
         (with_site (spread_site forking body x) (line (i.Spread number) at (line i.Join at nothing))))
     spread_slim number body x at forking takes s narrow = branch _ (All-cons OfNarrow _ [] narrow (All-nil OfNarrow)) (site _ tt (skip _ _ (skip _ _ stop_here)))
 
-    mutual
-      stmt_slim : (k : Next) (p : ℕ) (s : TypedStmt) → Narrow n s → Slim (stmt_piece k p s)
-      stmt_slim k p (statement at (form.declare x t is_final e)) h = both (expr_slim k p e) (skip _ _ stop_here)
-      stmt_slim k p (statement at (form.store x e)) h = both (expr_slim k p e) (skip _ _ stop_here)
-      stmt_slim k p (statement at (form.store_field o c f e)) h = both (expr_slim k p o) (both (expr_slim _ _ e) (skip _ _ stop_here))
-      stmt_slim k p (statement at (form.store_element a j e)) h = both (expr_slim k p a) (both (expr_slim _ _ j) (both (expr_slim _ _ e) (skip _ _ stop_here)))
-      stmt_slim k p (statement at (form.store_part x j e)) h = both (expr_slim k p j) (both (expr_slim _ _ e) (skip _ _ (skip _ _ stop_here)))
-      stmt_slim k p (statement at (form.perform e)) h = both (expr_slim k p e) (popped_slim (is_void (type_of e)) at)
-      stmt_slim k p (statement at (form.block ss)) h = stmts_slim k p ss h
-      stmt_slim k p (statement at (form.choice e s)) h = both (expr_slim k p e) (skip _ _ (stmt_slim _ _ s h))
-      stmt_slim k p (statement at (form.choice_else e s t)) h = both (expr_slim k p e) (skip _ _ (both (stmt_slim _ _ s h.0) (skip _ _ (stmt_slim _ _ t h.1))))
-      stmt_slim k p (statement at (form.while_loop e s)) h = both (expr_slim k p e) (skip _ _ (skip _ _ (both (stmt_slim _ _ s h) (skip _ _ stop_here))))
-      stmt_slim k p (statement at form.return_nothing) h = skip _ _ stop_here
-      stmt_slim k p (statement at (form.return_value e)) h = both (expr_slim k p e) (skip _ _ stop_here)
-      stmt_slim k p (statement at (form.print_int e)) h = both (expr_slim k p e) (skip _ _ stop_here)
-      stmt_slim k p (statement at (form.print_boolean e)) h = both (expr_slim k p e) (skip _ _ stop_here)
-      stmt_slim k p (statement at (form.print_text text)) h = its_text _ (skip _ _ stop_here)
-      stmt_slim k p (statement at (form.local_regions rs)) h = regions_slim at rs
-      stmt_slim k p (statement at (form.atomic effects ss)) h = both (site _ tt (skip _ _ stop_here)) (both (stmts_slim _ _ ss h) (skip _ _ stop_here))
-      stmt_slim k p (statement at (form.cobegin forking bs)) h =
-          branch _ (all_of_narrow k.site 0 bs h.1)
-          (site _ (subst (λ m. m ≤ n) (sym (numbers_width k.body bs)) h.0) (skip _ _ (skip _ _ stop_here)))
-      stmt_slim k p (statement at (form.foreach forking x start count s)) h =
-          both (expr_slim k p start) (both (expr_slim _ _ count) (spread_slim _ _ x at forking None s h))
-      stmt_slim k p (statement at (form.foreach_parts x (of_array a) count s)) h =
-          both (expr_slim k p a) (skip _ _ (skip _ _ (skip _ _ (both (expr_slim _ _ count)
-          (skip _ _ (skip _ _ (skip _ _ (skip _ _ (skip _ _ (skip _ _ (spread_slim _ _ (x + 4) at Deterministic (Some x) s h)))))))))))
-      stmt_slim k p (statement at (form.foreach_parts x (of_part y) count s)) h =
-          skip _ _ (skip _ _ (skip _ _ (skip _ _ (both (expr_slim _ _ count)
-          (skip _ _ (skip _ _ (skip _ _ (skip _ _ (skip _ _ (spread_slim _ _ (x + 4) at Deterministic (Some x) s h))))))))))
+    slim_built : Built (Narrow n) (λ p a q m. Slim a)
+    slim_built = record {
+      stop = λ p. stop_here;
+      next = λ x at e h. skip x at h;
+      both = λ h j. both h j;
+      sited = λ s e h. site s (few_of s e) h;
+      texted = λ t h. its_text t h;
+      cobegin = λ k p at forking bs h.
+          branch _ (all_of_narrow k.site 0 bs h.1) (site _ (subst (λ m. m ≤ n) (sym (numbers_width k.body bs)) h.0) (skip _ _ (skip _ _ stop_here)));
+      foreach = λ k p at forking x start count s h. spread_slim k.site k.body x at forking None s h;
+      foreach_parts = λ k p at x source count s h. spread_slim k.site k.body (x + 4) at Deterministic (Some x) s h;
+    }
 
-      stmts_slim : (k : Next) (p : ℕ) (ss : TypedStmts) → AllNarrow n ss → Slim (stmts_piece k p ss)
-      stmts_slim k p no_stmts h = stop_here
-      stmts_slim k p (more_stmts s ss) h = both (stmt_slim k p s h.0) (stmts_slim _ _ ss h.1)
-
-    -- a branch, and a member
     branch_slim : (k : Next) (at : Place) (s : TypedStmt) (takes : Option ℕ) → Narrow n s → Slim (branch_piece_of k at s takes)
-    branch_slim k at s None h = both (stmt_slim k 0 s h) (skip _ _ stop_here)
-    branch_slim k at s (Some x) h = skip _ _ (both (stmt_slim k 1 s h) (skip _ _ stop_here))
-
-    closing_slim : (z : Bool) → Slim (closing z)
-    closing_slim true = skip _ _ stop_here
-    closing_slim false = stop_here
+    branch_slim = branch_built (Narrow n) (λ p a q m. Slim a) (parts_narrow n) slim_built
 
     abbrev pub OfMember : PlainMember → Type 0
     OfMember m = AllNarrow n m.body
 
     member_slim : (k : Next) (m : PlainMember) → OfMember m → Slim (member_piece k m)
-    member_slim k m h = both (stmts_slim k 0 m.body h) (closing_slim (closes m))
+    member_slim k m h = member_built (Narrow n) (λ p a q m. Slim a) (parts_narrow n) slim_built k m.body (closes m) (each_narrow n m.body h)
 
     -- all that a queue leads to
     generated_few : (count : ℕ) (m : PlainMember) (k : Next) (todo : List Branch) → All OfNarrow todo → All Few (generate count m k todo).sites

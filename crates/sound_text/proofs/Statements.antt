@@ -19,7 +19,7 @@ use Rattle.body_check.specs.declared.node.Node.{Node}
 use Rattle.body_check.specs.Checking.{block_left, branch_of, BranchesVerdict, all_pass, one_refused, after_branch, Checking, Choosing, InOther, Standing, standing, InScope, in_scope, InBlock, in_block, InOrder, Branching, Forking, Iterating, Parting}
 use Rattle.body_check.specs.Simple.{place_of, node_of, stored, printed_form, Declaring, AssigningLocal, AssigningPlace, Performing, Returning, Printing}
 use Rattle.body_check.specs.Walks.{Walk, Verdict, passes, refused, left_scope, judged, following}
-use Rattle.sound_text.proofs.Narrow.{width, Narrow, AllNarrow, BranchesNarrow}
+use Rattle.lang_typed.proofs.Narrow.{width, Narrow, AllNarrow, BranchesNarrow}
 
 -- what holds of what is made, where it passes
 abbrev pub If : {T : Type 0} → (T → Type 0) → Verdict T → Type 0

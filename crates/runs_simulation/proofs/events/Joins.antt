@@ -1,17 +1,16 @@
 -- In generated code each fork and each spread stands directly in front of its join.
-use Rattle.std.proofs.Common.{◌≡◌, ℕ, zero, suc, Bool, true, false, List, [], ◌∷◌, ◌++◌, refl, sym, ap, ◌∙◌, subst, Option, Some, None, cond, slice_get}
+use Rattle.std.proofs.Common.{◌≡◌, ℕ, zero, suc, List, [], ◌∷◌, ◌++◌, refl, sym, ap, ◌∙◌, subst, Option, Some, None, slice_get}
 use Rattle.lang_base.specs.declared.place.Place.{Place}
-use Rattle.lang_typed.specs.Plain.{TypedExpr, typed, type_of, TypedExprs, no_exprs, more_exprs, of_array, of_part, TypedStmt, statement, TypedStmts, no_stmts, more_stmts, PlainMember, PlainProgram}
-use Rattle.lang_typed.specs.Plain.{ExprForm as expr}
-use Rattle.lang_typed.specs.Plain.{StmtForm as form}
-use Rattle.lang_typed.specs.Resolved.{is_void}
+use Rattle.lang_typed.specs.Plain.{TypedStmt, PlainMember, PlainProgram}
 use Rattle.code_instrs.specs.declared.instr.Instr.{Instr}
 use Rattle.code_instrs.specs.declared.instr.Instr.TheVariants as i
 use Rattle.code_instrs.specs.Plain.{Line, PlainBody, Site, PlainCode, body_at, body_or_none}
 use Rattle.code_instrs.specs.Machine.{branch_site}
 use Rattle.code_scheme.specs.Pieces.{Branch, Piece, Next, past, nothing, line, with_site, with_text, with_branches, beside}
-use Rattle.code_scheme.specs.Scheme.{closes, expr_piece, exprs_piece, stmt_piece, stmts_piece, regions_piece}
-use Rattle.code_scheme.specs.Whole.{weight_all, branch_piece_of, branch_piece, place_of, closing, member_piece, generate, in_member, member_output, past_output, members_output, first, compiled}
+use Rattle.code_scheme.specs.Scheme.{closes}
+use Rattle.code_scheme.proofs.Built.{Nothing_asked, none_asked, Built, branch_built, member_built}
+use Rattle.lang_typed.proofs.Parts.{each_stmt, each_all}
+use Rattle.code_scheme.specs.Whole.{weight_all, branch_piece_of, branch_piece, place_of, member_piece, generate, in_member, member_output, past_output, members_output, first, compiled}
 
 -- what stands after a fork or a spread
 abbrev BeforeJoin : Option ℕ → List Line → Type 0
@@ -66,85 +65,23 @@ branched : {a : Piece} (bs : List Branch) → Pairs a → Pairs (with_branches b
 unfolding with_branches
 branched bs h = record { is = h.is }
 
-mutual
-  expr_pairs : (k : Next) (p : ℕ) (e : TypedExpr) → Pairs (expr_piece k p e)
-  expr_pairs k p (typed at t (expr.int n)) = next _ _ refl stop
-  expr_pairs k p (typed at t (expr.boolean b)) = next _ _ refl stop
-  expr_pairs k p (typed at t expr.null) = next _ _ refl stop
-  expr_pairs k p (typed at t (expr.local x)) = next _ _ refl stop
-  expr_pairs k p (typed at t (expr.field e c f)) = both (expr_pairs k p e) (next _ _ refl stop)
-  expr_pairs k p (typed at t (expr.element a j)) = both (expr_pairs k p a) (both (expr_pairs _ _ j) (next _ _ refl stop))
-  expr_pairs k p (typed at t (expr.array_length a)) = both (expr_pairs k p a) (next _ _ refl stop)
-  expr_pairs k p (typed at t (expr.call e c r regions es)) = both (expr_pairs k p e) (both (exprs_pairs _ _ es) (sited _ (next _ _ refl stop)))
-  expr_pairs k p (typed at t (expr.create es)) = both (exprs_pairs k p es) (sited _ (next _ _ refl stop))
-  expr_pairs k p (typed at t (expr.create_array n)) = both (expr_pairs k p n) (sited _ (next _ _ refl stop))
-  expr_pairs k p (typed at t (expr.unary o e)) = both (expr_pairs k p e) (next _ _ refl stop)
-  expr_pairs k p (typed at t (expr.binary o a b)) = both (expr_pairs k p a) (both (expr_pairs _ _ b) (next _ _ refl stop))
-  expr_pairs k p (typed at t (expr.both a b)) =
-      both (expr_pairs k p a) (next _ _ refl (both (expr_pairs _ _ b) (next _ _ refl (next _ _ refl stop))))
-  expr_pairs k p (typed at t (expr.either a b)) = both (expr_pairs k p a) (next _ _ refl (next _ _ refl (next _ _ refl (expr_pairs _ _ b))))
-  expr_pairs k p (typed at t (expr.part_length x)) = next _ _ refl stop
-  expr_pairs k p (typed at t (expr.part_element x j)) = both (expr_pairs k p j) (next _ _ refl (next _ _ refl stop))
-
-  exprs_pairs : (k : Next) (p : ℕ) (es : TypedExprs) → Pairs (exprs_piece k p es)
-  exprs_pairs k p no_exprs = stop
-  exprs_pairs k p (more_exprs e es) = both (expr_pairs k p e) (exprs_pairs _ _ es)
-
-popped_pairs : (z : Bool) (at : Place) → Pairs (cond z nothing (line i.Pop at nothing))
-popped_pairs true at = stop
-popped_pairs false at = next _ _ refl stop
-
-regions_pairs : (at : Place) (rs : List ℕ) → Pairs (regions_piece at rs)
-regions_pairs at [] = stop
-regions_pairs at (r ∷ rs) = next _ _ refl (regions_pairs at rs)
-
-mutual
-  stmt_pairs : (k : Next) (p : ℕ) (s : TypedStmt) → Pairs (stmt_piece k p s)
-  stmt_pairs k p (statement at (form.declare x t is_final e)) = both (expr_pairs k p e) (next _ _ refl stop)
-  stmt_pairs k p (statement at (form.store x e)) = both (expr_pairs k p e) (next _ _ refl stop)
-  stmt_pairs k p (statement at (form.store_field o c f e)) = both (expr_pairs k p o) (both (expr_pairs _ _ e) (next _ _ refl stop))
-  stmt_pairs k p (statement at (form.store_element a j e)) =
-      both (expr_pairs k p a) (both (expr_pairs _ _ j) (both (expr_pairs _ _ e) (next _ _ refl stop)))
-  stmt_pairs k p (statement at (form.store_part x j e)) = both (expr_pairs k p j) (both (expr_pairs _ _ e) (next _ _ refl (next _ _ refl stop)))
-  stmt_pairs k p (statement at (form.perform e)) = both (expr_pairs k p e) (popped_pairs (is_void (type_of e)) at)
-  stmt_pairs k p (statement at (form.block ss)) = stmts_pairs k p ss
-  stmt_pairs k p (statement at (form.choice e s)) = both (expr_pairs k p e) (next _ _ refl (stmt_pairs _ _ s))
-  stmt_pairs k p (statement at (form.choice_else e s t)) =
-      both (expr_pairs k p e) (next _ _ refl (both (stmt_pairs _ _ s) (next _ _ refl (stmt_pairs _ _ t))))
-  stmt_pairs k p (statement at (form.while_loop e s)) =
-      both (expr_pairs k p e) (next _ _ refl (next _ _ refl (both (stmt_pairs _ _ s) (next _ _ refl stop))))
-  stmt_pairs k p (statement at form.return_nothing) = next _ _ refl stop
-  stmt_pairs k p (statement at (form.return_value e)) = both (expr_pairs k p e) (next _ _ refl stop)
-  stmt_pairs k p (statement at (form.print_int e)) = both (expr_pairs k p e) (next _ _ refl stop)
-  stmt_pairs k p (statement at (form.print_boolean e)) = both (expr_pairs k p e) (next _ _ refl stop)
-  stmt_pairs k p (statement at (form.print_text text)) = texted _ (next _ _ refl stop)
-  stmt_pairs k p (statement at (form.local_regions rs)) = regions_pairs at rs
-  stmt_pairs k p (statement at (form.atomic effects ss)) =
-      both (sited _ (next _ _ refl stop)) (both (stmts_pairs _ _ ss) (next _ _ refl stop))
-  stmt_pairs k p (statement at (form.cobegin forking bs)) = branched _ (sited _ (forked _ at))
-  stmt_pairs k p (statement at (form.foreach forking x start count s)) =
-      both (expr_pairs k p start) (both (expr_pairs _ _ count) (branched _ (sited _ (spreads _ at))))
-  stmt_pairs k p (statement at (form.foreach_parts x (of_array a) count s)) =
-      both (expr_pairs k p a) (next _ _ refl (next _ _ refl (next _ _ refl (both (expr_pairs _ _ count)
-      (next _ _ refl (next _ _ refl (next _ _ refl (next _ _ refl (next _ _ refl (next _ _ refl (branched _ (sited _ (spreads _ at)))))))))))))
-  stmt_pairs k p (statement at (form.foreach_parts x (of_part y) count s)) =
-      next _ _ refl (next _ _ refl (next _ _ refl (next _ _ refl (both (expr_pairs _ _ count)
-      (next _ _ refl (next _ _ refl (next _ _ refl (next _ _ refl (next _ _ refl (branched _ (sited _ (spreads _ at))))))))))))
-
-  stmts_pairs : (k : Next) (p : ℕ) (ss : TypedStmts) → Pairs (stmts_piece k p ss)
-  stmts_pairs k p no_stmts = stop
-  stmts_pairs k p (more_stmts s ss) = both (stmt_pairs k p s) (stmts_pairs _ _ ss)
+pairs_built : Built Nothing_asked (λ p a q n. Pairs a)
+pairs_built = record {
+  stop = λ p. stop;
+  next = λ x at e h. next x at e h;
+  both = λ h j. both h j;
+  sited = λ s e h. sited s h;
+  texted = λ t h. texted t h;
+  cobegin = λ k p at forking bs h. branched _ (sited _ (forked _ at));
+  foreach = λ k p at forking x start count s h. branched _ (sited _ (spreads _ at));
+  foreach_parts = λ k p at x source count s h. branched _ (sited _ (spreads _ at));
+}
 
 branch_pairs : (k : Next) (at : Place) (s : TypedStmt) (takes : Option ℕ) → Pairs (branch_piece_of k at s takes)
-branch_pairs k at s None = both (stmt_pairs k 0 s) (next _ _ refl stop)
-branch_pairs k at s (Some x) = next _ _ refl (both (stmt_pairs k 1 s) (next _ _ refl stop))
-
-closing_pairs : (z : Bool) → Pairs (closing z)
-closing_pairs true = next _ _ refl stop
-closing_pairs false = stop
+branch_pairs k at s takes = branch_built Nothing_asked (λ p a q n. Pairs a) none_asked pairs_built k at s takes tt
 
 member_pairs : (k : Next) (m : PlainMember) → Pairs (member_piece k m)
-member_pairs k m = both (stmts_pairs k 0 m.body) (closing_pairs (closes m))
+member_pairs k m = member_built Nothing_asked (λ p a q n. Pairs a) none_asked pairs_built k m.body (closes m) (each_all Nothing_asked (λ s. tt) (each_stmt m.body))
 
 -- the bodies of the whole code
 abbrev AllPaired : List PlainBody → Type 0

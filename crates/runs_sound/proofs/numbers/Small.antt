@@ -1,6 +1,6 @@
 -- Numbers of 32 bits in all slots, answers and results, of whatever types; and programs none of whose constructs has more branches
 -- than such a number counts.
-use Rattle.std.proofs.Common.{◌≡◌, ◌<◌, ◌+◌, ◌^◌, ℕ, zero, suc, ◌==◌, ℤ, pos, negsuc, Bool, true, false, cond, FitsSigned, List, [], ◌∷◌, ◌++◌, length, reverse, refl, sym, ap, subst, arith, Option, Some, None}
+use Rattle.std.proofs.Common.{◌≡◌, ◌<◌, ◌+◌, ◌-◌, ◌^◌, ℕ, zero, suc, ◌==◌, ℤ, pos, negsuc, Bool, true, false, cond, FitsSigned, List, [], ◌∷◌, ◌++◌, length, reverse, refl, sym, ap, subst, arith, Option, Some, None}
 use Rattle.std.specs.Prelude.{slice_set, Contains}
 use Rattle.std.specs.Int.{w32, int_wrapping_add}
 use Rattle.std.specs.List.{list_any}
@@ -11,7 +11,7 @@ use Rattle.lang_base.specs.declared.op.UnaryOp.TheVariants.{Negate, Not}
 use Rattle.lang_base.specs.Operators.{result_of}
 use Rattle.lang_typed.specs.declared.stmt.Forking.{Forking}
 use Rattle.lang_typed.specs.Plain.{PlainProgram, PlainMember, TypedStmt, statement, TypedStmts, no_stmts, more_stmts, TypedBranches, no_branches, more_branches}
-use Rattle.lang_typed.specs.Plain.{StmtForm as form}
+use Rattle.lang_typed.proofs.Narrow.{width, AllNarrow}
 use Rattle.lang_typed.specs.Scope.{member_at}
 use Rattle.lang_meaning.specs.Core.{Goes_on, Returns}
 use Rattle.lang_meaning.specs.Counts.{number, value_read, length_seen, name_made, operated, unary, slot_value, padded, part_first, part_length, part_begin, is_part, how_many, copied, copied_one}
@@ -179,35 +179,14 @@ pub small_brings : (P : PlainProgram) (b : Bounds) (st : State) (forking : Forki
 small_brings P b st forking ts forks h (Brings_back ls) z = λ x v c. (let r = z x v c in number_fits P h.shapes _ r.ty v r.fits)
 small_brings P b st forking ts forks h (Trap_of_branch trap place) z = tt
 
--- the text has no construct of more branches
-abbrev pub many_branches : TypedBranches → ℕ
-many_branches no_branches = 0
-many_branches (more_branches copies s bs) = suc (many_branches bs)
-
-abbrev mutual
-  pub FewIn : TypedStmt → Type 0
-  FewIn (statement at (form.block ss)) = FewInAll ss
-  FewIn (statement at (form.choice e s)) = FewIn s
-  FewIn (statement at (form.choice_else e s t)) = FewIn s × FewIn t
-  FewIn (statement at (form.while_loop e s)) = FewIn s
-  FewIn (statement at (form.atomic effects ss)) = FewInAll ss
-  FewIn (statement at (form.cobegin forking bs)) = (many_branches bs < 2 ^ 32) × FewInBranches bs
-  FewIn (statement at (form.foreach forking x start count s)) = FewIn s
-  FewIn (statement at (form.foreach_parts x source count s)) = FewIn s
-  FewIn s = Unit {0}
-
-  pub FewInAll : TypedStmts → Type 0
-  FewInAll no_stmts = Unit {0}
-  FewInAll (more_stmts s ss) = FewIn s × FewInAll ss
-
-  pub FewInBranches : TypedBranches → Type 0
-  FewInBranches no_branches = Unit {0}
-  FewInBranches (more_branches copies s bs) = FewIn s × FewInBranches bs
+-- no `cobegin` of the text has more branches than a number of 32 bits counts
+abbrev pub most : ℕ
+most = 2 ^ 32 - 1
 
 abbrev pub HasFew : PlainProgram → Type 0
-HasFew P = (n : ℕ) (m : PlainMember) → member_at P n ≡ Some m → FewInAll m.body
+HasFew P = (n : ℕ) (m : PlainMember) → member_at P n ≡ Some m → AllNarrow most m.body
 
-pub many_tasks : (bs : TypedBranches) (f : Frame) → length (tasks_of bs f) ≡ many_branches bs
+pub many_tasks : (bs : TypedBranches) (f : Frame) → length (tasks_of bs f) ≡ width bs
 many_tasks no_branches f = refl
 many_tasks (more_branches copies s bs) f = ap (λ n. suc n) (many_tasks bs f)
 

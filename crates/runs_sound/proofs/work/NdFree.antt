@@ -2,7 +2,7 @@
 -- program without any, each fork is of a deterministic construct; no block is left that isn't open; and no fork has more branches than
 -- a number of 32 bits counts, where the text has no such.
 use Rattle.std.specs.Int.{w32}
-use Rattle.std.proofs.Common.{◌≡◌, ◌<◌, ◌^◌, arith, FitsSigned, ⊎_elim, ◌⊎◌, ℕ, zero, suc, ◌+◌, ◌-◌, ◌==◌, ℤ, pos, negsuc, Bool, true, false, cond, List, [], ◌∷◌, map, length, reverse, Option, Some, None, IsTrue, refl, sym, ap, ◌∙◌, subst, slice_get}
+use Rattle.std.proofs.Common.{◌≡◌, ◌<◌, ◌≤◌, ◌^◌, arith, FitsSigned, ⊎_elim, ◌⊎◌, ℕ, zero, suc, ◌+◌, ◌-◌, ◌==◌, ℤ, pos, negsuc, Bool, true, false, cond, List, [], ◌∷◌, map, length, reverse, Option, Some, None, IsTrue, refl, sym, ap, ◌∙◌, subst, slice_get}
 use Rattle.std.specs.Prelude.{slice_set, option_and_then}
 use Rattle.std.proofs.lemmas.Bool.{cases_Bool, eqb-true, cond-true, cond-false, false≢true}
 use Rattle.lang_base.specs.declared.place.Place.{Place}
@@ -16,6 +16,7 @@ use Rattle.lang_typed.specs.Effects.{Own as EffectOwn}
 use Rattle.lang_typed.specs.Plain.{PlainProgram, PlainClass, PlainMember, PlainParent, TypedExpr, TypedExprs, TypedStmt, statement, TypedStmts}
 use Rattle.lang_typed.specs.Plain.{no_stmts, more_stmts, TypedBranches}
 use Rattle.lang_typed.specs.Plain.{StmtForm as stmt}
+use Rattle.lang_typed.proofs.Narrow.{width, Narrow, AllNarrow, BranchesNarrow}
 use Rattle.lang_typed.specs.Scope.{Scope, row_at, member_at, constructor_of, parent_of, IsBelow, same, below}
 use Rattle.lang_typed.specs.Statements.{Passes, AllPass, store, store_field, store_element, store_part, perform, nested, choice, choice_else, while_loop, return_nothing, return_value, print_int, print_boolean, print_text, atomic, cobegin, foreach, foreach_parts, cuts_array, cuts_part, no_more, then', declare, declare_regions, BranchesPass, no_branch, one_branch}
 use Rattle.lang_typed.specs.Typing.{Has, literal_int, literal_boolean, literal_null, read_local, read_field, read_element, length_of_array, call_method, create_object, construct_object, make_array, negative, negation, operation, conjunction, disjunction, length_of_part, read_part, Fit}
@@ -38,7 +39,7 @@ use Rattle.runs_sound.specs.Laws.{Deeper}
 use Rattle.runs_sound.specs.Work.{Result, Prog, Brought, entries_after}
 use Rattle.runs_sound.proofs.work.Forks.{iteration_at, iterations_length}
 use Rattle.runs_sound.proofs.numbers.Ints.{zero_fits, add_fits}
-use Rattle.runs_sound.proofs.numbers.Small.{IsSmall, AreSmall, SmallResult, SmallAnswer, SmallBrought, small_name, small_unary, small_operated, small_nil, small_cons, small_set, small_reverse, small_padded, small_copied, small_begun, many_branches, FewIn, FewInAll, FewInBranches, HasFew, many_tasks, few_counted}
+use Rattle.runs_sound.proofs.numbers.Small.{IsSmall, AreSmall, SmallResult, SmallAnswer, SmallBrought, small_name, small_unary, small_operated, small_nil, small_cons, small_set, small_reverse, small_padded, small_copied, small_begun, most, HasFew, many_tasks, few_counted}
 
 abbrev pub Entries : Type 0
 Entries = List Entry
@@ -55,7 +56,7 @@ pub record PassingTask (P : PlainProgram) (b : Bounds) (E : Entries) (t : Task) 
   pub nd_free : MustBeNdFree P b E → IsTrue scope.nd_free
   pub members : scope.member_nd_free ≡ b.member_nd_free
   pub small : AreSmall (begun t.work.takes t.frame).values
-  pub few : HasFew P → FewInAll t.work.stmts
+  pub few : HasFew P → AllNarrow most t.work.stmts
 
 abbrev pub PassingTasks : PlainProgram → Bounds → Entries → List Task → Type 0
 PassingTasks P b E ts = (i : ℕ) (t : Task) → slice_get ts i ≡ Some t → PassingTask P b E t
@@ -304,7 +305,7 @@ module _ (P : PlainProgram) (b : Bounds) where
     -- the branches of a fork
     nd_free_forks : (E : Entries) (c : Bool) (dp : Option Deeper) (at : Place) (forking : Forking) (takes : Option ℕ) (x : ℕ) (s : TypedStmt) (start count : ℤ) (f : Frame) → AreSmall f.values →
         FitsSigned w32 count → (MustBeNdFree P b E → forking ≡ Deterministic) → {L : Scope} {F : List EffectOwn} → AllPass P L (more_stmts s no_stmts) F → (MustBeNdFree P b E → IsTrue L.nd_free) →
-        L.member_nd_free ≡ b.member_nd_free → (HasFew P → FewIn s) → NdFree E (Back E c) (forks dp at forking takes x s start count f)
+        L.member_nd_free ≡ b.member_nd_free → (HasFew P → Narrow most s) → NdFree E (Back E c) (forks dp at forking takes x s start count f)
     nd_free_forks E c None at forking takes x s start count f fs counted det p nd_free members few = tt
     nd_free_forks E c (Some dp) at forking takes x s start count f fs counted det {L} {F} p nd_free members few = (
       (
@@ -324,14 +325,14 @@ module _ (P : PlainProgram) (b : Bounds) where
     )
 
     nd_free_tasks : (E : Entries) {L : Scope} {others : List ℕ} {bs : TypedBranches} {Es : List (List EffectOwn)} → BranchesPass P L others bs Es → (MustBeNdFree P b E → IsTrue L.nd_free) →
-        L.member_nd_free ≡ b.member_nd_free → (HasFew P → FewInBranches bs) → (f : Frame) → AreSmall f.values → PassingTasks P b E (tasks_of bs f)
+        L.member_nd_free ≡ b.member_nd_free → (HasFew P → BranchesNarrow most bs) → (f : Frame) → AreSmall f.values → PassingTasks P b E (tasks_of bs f)
     nd_free_tasks E no_branch nd_free members few f fs n t e = absurd (cc)
     nd_free_tasks E (one_branch {copies = copies} {s = s} v a p rest) nd_free members few f fs zero t e = let z : branch_of None copies s f ≡ t = cc in
         subst (PassingTask P b E) z (record { scope = _; effects = _; passes = p; nd_free = nd_free; members = members; small = fs; few = λ h. ((few h).0, tt) })
     nd_free_tasks E (one_branch v a p rest) nd_free members few f fs (suc n) t e = nd_free_tasks E rest nd_free members (λ h. (few h).1) f fs n t e
 
     nd_free_cobegin : (E : Entries) (c : Bool) (dp : Option Deeper) (at : Place) (forking : Forking) (bs : TypedBranches) (f : Frame) → AreSmall f.values → (MustBeNdFree P b E → forking ≡ Deterministic) →
-        PassingTasks P b E (tasks_of bs f) → (HasFew P → many_branches bs < 2 ^ 32) → NdFree E (Back E c) (of_stmt names P dp (statement at (stmt.cobegin forking bs)) f)
+        PassingTasks P b E (tasks_of bs f) → (HasFew P → width bs ≤ most) → NdFree E (Back E c) (of_stmt names P dp (statement at (stmt.cobegin forking bs)) f)
     nd_free_cobegin E c None at forking bs f fs det ts few = tt
     nd_free_cobegin E c (Some dp) at forking bs f fs det ts few =
         ((det, ts, λ h. (let many = many_tasks bs f in let l = few h in omega (arith, many, l))), nd_free_joined E c _ f fs)
@@ -346,7 +347,7 @@ module _ (P : PlainProgram) (b : Bounds) where
     left E F c G (Returns v) z = absurd (false≢true z.1)
 
     mutual
-      nd_free_stmt : {L : Scope} {s : TypedStmt} {F : List EffectOwn} → Passes P L s F → L.member_nd_free ≡ b.member_nd_free → (E : Entries) → (MustBeNdFree P b E → IsTrue L.nd_free) → (HasFew P → FewIn s) →
+      nd_free_stmt : {L : Scope} {s : TypedStmt} {F : List EffectOwn} → Passes P L s F → L.member_nd_free ≡ b.member_nd_free → (E : Entries) → (MustBeNdFree P b E → IsTrue L.nd_free) → (HasFew P → Narrow most s) →
           (f : Frame) → AreSmall f.values → NdFree E (Back E (may_return L.result)) (of_stmt names P dp s f)
       nd_free_stmt {L} (store {x = x} lx h sub) m E c w f fs = nd_free_then E _ _ _ (nd_free_expr L m E c h f fs) (λ v g vs gs. (refl, tt, (zero_fits, small_set g.values x v gs vs)))
       nd_free_stmt {L} (store_field {at = at} {k = k} ho ty fe kn he sub) m E c w f fs =
@@ -395,13 +396,13 @@ module _ (P : PlainProgram) (b : Bounds) where
           nd_free_forks E (may_return L.result) dp at _ _ _ s _ _ _ all (all (k + 3)) (λ must. refl) p c m w)
 
       nd_free_single : {L : Scope} {s : TypedStmt} {F : List EffectOwn} → AllPass P L (more_stmts s no_stmts) F → L.member_nd_free ≡ b.member_nd_free → (E : Entries) → (MustBeNdFree P b E → IsTrue L.nd_free) →
-          (HasFew P → FewIn s) → (f : Frame) → AreSmall f.values → NdFree E (Back E (may_return L.result)) (of_stmt names P dp s f)
+          (HasFew P → Narrow most s) → (f : Frame) → AreSmall f.values → NdFree E (Back E (may_return L.result)) (of_stmt names P dp s f)
       nd_free_single (then' p d rest) m E c w f fs = nd_free_stmt p m E c w f fs
       nd_free_single {L} (declare {x = x} free gt h sub rest) m E c w f fs = nd_free_then E _ _ _ (nd_free_expr L m E c h f fs) (λ v g vs gs. (refl, tt, (zero_fits, small_set g.values x v gs vs)))
       nd_free_single {L} (declare_regions {rs = rs} free rest) m E c w f fs = nd_free_makes E (may_return L.result) rs f fs
 
       nd_free_stmts : {L : Scope} {ss : TypedStmts} {F : List EffectOwn} → AllPass P L ss F → L.member_nd_free ≡ b.member_nd_free → (E : Entries) → (MustBeNdFree P b E → IsTrue L.nd_free) →
-          (HasFew P → FewInAll ss) → (f : Frame) → AreSmall f.values → NdFree E (Back E (may_return L.result)) (of_stmts names P dp ss f)
+          (HasFew P → AllNarrow most ss) → (f : Frame) → AreSmall f.values → NdFree E (Back E (may_return L.result)) (of_stmts names P dp ss f)
       nd_free_stmts no_more m E c w f fs = (refl, tt, (zero_fits, fs))
       nd_free_stmts {L} (then' p d rest) m E c w f fs = nd_free_next E (may_return L.result) _ _ (nd_free_stmt p m E c (λ x. (w x).0) f fs) (λ v g gs. nd_free_stmts rest m E c (λ x. (w x).1) g gs)
       nd_free_stmts {L} (declare {x = x} free gt h sub rest) m E c w f fs =
@@ -421,7 +422,7 @@ module _ (P : PlainProgram) (b : Bounds) where
         (λ h. h n m there) f fs
 
     pub task_nd_free : (d : ℕ) {L : Scope} {ss : TypedStmts} {F : List EffectOwn} → AllPass P L ss F → L.member_nd_free ≡ b.member_nd_free → (E : Entries) → (MustBeNdFree P b E → IsTrue L.nd_free) →
-        (HasFew P → FewInAll ss) → (f : Frame) → AreSmall f.values → (c : Bool) × IsNdFree P b E (Back E c) (meaning names P d ss f)
+        (HasFew P → AllNarrow most ss) → (f : Frame) → AreSmall f.values → (c : Bool) × IsNdFree P b E (Back E c) (meaning names P d ss f)
     unfolding meaning
     task_nd_free zero p m E c w f fs = (_, nd_free_stmts names None tt p m E c w f fs)
     task_nd_free (suc d) p m E c w f fs = (_, nd_free_stmts names (Some (meaning names P d)) (bodies_nd_free d) p m E c w f fs)
