@@ -3,7 +3,8 @@ use Rattle.std.proofs.Common.{arith, ◌≡◌, ◌<◌, ◌≤◌, ◌⊎◌, i
 use Rattle.std.proofs.lemmas.Bool.{cases_lt, cases_order}
 use Rattle.exec_tasks.specs.Tree.{task_at, ready}
 use Rattle.exec_world.proofs.Places.{absent}
-use Rattle.exec_world.specs.Queues.{AllHavePlaces, IsLastBelow, NoneBelow}
+use Rattle.exec_world.specs.Queues.{AllHavePlaces}
+use Rattle.exec_world.specs.Words.{IsLastBelow, NoneBelow}
 use Rattle.exec_world.specs.Ready.{IsReady, NoneReady, IsGreatestReady, NoneReadyBelow, IsGreatestBelow}
 use Rattle.exec_world.specs.declared.queues.Queues.{Queues}
 use Rattle.exec_world.specs.declared.world.World.{World}
@@ -13,7 +14,7 @@ pub none_yet : (w : World) → ((q : ℕ) → w.tree.begun ≤ q → task_at w.t
 none_yet w none q from r = true≢false (sym (subst (λ o. IsTrue (ready o)) (none q from) r.0))
 
 -- none from a task that isn't ready to a bound is, where none of the run queue is between it and what is left
-pub passed : (w : World) (queues : Queues) (bound rest task : ℕ) → AllHavePlaces w queues → IsLastBelow queues rest task → (IsReady w task → ⊥)
+pub passed : (w : World) (queues : Queues) (bound rest task : ℕ) → AllHavePlaces w queues → IsLastBelow queues.run rest task → (IsReady w task → ⊥)
     → ((q : ℕ) → rest ≤ q → q < bound → IsReady w q → ⊥) → (q : ℕ) → task ≤ q → q < bound → IsReady w q → ⊥
 passed w queues bound rest task places last stuck above q from within r = by_case (cases_order q task)
   where
@@ -27,7 +28,7 @@ passed w queues bound rest task places last stuck above q from within r = by_cas
     by_case (inr (inr more)) = further more (cases_lt q rest)
 
 -- none below the bound is ready, where none of what is left is in the run queue
-pub none_left : (w : World) (queues : Queues) (bound rest : ℕ) → AllHavePlaces w queues → NoneBelow queues rest
+pub none_left : (w : World) (queues : Queues) (bound rest : ℕ) → AllHavePlaces w queues → NoneBelow queues.run rest
     → ((q : ℕ) → rest ≤ q → q < bound → IsReady w q → ⊥) → NoneReadyBelow w bound
 none_left w queues bound rest places none above q within r = by_case (cases_lt q rest)
   where
@@ -36,7 +37,7 @@ none_left w queues bound rest places none above q within r = by_case (cases_lt q
     by_case (inr over) = above q over within r
 
 -- the last of what is left in the run queue is the greatest below the bound that is ready, if it is
-pub greatest_is : (w : World) (queues : Queues) (bound rest task : ℕ) → rest ≤ bound → AllHavePlaces w queues → IsLastBelow queues rest task → IsReady w task
+pub greatest_is : (w : World) (queues : Queues) (bound rest task : ℕ) → rest ≤ bound → AllHavePlaces w queues → IsLastBelow queues.run rest task → IsReady w task
     → ((q : ℕ) → rest ≤ q → q < bound → IsReady w q → ⊥) → IsGreatestBelow w bound task
 greatest_is w queues bound rest task within places last ready above =
     record { itself = ready; below = omega (arith, within, last.below); greatest = λ q lt less r. by_case q lt less r (cases_lt q rest) }

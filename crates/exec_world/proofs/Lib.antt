@@ -1,4 +1,6 @@
 pub mod Maps
 pub mod Places
 pub mod Freely
-pub mod Ranges
+pub mod Bits
+pub mod Sets
+pub mod Waking

@@ -20,7 +20,8 @@ use Rattle.exec_tasks.specs.Scope.{Branches, all_ended}
 use Rattle.exec_tasks.specs.Tree.{Tree, Tasks, OfTask, OfScope, Runs as RunsInTree, CanBegin, CanJoin, ready, state_ready, is_ready, task_at, changed, changed_to, end_noted, with_task, origin_of, end_of, forked, joined, printed, fresh, next_origin, only_root}
 use Rattle.exec_tasks.proofs.Numbers.{itself, other_number, get_inserted, get_beside}
 use Rattle.exec_world.proofs.Maps.{same_or_apart}
-use Rattle.exec_world.specs.Queues.{Runs, Waits, NoneWaits, HasPlace, AllHavePlaces, Keeps, KeepsOthers, IsPutAside, AdmitsAt, Admits, RunsSome, parent_in, parent_of, is_end}
+use Rattle.exec_world.specs.Words.{Has}
+use Rattle.exec_world.specs.Queues.{HasUnder, Runs, Waits, NoneWaits, HasPlace, AllHavePlaces, Keeps, KeepsOthers, IsPutAside, AdmitsAt, Admits, RunsSome, parent_in, parent_of, is_end}
 use Rattle.exec_world.specs.Queues.HasPlace.{runs, unready, hindered}
 use Rattle.exec_world.specs.Ready.{IsReady, IsFreeFor, IsHindrance, IsHindered}
 use Rattle.exec_world.specs.Waits.{Waiting, wanted}
@@ -283,7 +284,7 @@ module _ (w : World) (queues : Queues) (task q : ℕ) (places : HasPlace w.tree 
       block : (h : ℕ) (others : List Effect) → Waits queues h q → (b : Bool) → is_outermost (get w.locks task) ≡ b → (h ≡ task) ⊎ (h ≢ task)
           → block_interferes (get (exited w.locks task) h) others ≡ block_interferes (get w.locks h) others
       block h others waiting b is (inr apart) = ap (λ o. block_interferes o others) (exited_beside h (get w.locks task) apart)
-      block h others waiting true is (inl same) = absurd (true≢false (sym (subst (λ n. Waits queues n q) same waiting) ∙ woken is q))
+      block h others waiting true is (inl same) = absurd (woken is q (subst (λ n. Waits queues n q) same waiting))
       block h others waiting false is (inl same) =
           subst (λ n. block_interferes (get (exited w.locks task) n) others ≡ block_interferes (get w.locks n) others) (sym same)
           (shallow others (get w.locks task) has is)
@@ -365,7 +366,7 @@ after_end w queues task q places how run woken = by_case (same_or_apart q task)
     hinders_still apart h waiting x =
         stays_hindered w.locks (remove w.locks task) q h (wanted (get w.waits q)) (taken_beside w.locks task q apart)
         (ap (λ o. block_interferes o (wanted (get w.waits q)))
-        (taken_beside w.locks task h (λ same. true≢false (sym (subst (λ n. Waits queues n q) same waiting) ∙ woken q)))) x
+        (taken_beside w.locks task h (λ same. woken q (subst (λ n. Waits queues n q) same waiting)))) x
 
     beside : q ≢ task → Runs queues q ⊎ (is_ready (end_noted w.tree task (origin_of (task_at w.tree task)) how) q ≡ is_ready w.tree q)
         → HasPlace (end_noted w.tree task (origin_of (task_at w.tree task)) how) (remove w.locks task) w.waits queues q
@@ -415,6 +416,13 @@ ended C w task wants action.Join is = absurd (true≢false (sym is))
 
 pub all_kept : (w : World) (old new : Queues) → Keeps old new → AllHavePlaces w old → AllHavePlaces w new
 all_kept w old new keeps places q = kept w.tree w.locks w.waits old new q keeps (places q)
+
+-- the same queues
+pub run_again : (old new : Queues) → new.run ≡ old.run → new.wait ≡ old.wait → Keeps old new
+run_again old new run wait = record {
+  run = λ q r. subst (λ ws. Has ws q) (sym run) r;
+  wait = λ h q waiting. inl (subst (λ sets. HasUnder sets h q) (sym wait) waiting);
+}
 
 pub acted_places : (C : Code) (w : World) (old new : Queues) (e : Event) → Fits w e → Keeps old new → Admits w new e → AllHavePlaces w old
     → AllHavePlaces (world_after C w e) new

@@ -3,3 +3,4 @@ pub mod Costs
 pub mod World
 pub mod Ready
 pub mod Queues
+pub mod Words

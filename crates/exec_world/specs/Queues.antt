@@ -1,11 +1,9 @@
 -- The run queue and the wait queues of a world.
-use Rattle.std.specs.Prelude.{◌≡◌, ◌≢◌, ◌⊎◌, ◌<◌, ℕ, Bool, true, false, Option, Some, None}
+use Rattle.std.specs.Prelude.{◌≡◌, ◌≢◌, ◌⊎◌, ℕ, Bool, true, false, Option, Some, None}
 use Rattle.std.specs.Ordering.{nat_cmp}
-use Rattle.std.specs.BTreeSet.{contains}
 use Rattle.std.specs.BTreeMap as tree_map
 use Rattle.std.specs.declared.alloc.Global.{Global}
 use Rattle.std.specs.declared.collections.BTreeMap.{BTreeMap}
-use Rattle.std.specs.declared.collections.BTreeSet.{BTreeSet}
 use Rattle.std.specs.FinMap.{get}
 use Rattle.exec_task.specs.declared.action.Action.{Action}
 use Rattle.exec_task.specs.declared.action.Action.TheVariants as action
@@ -14,31 +12,32 @@ use Rattle.exec_tasks.specs.declared.task.Origin.{Origin}
 use Rattle.exec_tasks.specs.Tree.{Tree, is_ready, task_at, origin_of}
 use Rattle.exec_world.specs.Ready.{IsHindrance}
 use Rattle.exec_world.specs.Waits.{Waiting, wanted}
+use Rattle.exec_world.specs.Words.{Words, Has}
 use Rattle.exec_world.specs.declared.event.Event.{Event}
 use Rattle.exec_world.specs.declared.queues.Queues.{Queues}
 use Rattle.exec_world.specs.declared.world.World.{World}
 
 -- sets of tasks under the numbers of others
 abbrev pub Sets : Type 0
-Sets = BTreeMap ℕ (BTreeSet ℕ Global) Global
+Sets = BTreeMap ℕ Words Global
 
-abbrev pub has_in : Option (BTreeSet ℕ Global) → ℕ → Bool
-has_in None q = false
-has_in (Some set) q = contains nat_cmp set q
+abbrev pub HasIn : Option Words → ℕ → Type 0
+HasIn None q = ⊥
+HasIn (Some set) q = Has set q
 
-abbrev pub has : Sets → ℕ → ℕ → Bool
-has sets number q = has_in (tree_map.get nat_cmp sets number) q
+abbrev pub HasUnder : Sets → ℕ → ℕ → Type 0
+HasUnder sets number q = HasIn (tree_map.get nat_cmp sets number) q
 
 -- the task is in the run queue
 abbrev pub Runs : Queues → ℕ → Type 0
-Runs queues task = contains nat_cmp queues.run task ≡ true
+Runs queues task = Has queues.run task
 
 -- the task is in the wait queue of the holder
 abbrev pub Waits : Queues → ℕ → ℕ → Type 0
-Waits queues holder task = has queues.wait holder task ≡ true
+Waits queues holder task = HasUnder queues.wait holder task
 
 abbrev pub NoneWaits : Queues → ℕ → Type 0
-NoneWaits queues holder = (q : ℕ) → has queues.wait holder q ≡ false
+NoneWaits queues holder = (q : ℕ) → Waits queues holder q → ⊥
 
 -- a task is in the run queue, or it can't go on in the tree, or it is in the wait queue of one that hinders it
 pub data HasPlace (tree : Tree) (locks : Standings) (waits : Waiting) (queues : Queues) (task : ℕ) : Type 0 where
@@ -64,15 +63,6 @@ pub record KeepsOthers (task : ℕ) (old new : Queues) : Type 0 where
 pub record IsPutAside (task holder : ℕ) (old new : Queues) : Type 0 where
   pub others : KeepsOthers task old new
   pub itself : Runs old task → Runs new task ⊎ Waits new holder task
-
--- the last in the run queue below a bound
-pub record IsLastBelow (queues : Queues) (bound task : ℕ) : Type 0 where
-  pub there : Runs queues task
-  pub below : task < bound
-  pub last : (q : ℕ) → task < q → q < bound → Runs queues q → ⊥
-
-abbrev pub NoneBelow : Queues → ℕ → Type 0
-NoneBelow queues bound = (q : ℕ) → q < bound → Runs queues q → ⊥
 
 abbrev pub parent_in : Option Origin → Option ℕ
 parent_in None = None

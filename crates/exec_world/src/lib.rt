@@ -15,8 +15,10 @@
 //!
 //! `QueuedWorld` is a world that finds its ready tasks by queues; a contract sees the world alone. Each task that is ready is in
 //! the run queue. One that is found hindered moves into the wait queue of a task that hinders it, and isn't asked again before
-//! that one leaves its block, which moves the whole wait queue back. So `next_ready` and `ready_below` take the logarithm of the
-//! queues for each task that they find, and for each that they take out of the run queue, which an event has put there.
+//! that one leaves its block, which moves the whole wait queue back. A queue has a bit for each of its tasks, in words of 64 numbers in a row, which
+//! `Numbered` keeps by their places: so to put a task in or to take it out takes the time of a look-up there. The last task below a bound is in the
+//! word of the bound or in the word before it that `Numbered` finds. `next_ready` and `ready_below` take that for the task that they find, and for each
+//! that they take out of the run queue, which an event has put there.
 #![tactic(auto)]
 
 mod acts;
@@ -28,7 +30,9 @@ mod queues;
 mod ready;
 mod seen;
 mod stop;
+mod task_queue;
 mod waits;
+mod word;
 mod world;
 
 pub use cost::first_fields;

@@ -1,37 +1,38 @@
 ghost use Rattle.std.specs.Prelude.{◌≡◌, ℕ, true, false, IsTrue, IfOk, OnOk, MatchOption};
-ghost use Rattle.exec_world.specs.Queues.{has, parent_of, is_end};
+ghost use Rattle.exec_world.specs.Queues.{HasUnder, parent_of, is_end};
 ghost use Rattle.exec_world.specs.Ready.{IsReady, NoneReadyBelow, IsGreatestBelow};
 
 use crate::event::Event;
 use crate::ready::Readiness;
+use crate::task_queue::TaskQueue;
 use crate::world::World;
 use exec_task::Action;
 use exec_tasks::TaskTree;
 use lang_base::NoMemory;
 use std::alloc::Global;
-use std::collections::{BTreeMap, BTreeSet};
+use std::collections::BTreeMap;
 
 /// Which tasks may be ready, and which wait until a block is left.
 #[derive(Drop)]
 pub struct Queues {
     /// The run queue: each task that is ready, and some that aren't.
-    pub run: BTreeSet<u32>,
+    pub run: TaskQueue,
     /// The wait queues: under the number of a task those that its open block was found to hinder.
-    pub wait: BTreeMap<u32, BTreeSet<u32>>,
+    pub wait: BTreeMap<u32, TaskQueue>,
     /// Who hindered a task when one was last found hindered: likely the next one too.
     likely: Option<u32>,
     alloc: Global,
 }
 
 impl Queues {
-    ghost use Rattle.exec_world.specs.Queues.{Runs, NoneWaits, Keeps, KeepsOthers, Admits, AllHavePlaces, IsPutAside, IsLastBelow, NoneBelow};
+    ghost use Rattle.exec_world.specs.Queues.{Runs, NoneWaits, Keeps, KeepsOthers, Admits, AllHavePlaces, IsPutAside};
 
     /// The root alone, in the run queue.
     pub fn open(alloc: Global) -> Result<Queues, NoMemory>
         ensures { IfOk result (λ queues. Runs queues 0) }
     {
-        let mut run = BTreeSet::new(alloc);
-        let _ = run.insert(0)?;
+        let mut run = TaskQueue::new(alloc);
+        run.insert(0)?;
         Ok(Queues {
             run,
             wait: BTreeMap::new(alloc),
@@ -65,8 +66,7 @@ impl Queues {
         ensures kept { Keeps self.old self.new }
         ensures there { OnOk result (Runs self.new task) }
     {
-        let _ = self.run.insert(task)?;
-        Ok(())
+        self.run.insert(task)
     }
 
     /// Puts those that wait for the block of a task into the run queue.
@@ -74,10 +74,10 @@ impl Queues {
         ensures kept { Keeps self.old self.new }
         ensures none { OnOk result (NoneWaits self.new holder) }
     {
-        let Some(queue) = self.wait.get_mut(&holder) else {
+        let Some(queue) = self.wait.get(&holder) else {
             return Ok(());
         };
-        self.run.append(queue)?;
+        self.run.insert_each(queue)?;
         let _ = self.wait.remove(&holder);
         Ok(())
     }
@@ -86,7 +86,7 @@ impl Queues {
     pub fn forget(&mut self, task: u32)
         ensures { KeepsOthers task self.old self.new }
     {
-        let _ = self.run.remove(&task);
+        self.run.remove(task);
     }
 
     /// The greatest task below a bound that is ready. Those that it passes over leave the run queue.
@@ -96,7 +96,7 @@ impl Queues {
         ensures next { MatchOption result (NoneReadyBelow world.now bound) (IsGreatestBelow world.now bound) }
     {
         let mut rest = bound;
-        while let Some(task) = self.last_below(rest) {
+        while let Some(task) = self.run.last_below(rest) {
             if self.is_ready(world, task) {
                 return Some(task);
             }
@@ -126,28 +126,12 @@ impl Queues {
         }
     }
 
-    /// The last task below a bound in the run queue.
-    fn last_below(&self, bound: u32) -> Option<u32>
-        ensures { MatchOption result (NoneBelow self.now bound) (IsLastBelow self.now bound) }
-    {
-        let last = *self.run.last()?;
-        if last < bound {
-            return Some(last);
-        }
-        let first = *self.run.first()?;
-        if bound <= first {
-            return None;
-        }
-        let last = self.run.range(..bound).next_back()?;
-        Some(*last)
-    }
-
     /// Moves a task into the wait queue of one that hinders it. Where there is no memory for that it stays in the run queue.
     fn put_aside(&mut self, task: u32, holder: u32)
         ensures { IsPutAside task holder self.old self.new }
     {
         if add(self.alloc, &mut self.wait, holder, task).is_ok() {
-            let _ = self.run.remove(&task);
+            self.run.remove(task);
         }
         self.likely = Some(holder);
     }
@@ -156,19 +140,18 @@ impl Queues {
 /// Puts a task into a wait queue.
 fn add(
     alloc: Global,
-    queues: &mut BTreeMap<u32, BTreeSet<u32>>,
+    queues: &mut BTreeMap<u32, TaskQueue>,
     holder: u32,
     task: u32,
 ) -> Result<(), NoMemory>
-    ensures there { OnOk result (has queues.new holder task ≡ true) }
-    ensures kept { (k : ℕ) (q : ℕ) → has queues.old k q ≡ true → has queues.new k q ≡ true }
+    ensures there { OnOk result (HasUnder queues.new holder task) }
+    ensures kept { (k : ℕ) (q : ℕ) → HasUnder queues.old k q → HasUnder queues.new k q }
 {
     if let Some(queue) = queues.get_mut(&holder) {
-        let _ = queue.insert(task)?;
-        return Ok(());
+        return queue.insert(task);
     }
-    let mut queue = BTreeSet::new(alloc);
-    let _ = queue.insert(task)?;
+    let mut queue = TaskQueue::new(alloc);
+    queue.insert(task)?;
     let _ = queues.insert(holder, queue)?;
     Ok(())
 }
