@@ -1,5 +1,5 @@
 -- What a walk leaves as it was: the constraints in force, and what is declared atomic.
-use Rattle.std.proofs.Common.{◌≡◌, ◌∙◌, ◌↔◌, ◌<◌, ℕ, Bool, true, false, IsTrue, List, length, Option, Some, refl, ap, subst}
+use Rattle.std.proofs.Common.{◌≡◌, ◌∙◌, ℕ, Bool, true, false, not, ◌||◌, nat_lt, List, length, Option, Some, refl, ap, subst}
 use Rattle.lang_base.specs.declared.effect.Effect.{Effect}
 use Rattle.lang_base.specs.declared.effect.Constraint.{Constraint}
 use Rattle.lang_base.specs.declared.array_part.PartUse.{PartUse}
@@ -15,22 +15,24 @@ use Rattle.body_exprs.specs.declared.found.Found.{Found}
 use Rattle.body_exprs.specs.Env.{bare, given_in, table_of}
 use Rattle.body_check.specs.declared.body.Body.{Body}
 use Rattle.body_check.specs.declared.node.Around.{Around}
-use Rattle.body_check.specs.Checking.{InScope}
+use Rattle.body_check.specs.Checking.{check_scope}
 use Rattle.body_check.specs.Keeping.{inside}
-use Rattle.body_check.specs.Meeting.{declared_atomic, Apart, BranchesApart}
-use Rattle.body_check.specs.Walks.{Verdict, Home, home_of, apart_from, nothing_found, walk_of}
+use Rattle.body_check.specs.Meeting.{declared_atomic, some_interfere, branches_interfere}
+use Rattle.body_check.specs.Walks.{Verdict, Home, home_of, nothing_found, walk_of}
+use Rattle.body_check.proofs.Passing.{walk_from}
 
 pub home_params : (b s : Body) → home_of s ≡ home_of b → s.atomic_params ≡ b.atomic_params
 home_params b s home = ap (λ (h : Home). h.params) home
 
 -- a piece of which what is found is gathered by itself, as it was called
-pub piece_begun : (b o : Body) (around within : Around) (body : PlainStmt) (g begun : Found) (v : Verdict TypedStmt) → home_of o ≡ home_of b →
-    within ≡ inside around → begun ≡ nothing_found → InScope o.atomic_params within body (walk_of o begun) v →
-    InScope b.atomic_params (inside around) body (apart_from (walk_of o g)) v
-piece_begun b o around within body g begun v home within_is none d =
-    subst (λ (z : Found). InScope b.atomic_params (inside around) body (walk_of o z) v) none
-    (subst (λ (z : Around). InScope b.atomic_params z body (walk_of o begun) v) within_is
-    (subst (λ (z : List Bool). InScope z within body (walk_of o begun) v) (home_params b o home) d))
+pub piece_in : (params : List Bool) (o : Body) (env : Env) (around within : Around) (body : PlainStmt) (begun : Found) (v : Verdict TypedStmt) →
+    o.atomic_params ≡ params → o.env ≡ env → within ≡ inside around → begun ≡ nothing_found → check_scope o.atomic_params within body (walk_of o begun) ≡ v →
+    check_scope params (inside around) body (walk_from env nothing_found) ≡ v
+piece_in params o env around within body begun v same env_is within_is none d =
+    subst (λ (z : Env). check_scope params (inside around) body (walk_from z nothing_found) ≡ v) env_is
+    (subst (λ (z : Found). check_scope params (inside around) body (walk_of o z) ≡ v) none
+    (subst (λ (z : Around). check_scope params z body (walk_of o begun) ≡ v) within_is
+    (subst (λ (z : List Bool). check_scope z within body (walk_of o begun) ≡ v) same d)))
 
 -- the constraints in force and what is declared atomic, where the scope was left too
 given_home : (b s : Body) (env : Env) → home_of s ≡ home_of b → bare env ≡ bare s.env → given_in env ≡ given_in b.env
@@ -48,14 +50,12 @@ atomic_home : (b s : Body) (env : Env) (nd : Bool) → home_of s ≡ home_of b �
 atomic_home b s env nd home same =
     atomic_by s.atomic_params nd env b.env (table_home b s env home same) ∙ ap (λ (z : List Bool). declared_atomic z nd b.env) (home_params b s home)
 
-pub apart_at_home : (b s : Body) (nd pass : Bool) (effects read : List (List Effect)) → home_of s ≡ home_of b → read ≡ effects →
-    BranchesApart s.atomic_params nd s.env read pass → BranchesApart b.atomic_params nd b.env effects pass
-apart_at_home b s nd pass effects read home is h =
-    let counted : List Constraint → Option Atomic → List (List Effect) → Type 0 =
-    λ given atomic branches. IsTrue pass ↔ ((length branches < 4294967296) × Apart given atomic branches) in
-    subst (λ (z : List (List Effect)). counted (given_in b.env) (declared_atomic b.atomic_params nd b.env) z) is
-    (subst (λ (z : Option Atomic). counted (given_in b.env) z read) (atomic_home b s s.env nd home refl)
-    (subst (λ (z : List Constraint). counted z (declared_atomic s.atomic_params nd s.env) read) (given_home b s s.env home refl) h))
+pub branches_at_home : (b s : Body) (nd : Bool) (effects : List (List Effect)) → home_of s ≡ home_of b →
+    branches_interfere s.atomic_params nd s.env effects ≡ branches_interfere b.atomic_params nd b.env effects
+branches_at_home b s nd effects home =
+    let counted : Bool = not (nat_lt (length effects) 4294967296) in
+    ap (λ (z : List Constraint). counted || some_interfere z (declared_atomic s.atomic_params nd s.env) effects) (given_home b s s.env home refl)
+    ∙ ap (λ (z : Option Atomic). counted || some_interfere (given_in b.env) z effects) (atomic_home b s s.env nd home refl)
 
 pub iterations_at_home : (b s : Body) (env : Env) (nd : Bool) (slot : ℕ) (effects : List Effect) → home_of s ≡ home_of b → bare env ≡ bare s.env →
     iterations_clash (given_in env) (declared_atomic s.atomic_params nd env) slot effects

@@ -1,24 +1,21 @@
-mod Assigning
 pub mod Atomics
-pub mod Cuts
+mod Fits
 pub mod Forks
+mod Fresh
 pub mod Homes
 pub mod Iterations
-pub mod Leaves
-pub mod Making
 mod Meeting
+pub mod Making
 pub mod Methodic
 pub mod Nodes
 pub mod Noting
-mod Once
-mod OnceBodies
-mod OnceSimple
-mod OnceTouched
-mod OnceTypes
 pub mod Orders
+mod Pairs
 pub mod Parting
 pub mod Passing
 pub mod Reaching
 pub mod Slots
 pub mod Stands
+pub mod Touched
+pub mod Types
 pub mod Walking

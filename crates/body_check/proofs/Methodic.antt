@@ -1,5 +1,5 @@
 -- The bodies of methods, member by member and class by class: what is said of each way through the code.
-use Rattle.std.proofs.Common.{◌≡◌, ◌∙◌, ℕ, List, [], ◌∷◌, ◌++◌, ◌+◌, ◌⊎◌, inl, inr, ◌<◌, get_or, drop, append_assoc, append-nil, Bool, false, Option, Some, None, option_map, Result, Ok, Err, map, take, length, codes, refl, sym, ap, subst}
+use Rattle.std.proofs.Common.{◌≡◌, ◌∙◌, ℕ, List, [], ◌∷◌, ◌++◌, ◌+◌, ◌⊎◌, inl, inr, ◌<◌, get_or, drop, append_assoc, append-nil, Bool, Option, Some, None, option_map, Result, Ok, Err, map, take, length, refl, sym, ap, subst}
 use Rattle.std.specs.Result.{IsErrAnd}
 use Rattle.std.proofs.lemmas.List.{drop_more}
 use Rattle.std.proofs.Common.{add-one}
@@ -12,7 +12,6 @@ use Rattle.lang_base.specs.declared.refusal.Refusal.{Refusal}
 use Rattle.lang_base.specs.declared.refusal.Stop.{Stop}
 use Rattle.lang_base.specs.declared.ty.Ty.{Ty}
 use Rattle.lang_base.specs.Refused.{IfRefused}
-use Rattle.decl_headers.specs.Gathered.{name_number}
 use Rattle.decl_headers.specs.Numbers.{as_number}
 use Rattle.decl_headers.specs.Faults.{settled}
 use Rattle.decl_headers.specs.Passes.{fault}
@@ -23,7 +22,6 @@ use Rattle.syntax_tree.specs.declared.region.Named.{Named}
 use Rattle.syntax_tree.specs.declared.class.Member.{Member}
 use Rattle.syntax_tree.specs.declared.class.Member.TheVariants as member
 use Rattle.syntax_tree.specs.declared.class.Method.{Method}
-use Rattle.syntax_tree.specs.declared.class.Program.{Program}
 use Rattle.syntax_tree.specs.Plain.{PlainStmts, plain_stmt, plain_stmts}
 use Rattle.decl_table.specs.declared.rows.MethodRow.{MethodRow}
 use Rattle.decl_table.specs.declared.table.Table.{Table}
@@ -34,14 +32,14 @@ use Rattle.body_assembly.specs.Assembled.{PlainBody, plain_body}
 use Rattle.body_exprs.specs.declared.env.Env.{Env}
 use Rattle.body_exprs.specs.Answer.{Says}
 use Rattle.body_exprs.specs.declared.found.Found.{Found}
-use Rattle.body_exprs.specs.Env.{table_of, at_class, at_members, at_method, declared_in, slots_in, IsFresh, with_row}
+use Rattle.body_exprs.specs.Env.{table_of, at_class, at_members, at_method, declared_in, slots_in, with_row}
 use Rattle.body_check.specs.declared.body.Body.{Body}
 use Rattle.body_check.specs.declared.node.Around.{Around}
-use Rattle.body_check.specs.Checking.{InBlock}
+use Rattle.body_check.specs.Checking.{check_block}
 use Rattle.body_check.specs.Completes.{all_complete}
 use Rattle.body_check.specs.Deciding.{has_value, method_fault, reported_at}
 use Rattle.body_check.specs.Keeping.{method_around}
-use Rattle.body_check.specs.Methods.{class_params, own_params, formals_declared, formal_types, summary_of, body_begun, method_reported, after_ok, reported, is_method, number_after, bodies_of, PlainBodies, after_bodies, of_method, a_method, IsIn, BodiesChecking, MethodChecking, MemberChecking, MembersChecking, ClassesChecking, no_classes, member_refused, then_classes}
+use Rattle.body_check.specs.Methods.{class_params, own_params, formals_declared, formal_types, summary_of, body_begun, method_reported, method_judged, after_ok, reported, number_after, bodies_of, PlainBodies, after_bodies, IsIn, check_method, check_member, check_members, check_classes}
 use Rattle.body_check.specs.Simple.{has_room}
 use Rattle.body_check.specs.Walks.{Walk, Verdict, nothing_found, with_env, passes, walk_of}
 use Rattle.body_check.proofs.Passing.{said_of, settled_stop, walk_from}
@@ -53,16 +51,16 @@ stopped_at P Q (Ok x) made s is next h = absurd is
 stopped_at P Q (Err x) made s is next h = said_of P (λ q. Q (Err q)) x next (subst (λ (z : Stop). IfRefused z P) (sym is) h)
 
 -- the members of a class
-abbrev pub Members : Env → ℕ → List Member → ℕ → Result PlainBodies Refusal → Type 0
-Members start class = MembersChecking (at_class start class) (class_params (table_of start) class)
+abbrev pub members_in : Env → ℕ → List Member → ℕ → Result PlainBodies Refusal
+members_in start class = check_members (at_class start class) (class_params (table_of start) class)
 
 -- a class begins alike after any other
 pub class_from : (start env : Env) (at number k : ℕ) (ms : List Member) (v : Result PlainBodies Refusal) →
-    ((other : ℕ) → at_class env other ≡ at_class start other) → k ≡ as_number at → Members env k ms number v →
-    Members start (as_number at) ms number v
+    ((other : ℕ) → at_class env other ≡ at_class start other) → k ≡ as_number at → members_in env k ms number ≡ v →
+    members_in start (as_number at) ms number ≡ v
 class_from start env at number k ms v same is d =
-    subst (λ (e : Env). MembersChecking e (class_params (table_of e) (as_number at)) ms number v) (same (as_number at))
-    (subst (λ (n : ℕ). Members env n ms number v) is d)
+    subst (λ (e : Env). check_members e (class_params (table_of e) (as_number at)) ms number ≡ v) (same (as_number at))
+    (subst (λ (n : ℕ). members_in env n ms number ≡ v) is d)
 
 -- what is around the members of a class, by what is around them after one
 abbrev methods_at : Env → ℕ → Env
@@ -86,25 +84,20 @@ pub begun_in : (start : Env) (class count number : ℕ) (b e : Body) → IsIn st
     e.env ≡ at_method (at_class start class) number
 begun_in start class count number b e within is = is ∙ method_begun start b.env class number within.members
 
-pub method_in : (start : Env) (class count number : ℕ) (b e : Body) (method : Method) (v : Result PlainBody Refusal) → IsIn start class count b →
+-- a member of the code that is a method
+pub member_so : (start : Env) (class count number : ℕ) (b e : Body) (m : Member) (method : Method) (r : Result PlainBody Refusal) →
+    m ≡ member.Method method → IsIn start class count b →
     e.atomic_params ≡ take count b.atomic_params ++ own_params (table_of b.env) number →
-    MethodChecking (at_class start class) e.atomic_params number method v →
-    MethodChecking (at_class start class) (class_params (table_of start) class ++ own_params (table_of start) number) number method v
-method_in start class count number b e method v within params d =
-    subst (λ (ps : List Bool). MethodChecking (at_class start class) ps number method v)
+    check_method (at_class start class) e.atomic_params number method ≡ r →
+    check_member (at_class start class) (class_params (table_of start) class) m number ≡ after_ok Some r
+member_so start class count number b e m method r is within params d =
+    let here : check_method (at_class start class) (class_params (table_of start) class ++ own_params (table_of start) number) number method ≡ r =
+    subst (λ (ps : List Bool). check_method (at_class start class) ps number method ≡ r)
     (params ∙ ap (λ (z : List Bool). z ++ own_params (table_of b.env) number) within.params
     ∙ ap (λ (z : Env). class_params (table_of start) class ++ own_params (table_of z) number) within.members)
-    d
-
--- a member of the code that is a method
-pub member_so : (start : Env) (class count number : ℕ) (b e : Body) (m : Member) (method : Method) (r : Result PlainBody Refusal)
-    (v : Result (Option PlainBody) Refusal) → m ≡ member.Method method → IsIn start class count b →
-    e.atomic_params ≡ take count b.atomic_params ++ own_params (table_of b.env) number →
-    MethodChecking (at_class start class) e.atomic_params number method r → after_ok Some r ≡ v →
-    MemberChecking (at_class start class) (class_params (table_of start) class) m number v
-member_so start class count number b e m method r v is within params d made =
-    subst (λ (z : Member). MemberChecking (at_class start class) (class_params (table_of start) class) z number v) (sym is)
-    (a_method (method_in start class count number b e method r within params d) made)
+    d in
+    subst (λ (z : Member). check_member (at_class start class) (class_params (table_of start) class) z number ≡ after_ok Some r) (sym is)
+    (ap (after_ok Some) here)
 
 row_table : (env : Env) (row : Option MethodRow) → table_of (with_row env row) ≡ table_of env
 row_table env None = refl
@@ -143,15 +136,15 @@ begun_so around number method row types b d begun =
 
 pub body_from : (around : Env) (number : ℕ) (method : Method) (row : Option MethodRow) (types : List Ty) (b d : Body) (done : Found)
     (v : Verdict (List TypedStmt)) → Begun around number method row types b d → done ≡ nothing_found →
-    InBlock d.atomic_params (around_of method) (method_stmts method) (walk_of d done) v →
-    InBlock b.atomic_params (around_of method) (method_stmts method) (body_begun around number method) v
+    check_block d.atomic_params (around_of method) (method_stmts method) (walk_of d done) ≡ v →
+    check_block b.atomic_params (around_of method) (method_stmts method) (body_begun around number method) ≡ v
 body_from around number method row types b d done v begun none h =
     let params : d.atomic_params ≡ b.atomic_params = ap (λ (z : Body). z.atomic_params) begun.body_is in
     let walk : walk_of d done ≡ body_begun around number method =
     ap (λ (z : Env). walk_from z done) (begun_so around number method row types b d begun)
     ∙ ap (λ (z : Found). walk_from (env_begun around number method) z) none in
-    subst (λ (w : Walk). InBlock b.atomic_params (around_of method) (method_stmts method) w v) walk
-    (subst (λ (z : List Bool). InBlock z (around_of method) (method_stmts method) (walk_of d done) v) params h)
+    subst (λ (w : Walk). check_block b.atomic_params (around_of method) (method_stmts method) w ≡ v) walk
+    (subst (λ (z : List Bool). check_block z (around_of method) (method_stmts method) (walk_of d done) ≡ v) params h)
 
 reported_settled : (place : Place) (reason : Option Kind) → reported_at place reason ≡ settled (option_map (λ k. fault k place) reason)
 reported_settled place None = refl
@@ -165,7 +158,7 @@ pub record BodyMet (around : Env) (number : ℕ) (method : Method) (row : Option
   pub completes_is : completes ≡ all_complete (method_stmts method)
   pub covered_is : covered ≡ set_covers summary done.effects
   pub room_is : room ≡ has_room d.env
-  pub in_block : InBlock b.atomic_params (around_of method) (method_stmts method) (body_begun around number method) (passes ss (walk_of s done))
+  pub in_block : check_block b.atomic_params (around_of method) (method_stmts method) (body_begun around number method) ≡ passes ss (walk_of s done)
 
 reported_so : (around : Env) (number : ℕ) (method : Method) (row : Option MethodRow) (types : List Ty) (summary : List Effect) (b d s : Body)
     (done : Found) (completes covered room : Bool) (ss : List TypedStmt) →
@@ -202,10 +195,10 @@ pub method_stops : {T : Type 0} (around : Env) (number : ℕ) (method : Method) 
     (b d s : Body) (done : Found) (completes covered room : Bool) (ss : List TypedStmt) (r : Result T Stop) (made : T → Result PlainBody Refusal) (p : Stop) →
     IsErrAnd r (λ z. z ≡ p) → BodyMet around number method row types summary b d s done completes covered room ss →
     Err p ≡ reported_at method.place (method_fault (has_value method.result) completes covered room) →
-    Says r made Err (MethodChecking around b.atomic_params number method)
+    Says r made Err (λ v. check_method around b.atomic_params number method ≡ v)
 method_stops around number method row types summary b d s done completes covered room ss r made p is m stated =
-    stopped_at (λ q. method_reported around number method done.effects ≡ Some q) (MethodChecking around b.atomic_params number method) r made p is
-    (λ q t. of_method m.in_block (reported_some _ _ q t))
+    stopped_at (λ q. method_reported around number method done.effects ≡ Some q) (λ v. check_method around b.atomic_params number method ≡ v) r made p is
+    (λ q t. ap (method_judged around number method) m.in_block ∙ reported_some _ _ q t)
     (settled_stop (method_reported around number method done.effects) p
     (sym (stated ∙ reported_so around number method row types summary b d s done completes covered room ss m)))
 
@@ -214,13 +207,13 @@ pub method_passes : (around : Env) (number : ℕ) (method : Method) (row : Optio
     BodyMet around number method row types summary b d s done completes covered room ss →
     reported_at method.place (method_fault (has_value method.result) completes covered room) ≡ Ok tt →
     slots ≡ slots_in s.env → regions ≡ declared_in s.env →
-    MethodChecking around b.atomic_params number method (Ok (record { slots = slots; local_regions = regions; stmts = stmts_of ss }))
+    check_method around b.atomic_params number method ≡ Ok (record { slots = slots; local_regions = regions; stmts = stmts_of ss })
 method_passes around number method row types summary b d s done completes covered room ss slots regions m stated slots_are regions_are =
-    of_method m.in_block
-    (reported_none _ _
+    ap (method_judged around number method) m.in_block
+    ∙ reported_none _ _
     (nothing_reported (method_reported around number method done.effects)
     (sym (reported_so around number method row types summary b d s done completes covered room ss m) ∙ stated))
-    ∙ ap (λ (z : ℕ). Ok (body_with z (declared_in s.env) ss)) (sym slots_are) ∙ ap (λ (z : ℕ). Ok (body_with slots z ss)) (sym regions_are))
+    ∙ ap (λ (z : ℕ). Ok (body_with z (declared_in s.env) ss)) (sym slots_are) ∙ ap (λ (z : ℕ). Ok (body_with slots z ss)) (sym regions_are)
 
 -- the members that are left
 pub left_is : {X : Type 0} (xs all : List X) (i : ℕ) (x : X) → xs ≡ all → i < length xs → x ≡ get_or xs i x → x ∷ drop (i + 1) all ≡ drop i all
@@ -242,44 +235,46 @@ after_more : (before more : List PlainBody) (v : Result PlainBodies Refusal) →
 after_more before more (Ok all) = ap (λ (z : List PlainBody). Ok (bodies_with all.next z)) (sym (append_assoc before more all.bodies))
 after_more before more (Err q) = refl
 
--- the members so far passed, and what is said of the others is said of all
+-- the members so far passed, and the others are looked at from there
 pub record MembersSoFar (start : Env) (class first next i : ℕ) (items : List Member) (made : List PlainBody) : Type 0 where
-  pub goes_on : (v : Result PlainBodies Refusal) → Members start class (drop i items) next v → Members start class items first (after_all made v)
+  pub goes_on : members_in start class items first ≡ after_all made (members_in start class (drop i items) next)
 
 pub members_none : (start : Env) (class first : ℕ) (items : List Member) (made : List PlainBody) → made ≡ [] →
     MembersSoFar start class first first 0 items made
 members_none start class first items made none = record {
-  goes_on = λ v d.
-      subst (λ (z : Result PlainBodies Refusal). Members start class items first z)
-      (sym (after_none v) ∙ ap (λ (z : List PlainBody). after_all z v) (sym none)) d;
+  goes_on = sym (after_none (members_in start class items first)) ∙ ap (λ (z : List PlainBody). after_all z (members_in start class items first)) (sym none);
 }
+
+members_from : (start : Env) (class next i : ℕ) (items : List Member) (m : Member) → i < length items → m ≡ get_or items i m →
+    members_in start class (drop i items) next ≡ members_in start class (m ∷ drop (i + 1) items) next
+members_from start class next i items m below is = ap (λ ms. members_in start class ms next) (sym (left_is items items i m refl below is))
 
 pub members_stop : (start : Env) (class first next i : ℕ) (items : List Member) (m : Member) (made : List PlainBody) (q : Refusal) →
     i < length items → m ≡ get_or items i m → MembersSoFar start class first next i items made →
-    MemberChecking (at_class start class) (class_params (table_of start) class) m next (Err q) → Members start class items first (Err q)
+    check_member (at_class start class) (class_params (table_of start) class) m next ≡ Err q → members_in start class items first ≡ Err q
 members_stop start class first next i items m made q below is so_far d =
-    so_far.goes_on (Err q)
-    (subst (λ (z : List Member). Members start class z next (Err q)) (left_is items items i m refl below is) (MembersChecking.one_refused d))
+    let step : members_in start class (m ∷ drop (i + 1) items) next ≡ Err q = rw d in
+    so_far.goes_on ∙ ap (after_all made) (members_from start class next i items m below is ∙ step)
 
 pub members_more : (start : Env) (class first next after i : ℕ) (items : List Member) (m : Member) (made more : List PlainBody) (one : Option PlainBody) →
     i < length items → m ≡ get_or items i m → MembersSoFar start class first next i items made →
-    MemberChecking (at_class start class) (class_params (table_of start) class) m next (Ok one) → after ≡ number_after one next →
+    check_member (at_class start class) (class_params (table_of start) class) m next ≡ Ok one → after ≡ number_after one next →
     more ≡ made ++ bodies_of one → MembersSoFar start class first after (i + 1) items more
 members_more start class first next after i items m made more one below is so_far d after_is more_is = record {
-  goes_on = λ v rest.
-      let others : Members start class (m ∷ drop (i + 1) items) next (after_all (bodies_of one) v) =
-      MembersChecking.then_members d (subst (λ (n : ℕ). Members start class (drop (i + 1) items) n v) after_is rest) refl in
-      subst (λ (z : Result PlainBodies Refusal). Members start class items first z)
-      (after_more made (bodies_of one) v ∙ ap (λ (z : List PlainBody). after_all z v) (sym more_is))
-      (so_far.goes_on _ (subst (λ (z : List Member). Members start class z next (after_all (bodies_of one) v)) (left_is items items i m refl below is) others));
+  goes_on =
+      let rest : ℕ → Result PlainBodies Refusal = members_in start class (drop (i + 1) items) in
+      let step : members_in start class (m ∷ drop (i + 1) items) next ≡ after_all (bodies_of one) (rest (number_after one next)) = rw d in
+      so_far.goes_on
+      ∙ ap (after_all made)
+      (members_from start class next i items m below is ∙ step ∙ ap (λ (n : ℕ). after_all (bodies_of one) (rest n)) (sym after_is))
+      ∙ after_more made (bodies_of one) (rest after) ∙ ap (λ (z : List PlainBody). after_all z (rest after)) (sym more_is);
 }
 
 pub members_all : (start : Env) (class first next i : ℕ) (items : List Member) (made : List PlainBody) → drop i items ≡ [] →
-    MembersSoFar start class first next i items made → Members start class items first (Ok (record { next = next; bodies = made }))
+    MembersSoFar start class first next i items made → members_in start class items first ≡ Ok (bodies_with next made)
 members_all start class first next i items made none so_far =
-    subst (λ (z : List PlainBody). Members start class items first (Ok (record { next = next; bodies = z }))) (append-nil made)
-    (so_far.goes_on (Ok (record { next = next; bodies = [] }))
-    (subst (λ (z : List Member). Members start class z next (Ok (record { next = next; bodies = [] }))) (sym none) MembersChecking.no_members))
+    so_far.goes_on ∙ ap (λ ms. after_all made (members_in start class ms next)) none
+    ∙ ap (λ (z : List PlainBody). Ok (bodies_with next z)) (append-nil made)
 
 -- lists of bodies, one after the other
 map_append : {X Y : Type 0} (f : X → Y) (xs ys : List X) → map f (xs ++ ys) ≡ map f xs ++ map f ys
@@ -289,7 +284,7 @@ map_append f (x ∷ xs) ys = ap (λ zs. f x ∷ zs) (map_append f xs ys)
 pub map_both : {X Y : Type 0} (f : X → Y) (xs ys all : List X) → all ≡ xs ++ ys → map f all ≡ map f xs ++ map f ys
 map_both f xs ys all is = ap (map f) is ∙ map_append f xs ys
 
--- the classes so far passed, and what is said of the others is said of all
+-- the bodies of the classes so far, in front of those of the others
 abbrev pub classes_after : List PlainBody → Result (List PlainBody) Refusal → Result (List PlainBody) Refusal
 classes_after before v = after_ok (λ bodies. before ++ bodies) v
 
@@ -302,68 +297,53 @@ classes_more : (before more : List PlainBody) (v : Result (List PlainBody) Refus
 classes_more before more (Ok all) = ap Ok (sym (append_assoc before more all))
 classes_more before more (Err q) = refl
 
+-- the classes so far passed, and the others are looked at from there
 pub record ClassesSoFar (start env : Env) (i number : ℕ) (all : List Class) (made : List PlainBody) : Type 0 where
   pub around : (other : ℕ) → at_class env other ≡ at_class start other
-  pub goes_on : (v : Result (List PlainBody) Refusal) → ClassesChecking start i (drop i all) number v → ClassesChecking start 0 all 0 (classes_after made v)
+  pub goes_on : check_classes start 0 all 0 ≡ classes_after made (check_classes start i (drop i all) number)
 
 pub classes_begin : (start : Env) (all : List Class) (made : List PlainBody) → made ≡ [] → ClassesSoFar start start 0 0 all made
 classes_begin start all made none = record {
   around = λ other. refl;
-  goes_on = λ v d.
-      subst (λ (z : Result (List PlainBody) Refusal). ClassesChecking start 0 all 0 z)
-      (sym (classes_none v) ∙ ap (λ (z : List PlainBody). classes_after z v) (sym none)) d;
+  goes_on = sym (classes_none (check_classes start 0 all 0)) ∙ ap (λ (z : List PlainBody). classes_after z (check_classes start 0 all 0)) (sym none);
 }
 
+classes_from : (start : Env) (i number : ℕ) (all : List Class) (c : Class) → i < length all → c ≡ get_or all i c →
+    check_classes start i (drop i all) number ≡ check_classes start i (c ∷ drop (i + 1) all) number
+classes_from start i number all c below is = ap (λ cs. check_classes start i cs number) (sym (left_is all all i c refl below is))
+
 pub classes_stop : (start env : Env) (i number k : ℕ) (all : List Class) (c : Class) (made : List PlainBody) (q : Refusal) → i < length all →
-    c ≡ get_or all i c → k ≡ as_number i → ClassesSoFar start env i number all made → Members env k c.members number (Err q) →
-    ClassesChecking start 0 all 0 (Err q)
+    c ≡ get_or all i c → k ≡ as_number i → ClassesSoFar start env i number all made → members_in env k c.members number ≡ Err q →
+    check_classes start 0 all 0 ≡ Err q
 classes_stop start env i number k all c made q below is k_is so_far d =
-    so_far.goes_on (Err q)
-    (subst (λ (z : List Class). ClassesChecking start i z number (Err q)) (left_is all all i c refl below is)
-    (member_refused (class_from start env i number k c.members (Err q) so_far.around k_is d)))
+    let step : check_classes start i (c ∷ drop (i + 1) all) number ≡ Err q = rw (class_from start env i number k c.members (Err q) so_far.around k_is d) in
+    so_far.goes_on ∙ ap (classes_after made) (classes_from start i number all c below is ∙ step)
 
 pub classes_go_on : (start env next_env : Env) (i number next k : ℕ) (all : List Class) (c : Class) (made more one : List PlainBody) → i < length all →
     c ≡ get_or all i c → k ≡ as_number i → ClassesSoFar start env i number all made →
-    ((other : ℕ) → at_class next_env other ≡ at_class env other) →
-    Members env k c.members number (Ok (record { next = next; bodies = one })) → more ≡ made ++ one →
+    ((other : ℕ) → at_class next_env other ≡ at_class env other) → members_in env k c.members number ≡ Ok (bodies_with next one) → more ≡ made ++ one →
     ClassesSoFar start next_env (i + 1) next all more
 classes_go_on start env next_env i number next k all c made more one below is k_is so_far same d more_is = record {
   around = λ other. same other ∙ so_far.around other;
-  goes_on = λ v rest.
-      let others : ClassesChecking start i (c ∷ drop (i + 1) all) number (classes_after one v) =
-      then_classes (class_from start env i number k c.members (Ok (record { next = next; bodies = one })) so_far.around k_is d) rest refl in
-      subst (λ (z : Result (List PlainBody) Refusal). ClassesChecking start 0 all 0 z)
-      (classes_more made one v ∙ ap (λ (z : List PlainBody). classes_after z v) (sym more_is))
-      (so_far.goes_on _ (subst (λ (z : List Class). ClassesChecking start i z number (classes_after one v)) (left_is all all i c refl below is) others));
+  goes_on =
+      let rest : Result (List PlainBody) Refusal = check_classes start (i + 1) (drop (i + 1) all) next in
+      let step : check_classes start i (c ∷ drop (i + 1) all) number ≡ classes_after one rest =
+      rw (class_from start env i number k c.members (Ok (bodies_with next one)) so_far.around k_is d) in
+      so_far.goes_on ∙ ap (classes_after made) (classes_from start i number all c below is ∙ step) ∙ classes_more made one rest
+      ∙ ap (λ (z : List PlainBody). classes_after z rest) (sym more_is);
 }
 
 pub classes_all : (start env : Env) (i number : ℕ) (all : List Class) (made : List PlainBody) → drop i all ≡ [] →
-    ClassesSoFar start env i number all made → ClassesChecking start 0 all 0 (Ok made)
+    ClassesSoFar start env i number all made → check_classes start 0 all 0 ≡ Ok made
 classes_all start env i number all made none so_far =
-    subst (λ (z : List PlainBody). ClassesChecking start 0 all 0 (Ok z)) (append-nil made)
-    (so_far.goes_on (Ok []) (subst (λ (z : List Class). ClassesChecking start i z number (Ok [])) (sym none) no_classes))
-
-pub fresh_so : (program : Program) (table : Table) (length_name : Option ℕ) (start : Env) → length_name ≡ name_number program.names (codes "length") →
-    IsFresh table length_name start → IsFresh table (name_number program.names (codes "length")) start
-fresh_so program table length_name start is fresh = subst (λ (z : Option ℕ). IsFresh table z start) is fresh
-
-pub whole_from : (program : Program) (table : Table) (start : Env) (body : Body) (classes : List Class) (v : Result (List PlainBody) Refusal) →
-    IsFresh table (name_number program.names (codes "length")) start → body.env ≡ start → classes ≡ program.classes →
-    ClassesChecking body.env 0 classes 0 v → BodiesChecking program table v
-whole_from program table start body classes v fresh env_is same d = record {
-  start = start;
-  fresh = fresh;
-  checks =
-      subst (λ (e : Env). ClassesChecking e 0 program.classes 0 v) env_is
-      (subst (λ (cs : List Class). ClassesChecking body.env 0 cs 0 v) same d);
-}
+    so_far.goes_on ∙ ap (λ cs. classes_after made (check_classes start i cs number)) none ∙ ap Ok (append-nil made)
 
 -- a member with no body
-pub no_body : (m : Member) →
+pub no_body : (env : Env) (params : List Bool) (m : Member) (number : ℕ) →
     ((is_atomic : Bool) × (names : List Named) × (m ≡ member.Regions is_atomic names)) ⊎ ((declared : Field) × (m ≡ member.Field declared)) →
-    is_method m ≡ false
-no_body m (inl (is_atomic, names, is)) = ap is_method is
-no_body m (inr (declared, is)) = ap is_method is
+    check_member env params m number ≡ Ok None
+no_body env params m number (inl (is_atomic, names, is)) = ap (λ (z : Member). check_member env params z number) is
+no_body env params m number (inr (declared, is)) = ap (λ (z : Member). check_member env params z number) is
 
 -- the formals, of which one that has no type isn't in scope
 empty : {X : Type 0} (xs : List X) → length xs ≡ 0 → xs ≡ []

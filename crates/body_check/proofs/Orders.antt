@@ -1,25 +1,18 @@
 -- Statements one after the other: what is said of each step of the loop over them.
-use Rattle.std.proofs.Common.{◌≡◌, ◌∙◌, ℕ, suc, ◌+◌, ◌<◌, ◌&&◌, IsTrue, Bool, true, false, not, List, [], ◌∷◌, ◌++◌, map, length, append_assoc, append-nil, None, get_or, drop, drop-cons, add-one, refl, sym, ap, subst}
+use Rattle.std.proofs.Common.{◌≡◌, ◌∙◌, ℕ, suc, ◌+◌, ◌<◌, ◌&&◌, IsTrue, Bool, true, false, not, List, [], ◌∷◌, ◌++◌, map, length, append_assoc, append-nil, get_or, drop, drop-cons, add-one, refl, sym, ap, subst}
 use Rattle.lang_base.specs.declared.refusal.Refusal.{Refusal}
 use Rattle.syntax_tree.specs.declared.stmt.Stmt.{Stmt}
 use Rattle.syntax_tree.specs.Plain.{PlainStmts, plain_stmt, plain_stmts}
 use Rattle.lang_typed.specs.Plain.{TypedStmt}
 use Rattle.body_check.specs.declared.node.Around.{Around}
-use Rattle.body_check.specs.Checking.{Standing, InOrder, none_left, statement_refused, then_others}
+use Rattle.body_check.specs.Checking.{check_all, check_stmt}
 use Rattle.body_check.specs.Completes.{completes, all_complete}
 use Rattle.body_check.specs.Keeping.{Keeps, MayFollow, AllKeep, BranchesKeep, inside}
-use Rattle.body_check.specs.Walks.{Walk, Verdict, passes, refused, following}
+use Rattle.body_check.specs.Walks.{Walk, Verdict, passes, refused, ◌>>=◌}
 
 -- the next statement stands first in what is left
 pub next_is : (all : List Stmt) (i : ℕ) (s : Stmt) → i < length all → s ≡ get_or all i s → drop i all ≡ s ∷ drop (i + 1) all
 next_is all i s below is = drop-cons all i s below ∙ ap (λ x. x ∷ drop (suc i) all) (sym is) ∙ ap (λ k. s ∷ drop k all) (sym (add-one i))
-
-next_refused : (params own : List Bool) (around : Around) (complete : Bool) (all : List Stmt) (i : ℕ) (s : Stmt) (w : Walk) (q : Refusal) →
-    own ≡ params → i < length all → s ≡ get_or all i s → Standing own around (not complete) (plain_stmt s) w (refused q) →
-    InOrder params around complete (plain_stmts (map plain_stmt (drop i all))) w (refused q)
-next_refused params own around complete all i s w q same below is d =
-    subst (λ ss. InOrder params around complete (plain_stmts (map plain_stmt ss)) w (refused q)) (sym (next_is all i s below is))
-    (statement_refused (subst (λ (z : List Bool). Standing z around (not complete) (plain_stmt s) w (refused q)) same d))
 
 -- one more of what is made
 map_more : {X Y : Type 0} (f : X → Y) (xs : List X) (x : X) → map f (xs ++ x ∷ []) ≡ map f xs ++ f x ∷ []
@@ -29,54 +22,62 @@ map_more f (y ∷ ys) x = ap (λ zs. f y ∷ zs) (map_more f ys x)
 pub map_pushed : {X Y : Type 0} (f : X → Y) (xs pushed : List X) (x : X) → pushed ≡ xs ++ x ∷ [] → map f pushed ≡ map f xs ++ f x ∷ []
 map_pushed f xs pushed x is = ap (map f) is ∙ map_more f xs x
 
--- the statements so far, and what is made of the others
+-- the statements of the tree
+abbrev pub several : List Stmt → PlainStmts
+several all = plain_stmts (map plain_stmt all)
+
+-- what is made of the others, after the statements so far
 abbrev pub after_stmts : List TypedStmt → Verdict (List TypedStmt) → Verdict (List TypedStmt)
-after_stmts made v = following None (λ others. made ++ others) v
+after_stmts made (passes others w) = passes (made ++ others) w
+after_stmts made (refused q) = refused q
 
-after_one : (made : List TypedStmt) (one : TypedStmt) (v : Verdict (List TypedStmt)) →
-    after_stmts made (following None (λ others. one ∷ others) v) ≡ after_stmts (made ++ one ∷ []) v
-after_one made one (passes others w) = ap (λ (z : List TypedStmt). passes z w) (sym (append_assoc made (one ∷ []) others))
-after_one made one (refused q) = refl
+after_one : (one : TypedStmt) (v : Verdict (List TypedStmt)) → (do
+  (others, y) ← v
+  passes (one ∷ others) y) ≡ after_stmts (one ∷ []) v
+after_one one (passes others w) = refl
+after_one one (refused q) = refl
 
-after_all : (made : List TypedStmt) (w : Walk) → after_stmts made (passes [] w) ≡ passes made w
-after_all made w = ap (λ (z : List TypedStmt). passes z w) (append-nil made)
+after_more : (made : List TypedStmt) (one : TypedStmt) (v : Verdict (List TypedStmt)) → after_stmts made (after_stmts (one ∷ []) v) ≡ after_stmts (made ++ one ∷ []) v
+after_more made one (passes others w) = ap (λ (z : List TypedStmt). passes z w) (sym (append_assoc made (one ∷ []) others))
+after_more made one (refused q) = refl
 
--- the statements so far passed, and what is said of the others is said of all
+-- the statements so far passed, and the others are looked at from there
 abbrev pub OrderSoFar : List Bool → Around → List Stmt → Walk → ℕ → Bool → List TypedStmt → Walk → Type 0
 OrderSoFar params around all w i complete made u =
-    (v : Verdict (List TypedStmt)) → InOrder params around complete (plain_stmts (map plain_stmt (drop i all))) u v →
-    InOrder params around true (plain_stmts (map plain_stmt all)) w (after_stmts made v)
+    check_all params around true (several all) w ≡ after_stmts made (check_all params around complete (several (drop i all)) u)
+
+from_next : (params : List Bool) (around : Around) (complete : Bool) (all : List Stmt) (i : ℕ) (s : Stmt) (u : Walk) → i < length all → s ≡ get_or all i s →
+    check_all params around complete (several (drop i all)) u ≡ check_all params around complete (several (s ∷ drop (i + 1) all)) u
+from_next params around complete all i s u below is = ap (λ ss. check_all params around complete (several ss) u) (next_is all i s below is)
 
 pub order_refused : (params own : List Bool) (around : Around) (all : List Stmt) (w : Walk) (i : ℕ) (complete : Bool) (made : List TypedStmt) (s : Stmt)
     (u : Walk) (q : Refusal) → OrderSoFar params around all w i complete made u → own ≡ params → i < length all → s ≡ get_or all i s →
-    Standing own around (not complete) (plain_stmt s) u (refused q) → InOrder params around true (plain_stmts (map plain_stmt all)) w (refused q)
+    check_stmt own around (not complete) (plain_stmt s) u ≡ refused q → check_all params around true (several all) w ≡ refused q
 order_refused params own around all w i complete made s u q before same below is d =
-    before (refused q) (next_refused params own around complete all i s u q same below is d)
+    let here : check_stmt params around (not complete) (plain_stmt s) u ≡ refused q =
+    subst (λ (z : List Bool). check_stmt z around (not complete) (plain_stmt s) u ≡ refused q) same d in
+    let step : check_all params around complete (several (s ∷ drop (i + 1) all)) u ≡ refused q = rw here in
+    before ∙ ap (after_stmts made) (from_next params around complete all i s u below is ∙ step)
 
 pub order_more : (params own : List Bool) (around : Around) (complete done next : Bool) (all : List Stmt) (i : ℕ) (made more : List TypedStmt)
     (one : TypedStmt) (s : Stmt) (w u x : Walk) → OrderSoFar params around all w i complete made u → own ≡ params → i < length all →
-    s ≡ get_or all i s → Standing own around (not complete) (plain_stmt s) u (passes one x) → done ≡ completes (plain_stmt s) →
+    s ≡ get_or all i s → check_stmt own around (not complete) (plain_stmt s) u ≡ passes one x → done ≡ completes (plain_stmt s) →
     next ≡ (complete && done) → more ≡ made ++ one ∷ [] → OrderSoFar params around all w (i + 1) next more x
-order_more params own around complete done next all i made more one s w u x before same below is d done_is next_so more_is v rest =
-    let here : InOrder params around complete (plain_stmts (map plain_stmt (s ∷ drop (i + 1) all))) u (following None (λ others. one ∷ others) v) =
-    then_others (subst (λ (z : List Bool). Standing z around (not complete) (plain_stmt s) u (passes one x)) same d)
-    (subst (λ (z : Bool). InOrder params around z (plain_stmts (map plain_stmt (drop (i + 1) all))) x v)
-    (next_so ∙ ap (λ (z : Bool). complete && z) done_is) rest) refl in
-    subst (λ (z : Verdict (List TypedStmt)). InOrder params around true (plain_stmts (map plain_stmt all)) w z)
-    (after_one made one v ∙ ap (λ (z : List TypedStmt). after_stmts z v) (sym more_is))
-    (before _ (subst (λ ss. InOrder params around complete (plain_stmts (map plain_stmt ss)) u (following None (λ others. one ∷ others) v))
-    (sym (next_is all i s below is)) here))
-
-none_after : (params : List Bool) (around : Around) (complete : Bool) (all : List Stmt) (i : ℕ) (w : Walk) → drop i all ≡ [] →
-    InOrder params around complete (plain_stmts (map plain_stmt (drop i all))) w (passes [] w)
-none_after params around complete all i w none =
-    subst (λ ss. InOrder params around complete (plain_stmts (map plain_stmt ss)) w (passes [] w)) (sym none) none_left
+order_more params own around complete done next all i made more one s w u x before same below is d done_is next_so more_is =
+    let rest : Bool → Verdict (List TypedStmt) = λ on. check_all params around on (several (drop (i + 1) all)) x in
+    let here : check_stmt params around (not complete) (plain_stmt s) u ≡ passes one x =
+    subst (λ (z : List Bool). check_stmt z around (not complete) (plain_stmt s) u ≡ passes one x) same d in
+    let step : check_all params around complete (several (s ∷ drop (i + 1) all)) u ≡ after_stmts (one ∷ []) (rest (complete && completes (plain_stmt s))) =
+    rw here (after_one one (rest (complete && completes (plain_stmt s)))) in
+    before ∙ ap (after_stmts made) (from_next params around complete all i s u below is ∙ step)
+    ∙ after_more made one (rest (complete && completes (plain_stmt s)))
+    ∙ ap (λ (z : Bool). after_stmts (made ++ one ∷ []) (rest z)) (sym (next_so ∙ ap (λ (z : Bool). complete && z) done_is))
+    ∙ ap (λ (z : List TypedStmt). after_stmts z (rest next)) (sym more_is)
 
 pub order_all : (params : List Bool) (around : Around) (complete : Bool) (all : List Stmt) (i : ℕ) (made : List TypedStmt) (w u : Walk) →
-    OrderSoFar params around all w i complete made u → drop i all ≡ [] → InOrder params around true (plain_stmts (map plain_stmt all)) w (passes made u)
+    OrderSoFar params around all w i complete made u → drop i all ≡ [] → check_all params around true (several all) w ≡ passes made u
 order_all params around complete all i made w u before none =
-    subst (λ (z : Verdict (List TypedStmt)). InOrder params around true (plain_stmts (map plain_stmt all)) w z) (after_all made u)
-    (before (passes [] u) (none_after params around complete all i u none))
+    before ∙ ap (λ ss. after_stmts made (check_all params around complete (several ss) u)) none ∙ ap (λ (z : List TypedStmt). passes z u) (append-nil made)
 
 -- what else a step through the statements keeps
 and_step : (c d : Bool) (a : Bool) → ((c && d) && a) ≡ (c && (d && a))

@@ -1,135 +1,176 @@
 -- The parts of a `foreach_parts`: what is said of each way through the code that checks one.
-use Rattle.std.proofs.Common.{◌≡◌, ◌∙◌, ◌+◌, ℕ, Bool, true, false, not, Option, None, Result, Err, refl, sym, ap}
-use Rattle.std.specs.Result.{IsErrAnd}
+use Rattle.std.proofs.Common.{◌≡◌, ◌∙◌, ◌+◌, ℕ, Bool, true, false, not, Option, None, Some, option_map, refl, sym, ap}
+use Rattle.lang_base.specs.declared.refusal.Kind.{Kind}
 use Rattle.lang_base.specs.declared.refusal.Kind.TheVariants as kind
-use Rattle.lang_base.specs.declared.refusal.Stop.{Stop}
-use Rattle.lang_base.specs.Refused.{IfRefused}
-use Rattle.decl_headers.specs.Faults.{settled}
+use Rattle.lang_base.specs.declared.refusal.Refusal.{Refusal}
+use Rattle.lang_base.specs.declared.ty.Ty.{Ty, fold-roll-Ty}
+use Rattle.lang_base.specs.declared.ty.Ty.TheVariants as ty
+use Rattle.lang_base.specs.declared.ty.Ty.TheVariants.{rolls-Void}
+use Rattle.lang_base.specs.Types.{PlainType, plain_type, type_step}
+use Rattle.lang_base.specs.Types.{PlainType as plain}
 use Rattle.region_interfere.specs.Uses.{parts_interfere}
 use Rattle.syntax_tree.specs.declared.region.Named.{Named}
-use Rattle.syntax_tree.specs.Plain.{PlainExpr, PlainStmt}
-use Rattle.lang_typed.specs.Plain.{TypedExpr, TypedStmt, Source}
+use Rattle.syntax_tree.specs.declared.expr.Expr.{Expr}
+use Rattle.syntax_tree.specs.Plain.{PlainExpr, PlainStmt, plain_expr}
+use Rattle.syntax_tree.specs.Plain.{StmtForm as form}
+use Rattle.lang_typed.specs.declared.expr.Expr.{Expr as Made}
+use Rattle.lang_typed.specs.declared.stmt.PartSource.TheVariants as source
+use Rattle.lang_typed.specs.Plain.{TypedExpr, TypedStmt, Source, plain_source}
 use Rattle.lang_typed.specs.Plain as typed
 use Rattle.body_exprs.specs.declared.env.Env.{Env}
-use Rattle.body_exprs.specs.declared.env.Mark.{Mark}
+use Rattle.body_exprs.specs.declared.env.LocalRow.{LocalRow}
+use Rattle.body_exprs.specs.declared.typed.Typed.{Typed}
+use Rattle.body_exprs.specs.declared.typed.Typed.TheVariants as given
 use Rattle.body_exprs.specs.declared.found.Found.{Found}
-use Rattle.body_exprs.specs.Answer.{Says}
-use Rattle.body_exprs.specs.Env.{bare, given_in, slots_in, left_to, mark_of}
+use Rattle.body_exprs.specs.Answer.{gives}
+use Rattle.body_exprs.specs.Env.{bare, given_in, part_of, slots_in}
+use Rattle.body_exprs.specs.Typed.{may_be, is_int, node_at, plain_node, plain_typed, type_in}
+use Rattle.body_exprs.specs.Typing.{Typing}
 use Rattle.body_check.specs.declared.body.Body.{Body}
-use Rattle.body_check.specs.declared.leaving.Leaving.{Leaving}
-use Rattle.body_check.specs.declared.leaving.Marks.TheVariants as marks
 use Rattle.body_check.specs.declared.node.Around.{Around}
 use Rattle.body_check.specs.declared.node.Node.{Node}
-use Rattle.body_check.specs.Checking.{InScope, opened, not_opened, Opening, Parting, range_refused, part_refused, part_assigning, parted, AssignsIs, outer_part, part_slot, part_variable}
-use Rattle.body_check.specs.Gathering.{taken_in, handed_on}
+use Rattle.body_check.specs.declared.parts.Whole.{Whole as Cut}
+use Rattle.body_check.specs.Checking.{check_form, check_scope, cut, cut_array, meeting, part_slot, part_variable, parts_declared, parts_left, parts_noted, plain_whole, variable_declared, Whole}
+use Rattle.body_check.specs.Deciding.{whole_fault}
 use Rattle.body_check.specs.Keeping.{inside}
-use Rattle.body_check.specs.Leaving.{from_here}
-use Rattle.body_check.specs.Noting.{fault_of, settled_node, with_fault_if}
-use Rattle.body_check.specs.Walks.{Verdict, passes, refused, apart_from, nothing_found, walk_of, home_of}
-use Rattle.body_check.proofs.Homes.{parts_at_home, piece_begun}
-use Rattle.body_check.proofs.Passing.{stopped, settle_stopped, judged_none, judged_some, noted_twice, passes_so, walk_from, closed_is}
+use Rattle.body_check.specs.Noting.{fault_of, settled_node, with_fault_if, with_found}
+use Rattle.body_check.specs.Simple.{declaration_noted, node_of, part_declared}
+use Rattle.body_check.specs.Touching.{assigns_outer}
+use Rattle.body_check.specs.Walks.{Walk, passes, refused, judged, apart_from, scope_so, walk_of, with_env, home_of}
+use Rattle.body_check.proofs.Homes.{parts_at_home}
+use Rattle.body_check.proofs.Nodes.{node_is, node_made}
+use Rattle.body_check.proofs.Passing.{meeting_first, meeting_then, third_is}
+use Rattle.body_check.proofs.Types.{came_back}
 
-pub range_stopped : {T : Type 0} (b : Body) (around : Around) (node : Node) (view var : Named) (array count : PlainExpr) (body : PlainStmt) (f : Found)
-    (x : T → Verdict TypedStmt) (r : Result T Stop) (s : Stop) → IsErrAnd r (λ z. z ≡ s) →
-    IfRefused s (λ q. Opening node view var array count (walk_of b f) (not_opened q)) →
-    Says r x refused (Parting b.atomic_params around node view var array count body (walk_of b f))
-range_stopped b around node view var array count body f x r s is h =
-    stopped (λ q. Opening node view var array count (walk_of b f) (not_opened q))
-    (Parting b.atomic_params around node view var array count body (walk_of b f)) r x s is (λ q d. range_refused d) h
+-- the array and the count, and the faults that are noted up to the body
+pub record Opened (b : Body) (node seen number first : Node) (view var : Named) (array count : PlainExpr) (f g h : Found) (whole : Cut)
+    (t : Option TypedExpr) : Type 0 where
+  pub cuts : cut array (walk_of b f) ≡ passes (plain_whole whole) (walk_of b g)
+  pub seen_is : seen ≡ with_found node whole.fault
+  pub counts : Typing b.env count g (gives t h)
+  pub number_is : number ≡ with_fault_if seen kind.Type (not (may_be is_int (type_in t)))
+  pub first_is : first ≡ parts_noted b.env view var whole.ty number
 
-pub part_stopped : {T : Type 0} (b o : Body) (around within : Around) (node first : Node) (view var : Named) (array count : PlainExpr)
-    (body : PlainStmt) (f g begun : Found) (source : Source) (size : TypedExpr) (x : T → Verdict TypedStmt) (r : Result T Stop) (s : Stop) → IsErrAnd r (λ z. z ≡ s) →
-    Opening node view var array count (walk_of b f) (opened source size first (walk_of o g)) → home_of o ≡ home_of b → within ≡ inside around →
-    begun ≡ nothing_found → IfRefused s (λ q. InScope o.atomic_params within body (walk_of o begun) (refused q)) →
-    Says r x refused (Parting b.atomic_params around node view var array count body (walk_of b f))
-part_stopped b o around within node first view var array count body f g begun source size x r s is opening home within_is none h =
-    stopped (λ q. InScope o.atomic_params within body (walk_of o begun) (refused q))
-    (Parting b.atomic_params around node view var array count body (walk_of b f)) r x s is
-    (λ q k. part_refused opening (piece_begun b o around within body g begun (refused q) home within_is none k)) h
+-- the body of a part
+abbrev body_in : Body → Around → Named → Named → PlainStmt → Found → Cut → Body → Found → TypedStmt → Type 0
+body_in b around view var body h whole s inner piece =
+    check_scope b.atomic_params (inside around) body (apart_from (scope_so (walk_of b h) (parts_declared b.env view var whole.ty))) ≡ passes piece (walk_of s inner)
+
+pub body_refused : {b : Body} (around : Around) {node seen number first : Node} {view var : Named} {array count : PlainExpr} (body : PlainStmt)
+    {f g h : Found} {whole : Cut} {t : Option TypedExpr} (q : Refusal) → Opened b node seen number first view var array count f g h whole t →
+    check_scope b.atomic_params (inside around) body (apart_from (scope_so (walk_of b h) (parts_declared b.env view var whole.ty))) ≡ refused q →
+    check_form b.atomic_params around node (form.foreach_parts view var array count body) (walk_of b f) ≡ refused q
+body_refused around body {whole = whole} q k d = rw (k.cuts, k.counts, came_back whole.ty, d)
 
 -- the body of a part that passed, as it was found
-pub record Part (b o s : Body) (around : Around) (node first second : Node) (view var : Named) (array count : PlainExpr) (body : PlainStmt)
-    (f g inner : Found) (source : Source) (size : TypedExpr) (piece : TypedStmt) (assigns : Bool) : Type 0 where
-  pub opening : Opening node view var array count (walk_of b f) (opened source size first (walk_of o g))
+pub record Part (b s : Body) (around : Around) (node seen number first second : Node) (view var : Named) (array count : PlainExpr) (body : PlainStmt)
+    (f g h inner : Found) (whole : Cut) (t : Option TypedExpr) (piece : TypedStmt) (assigns : Bool) : Type 0 where
+  pub opened : Opened b node seen number first view var array count f g h whole t
+  pub in_scope : body_in b around view var body h whole s inner piece
+  pub assigns_is : assigns ≡ assigns_outer body
   pub second_is : second ≡ with_fault_if first kind.Assign assigns
-  pub in_scope : InScope b.atomic_params (inside around) body (apart_from (walk_of o g)) (passes piece (walk_of s inner))
-  pub assigning : AssignsIs body assigns
-
-pub part_reported : {T : Type 0} (b o s : Body) (around : Around) (node first second : Node) (view var : Named) (array count : PlainExpr) (body : PlainStmt)
-    (f g inner : Found) (source : Source) (size : TypedExpr) (piece : TypedStmt) (assigns : Bool) (x : T → Verdict TypedStmt) (r : Result T Stop) (p : Stop) → IsErrAnd r (λ z. z ≡ p) →
-    Part b o s around node first second view var array count body f g inner source size piece assigns → Err p ≡ settled (fault_of second) →
-    Says r x refused (Parting b.atomic_params around node view var array count body (walk_of b f))
-part_reported b o s around node first second view var array count body f g inner source size piece assigns x r p is part settle =
-    settle_stopped (Parting b.atomic_params around node view var array count body (walk_of b f)) (fault_of second) r p x is settle
-    (λ q reported. part_assigning assigns part.opening part.in_scope part.assigning (ap fault_of (sym part.second_is) ∙ reported))
-
--- what the second test of a `foreach_parts` found
-pub record PartsMet (b s : Body) (second settle third : Node) (pass : Bool) (part variable : ℕ) (env : Env) (scope : Mark) (inner : Found) : Type 0 where
-  pub home : home_of s ≡ home_of b
-  pub scope_is : scope ≡ mark_of b.env
-  pub env_is : env ≡ left_to s.env scope
-  pub part_is : part ≡ slots_in b.env
-  pub variable_is : variable ≡ part + 4
-  pub pass_is : pass ≡ not (parts_interfere (given_in env) part variable inner.effects inner.uses)
-  pub settle_is : settle ≡ settled_node second
-  pub third_is : third ≡ with_fault_if settle kind.Interferes (not pass)
-
-not_not : (x y : Bool) → x ≡ not y → not x ≡ y
-not_not x true is = ap not is
-not_not x false is = ap not is
 
 abbrev met_in : Body → ℕ → ℕ → Found → Bool
 met_in b part variable found = parts_interfere (given_in b.env) part variable found.effects found.uses
 
-pass_at : (b s : Body) (second settle third : Node) (pass : Bool) (part variable : ℕ) (env : Env) (scope : Mark) (inner : Found) →
-    PartsMet b s second settle third pass part variable env scope inner → pass ≡ not (met_in b (part_slot b.env) (part_variable b.env) inner)
-pass_at b s second settle third pass part variable env scope inner m =
-    m.pass_is ∙ ap not (parts_at_home b s env part variable inner.effects inner.uses m.home (ap bare m.env_is))
-    ∙ ap (λ (z : ℕ). not (met_in b part z inner)) m.variable_is ∙ ap (λ (z : ℕ). not (met_in b z (z + 4) inner)) m.part_is
+parted : {b s : Body} {around : Around} {node seen number first second : Node} {view var : Named} {array count : PlainExpr} {body : PlainStmt}
+    {f g h inner : Found} {whole : Cut} {t : Option TypedExpr} {piece : TypedStmt} {assigns : Bool} →
+    Part b s around node seen number first second view var array count body f g h inner whole t piece assigns →
+    check_form b.atomic_params around node (form.foreach_parts view var array count body) (walk_of b f)
+    ≡ meeting first assigns kind.Interferes (met_in b (part_slot b.env) (part_variable b.env) inner)
+    (typed.statement node.place (typed.foreach_parts (part_slot b.env) (plain_source whole.source) (node_of count t) piece))
+    (parts_left (part_slot b.env) (walk_of b f) (plain_source whole.source) h (walk_of s inner))
+parted {whole = whole} k =
+    rw (k.opened.cuts, k.opened.counts, came_back whole.ty, k.in_scope, ← k.opened.seen_is, ← k.opened.number_is, ← k.opened.first_is, ← k.assigns_is)
 
-parts_fault : (b o s : Body) (around : Around) (node first second settle third : Node) (view var : Named) (array count : PlainExpr) (body : PlainStmt)
-    (f g inner : Found) (source : Source) (size : TypedExpr) (piece : TypedStmt) (assigns pass : Bool) (part variable : ℕ) (env : Env) (scope : Mark) →
-    Part b o s around node first second view var array count body f g inner source size piece assigns →
-    PartsMet b s second settle third pass part variable env scope inner →
-    fault_of (with_fault_if (settled_node (with_fault_if first kind.Assign assigns)) kind.Interferes
-    (met_in b (part_slot b.env) (part_variable b.env) inner)) ≡ fault_of third
-parts_fault b o s around node first second settle third view var array count body f g inner source size piece assigns pass part variable env scope k m =
-    ap fault_of
-    (sym
-    (noted_twice second (with_fault_if first kind.Assign assigns) settle third kind.Interferes kind.Interferes (not pass)
-    (met_in b (part_slot b.env) (part_variable b.env) inner) k.second_is m.settle_is refl
-    (not_not pass _ (pass_at b s second settle third pass part variable env scope inner m)) m.third_is))
+pub part_reported : {b s : Body} {around : Around} {node seen number first second : Node} {view var : Named} {array count : PlainExpr} {body : PlainStmt}
+    {f g h inner : Found} {whole : Cut} {t : Option TypedExpr} {piece : TypedStmt} {assigns : Bool} (q : Refusal) →
+    Part b s around node seen number first second view var array count body f g h inner whole t piece assigns → fault_of second ≡ Some q →
+    check_form b.atomic_params around node (form.foreach_parts view var array count body) (walk_of b f) ≡ refused q
+part_reported {first = first} {second} {assigns = assigns} q k reported = parted k ∙ meeting_first first second assigns _ _ _ _ q k.second_is reported
 
-pub parts_reported : {T : Type 0} (b o s : Body) (around : Around) (node first second settle third : Node) (view var : Named) (array count : PlainExpr)
-    (body : PlainStmt) (f g inner : Found) (source : Source) (size : TypedExpr) (piece : TypedStmt) (assigns pass : Bool) (part variable : ℕ) (env : Env) (scope : Mark)
-    (x : T → Verdict TypedStmt) (r : Result T Stop) (p : Stop) → IsErrAnd r (λ z. z ≡ p) →
-    Part b o s around node first second view var array count body f g inner source size piece assigns →
-    PartsMet b s second settle third pass part variable env scope inner → fault_of second ≡ None → Err p ≡ settled (fault_of third) →
-    Says r x refused (Parting b.atomic_params around node view var array count body (walk_of b f))
-parts_reported b o s around node first second settle third view var array count body f g inner source size piece assigns pass part variable env scope x r p is k m clean
-    reported_is =
-    settle_stopped (Parting b.atomic_params around node view var array count body (walk_of b f)) (fault_of third) r p x is reported_is
-    (λ q reported.
-    parted assigns k.opening k.in_scope k.assigning (ap fault_of (sym k.second_is) ∙ clean)
-    (judged_some _ _ _ q
-    (parts_fault b o s around node first second settle third view var array count body f g inner source size piece assigns pass part variable env scope k m ∙ reported)))
+-- what the second test of a `foreach_parts` found
+pub record PartsMet (b s : Body) (second settle third : Node) (pass : Bool) (part : ℕ) (env : Env) (inner : Found) : Type 0 where
+  pub home : home_of s ≡ home_of b
+  pub env_is : bare env ≡ bare s.env
+  pub part_is : part ≡ slots_in b.env
+  pub pass_is : pass ≡ not (parts_interfere (given_in env) part (part + 4) inner.effects inner.uses)
+  pub settle_is : settle ≡ settled_node second
+  pub third_noted : third ≡ with_fault_if settle kind.Interferes (not pass)
 
-pub parts_pass : (b o s : Body) (around : Around) (node first second settle third : Node) (view var : Named) (array count : PlainExpr) (body : PlainStmt)
-    (f g inner handed out : Found) (source : Source) (size : TypedExpr) (piece made : TypedStmt) (outer : Option ℕ) (assigns pass : Bool)
-    (part variable : ℕ) (env : Env) (scope : Mark) (leaving : Leaving) →
-    Part b o s around node first second view var array count body f g inner source size piece assigns →
-    PartsMet b s second settle third pass part variable env scope inner → fault_of second ≡ None → fault_of third ≡ None →
-    outer ≡ outer_part source → handed ≡ handed_on part outer inner → leaving ≡ from_here b.env marks.Dropped → out ≡ taken_in leaving g handed →
-    made ≡ typed.statement node.place (typed.foreach_parts part source size piece) →
-    Parting b.atomic_params around node view var array count body (walk_of b f) (passes made (walk_from env out))
-parts_pass b o s around node first second settle third view var array count body f g inner handed out source size piece made outer assigns pass part
-    variable env scope leaving k m clean clean2 outer_is handed_is leaving_is out_is made_is =
-    parted assigns k.opening k.in_scope k.assigning (ap fault_of (sym k.second_is) ∙ clean)
-    (judged_none _ _ _
-    (parts_fault b o s around node first second settle third view var array count body f g inner source size piece assigns pass part variable env scope k m
-    ∙ clean2)
-    ∙ passes_so made _ _ _ (made_is ∙ ap (λ (z : ℕ). typed.statement node.place (typed.foreach_parts z source size piece)) m.part_is)
-    (sym
-    (closed_is b s env scope leaving marks.Dropped marks.Dropped f g handed (handed_on (part_slot b.env) (outer_part source) inner) inner out m.scope_is
-    m.env_is leaving_is refl
-    (handed_is ∙ ap (λ (z : Option ℕ). handed_on part z inner) outer_is ∙ ap (λ (z : ℕ). handed_on z (outer_part source) inner) m.part_is) out_is)))
+pub not_not : (x y : Bool) → x ≡ not y → not x ≡ y
+not_not x true is = ap not is
+not_not x false is = ap not is
+
+pass_at : {b s : Body} {second settle third : Node} {pass : Bool} {part : ℕ} {env : Env} {inner : Found} →
+    PartsMet b s second settle third pass part env inner → pass ≡ not (met_in b (part_slot b.env) (part_variable b.env) inner)
+pass_at {b} {s} {part = part} {env} {inner} m =
+    m.pass_is ∙ ap not (parts_at_home b s env part (part + 4) inner.effects inner.uses m.home m.env_is)
+    ∙ ap (λ (z : ℕ). not (met_in b z (z + 4) inner)) m.part_is
+
+pub parts_is : {b s : Body} {around : Around} {node seen number first second settle third : Node} {view var : Named} {array count : PlainExpr}
+    {body : PlainStmt} {f g h inner : Found} {whole : Cut} {t : Option TypedExpr} {piece : TypedStmt} {assigns pass : Bool} {part : ℕ} {env : Env} →
+    Part b s around node seen number first second view var array count body f g h inner whole t piece assigns →
+    PartsMet b s second settle third pass part env inner → fault_of second ≡ None →
+    check_form b.atomic_params around node (form.foreach_parts view var array count body) (walk_of b f)
+    ≡ judged (fault_of third)
+    (typed.statement node.place (typed.foreach_parts (part_slot b.env) (plain_source whole.source) (node_of count t) piece))
+    (parts_left (part_slot b.env) (walk_of b f) (plain_source whole.source) h (walk_of s inner))
+parts_is {first = first} {second} {settle} {third} {assigns = assigns} {pass} k m clean =
+    parted k
+    ∙ meeting_then first second third assigns _ _ _ _ k.second_is clean
+    (third_is second settle third kind.Interferes kind.Interferes (not pass) _ m.settle_is refl (not_not pass _ (pass_at m)) m.third_noted)
+
+-- the part and the variable, one after the other
+pub opens_noted : (view var : Named) (t : Ty) (b p : Body) (node first second : Node) → p ≡ with_env b (part_declared b.env view.name t) →
+    first ≡ declaration_noted b.env view.name view.place node → second ≡ declaration_noted p.env var.name var.place first →
+    second ≡ parts_noted b.env view var t node
+opens_noted view var t b p node first second part_is first_is second_is =
+    second_is ∙ ap (λ (z : Body). declaration_noted z.env var.name var.place first) part_is
+    ∙ ap (declaration_noted (part_declared b.env view.name t) var.name var.place) first_is
+
+pub opens_declared : (view var : Named) (t : Ty) (b p v : Body) → p ≡ with_env b (part_declared b.env view.name t) →
+    v ≡ with_env p (variable_declared p.env var) → v ≡ with_env b (parts_declared b.env view var t)
+opens_declared view var t b p v part_is is = is ∙ ap (λ (z : Body). with_env z (variable_declared z.env var)) part_is
+
+-- what is cut: the part of a row, or what an array expression gives
+abbrev pub row_whole : LocalRow → Cut
+row_whole row = record { ty = row.ty; source = source.Part (record { number = row.slot }); fault = None }
+
+part_is : (o : Option LocalRow) (whole : Cut) → option_map row_whole o ≡ Some whole → (row : LocalRow) × (o ≡ Some row) × (whole ≡ row_whole row)
+part_is None whole is = absurd (cc)
+part_is (Some row) whole is = (row, refl, some_same (row_whole row) whole is)
+  where
+    some_same : (a b : Cut) → Some a ≡ Some b → b ≡ a
+    some_same a b e = cc
+
+pub no_part : (o : Option LocalRow) → option_map row_whole o ≡ None → o ≡ None
+no_part None is = refl
+no_part (Some row) is = absurd (cc)
+
+pub part_cut : (array : PlainExpr) (w : Walk) (found : Option Cut) (whole : Cut) → found ≡ option_map row_whole (part_of w.env array) → found ≡ Some whole →
+    cut array w ≡ passes (plain_whole whole) w
+part_cut array w found whole was is =
+    let p = part_is (part_of w.env array) whole (sym was ∙ is) in
+    rw p.1 (ap (λ (z : Cut). passes (plain_whole z) w) (sym p.2))
+
+abbrev whole_with : PlainType → Source → Option Kind → Whole
+whole_with t source fault = record { ty = t; source = source; fault = fault }
+
+pub known_whole : (array : Expr) (t : Typed) (e : Made) (copied : Ty) (fault : Option Kind) → t ≡ given.Known e → copied ≡ e.ty →
+    fault ≡ whole_fault (plain_type e.ty) →
+    plain_whole (record { ty = copied; source = source.Array e; fault = fault }) ≡ cut_array (plain_expr array) (plain_typed t)
+known_whole array t e copied fault is same reported =
+    ap (λ (z : Ty). whole_with (plain_type z) (plain_source (source.Array e)) fault) same
+    ∙ ap (λ (z : TypedExpr). whole_with (plain_type e.ty) (typed.of_array z) fault) (node_is e)
+    ∙ ap (whole_with (plain_type e.ty) (typed.of_array (plain_node e))) reported ∙ ap (λ (z : Typed). cut_array (plain_expr array) (plain_typed z)) (sym is)
+
+plain_void : plain_type ty.Void ≡ plain.void
+plain_void = ap plain_type (sym rolls-Void) ∙ fold-roll-Ty PlainType type_step _
+
+pub any_whole : (array : Expr) (t : Typed) (e : Made) → t ≡ given.Any → plain_node e ≡ node_at array.place (plain_typed given.Any) →
+    plain_whole (record { ty = ty.Void; source = source.Array e; fault = None }) ≡ cut_array (plain_expr array) (plain_typed t)
+any_whole array t e is made_is =
+    ap (λ (z : PlainType). whole_with z (plain_source (source.Array e)) None) plain_void
+    ∙ ap (λ (z : TypedExpr). whole_with plain.void (typed.of_array z) None) (node_is e ∙ node_made array e None made_is)
+    ∙ ap (λ (z : Typed). cut_array (plain_expr array) (plain_typed z)) (sym is)

@@ -2,11 +2,13 @@
 use Rattle.std.proofs.Common.{◌≡◌, ◌∙◌, Bool, Result, Ok, Err, Option, Some, None, sym, ap, subst}
 use Rattle.std.specs.Result.{IsErrAnd}
 use Rattle.lang_base.specs.declared.refusal.Kind.{Kind}
+use Rattle.lang_base.specs.declared.refusal.Kind.TheVariants as kind
 use Rattle.lang_base.specs.declared.refusal.Refusal.{Refusal}
 use Rattle.lang_base.specs.declared.refusal.Stop.{Stop}
 use Rattle.lang_base.specs.declared.refusal.Stop.TheVariants as stop
 use Rattle.lang_base.specs.Refused.{IfRefused}
 use Rattle.decl_headers.specs.Faults.{settled}
+use Rattle.lang_typed.specs.Plain.{TypedStmt}
 use Rattle.body_exprs.specs.declared.env.Env.{Env}
 use Rattle.body_exprs.specs.declared.env.Mark.{Mark}
 use Rattle.body_exprs.specs.declared.found.Found.{Found}
@@ -16,7 +18,7 @@ use Rattle.body_check.specs.declared.body.Body.{Body}
 use Rattle.body_check.specs.declared.leaving.Leaving.{Leaving}
 use Rattle.body_check.specs.declared.leaving.Marks.{Marks}
 use Rattle.body_check.specs.declared.node.Node.{Node}
-use Rattle.body_check.specs.Checking.{closed}
+use Rattle.body_check.specs.Checking.{closed, meeting}
 use Rattle.body_check.specs.Gathering.{taken_in}
 use Rattle.body_check.specs.Leaving.{from_here}
 use Rattle.body_check.specs.Noting.{fault_of, settled_node, with_fault_if}
@@ -52,10 +54,7 @@ pub says_all : {T M : Type 0} (P Q : Verdict M → Type 0) (r : Result T Stop) (
 says_all P Q (Ok t) made next h = next (made t) h
 says_all P Q (Err s) made next h = said_of (λ q. P (refused q)) (λ q. Q (refused q)) s (λ q. next (refused q)) h
 
--- the verdict of a node, by what was noted of it
-pub judged_at : {M : Type 0} (m n : Node) (made : M) (w : Walk) → n ≡ m → judged (fault_of m) made w ≡ judged (fault_of n) made w
-judged_at m n made w is = ap (λ (z : Node). judged (fault_of z) made w) (sym is)
-
+-- the verdict of a node, by what is reported of it
 pub judged_none : {M : Type 0} (reported : Option Refusal) (made : M) (w : Walk) → reported ≡ None → judged reported made w ≡ passes made w
 judged_none reported made w is = ap (λ (z : Option Refusal). judged z made w) is
 
@@ -66,14 +65,26 @@ judged_some reported made w q is = ap (λ (z : Option Refusal). judged z made w)
 pub passes_so : {M : Type 0} (m made : M) (w u : Walk) → m ≡ made → w ≡ u → passes made u ≡ passes m w
 passes_so m made w u m_is w_is = ap (λ (z : Walk). passes made z) (sym w_is) ∙ ap (λ z. passes z w) (sym m_is)
 
--- what is noted of a node by two tests, the second after the faults of the first were reported
-pub noted_twice : (second second' settle third : Node) (reason reason' : Kind) (there there' : Bool) →
-    second ≡ second' → settle ≡ settled_node second → reason ≡ reason' → there ≡ there' → third ≡ with_fault_if settle reason there →
-    third ≡ with_fault_if (settled_node second') reason' there'
-noted_twice second second' settle third reason reason' there there' second_is settle_is reason_is there_is is =
-    is ∙ ap (λ (z : Node). with_fault_if z reason there) (settle_is ∙ ap settled_node second_is)
-    ∙ ap (λ (z : Kind). with_fault_if (settled_node second') z there) reason_is
-    ∙ ap (λ (z : Bool). with_fault_if (settled_node second') reason' z) there_is
+-- a node without a fault passes
+pub clean_passes : {M : Type 0} (reported : Option Refusal) (m made : M) (w u : Walk) → reported ≡ None → m ≡ made → w ≡ u → judged reported made u ≡ passes m w
+clean_passes reported m made w u none m_is w_is = judged_none reported made u none ∙ passes_so m made w u m_is w_is
+
+-- a construct whose body assigns outer locals, and one of which it is asked whether branches interfere
+pub meeting_first : (node second : Node) (assigns interferes : Bool) (reason : Kind) (made : TypedStmt) (w : Walk) (q : Refusal) →
+    second ≡ with_fault_if node kind.Assign assigns → fault_of second ≡ Some q → meeting node assigns reason interferes made w ≡ refused q
+meeting_first node second assigns interferes reason made w q second_is reported = rw (← second_is, reported)
+
+pub meeting_then : (node second third : Node) (assigns interferes : Bool) (reason : Kind) (made : TypedStmt) (w : Walk) →
+    second ≡ with_fault_if node kind.Assign assigns → fault_of second ≡ None → third ≡ with_fault_if (settled_node second) reason interferes →
+    meeting node assigns reason interferes made w ≡ judged (fault_of third) made w
+meeting_then node second third assigns interferes reason made w second_is clean third_is = rw (← second_is, clean, ← third_is)
+
+-- the second test, as the code makes it
+pub third_is : (second settle third : Node) (reason reason' : Kind) (there there' : Bool) → settle ≡ settled_node second → reason ≡ reason' →
+    there ≡ there' → third ≡ with_fault_if settle reason there → third ≡ with_fault_if (settled_node second) reason' there'
+third_is second settle third reason reason' there there' settle_is reason_is there_is is =
+    is ∙ ap (λ (z : Node). with_fault_if z reason there) settle_is ∙ ap (λ (z : Kind). with_fault_if (settled_node second) z there) reason_is
+    ∙ ap (λ (z : Bool). with_fault_if (settled_node second) reason' z) there_is
 
 abbrev pub walk_from : Env → Found → Walk
 walk_from env found = record { env = env; found = found }

@@ -1,5 +1,5 @@
 -- An nd construct is reached after a piece where it was reached before it or in it.
-use Rattle.std.proofs.Common.{◌≡◌, ℕ, ◌+◌, ◌<◌, map, option_map, length, get_or, drop, List, ◌∷◌, Bool, true, false, ◌||◌, IsTrue, Option, Some, None, refl, sym, ap, subst}
+use Rattle.std.proofs.Common.{◌≡◌, ℕ, ◌+◌, ◌<◌, map, option_map, length, get_or, drop, List, ◌∷◌, Bool, true, false, ◌||◌, IsTrue, Option, Some, None, refl, sym, subst}
 use Rattle.std.proofs.lemmas.Bool.{false≢true}
 use Rattle.syntax_tree.specs.declared.stmt.Stmt.{Stmt}
 use Rattle.syntax_tree.specs.Nd.{holds_nd, form_holds_nd, some_holds_nd}
@@ -30,31 +30,6 @@ either_way true true holds next t = t
 either_way true false holds next t = t
 either_way false true holds next t = refl
 either_way false false holds next t = next t
-
-pub iterations_nd : (leaving : Leaving) (out inner begun iteration out3 : Found) (nd holds : Bool) → begun ≡ nothing_found → iteration ≡ with_nd nd inner →
-    out3 ≡ taken_in leaving out iteration → (IsTrue (begun.reaches_nd || holds) → IsTrue inner.reaches_nd) →
-    IsTrue (out.reaches_nd || (nd || holds)) → IsTrue out3.reaches_nd
-iterations_nd leaving out inner begun iteration out3 nd holds none iteration_is is next t =
-    taken_nd leaving out iteration out3 (nd || holds) is
-    (λ k.
-    subst (λ (z : Found). IsTrue z.reaches_nd) (sym iteration_is)
-    (either_way nd inner.reaches_nd holds (begun_nd begun inner holds none next) k))
-    t
-
--- what is reached with an nd construct, as the code says it
-pub or_then : (inner nd reached : Bool) → inner ≡ true → reached ≡ inner → reached ≡ (inner || nd)
-or_then true nd reached e is = is
-or_then false nd reached e is = absurd (cc)
-
-pub or_else : (inner nd reached : Bool) → inner ≡ false → reached ≡ nd → reached ≡ (inner || nd)
-or_else true nd reached e is = absurd (cc)
-or_else false nd reached e is = is
-
-abbrev pub reaching : Found → Bool → Found
-reaching found reached = record found { reaches_nd = reached }
-
-pub reached_is : (inner : Found) (nd reached : Bool) → reached ≡ (inner.reaches_nd || nd) → reaching inner reached ≡ with_nd nd inner
-reached_is inner nd reached is = ap (λ (z : Bool). reaching inner z) is
 
 handed_nd : (part : ℕ) (outer : Option ℕ) (found : Found) → (handed_on part outer found).reaches_nd ≡ found.reaches_nd
 handed_nd part None found = refl
@@ -107,6 +82,17 @@ parts_nd leaving out g inner begun handed out3 part outer holds none handed_is i
     (λ k.
     subst (λ (z : Found). IsTrue z.reaches_nd) (sym handed_is)
     (subst (λ (z : Bool). IsTrue z) (sym (handed_nd part outer inner)) (begun_nd begun inner holds none next k)))
+    t)
+
+pub iterations_nd : (leaving : Leaving) (out g inner begun iteration out3 : Found) (nd holds : Bool) → begun ≡ nothing_found → iteration ≡ with_nd nd inner →
+    out3 ≡ taken_in leaving g iteration → (IsTrue out.reaches_nd → IsTrue g.reaches_nd) → (IsTrue (begun.reaches_nd || holds) → IsTrue inner.reaches_nd) →
+    IsTrue (out.reaches_nd || (nd || holds)) → IsTrue out3.reaches_nd
+iterations_nd leaving out g inner begun iteration out3 nd holds none iteration_is is first next t =
+    subst (λ (z : Found). IsTrue z.reaches_nd) (sym is)
+    (or_both out.reaches_nd (nd || holds) g.reaches_nd iteration.reaches_nd first
+    (λ k.
+    subst (λ (z : Found). IsTrue z.reaches_nd) (sym iteration_is)
+    (either_way nd inner.reaches_nd holds (begun_nd begun inner holds none next) k))
     t)
 
 one_more_nd : (a h rest x y : Bool) → (IsTrue h → IsTrue y) → (IsTrue a → IsTrue x) → IsTrue (a || (h || rest)) → IsTrue ((x || y) || rest)

@@ -13,10 +13,9 @@ use Rattle.lang_typed.specs.Plain.{TypedStmt}
 use Rattle.body_exprs.specs.Answer.{Says}
 use Rattle.body_check.specs.declared.node.Around.{Around}
 use Rattle.body_check.specs.declared.node.Node.{Node}
-use Rattle.body_check.specs.Checking.{Checking, Standing, standing}
+use Rattle.body_check.specs.Checking.{check_form, check_stmt}
 use Rattle.body_check.specs.Noting.{node_at}
 use Rattle.body_check.specs.Walks.{Walk, Verdict, refused}
-use Rattle.body_check.proofs.Passing.{says_all}
 
 abbrev pub plain_kind : StmtKind → StmtForm
 plain_kind = fold-StmtKind StmtForm PlainStmt stmt_form stmt_node
@@ -145,17 +144,10 @@ kind_Return value = search (rules, the_lemmas)
 pub at_Return : (s : Stmt) (value : Option Expr) → s.kind ≡ kind.Return value → plain_stmt s ≡ statement s.place (return_form value)
 at_Return s value is = of_kind s (kind.Return value) (return_form value) is (kind_Return value)
 
--- a statement of this form, with the node that the code made of it
-pub as_statement : (params : List Bool) (around : Around) (follows : Bool) (node : Node) (s : Stmt) (f : StmtForm) (w : Walk) (v : Verdict TypedStmt) →
-    plain_stmt s ≡ statement s.place f →
-    node ≡ node_at s.place follows → Checking params around node f w v → Standing params around follows (plain_stmt s) w v
-as_statement params around follows node s f w v is made d =
-    subst (λ (z : PlainStmt). Standing params around follows z w v) (sym is) (standing (subst (λ (z : Node). Checking params around z f w v) made d))
-
--- what is said of the form of a statement is said of the statement
-pub as_said : {T : Type 0} (P : Verdict TypedStmt → Type 0) (params : List Bool) (around : Around) (follows : Bool) (node : Node) (s : Stmt) (f : StmtForm) (w : Walk)
+-- what is said of the form of a statement, with the node that the code made of it, is said of the statement
+pub as_said : {T : Type 0} (params : List Bool) (around : Around) (follows : Bool) (node : Node) (s : Stmt) (f : StmtForm) (w : Walk)
     (r : Result T Stop) (made : T → Verdict TypedStmt) → plain_stmt s ≡ statement s.place f → node ≡ node_at s.place follows →
-    ((v : Verdict TypedStmt) → P v → Checking params around node f w v) → Says r made refused P →
-    Says r made refused (Standing params around follows (plain_stmt s) w)
-as_said P params around follows node s f w r made is node_is rule said =
-    says_all P (Standing params around follows (plain_stmt s) w) r made (λ v d. as_statement params around follows node s f w v is node_is (rule v d)) said
+    Says r made refused (λ v. check_form params around node f w ≡ v) → Says r made refused (λ v. check_stmt params around follows (plain_stmt s) w ≡ v)
+as_said params around follows node s f w r made is node_is said =
+    subst (λ (z : PlainStmt). Says r made refused (λ v. check_stmt params around follows z w ≡ v)) (sym is)
+    (subst (λ (z : Node). Says r made refused (λ v. check_form params around z f w ≡ v)) node_is said)

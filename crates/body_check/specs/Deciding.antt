@@ -1,5 +1,5 @@
 -- When a node of a body is refused, by what was found of its parts.
-use Rattle.std.specs.Prelude.{ℕ, List, Bool, true, false, not, ◌&&◌, ◌||◌, cond, IsTrue, Option, Some, None, Result, Ok, Err}
+use Rattle.std.specs.Prelude.{List, Bool, true, false, not, ◌&&◌, ◌||◌, cond, Option, Some, None, Result, Ok, Err}
 use Rattle.lang_base.specs.declared.place.Place.{Place}
 use Rattle.lang_base.specs.declared.refusal.Kind.{Kind}
 use Rattle.lang_base.specs.declared.refusal.Kind.TheVariants as kind
@@ -12,10 +12,9 @@ use Rattle.lang_base.specs.declared.ty.Super.{Super}
 use Rattle.decl_table.specs.declared.rows.MethodRow.{MethodRow}
 use Rattle.syntax_tree.specs.declared.class.MethodResult.{MethodResult}
 use Rattle.syntax_tree.specs.declared.class.MethodResult.TheVariants as given
-use Rattle.syntax_tree.specs.Plain.{PlainStmt}
-use Rattle.body_locals.specs.Touches.{stmt_assigns}
 use Rattle.body_exprs.specs.Refusing.{refusal_at}
-use Rattle.body_exprs.specs.Typed.{may_be, is_value, FitsAs}
+use Rattle.body_exprs.specs.Fits.{fits_as}
+use Rattle.body_exprs.specs.Typed.{may_be, is_value}
 use Rattle.body_check.specs.declared.node.Around.{Around}
 use Rattle.body_check.specs.declared.leaving.Marks.{Marks}
 use Rattle.body_check.specs.declared.leaving.Marks.TheVariants as marks
@@ -43,10 +42,6 @@ is_misplaced around valued = around.enclosed || not (same_bool valued around.has
 abbrev pub local_fault : Bool → Bool → Option Kind
 local_fault fit is_final = cond fit (cond is_final (Some kind.Assign) None) (Some kind.Type)
 
--- the statement assigns a local that is declared outside of it
-abbrev pub AssignsOuter : PlainStmt → Type 0
-AssignsOuter s = (x : ℕ) × IsTrue (stmt_assigns x s)
-
 abbrev pub interference : Bool → Kind
 interference nd = cond nd kind.InterferesNd kind.Interferes
 
@@ -55,10 +50,10 @@ abbrev pub marks_after : Bool → Marks
 marks_after nd = cond nd marks.Kept marks.Dropped
 
 -- a value may be returned: it fits the result of the method, or where the method has none it is a value at all
-abbrev pub Returned : List Super → Bool → Option MethodRow → Option PlainType → Type 0
-Returned supers true (Some row) value = FitsAs supers value (plain_type row.result)
-Returned supers true None value = IsTrue (may_be is_value value)
-Returned supers false row value = IsTrue (may_be is_value value)
+abbrev pub may_return : List Super → Bool → Option MethodRow → Option PlainType → Bool
+may_return supers true (Some row) value = fits_as supers value (plain_type row.result)
+may_return supers true None value = may_be is_value value
+may_return supers false row value = may_be is_value value
 
 -- what is wrong with what is cut into parts: it is no array, or one with an index name, or its path isn't fully
 -- specified

@@ -9,7 +9,8 @@ use Rattle.syntax_tree.specs.Plain.{PlainStmt, statement, StmtForm, block, decla
 use Rattle.syntax_tree.specs.Nd.{some_holds_nd}
 use Rattle.body_check.specs.declared.node.Around.{Around}
 use Rattle.body_check.specs.Completes.{completes, all_complete}
-use Rattle.body_check.specs.Deciding.{is_misplaced, has_value, AssignsOuter}
+use Rattle.body_check.specs.Deciding.{is_misplaced, has_value}
+use Rattle.body_check.specs.Touching.{assigns_outer}
 
 -- what stands in the body of a method, with a result or without one
 abbrev pub method_around : Bool → Around
@@ -45,8 +46,8 @@ abbrev mutual
   FormKeeps around (print value) = Unit {0}
   FormKeeps around (print_text text) = Unit {0}
   FormKeeps around (cobegin nd branches) = BranchesKeep (inside around) branches
-  FormKeeps around (foreach nd var start count body) = Keeps (inside around) body × ¬ AssignsOuter body
-  FormKeeps around (foreach_parts view var array count body) = Keeps (inside around) body × ¬ AssignsOuter body
+  FormKeeps around (foreach nd var start count body) = Keeps (inside around) body × (assigns_outer body ≡ false)
+  FormKeeps around (foreach_parts view var array count body) = Keeps (inside around) body × (assigns_outer body ≡ false)
   FormKeeps around (atomic all) = AllKeep (inside around) all × (some_holds_nd all ≡ false)
   FormKeeps around (local_regions names) = Unit {0}
 

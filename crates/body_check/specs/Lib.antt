@@ -7,6 +7,6 @@ pub mod Leaving
 pub mod Meeting
 pub mod Methods
 pub mod Noting
-pub mod Once
 pub mod Simple
+pub mod Touching
 pub mod Walks

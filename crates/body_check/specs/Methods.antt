@@ -1,5 +1,6 @@
 -- The bodies of methods and constructors, class by class and member by member in the order of the text.
-use Rattle.std.specs.Prelude.{◌≡◌, ℕ, suc, ◌+◌, Bool, true, false, List, [], ◌∷◌, ◌++◌, map, length, take, codes, Option, Some, None, option_map, Result, Ok, Err}
+use Rattle.std.specs.Prelude.{◌≡◌, ℕ, suc, ◌+◌, Bool, true, false, ◌&&◌, cond, nat_lt, List, [], ◌∷◌, ◌++◌, map, length, take, codes, Option, Some, None, option_map, Result, Ok, Err}
+use Rattle.std.specs.List.{list_all}
 use Rattle.std.specs.Option.{option_map_or}
 use Rattle.lang_base.specs.declared.effect.Effect.{Effect}
 use Rattle.lang_base.specs.declared.refusal.Refusal.{Refusal}
@@ -22,11 +23,14 @@ use Rattle.body_assembly.specs.Assembled.{PlainBody, plain_body}
 use Rattle.decl_table.specs.declared.rows.MethodRow.{MethodRow}
 use Rattle.decl_table.specs.declared.table.Table.{Table}
 use Rattle.decl_table.specs.Table.{headers_of, numbered}
+use Rattle.decl_table.specs.Table.{supers_of as superclasses}
+use Rattle.decl_resolve.specs.Scoped.{no_names}
+use Rattle.lang_base.specs.declared.ty.Super.{Super}
 use Rattle.body_exprs.specs.declared.env.Env.{Env}
 use Rattle.body_check.specs.declared.bodies.ClassBodies.{ClassBodies}
 use Rattle.body_check.specs.declared.body.Body.{Body}
-use Rattle.body_exprs.specs.Env.{table_of, at_class, at_members, at_method, declared_in, slots_in, IsFresh}
-use Rattle.body_check.specs.Checking.{InBlock}
+use Rattle.body_exprs.specs.Env.{table_of, at_class, at_members, at_method, declared_in, slots_in}
+use Rattle.body_check.specs.Checking.{check_block}
 use Rattle.body_check.specs.Completes.{all_complete}
 use Rattle.body_check.specs.Deciding.{has_value, method_fault}
 use Rattle.body_check.specs.Keeping.{method_around}
@@ -81,6 +85,11 @@ abbrev pub after_ok : {T U : Type 0} → (T → U) → Result T Refusal → Resu
 after_ok make (Ok made) = Ok (make made)
 after_ok make (Err refusal) = Err refusal
 
+-- goes on with what was made
+abbrev pub then_ok : {T U : Type 0} → Result T Refusal → (T → Result U Refusal) → Result U Refusal
+then_ok (Ok made) next = next made
+then_ok (Err refusal) next = Err refusal
+
 abbrev pub reported : {T : Type 0} → Option Refusal → T → Result T Refusal
 reported None made = Ok made
 reported (Some refusal) made = Err refusal
@@ -90,10 +99,10 @@ method_judged class_env number method (passes ss w) = reported (method_reported 
 method_judged class_env number method (refused refusal) = Err refusal
 
 -- the body of a method or a constructor: its statements, then the method itself
-pub data MethodChecking (class_env : Env) (params : List Bool) (number : ℕ) (method : Method) : Result PlainBody Refusal → Type 0 where
-  of_method : {u : Verdict (List TypedStmt)} {v : Result PlainBody Refusal} →
-      InBlock params (method_around (has_value method.result)) (plain_stmts (map plain_stmt method.body)) (body_begun class_env number method) u →
-      method_judged class_env number method u ≡ v → MethodChecking class_env params number method v
+abbrev pub check_method : Env → List Bool → ℕ → Method → Result PlainBody Refusal
+check_method class_env params number method =
+    method_judged class_env number method
+    (check_block params (method_around (has_value method.result)) (plain_stmts (map plain_stmt method.body)) (body_begun class_env number method))
 
 -- the class is entered, which has so many region parameters, or a method of it
 pub record IsIn (start : Env) (class count : ℕ) (body : Body) : Type 0 where
@@ -101,17 +110,12 @@ pub record IsIn (start : Env) (class count : ℕ) (body : Body) : Type 0 where
   pub params : take count body.atomic_params ≡ class_params (table_of start) class
   pub all_params : count ≡ length (class_params (table_of start) class)
 
-abbrev pub is_method : Member → Bool
-is_method (member.Regions is_atomic names) = false
-is_method (member.Field declared) = false
-is_method (member.Method method) = true
-
 -- a member of a class, which has a body or none
-pub data MemberChecking (class_env : Env) (params : List Bool) : Member → ℕ → Result (Option PlainBody) Refusal → Type 0 where
-  no_method : {m : Member} {number : ℕ} → is_method m ≡ false → MemberChecking class_env params m number (Ok None)
-  a_method : {method : Method} {number : ℕ} {r : Result PlainBody Refusal} {v : Result (Option PlainBody) Refusal} →
-      MethodChecking class_env (params ++ own_params (table_of class_env) number) number method r → after_ok Some r ≡ v →
-      MemberChecking class_env params (member.Method method) number v
+abbrev pub check_member : Env → List Bool → Member → ℕ → Result (Option PlainBody) Refusal
+check_member class_env params (member.Regions is_atomic names) number = Ok None
+check_member class_env params (member.Field declared) number = Ok None
+check_member class_env params (member.Method method) number =
+    after_ok Some (check_method class_env (params ++ own_params (table_of class_env) number) number method)
 
 -- the number of the method after a member, and the bodies that a member has
 abbrev pub number_after : Option PlainBody → ℕ → ℕ
@@ -134,27 +138,46 @@ abbrev pub after_bodies : List PlainBody → PlainBodies → PlainBodies
 after_bodies before all = record { next = all.next; bodies = before ++ all.bodies }
 
 -- the members of a class, whose first method has this number
-pub data MembersChecking (class_env : Env) (params : List Bool) : List Member → ℕ → Result PlainBodies Refusal → Type 0 where
-  no_members : {number : ℕ} → MembersChecking class_env params [] number (Ok (record { next = number; bodies = [] }))
-  one_refused : {m : Member} {ms : List Member} {number : ℕ} {refusal : Refusal} →
-      MemberChecking class_env params m number (Err refusal) → MembersChecking class_env params (m ∷ ms) number (Err refusal)
-  then_members : {m : Member} {ms : List Member} {number : ℕ} {made : Option PlainBody} {u v : Result PlainBodies Refusal} →
-      MemberChecking class_env params m number (Ok made) → MembersChecking class_env params ms (number_after made number) u →
-      after_ok (after_bodies (bodies_of made)) u ≡ v → MembersChecking class_env params (m ∷ ms) number v
+abbrev pub check_members : Env → List Bool → List Member → ℕ → Result PlainBodies Refusal
+check_members class_env params [] number = Ok (record { next = number; bodies = [] })
+check_members class_env params (m ∷ ms) number =
+    then_ok (check_member class_env params m number)
+    (λ made. after_ok (after_bodies (bodies_of made)) (check_members class_env params ms (number_after made number)))
 
 -- the classes from a number on, whose first method has the other number
-pub data ClassesChecking (start : Env) : ℕ → List Class → ℕ → Result (List PlainBody) Refusal → Type 0 where
-  no_classes : {at number : ℕ} → ClassesChecking start at [] number (Ok [])
-  member_refused : {at number : ℕ} {class : Class} {classes : List Class} {refusal : Refusal} →
-      MembersChecking (at_class start (as_number at)) (class_params (table_of start) (as_number at)) class.members number (Err refusal) →
-      ClassesChecking start at (class ∷ classes) number (Err refusal)
-  then_classes : {at number : ℕ} {class : Class} {classes : List Class} {made : PlainBodies} {u v : Result (List PlainBody) Refusal} →
-      MembersChecking (at_class start (as_number at)) (class_params (table_of start) (as_number at)) class.members number (Ok made) →
-      ClassesChecking start (at + 1) classes made.next u → after_ok (λ bodies. made.bodies ++ bodies) u ≡ v →
-      ClassesChecking start at (class ∷ classes) number v
+abbrev pub check_classes : Env → ℕ → List Class → ℕ → Result (List PlainBody) Refusal
+check_classes start at [] number = Ok []
+check_classes start at (class ∷ classes) number =
+    then_ok (check_members (at_class start (as_number at)) (class_params (table_of start) (as_number at)) class.members number)
+    (λ made. after_ok (λ bodies. made.bodies ++ bodies) (check_classes start (at + 1) classes made.next))
+
+-- the rows stand in the order of class numbers, as in every table that is built
+abbrev pub in_order : List Super → Bool
+in_order [] = true
+in_order (row ∷ rows) = list_all (λ later. nat_lt row.class later.class) rows && in_order rows
+
+-- around no class yet
+abbrev pub around_classes : Table → Option ℕ → Env
+around_classes table length_name = record {
+  table = table;
+  class = 0;
+  method = 0;
+  supers = cond (in_order (superclasses table)) (superclasses table) [];
+  length = length_name;
+  params = no_names;
+  rows = [];
+  variables = no_names;
+  slots = 1;
+  regions = no_names;
+  declared = 0;
+  given = [];
+  class_given = 0;
+}
 
 -- all bodies of a program with this table, from the first class on: what is made of them, or the first refusal
-pub record BodiesChecking (program : Program) (table : Table) (v : Result (List PlainBody) Refusal) : Type 0 where
-  pub start : Env
-  pub fresh : IsFresh table (name_number program.names (codes "length")) start
-  pub checks : ClassesChecking start 0 program.classes 0 v
+abbrev pub check_bodies : Program → Table → Result (List PlainBody) Refusal
+check_bodies program table = check_classes (around_classes table (name_number program.names (codes "length"))) 0 program.classes 0
+
+-- the rules say this of the bodies of a program
+abbrev pub BodiesChecking : Program → Table → Result (List PlainBody) Refusal → Type 0
+BodiesChecking program table v = check_bodies program table ≡ v

@@ -5,7 +5,7 @@ use Rattle.lang_base.specs.declared.refusal.Kind.{Kind}
 use Rattle.lang_base.specs.declared.refusal.Kind.TheVariants as kind
 use Rattle.lang_base.specs.declared.refusal.Refusal.{Refusal}
 use Rattle.decl_headers.specs.declared.faults.Order.TheVariants as order
-use Rattle.decl_headers.specs.Faults.{none_by, noted, reported, forgotten}
+use Rattle.decl_headers.specs.Faults.{none_by, noted, reported, reported_of, forgotten}
 use Rattle.body_check.specs.declared.node.Node.{Node}
 
 -- with a fault of this kind at this place
@@ -31,6 +31,10 @@ node_at place follows = cond follows (with_fault (without_faults place) kind.Ret
 -- the fault that is reported of a node
 abbrev pub fault_of : Node → Option Refusal
 fault_of node = reported node.faults
+
+-- the fault that is reported of a node with this further one
+abbrev pub refusal_with : Node → Kind → Place → Refusal
+refusal_with node fault place = reported_of node.faults.order node.faults.kept (record { kind = fault; place = place })
 
 abbrev pub settled_node : Node → Node
 settled_node node = record node { faults = forgotten node.faults }

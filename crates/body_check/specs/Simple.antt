@@ -1,11 +1,12 @@
 -- Statements that hold no other, as the rules of the language say: their parts in order, then the node itself.
-use Rattle.std.specs.Prelude.{◌≡◌, ◌↔◌, ◌+◌, ℕ, Bool, true, not, ◌&&◌, ◌||◌, cond, IsTrue, nat_lt, List, [], ◌∷◌, is_some, Option, Some, None}
+use Rattle.std.specs.Prelude.{◌+◌, ℕ, Bool, true, false, not, ◌&&◌, ◌||◌, cond, nat_lt, List, [], ◌∷◌, is_some, Option, Some, None}
 use Rattle.std.specs.Option.{option_map_or}
 use Rattle.lang_base.specs.declared.place.Place.{Place}
 use Rattle.lang_base.specs.declared.refusal.Kind.{Kind}
 use Rattle.lang_base.specs.declared.refusal.Kind.TheVariants as kind
 use Rattle.lang_base.specs.declared.refusal.Refusal.{Refusal}
 use Rattle.lang_base.specs.declared.ty.Ty.{Ty}
+use Rattle.lang_base.specs.declared.ty.Ty.TheVariants as variant
 use Rattle.lang_base.specs.Types.{PlainType, plain_type}
 use Rattle.lang_base.specs.Types.{PlainType as ty}
 use Rattle.decl_headers.specs.declared.faults.Order.TheVariants as order
@@ -22,22 +23,15 @@ use Rattle.lang_typed.specs.Plain as typed
 use Rattle.decl_table.specs.Table.{headers_of, numbered}
 use Rattle.body_exprs.specs.declared.env.Env.{Env}
 use Rattle.body_exprs.specs.declared.env.LocalRow.{LocalRow}
-use Rattle.body_exprs.specs.declared.found.Found.{Found}
-use Rattle.body_exprs.specs.Answer.{gives}
-use Rattle.body_exprs.specs.Answer.{Answer as answer}
 use Rattle.body_exprs.specs.Env.{table_of, supers_of, scope_of, local_of, slots_in, declared_in, with_local, with_part, with_region, is_param_name, has_region}
-use Rattle.body_exprs.specs.Targeting.{PlainSpot, to_field, to_element, to_part, PlainTarget, Targeting, aims, misses, with_write}
-use Rattle.body_exprs.specs.Typed.{may_be, is_int, is_boolean, is_value, node_at, type_in, FitsAs}
-use Rattle.body_exprs.specs.Typing.{Typing}
+use Rattle.body_exprs.specs.Targeting.{PlainSpot, to_field, to_element, to_part, PlainTarget, TargetAnswer, aims, misses, type_target, with_write}
+use Rattle.body_exprs.specs.Typed.{may_be, is_int, is_boolean, is_value, node_at, type_in}
+use Rattle.body_exprs.specs.Fits.{fits_as}
 use Rattle.body_check.specs.declared.node.Around.{Around}
 use Rattle.body_check.specs.declared.node.Node.{Node}
-use Rattle.body_check.specs.Deciding.{is_misplaced, local_fault, Returned}
-use Rattle.body_check.specs.Noting.{with_fault, with_found, with_fault_if, fault_of}
-use Rattle.body_check.specs.Walks.{Walk, Verdict, refused, judged, found_so, scope_so}
-
--- a value of the type may stand where the other is declared, or not
-abbrev pub FitIs : Env → Option PlainType → PlainType → Bool → Type 0
-FitIs env value declared fit = IsTrue fit ↔ FitsAs (supers_of env) value declared
+use Rattle.body_check.specs.Deciding.{is_misplaced, local_fault, may_return}
+use Rattle.body_check.specs.Noting.{with_fault, with_found, with_fault_if, fault_of, refusal_with}
+use Rattle.body_check.specs.Walks.{Walk, Verdict, passes, refused, judged, expr_at, found_so, scope_so, ◌>>=◌, ◌>>◌}
 
 -- the type that a declaration names, and the fault that is reported of it
 abbrev pub declared_type : Env → TypeTree → PlainType
@@ -75,30 +69,37 @@ place_of (expression place form) = place
 abbrev pub node_of : PlainExpr → Option TypedExpr → TypedExpr
 node_of e given = node_at (place_of e) given
 
+-- the type of the code that a plain type is of
+abbrev pub code_type : PlainType → Ty
+code_type ty.int = variant.Int
+code_type ty.boolean = variant.Bool
+code_type ty.void = variant.Void
+code_type ty.null = variant.Null
+code_type (ty.class number args) = variant.Class number args
+code_type (ty.array elem rpl named) = variant.Array (code_type elem) rpl named
+
 -- `ty name = value;`: the type, the value, then the declaration
-pub data Declaring (node : Node) (is_final : Bool) (tree : TypeTree) (name : ℕ) (value : PlainExpr) (w : Walk) : Verdict TypedStmt → Type 0 where
-  type_refused : {refusal : Refusal} → declared_reported w.env tree ≡ Some refusal → Declaring node is_final tree name value w (refused refusal)
-  value_refused : {refusal : Refusal} →
-      declared_reported w.env tree ≡ None → Typing w.env value w.found (answer.refused refusal) → Declaring node is_final tree name value w (refused refusal)
-  declared : {t : Option TypedExpr} {g : Found} {fit : Bool} (made : Ty) {v : Verdict TypedStmt} →
-      declared_reported w.env tree ≡ None → plain_type made ≡ declared_type w.env tree →
-      Typing w.env value w.found (gives t g) → FitIs w.env (type_in t) (declared_type w.env tree) fit →
-      judged (fault_of (with_fault_if (declaration_noted w.env name node.place node) kind.Type (not fit)))
-      (typed.statement node.place (typed.declare (slots_in w.env) (declared_type w.env tree) is_final (node_of value t)))
-      (scope_so (found_so w g) (local_declared w.env name made is_final)) ≡ v →
-      Declaring node is_final tree name value w v
+abbrev pub declare : Node → Bool → TypeTree → ℕ → PlainExpr → Walk → Verdict TypedStmt
+declare node is_final tree name value w = do
+  declared_reported w.env tree
+  (t, x) ← expr_at value w
+  judged
+      (fault_of (with_fault_if (declaration_noted x.env name node.place node) kind.Type (not (fits_as (supers_of x.env) (type_in t) (declared_type x.env tree)))))
+      (typed.statement node.place (typed.declare (slots_in x.env) (declared_type x.env tree) is_final (node_of value t)))
+      (scope_so x (local_declared x.env name (code_type (declared_type x.env tree)) is_final))
+
+-- a value goes to the local of a name, if there is one
+abbrev pub put_in_local : Node → Named → TypedExpr → Option PlainType → Option LocalRow → Walk → Verdict TypedStmt
+put_in_local node target value t None w = refused (refusal_with node kind.Unknown target.place)
+put_in_local node target value t (Some row) w =
+    judged (fault_of (with_found node (local_fault (fits_as (supers_of w.env) t (plain_type row.ty)) row.is_final)))
+    (typed.statement target.place (typed.store row.slot value)) w
 
 -- `target = value;` for a local: the value, then the assignment
-pub data AssigningLocal (node : Node) (target : Named) (value : PlainExpr) (w : Walk) : Verdict TypedStmt → Type 0 where
-  value_refused : {refusal : Refusal} → Typing w.env value w.found (answer.refused refusal) → AssigningLocal node target value w (refused refusal)
-  no_local : {t : Option TypedExpr} {g : Found} {refusal : Refusal} →
-      Typing w.env value w.found (gives t g) → local_of w.env target.name ≡ None →
-      fault_of (with_fault node kind.Unknown target.place) ≡ Some refusal → AssigningLocal node target value w (refused refusal)
-  assigned : {t : Option TypedExpr} {g : Found} {row : LocalRow} {fit : Bool} {v : Verdict TypedStmt} →
-      Typing w.env value w.found (gives t g) → local_of w.env target.name ≡ Some row → FitIs w.env (type_in t) (plain_type row.ty) fit →
-      judged (fault_of (with_found node (local_fault fit row.is_final)))
-      (typed.statement target.place (typed.store row.slot (node_of value t))) (found_so w g) ≡ v →
-      AssigningLocal node target value w v
+abbrev pub assign_local : Node → Named → PlainExpr → Walk → Verdict TypedStmt
+assign_local node target value w = do
+  (t, x) ← expr_at value w
+  put_in_local node target (node_of value t) (type_in t) (local_of x.env target.name) x
 
 -- the value goes to a field, an element, or an element of a part
 abbrev pub stored : PlainSpot → TypedExpr → typed.StmtForm
@@ -110,46 +111,49 @@ stored (to_part part index) value = typed.store_part part index value
 abbrev pub target_fault : Bool → Bool → Option Kind
 target_fault fit may_write = cond fit (cond may_write None (Some kind.PartialWrite)) (Some kind.Type)
 
--- a value, which fits or not, goes to a target that was read
-pub data Putting (node : Node) (place : Place) (aim : PlainTarget) (t : Option TypedExpr) (value : TypedExpr) (w : Walk) : Verdict TypedStmt → Type 0 where
-  put : {fit : Bool} {v : Verdict TypedStmt} →
-      FitIs w.env (type_in t) aim.ty fit →
-      judged (fault_of (with_found node (target_fault fit aim.may_write))) (typed.statement place (stored aim.spot value))
-      (found_so w (with_write w.found aim)) ≡ v →
-      Putting node place aim t value w v
+-- what is assigned to, where the walk has come
+abbrev pub aimed_at : Walk → TargetAnswer → Verdict (Option PlainTarget)
+aimed_at w (aims aim found) = passes aim (found_so w found)
+aimed_at w (misses refusal) = refused refusal
+
+abbrev pub target_at : PlainExpr → Walk → Verdict (Option PlainTarget)
+target_at e w = aimed_at w (type_target w.env e w.found)
+
+-- a value goes to a target that was read. What comes from a part of what is no array takes every value
+abbrev pub put_in_place : Node → Place → Option PlainTarget → TypedExpr → Option PlainType → Walk → Verdict TypedStmt
+put_in_place node place None value t w =
+    judged (fault_of (with_fault_if node kind.Type (not (may_be is_value t)))) (typed.statement place (typed.perform value)) w
+put_in_place node place (Some aim) value t w =
+    judged (fault_of (with_found node (target_fault (fits_as (supers_of w.env) t aim.ty) aim.may_write)))
+    (typed.statement place (stored aim.spot value)) (found_so w (with_write w.found aim))
 
 -- `target = value;` for a field or an element: the target, the value, then the assignment
-pub data AssigningPlace (node : Node) (target value : PlainExpr) (w : Walk) : Verdict TypedStmt → Type 0 where
-  target_refused : {refusal : Refusal} → Targeting w.env target w.found (misses refusal) → AssigningPlace node target value w (refused refusal)
-  value_refused : {aim : Option PlainTarget} {g : Found} {refusal : Refusal} →
-      Targeting w.env target w.found (aims aim g) → Typing w.env value g (answer.refused refusal) → AssigningPlace node target value w (refused refusal)
-  -- it comes from a part of what is no array, where every value fits
-  anything_assigned : {g h : Found} {t : Option TypedExpr} {v : Verdict TypedStmt} →
-      Targeting w.env target w.found (aims None g) → Typing w.env value g (gives t h) →
-      judged (fault_of (with_fault_if node kind.Type (not (may_be is_value (type_in t)))))
-      (typed.statement (place_of target) (typed.perform (node_of value t))) (found_so w h) ≡ v →
-      AssigningPlace node target value w v
-  place_assigned : {aim : PlainTarget} {g h : Found} {t : Option TypedExpr} {fit : Bool} {v : Verdict TypedStmt} →
-      Targeting w.env target w.found (aims (Some aim) g) → Typing w.env value g (gives t h) → FitIs w.env (type_in t) aim.ty fit →
-      judged (fault_of (with_found node (target_fault fit aim.may_write)))
-      (typed.statement (place_of target) (stored aim.spot (node_of value t))) (found_so w (with_write h aim)) ≡ v →
-      AssigningPlace node target value w v
+abbrev pub assign_place : Node → PlainExpr → PlainExpr → Walk → Verdict TypedStmt
+assign_place node target value w = do
+  (aim, x) ← target_at target w
+  (t, y) ← expr_at value x
+  put_in_place node (place_of target) aim (node_of value t) (type_in t) y
 
 -- a call or a creation as a statement
-pub data Performing (node : Node) (value : PlainExpr) (w : Walk) : Verdict TypedStmt → Type 0 where
-  refused_itself : {refusal : Refusal} → Typing w.env value w.found (answer.refused refusal) → Performing node value w (refused refusal)
-  performed : {t : Option TypedExpr} {g : Found} {v : Verdict TypedStmt} →
-      Typing w.env value w.found (gives t g) →
-      judged (fault_of node) (typed.statement node.place (typed.perform (node_of value t))) (found_so w g) ≡ v → Performing node value w v
+abbrev pub perform : Node → PlainExpr → Walk → Verdict TypedStmt
+perform node value w = do
+  (t, x) ← expr_at value w
+  judged (fault_of node) (typed.statement node.place (typed.perform (node_of value t))) x
+
+-- `return;`
+abbrev pub leave : Around → Node → Walk → Verdict TypedStmt
+leave around node w =
+    judged (fault_of (with_fault_if node kind.Return (is_misplaced around false))) (typed.statement node.place typed.return_nothing) w
 
 -- `return value;`: the value, then the statement, which may stand there or not
-pub data Returning (around : Around) (node : Node) (value : PlainExpr) (w : Walk) : Verdict TypedStmt → Type 0 where
-  value_refused : {refusal : Refusal} → Typing w.env value w.found (answer.refused refusal) → Returning around node value w (refused refusal)
-  returned : {t : Option TypedExpr} {g : Found} {fit : Bool} {v : Verdict TypedStmt} →
-      Typing w.env value w.found (gives t g) → IsTrue fit ↔ Returned (supers_of w.env) around.has_result (numbered (table_of w.env) w.env.method) (type_in t) →
-      judged (fault_of (with_fault_if (with_fault_if node kind.Return (is_misplaced around true)) kind.Type (not fit)))
-      (typed.statement node.place (typed.return_value (node_of value t))) (found_so w g) ≡ v →
-      Returning around node value w v
+abbrev pub leave_with : Around → Node → PlainExpr → Walk → Verdict TypedStmt
+leave_with around node value w = do
+  (t, x) ← expr_at value w
+  judged
+      (fault_of
+      (with_fault_if (with_fault_if node kind.Return (is_misplaced around true)) kind.Type
+      (not (may_return (supers_of x.env) around.has_result (numbered (table_of x.env) x.env.method) (type_in t)))))
+      (typed.statement node.place (typed.return_value (node_of value t))) x
 
 -- an int or a boolean may be printed
 abbrev pub may_print : Option PlainType → Bool
@@ -159,13 +163,10 @@ abbrev pub printed_form : TypedExpr → typed.StmtForm
 printed_form e = cond (is_boolean (type_of e)) (typed.print_boolean e) (typed.print_int e)
 
 -- `print(value);`
-pub data Printing (node : Node) (value : PlainExpr) (w : Walk) : Verdict TypedStmt → Type 0 where
-  value_refused : {refusal : Refusal} → Typing w.env value w.found (answer.refused refusal) → Printing node value w (refused refusal)
-  printed : {t : Option TypedExpr} {g : Found} {v : Verdict TypedStmt} →
-      Typing w.env value w.found (gives t g) →
-      judged (fault_of (with_fault_if node kind.Type (not (may_print (type_in t)))))
-      (typed.statement node.place (printed_form (node_of value t))) (found_so w g) ≡ v →
-      Printing node value w v
+abbrev pub print : Node → PlainExpr → Walk → Verdict TypedStmt
+print node value w = do
+  (t, x) ← expr_at value w
+  judged (fault_of (with_fault_if node kind.Type (not (may_print (type_in t))))) (typed.statement node.place (printed_form (node_of value t))) x
 
 -- a region parameter or a local region in scope, or a region of the class or a superclass has the name
 abbrev pub is_region_name : Env → ℕ → Bool
@@ -188,7 +189,7 @@ abbrev pub regions_made : Env → List Named → List ℕ
 regions_made env [] = []
 regions_made env (named ∷ names) = declared_in env ∷ regions_made (region_declared env named.name) names
 
-abbrev pub regions_declared : Node → List Named → Walk → Verdict TypedStmt
-regions_declared node names w =
+abbrev pub declare_regions : Node → List Named → Walk → Verdict TypedStmt
+declare_regions node names w =
     judged (fault_of (regions_noted w.env node names)) (typed.statement node.place (typed.local_regions (regions_made w.env names)))
     (scope_so w (with_regions w.env names))

@@ -1,9 +1,15 @@
 -- How far the walk through a body has come, and what becomes of a piece of it.
 use Rattle.std.specs.Prelude.{Bool, false, List, [], Option, Some, None}
+use Rattle.std.specs.Option.{option_map_or}
 use Rattle.lang_base.specs.declared.refusal.Refusal.{Refusal}
+use Rattle.syntax_tree.specs.Plain.{PlainExpr}
+use Rattle.lang_typed.specs.Plain.{TypedExpr}
 use Rattle.body_exprs.specs.declared.env.Env.{Env}
 use Rattle.body_exprs.specs.declared.found.Found.{Found}
+use Rattle.body_exprs.specs.Answer.{Answer}
+use Rattle.body_exprs.specs.Answer.{Answer as answer}
 use Rattle.body_exprs.specs.Env.{bare, left_to, mark_of}
+use Rattle.body_exprs.specs.Typing.{type_expr}
 use Rattle.body_check.specs.declared.body.Body.{Body}
 
 -- what is in scope, and what was found of the block or the branch at hand
@@ -39,20 +45,29 @@ apart_from w = record w { found = nothing_found }
 abbrev pub scope_left : Walk → Walk → Walk
 scope_left before inside = record inside { env = left_to inside.env (mark_of before.env) }
 
--- a piece that has a scope of its own
-abbrev pub left_scope : {T : Type 0} → Walk → Verdict T → Verdict T
-left_scope before (passes made w) = passes made (scope_left before w)
-left_scope before (refused refusal) = refused refusal
-
 -- the fault that is reported of a node, after its parts
 abbrev pub judged : {T : Type 0} → Option Refusal → T → Walk → Verdict T
 judged None made w = passes made w
 judged (Some refusal) made w = refused refusal
 
--- the same after a part that may be refused, and what is made of what was made of the part
-abbrev pub following : {T U : Type 0} → Option Refusal → (T → U) → Verdict T → Verdict U
-following reported make (passes made w) = judged reported (make made) w
-following reported make (refused refusal) = refused refusal
+-- goes on with what a piece gives, and from where it ends; the fault of a part is that of the whole
+infixl 10 ◌>>=◌
+abbrev pub ◌>>=◌ : {T U : Type 0} → Verdict T → (T × Walk → Verdict U) → Verdict U
+passes made w >>= next = next (made, w)
+refused refusal >>= next = refused refusal
+
+-- goes on unless a fault is reported
+infixl 10 ◌>>◌
+abbrev pub ◌>>◌ : {T : Type 0} → Option Refusal → Verdict T → Verdict T
+reported_one >> rest = option_map_or refused reported_one rest
+
+-- an expression where the walk has come
+abbrev pub given_at : Walk → Answer → Verdict (Option TypedExpr)
+given_at w (answer.gives t found) = passes t (found_so w found)
+given_at w (answer.refused refusal) = refused refusal
+
+abbrev pub expr_at : PlainExpr → Walk → Verdict (Option TypedExpr)
+expr_at e w = given_at w (type_expr w.env e w.found)
 
 -- with another scope
 abbrev pub with_env : Body → Env → Body

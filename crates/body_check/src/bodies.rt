@@ -7,11 +7,11 @@ ghost use Rattle.syntax_tree.specs.Plain.{plain_stmt, plain_stmts};
 ghost use Rattle.lang_typed.specs.Plain.{plain_stmt as typed_stmt};
 ghost use Rattle.body_exprs.specs.declared.env.Env.{Env};
 ghost use Rattle.body_exprs.specs.Env.{table_of, at_class, at_method};
-ghost use Rattle.body_check.specs.Checking.{InBlock};
+ghost use Rattle.body_check.specs.Checking.{check_block};
 ghost use Rattle.body_check.specs.Completes.{all_complete};
 ghost use Rattle.body_check.specs.Deciding.{has_value, method_fault, reported_at};
 ghost use Rattle.body_check.specs.Keeping.{AllKeep, ClassesKeep, MethodKeeps, MemberKeeps, MembersKeep, ProgramKeeps, method_around};
-ghost use Rattle.body_check.specs.Methods.{formals_declared, formal_types, summary_of, bodies_of, class_params, number_after, plain_bodies, BodiesChecking, ClassesChecking, IsIn, MembersChecking, MemberChecking, MethodChecking};
+ghost use Rattle.body_check.specs.Methods.{formals_declared, formal_types, summary_of, bodies_of, class_params, number_after, plain_bodies, check_classes, check_members, check_member, check_method, BodiesChecking, IsIn};
 ghost use Rattle.body_check.specs.Walks.{home_of, passes, refused, walk_of, with_env};
 ghost use Rattle.body_exprs.specs.Answer.{Says};
 
@@ -45,7 +45,7 @@ pub fn check(alloc: Global, program: &Program, table: &Table) -> Result<Accepted
 
 fn check_classes(body: &mut Body, classes: &[Class]) -> Result<Items<MemberBody>, Stop>
     ensures keeps { OnOk result (ClassesKeep classes.now) }
-    ensures checks { Says result (λ bodies. Ok (map plain_body bodies)) Err (ClassesChecking body.old.env 0 classes.now 0) }
+    ensures checks { Says result (λ bodies. Ok (map plain_body bodies)) Err (λ v. check_classes body.old.env 0 classes.now 0 ≡ v) }
 {
     let mut bodies = Items::new(body.alloc);
     let mut methods = 0;
@@ -77,7 +77,7 @@ struct ClassBodies {
 fn check_class(body: &mut Body, class: &Class, number: u32, first: u32) -> Result<ClassBodies, Stop>
     ensures keeps { OnOk result (MembersKeep class.now.members) }
     ensures around { (other : ℕ) → OnOk result (at_class body.new.env other ≡ at_class body.old.env other) }
-    ensures checks { Says result (λ done. Ok (plain_bodies done)) Err (MembersChecking (at_class body.old.env number) (class_params (table_of body.old.env) number) class.now.members first) }
+    ensures checks { Says result (λ done. Ok (plain_bodies done)) Err (λ v. check_members (at_class body.old.env number) (class_params (table_of body.old.env) number) class.now.members first ≡ v) }
 {
     body.enter_class(number)?;
     let params = body.atomic_params.len();
@@ -113,7 +113,7 @@ fn check_member(
 ) -> Result<Option<MemberBody>, Stop>
     ensures keeps { OnOk result (MemberKeeps member.now) }
     ensures stays { (start : Env) (class : ℕ) → IsIn start class count body.old → OnOk result (IsIn start class count body.new) }
-    ensures checks { (start : Env) (class : ℕ) → IsIn start class count body.old → Says result (λ made. Ok (option_map plain_body made)) Err (MemberChecking (at_class start class) (class_params (table_of start) class) member.now number) }
+    ensures checks { (start : Env) (class : ℕ) → IsIn start class count body.old → Says result (λ made. Ok (option_map plain_body made)) Err (λ v. check_member (at_class start class) (class_params (table_of start) class) member.now number ≡ v) }
 {
     match member {
         Member::Regions { .. } | Member::Field(_) => Ok(None),
@@ -128,7 +128,7 @@ fn check_member(
 fn check_method(body: &mut Body, method: &Method, number: u32) -> Result<MemberBody, Stop>
     ensures keeps { OnOk result (MethodKeeps method.now) }
     ensures home { OnOk result (home_of body.new ≡ home_of body.old) }
-    ensures checks { (around : Env) → body.old.env ≡ at_method around number → Says result (λ made. Ok (plain_body made)) Err (MethodChecking around body.old.atomic_params number method.now) }
+    ensures checks { (around : Env) → body.old.env ≡ at_method around number → Says result (λ made. Ok (plain_body made)) Err (λ v. check_method around body.old.atomic_params number method.now ≡ v) }
 {
     let row = body.env.table().numbered(number);
     let nothing = EffectSet::new(body.alloc);
@@ -170,7 +170,7 @@ fn check_body(body: &mut Body, method: &Method, done: &mut Found) -> Result<Chec
     ensures completes { IfOk result (λ checked. checked.completes ≡ all_complete (plain_stmts (map plain_stmt method.now.body))) }
     ensures keeps { OnOk result (AllKeep (method_around (has_value method.now.result)) (plain_stmts (map plain_stmt method.now.body))) }
     ensures home { OnOk result (home_of body.new ≡ home_of body.old) }
-    ensures checks { Says result (λ checked. passes (map typed_stmt checked.stmts) (walk_of body.new done.new)) refused (InBlock body.old.atomic_params (method_around (has_value method.now.result)) (plain_stmts (map plain_stmt method.now.body)) (walk_of body.old done.old)) }
+    ensures checks { Says result (λ checked. passes (map typed_stmt checked.stmts) (walk_of body.new done.new)) refused (λ v. check_block body.old.atomic_params (method_around (has_value method.now.result)) (plain_stmts (map plain_stmt method.now.body)) (walk_of body.old done.old) ≡ v) }
 {
     let around = Around::method(has_value(&method.result));
     block(body, around, method.body.as_slice(), done)

@@ -30,16 +30,17 @@ impl<'a> Body<'a> {
 }
 
 impl Body<'_> {
-    ghost use Rattle.std.specs.Prelude.{◌≡◌, ◌↔◌, ◌++◌, None, true, not, take, IsTrue, IfOk, OnOk};
+    ghost use Rattle.std.specs.Prelude.{◌≡◌, ◌++◌, None, true, not, take, IsTrue, IfOk, OnOk};
     ghost use Rattle.lang_base.specs.Types.{plain_type};
     ghost use Rattle.syntax_tree.specs.Plain.{plain_expr};
     ghost use Rattle.decl_table.specs.Table.{numbered};
     ghost use Rattle.body_exprs.specs.Answer.{gives, refused, Says};
     ghost use Rattle.body_exprs.specs.Env.{at_class, at_method, supers_of, table_of};
-    ghost use Rattle.body_exprs.specs.Typed.{plain_typed, value_type, may_be, is_int, is_boolean, Fits};
+    ghost use Rattle.body_exprs.specs.Fits.{fits_as};
+    ghost use Rattle.body_exprs.specs.Typed.{plain_typed, value_type, may_be, is_int, is_boolean};
     ghost use Rattle.body_exprs.specs.Typing.{Typing};
     ghost use Rattle.body_check.specs.Checking.{variable_declared};
-    ghost use Rattle.body_check.specs.Deciding.{Returned};
+    ghost use Rattle.body_check.specs.Deciding.{may_return};
     ghost use Rattle.body_check.specs.Methods.{class_params, own_params, atomic_of};
     ghost use Rattle.body_check.specs.Noting.{fault_of, with_fault_if};
     ghost use Rattle.body_check.specs.Simple.{declaration_noted, has_room, local_declared, part_declared, region_declared, with_room};
@@ -117,14 +118,14 @@ impl Body<'_> {
 
     /// Whether a value may stand where the type is declared.
     pub fn fits(&self, value: &Typed, declared: &Ty) -> Result<bool, NoMemory>
-        ensures { IfOk result (λ fit. IsTrue fit ↔ Fits (supers_of self.now.env) value.now (plain_type declared.now)) }
+        ensures { IfOk result (λ fit. fit ≡ fits_as (supers_of self.now.env) (value_type value.now) (plain_type declared.now)) }
     {
         fits(self.alloc, &self.env, value, declared)
     }
 
     /// Whether the value may be returned. Where the method has no result that is asked of `void` alone.
     pub fn is_returned(&self, around: Around, value: &Typed) -> Result<bool, NoMemory>
-        ensures { IfOk result (λ fit. IsTrue fit ↔ Returned (supers_of self.now.env) around.has_result (numbered (table_of self.now.env) self.now.env.method) (value_type value.now)) }
+        ensures { IfOk result (λ fit. fit ≡ may_return (supers_of self.now.env) around.has_result (numbered (table_of self.now.env) self.now.env.method) (value_type value.now)) }
     {
         match self.env.table().numbered(self.env.method) {
             Some(row) if around.has_result => self.fits(value, &row.result),

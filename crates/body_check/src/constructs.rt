@@ -1,18 +1,18 @@
-ghost use Rattle.std.specs.Prelude.{◌≡◌, ◌↔◌, ◌||◌, ◌++◌, ◌∷◌, [], None, false, true, map, IsTrue, IfOk, OnOk};
+ghost use Rattle.std.specs.Prelude.{◌≡◌, ◌||◌, ◌++◌, ◌∷◌, [], None, false, true, map, IsTrue, IfOk, OnOk};
 ghost use Rattle.syntax_tree.specs.Nd.{holds_nd, some_holds_nd};
-ghost use Rattle.syntax_tree.specs.Plain.{plain_stmt, plain_stmts};
+ghost use Rattle.syntax_tree.specs.Plain.{plain_expr, plain_stmt, plain_stmts};
 ghost use Rattle.syntax_tree.specs.Plain.{StmtForm as form};
-ghost use Rattle.body_check.specs.Checking.{slots_of, Checking, Forking, Iterating};
-ghost use Rattle.body_check.specs.Deciding.{interference, marks_after, AssignsOuter};
+ghost use Rattle.body_check.specs.Checking.{slots_of, check_form};
+ghost use Rattle.body_check.specs.Deciding.{interference, marks_after};
 ghost use Rattle.body_check.specs.Keeping.{inside, Keeps, AllKeep, BranchesKeep};
 ghost use Rattle.body_check.specs.Noting.{fault_of};
 ghost use Rattle.body_check.specs.Walks.{home_of, passes, refused, walk_of};
+ghost use Rattle.body_check.specs.Touching.{assigns_outer};
 ghost use Rattle.body_exprs.specs.Answer.{Says};
-ghost use Rattle.body_exprs.specs.Typed.{plain_node as typed_expr};
 ghost use Rattle.lang_typed.specs.Plain.{plain_stmt as typed_stmt};
 
 use crate::body::Body;
-use crate::gathered::{all_effects, entered, take_in};
+use crate::gathered::{all_effects, entered, reach_nd, take_in};
 use crate::leaving::{Leaving, Marks};
 use crate::made;
 use crate::meet::{branches_pass, iterations_interfere};
@@ -21,9 +21,9 @@ use crate::statements::{Checked, block, scoped};
 use body_exprs::Found;
 use body_locals::{has_clash, touched};
 use lang_base::{Items, Kind, NoMemory, Stop};
-use lang_typed::{Branch, Expr, Slot};
+use lang_typed::{Branch, Slot};
 use std::alloc::Global;
-use syntax_tree::{Named, Stmt};
+use syntax_tree::{Expr, Named, Stmt};
 
 /// The fault of a construct whose branches interfere.
 fn interference(nd: bool) -> Kind
@@ -58,7 +58,7 @@ pub fn cobegin(
     ensures keeps { OnOk result (BranchesKeep (inside around) (plain_stmts (map plain_stmt branches.now))) }
     ensures nd { OnOk result (IsTrue (out.old.reaches_nd || (nd || some_holds_nd (plain_stmts (map plain_stmt branches.now)))) → IsTrue out.new.reaches_nd) }
     ensures home { OnOk result (home_of body.new ≡ home_of body.old) }
-    ensures checks { Says result (λ made. passes (typed_stmt made.stmt) (walk_of body.new out.new)) refused (Forking body.old.atomic_params around node nd (plain_stmts (map plain_stmt branches.now)) (walk_of body.old out.old)) }
+    ensures checks { Says result (λ made. passes (typed_stmt made.stmt) (walk_of body.new out.new)) refused (λ v. check_form body.old.atomic_params around node (form.cobegin nd (plain_stmts (map plain_stmt branches.now))) (walk_of body.old out.old) ≡ v) }
 {
     let place = node.place;
     let mut node = node;
@@ -80,7 +80,7 @@ pub fn cobegin(
         effects.push(all_effects(body.alloc, &inner)?)?;
         take_in(out, inner, leaving)?;
     }
-    out.reaches_nd = out.reaches_nd || nd;
+    reach_nd(out, nd);
     node.note_if(Kind::Assign, has_clash(body.alloc, locals.as_slice())?);
     node.settle()?;
     let passes = branches_pass(body, nd, effects.as_slice())?;
@@ -113,7 +113,7 @@ fn add_slot(body: &Body, name: u32, slots: &mut Items<Slot>) -> Result<(), NoMem
     }
 }
 
-/// `foreach (int var in ..) iteration`, after the start and the count.
+/// `foreach (int var in start, count) iteration`
 #[cycle(statements)]
 pub fn foreach(
     body: &mut Body,
@@ -121,20 +121,23 @@ pub fn foreach(
     node: Node,
     nd: bool,
     var: Named,
-    range: (Expr, Expr),
+    start: &Expr,
+    count: &Expr,
     iteration: &Stmt,
     out: &mut Found,
 ) -> Result<Checked, Stop>
     ensures completes { IfOk result (λ done. done.completes ≡ true) }
     ensures clean { OnOk result (fault_of node ≡ None) }
     ensures keeps { OnOk result (Keeps (inside around) (plain_stmt iteration.now)) }
-    ensures locals { OnOk result (¬ AssignsOuter (plain_stmt iteration.now)) }
+    ensures locals { OnOk result (assigns_outer (plain_stmt iteration.now) ≡ false) }
     ensures nd { OnOk result (IsTrue (out.old.reaches_nd || (nd || holds_nd (plain_stmt iteration.now))) → IsTrue out.new.reaches_nd) }
     ensures home { OnOk result (home_of body.new ≡ home_of body.old) }
-    ensures checks { Says result (λ made. passes (typed_stmt made.stmt) (walk_of body.new out.new)) refused (Iterating body.old.atomic_params around node nd var (typed_expr range.0) (typed_expr range.1) (plain_stmt iteration.now) (walk_of body.old out.old)) }
+    ensures checks { Says result (λ made. passes (typed_stmt made.stmt) (walk_of body.new out.new)) refused (λ v. check_form body.old.atomic_params around node (form.foreach nd var (plain_expr start.now) (plain_expr count.now) (plain_stmt iteration.now)) (walk_of body.old out.old) ≡ v) }
 {
     let place = node.place;
     let mut node = node;
+    let first = body.int(start, out, &mut node)?;
+    let number = body.int(count, out, &mut node)?;
     body.note_declaration(var.name, var.place, &mut node);
     let slot = body.env.slots();
     let leaving = Leaving::from_here(&body.env, marks_after(nd));
@@ -143,13 +146,14 @@ pub fn foreach(
     body.declare_variable(var)?;
     let done = scoped(body, around.inside(), iteration, &mut inner)?;
     body.env.leave(scope);
-    inner.reaches_nd = inner.reaches_nd || nd;
+    reach_nd(&mut inner, nd);
     node.note_if(Kind::Assign, assigns_outer(body.alloc, iteration)?);
     node.settle()?;
     let clash = iterations_interfere(body, nd, &inner, slot)?;
     node.note_if(interference(nd), clash);
     node.settle()?;
     take_in(out, inner, leaving)?;
+    let range = (first.into_node(start.place), number.into_node(count.place));
     Ok(Checked {
         completes: true,
         stmt: made::iterated(place, nd, slot, range, done.stmt),
@@ -158,7 +162,7 @@ pub fn foreach(
 
 /// Whether a statement assigns a local that is declared outside of it.
 pub fn assigns_outer(alloc: Global, stmt: &Stmt) -> Result<bool, NoMemory>
-    ensures { IfOk result (λ assigns. IsTrue assigns ↔ AssignsOuter (plain_stmt stmt.now)) }
+    ensures { IfOk result (λ assigns. assigns ≡ assigns_outer (plain_stmt stmt.now)) }
 {
     Ok(!touched(alloc, stmt)?.writes.is_empty())
 }
@@ -178,7 +182,7 @@ pub fn atomic(
     ensures quiet { OnOk result (some_holds_nd (plain_stmts (map plain_stmt stmts.now)) ≡ false) }
     ensures nd { OnOk result (IsTrue (out.old.reaches_nd || some_holds_nd (plain_stmts (map plain_stmt stmts.now))) → IsTrue out.new.reaches_nd) }
     ensures home { OnOk result (home_of body.new ≡ home_of body.old) }
-    ensures checks { Says result (λ made. passes (typed_stmt made.stmt) (walk_of body.new out.new)) refused (Checking body.old.atomic_params around node (form.atomic (plain_stmts (map plain_stmt stmts.now))) (walk_of body.old out.old)) }
+    ensures checks { Says result (λ made. passes (typed_stmt made.stmt) (walk_of body.new out.new)) refused (λ v. check_form body.old.atomic_params around node (form.atomic (plain_stmts (map plain_stmt stmts.now))) (walk_of body.old out.old) ≡ v) }
 {
     let place = node.place;
     let mut node = node;

@@ -2,6 +2,7 @@
 ghost use Rattle.std.specs.Prelude.{◌≡◌, ◌||◌, ◌++◌, filter, map, not, true, false, IfOk, OnOk};
 ghost use Rattle.lang_base.specs.Effects.{gathered};
 ghost use Rattle.region_interfere.specs.Uses.{is_use_of};
+ghost use Rattle.body_check.specs.Checking.{with_nd};
 ghost use Rattle.body_check.specs.Gathering.{all_left, entered, handed_on, moved, of_view, taken_in, with_uses};
 
 use crate::leaving::Leaving;
@@ -23,6 +24,13 @@ pub fn take_in(out: &mut Found, inner: Found, leaving: Leaving) -> Result<(), No
     out.reaches_nd = out.reaches_nd || reaches_nd;
     add_left(&mut out.effects, effects, leaving)?;
     add_uses(&mut out.uses, uses)
+}
+
+/// An nd construct is reached, where this is one.
+pub fn reach_nd(found: &mut Found, nd: bool)
+    ensures { found.new ≡ with_nd nd found.old }
+{
+    found.reaches_nd = found.reaches_nd || nd;
 }
 
 /// The effects, and the uses of parts as effects.

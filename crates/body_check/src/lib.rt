@@ -6,6 +6,9 @@
 //! accepts it gives the typed bodies: each statement of the tree with its names resolved, its expressions typed, its
 //! locals by their slots and its atomic blocks with the effects with which they are entered.
 //!
+//! The rules are functions of what a statement is and of what is in scope and was found before it: `check_stmt` gives
+//! the typed statement or its first fault, and `check_bodies` those of a program. `check` answers as they do.
+//!
 //! A body is walked by recursion, as deep as its statements are nested. The effects of statements that follow each
 //! other are gathered into one set; a branch and a block have a set of their own, which goes into the outer one
 //! without what went out of scope.
@@ -16,7 +19,6 @@ mod bodies;
 mod body;
 mod constructs;
 mod gathered;
-mod laws;
 mod leaving;
 mod made;
 mod meet;
@@ -27,4 +29,3 @@ mod statements;
 
 pub use accepted::Accepted;
 pub use bodies::check;
-pub use laws::one_checking;

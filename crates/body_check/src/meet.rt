@@ -1,10 +1,10 @@
-ghost use Rattle.std.specs.Prelude.{◌≡◌, ◌↔◌, ◌<◌, not, length, IsTrue, IfOk};
+ghost use Rattle.std.specs.Prelude.{◌≡◌, ◌<◌, not, length, IfOk};
 ghost use Rattle.lang_base.specs.Branches.{iterations_clash};
 ghost use Rattle.region_interfere.specs.Nd.{plain_nd};
 ghost use Rattle.region_interfere.specs.Uses.{parts_interfere};
 ghost use Rattle.body_exprs.specs.Env.{given_in};
 ghost use Rattle.body_check.specs.Gathering.{with_uses};
-ghost use Rattle.body_check.specs.Meeting.{declared_atomic, Apart, BranchesApart};
+ghost use Rattle.body_check.specs.Meeting.{declared_atomic, branches_interfere, some_interfere};
 
 use crate::body::Body;
 use crate::gathered::all_effects;
@@ -30,7 +30,7 @@ fn declared_atomic<'a>(body: &'a Body, nd: bool) -> Option<Atomic<'a>>
 
 /// Whether no two branches interfere, for nd where the construct is one of nd.
 pub fn branches_pass(body: &Body, nd: bool, branches: &[EffectSet]) -> Result<bool, NoMemory>
-    ensures { IfOk result (BranchesApart body.now.atomic_params nd body.now.env branches.now) }
+    ensures { IfOk result (λ passed. passed ≡ not (branches_interfere body.now.atomic_params nd body.now.env branches.now)) }
 {
     if branches.len() >= 4294967296 {
         return Ok(false);
@@ -46,7 +46,7 @@ fn branches_apart(
     nd: Option<Atomic>,
 ) -> Result<bool, NoMemory>
     requires { length branches.now < 4294967296 }
-    ensures { IfOk result (λ passed. IsTrue passed ↔ Apart given.now (plain_nd nd.entry) branches.now) }
+    ensures { IfOk result (λ passed. passed ≡ not (some_interfere given.now (plain_nd nd.entry) branches.now)) }
 {
     Ok(first_meeting(alloc, branches, given, nd)?.is_none())
 }

@@ -1,20 +1,18 @@
-ghost use Rattle.std.specs.Prelude.{◌≡◌, ◌||◌, None, Some, option_map, true, false, IsTrue, IfErr, IfOk, OnOk};
-ghost use Rattle.lang_base.specs.Refused.{IfRefused};
+ghost use Rattle.std.specs.Prelude.{◌≡◌, ◌||◌, None, option_map, true, false, IsTrue, IfOk, OnOk};
 ghost use Rattle.lang_base.specs.Types.{plain_type};
 ghost use Rattle.syntax_tree.specs.Nd.{holds_nd};
 ghost use Rattle.syntax_tree.specs.Plain.{plain_expr, plain_stmt};
-ghost use Rattle.body_exprs.specs.Answer.{Answer as answer};
+ghost use Rattle.syntax_tree.specs.Plain.{StmtForm as form};
 ghost use Rattle.body_exprs.specs.Env.{part_of};
-ghost use Rattle.body_exprs.specs.Typing.{Typing};
-ghost use Rattle.lang_typed.specs.Plain.{plain_source, of_array};
-ghost use Rattle.body_exprs.specs.Typed.{node_at, plain_typed};
-ghost use Rattle.body_exprs.specs.Typed.{plain_node as typed_expr};
-ghost use Rattle.body_check.specs.Checking.{cut_fault, cut_type, opened, not_opened, outer_part, Cutting, Opening, Parting};
-ghost use Rattle.body_check.specs.Deciding.{whole_fault, AssignsOuter};
+ghost use Rattle.lang_typed.specs.Plain.{plain_source};
+ghost use Rattle.body_exprs.specs.Typed.{plain_typed};
+ghost use Rattle.body_check.specs.Checking.{check_form, cut, cut_array, outer_part, parts_declared, parts_noted, plain_whole};
+ghost use Rattle.body_check.specs.Deciding.{whole_fault};
 ghost use Rattle.body_check.specs.Keeping.{inside, Keeps};
 ghost use Rattle.body_check.specs.Noting.{fault_of};
 ghost use Rattle.body_check.specs.Simple.{has_room};
-ghost use Rattle.body_check.specs.Walks.{home_of, passes, refused, walk_of};
+ghost use Rattle.body_check.specs.Touching.{assigns_outer};
+ghost use Rattle.body_check.specs.Walks.{home_of, passes, refused, walk_of, with_env};
 ghost use Rattle.body_exprs.specs.Answer.{Says};
 ghost use Rattle.lang_typed.specs.Plain.{plain_stmt as typed_stmt};
 
@@ -27,8 +25,8 @@ use crate::meet::parts_pass;
 use crate::node::{Around, Node};
 use crate::statements::{Checked, scoped};
 use body_exprs::{Found, Typed};
-use lang_base::{Kind, NoMemory, Place, Plain, Stop, Ty};
-use lang_typed::{Expr as TypedExpr, PartSource, Slot};
+use lang_base::{Kind, NoMemory, Plain, Stop, Ty};
+use lang_typed::{PartSource, Slot};
 use region_paths::is_full;
 use std::alloc::Global;
 use syntax_tree::{Expr, Named, Stmt};
@@ -57,10 +55,10 @@ pub fn foreach_parts(
     ensures completes { IfOk result (λ done. done.completes ≡ true) }
     ensures clean { OnOk result (fault_of node ≡ None) }
     ensures keeps { OnOk result (Keeps (inside around) (plain_stmt iteration.now)) }
-    ensures locals { OnOk result (¬ AssignsOuter (plain_stmt iteration.now)) }
+    ensures locals { OnOk result (assigns_outer (plain_stmt iteration.now) ≡ false) }
     ensures nd { OnOk result (IsTrue (out.old.reaches_nd || holds_nd (plain_stmt iteration.now)) → IsTrue out.new.reaches_nd) }
     ensures home { OnOk result (home_of body.new ≡ home_of body.old) }
-    ensures checks { Says result (λ made. passes (typed_stmt made.stmt) (walk_of body.new out.new)) refused (Parting body.old.atomic_params around node view.now var.now (plain_expr array.now) (plain_expr count.now) (plain_stmt iteration.now) (walk_of body.old out.old)) }
+    ensures checks { Says result (λ made. passes (typed_stmt made.stmt) (walk_of body.new out.new)) refused (λ v. check_form body.old.atomic_params around node (form.foreach_parts view.now var.now (plain_expr array.now) (plain_expr count.now) (plain_stmt iteration.now)) (walk_of body.old out.old) ≡ v) }
 {
     let place = node.place;
     let mut node = node;
@@ -68,9 +66,11 @@ pub fn foreach_parts(
     let leaving = Leaving::from_here(&body.env, Marks::Dropped);
     let mut inner = Found::new(body.alloc);
     let scope = body.env.mark();
-    let names = (*view, *var);
-    let range = (array, count);
-    let (source, count) = open(body, &mut node, names, range, out)?;
+    let whole = whole_of(body, array, out)?;
+    node.note_found(whole.fault);
+    let given = body.int(count, out, &mut node)?;
+    let Whole { ty, source, .. } = whole;
+    open(body, &mut node, *view, *var, ty)?;
     let done = scoped(body, around.inside(), iteration, &mut inner)?;
     body.env.leave(scope);
     node.note_if(Kind::Assign, assigns_outer(body.alloc, iteration)?);
@@ -81,38 +81,25 @@ pub fn foreach_parts(
     node.settle()?;
     let inner = hand_on_uses(body.alloc, inner, part, outer_part(&source))?;
     take_in(out, inner, leaving)?;
+    let count = given.into_node(count.place);
     Ok(Checked {
         completes: true,
         stmt: made::parted(place, part, source, count, done.stmt),
     })
 }
 
-/// Reads the array and the count, and puts the part and the variable in scope. Gives what is cut, and
-/// the count.
-fn open(
-    body: &mut Body,
-    node: &mut Node,
-    names: (Named, Named),
-    range: (&Expr, &Expr),
-    out: &mut Found,
-) -> Result<(PartSource, TypedExpr), Stop>
+/// Puts the part, of an array of this type, and the variable in scope.
+fn open(body: &mut Body, node: &mut Node, view: Named, var: Named, ty: Ty) -> Result<(), NoMemory>
+    ensures noted { OnOk result (node.new ≡ parts_noted body.old.env view var ty node.old) }
+    ensures whole { OnOk result (body.new ≡ with_env body.old (parts_declared body.old.env view var ty)) }
     ensures clean { OnOk result (fault_of node.new ≡ None → fault_of node.old ≡ None) }
     ensures room { OnOk result (fault_of node.new ≡ None → has_room body.old.env ≡ true) }
-    ensures nd { OnOk result (IsTrue out.old.reaches_nd → IsTrue out.new.reaches_nd) }
     ensures home { OnOk result (home_of body.new ≡ home_of body.old) }
-    ensures opening { Says result (λ range. opened (plain_source range.0) (typed_expr range.1) node.new (walk_of body.new out.new)) not_opened (Opening node.old names.0 names.1 (plain_expr range.entry.0.now) (plain_expr range.entry.1.now) (walk_of body.old out.old)) }
 {
-    let (view, var) = names;
-    let (array, count) = range;
-    let whole = whole_of(body, array, out)?;
-    node.note_found(whole.fault);
-    let given = body.int(count, out, node)?;
-    let Whole { ty, source, .. } = whole;
     body.note_declaration(view.name, view.place, node);
     body.declare_part(view.name, ty)?;
     body.note_declaration(var.name, var.place, node);
-    body.declare_variable(var)?;
-    Ok((source, given.into_node(count.place)))
+    body.declare_variable(var)
 }
 
 /// The slot of the part that is cut, where it is one.
@@ -128,22 +115,18 @@ fn outer_part(source: &PartSource) -> Option<u32>
 /// What the array of a `foreach_parts` is. A part in its place is no use of that part.
 fn whole_of(body: &Body, array: &Expr, out: &mut Found) -> Result<Whole, Stop>
     ensures nd { OnOk result (IsTrue out.old.reaches_nd → IsTrue out.new.reaches_nd) }
-    ensures ok { IfOk result (λ whole. Cutting body.now.env (plain_expr array.now) out.old (plain_type whole.ty) (plain_source whole.source) whole.fault out.new) }
-    ensures unnamed { IfErr result (λ stop. IfRefused stop (λ refusal. part_of body.now.env (plain_expr array.now) ≡ None)) }
-    ensures fault { IfErr result (λ stop. IfRefused stop (λ refusal. Typing body.now.env (plain_expr array.now) out.old (answer.refused refusal))) }
+    ensures cut { Says result (λ whole. passes (plain_whole whole) (walk_of body.now out.new)) refused (λ v. cut (plain_expr array.now) (walk_of body.now out.old) ≡ v) }
 {
     if let Some(whole) = part_of_part(body, array)? {
         return Ok(whole);
     }
     let given = body.typed(array, out)?;
-    Ok(array_whole(body.alloc, array.place, given)?)
+    Ok(array_whole(body.alloc, array, given)?)
 }
 
-/// What the array expression at a place is, which gives this.
-fn array_whole(alloc: Global, place: Place, given: Typed) -> Result<Whole, NoMemory>
-    ensures ty { IfOk result (λ whole. plain_type whole.ty ≡ cut_type (plain_typed given)) }
-    ensures source { IfOk result (λ whole. plain_source whole.source ≡ of_array (node_at place (plain_typed given))) }
-    ensures fault { IfOk result (λ whole. whole.fault ≡ cut_fault (plain_typed given)) }
+/// What the array expression is, which gives this.
+fn array_whole(alloc: Global, array: &Expr, given: Typed) -> Result<Whole, NoMemory>
+    ensures { IfOk result (λ whole. plain_whole whole ≡ cut_array (plain_expr array.now) (plain_typed given)) }
 {
     match given {
         Typed::Known(made) => {
@@ -155,7 +138,7 @@ fn array_whole(alloc: Global, place: Place, given: Typed) -> Result<Whole, NoMem
         // It comes from a part of what is no array, and is none itself. That is reported at the outer construct.
         Typed::Any => Ok(Whole {
             ty: Ty::Void,
-            source: PartSource::Array(Typed::Any.into_node(place)),
+            source: PartSource::Array(Typed::Any.into_node(array.place)),
             fault: None,
         }),
     }

@@ -5,7 +5,7 @@ ghost use Rattle.body_exprs.specs.declared.found.Found.{Found};
 ghost use Rattle.syntax_tree.specs.Plain.{plain_expr};
 ghost use Rattle.body_check.specs.Deciding.{is_misplaced, local_fault};
 ghost use Rattle.body_check.specs.Noting.{fault_of, with_fault_if};
-ghost use Rattle.body_check.specs.Simple.{declared_type, declared_reported, is_region_name, may_print, region_noted, regions_declared, target_fault, AssigningLocal, AssigningPlace, Declaring, Performing, Printing, Putting, Returning};
+ghost use Rattle.body_check.specs.Simple.{declared_type, declared_reported, is_region_name, may_print, region_noted, target_fault, assign_local, assign_place, declare, declare_regions, leave, leave_with, perform, print, put_in_place};
 ghost use Rattle.body_check.specs.Walks.{home_of, judged, passes, refused, walk_of, Walk};
 ghost use Rattle.body_exprs.specs.Answer.{Says};
 ghost use Rattle.lang_typed.specs.Plain as typed;
@@ -38,7 +38,7 @@ pub fn declare(
     ensures clean { OnOk result (fault_of node ≡ None) }
     ensures nd { OnOk result (IsTrue out.old.reaches_nd → IsTrue out.new.reaches_nd) }
     ensures home { OnOk result (home_of body.new ≡ home_of body.old) }
-    ensures checks { Says result (λ made. passes (typed_stmt made.stmt) (walk_of body.new out.new)) refused (Declaring node is_final tree.now name (plain_expr value.now) (walk_of body.old out.old)) }
+    ensures checks { Says result (λ made. passes (typed_stmt made.stmt) (walk_of body.new out.new)) refused (λ v. declare node is_final tree.now name (plain_expr value.now) (walk_of body.old out.old) ≡ v) }
 {
     let place = node.place;
     let mut node = node;
@@ -82,7 +82,7 @@ pub fn assign_local(
     ensures completes { IfOk result (λ done. done.completes ≡ true) }
     ensures clean { OnOk result (fault_of node ≡ None) }
     ensures nd { OnOk result (IsTrue out.old.reaches_nd → IsTrue out.new.reaches_nd) }
-    ensures checks { Says result (λ made. passes (typed_stmt made.stmt) (walk_of body.now out.new)) refused (AssigningLocal node target (plain_expr value.now) (walk_of body.now out.old)) }
+    ensures checks { Says result (λ made. passes (typed_stmt made.stmt) (walk_of body.now out.new)) refused (λ v. assign_local node target (plain_expr value.now) (walk_of body.now out.old) ≡ v) }
 {
     let mut node = node;
     let given = body.typed(value, out)?;
@@ -118,7 +118,7 @@ pub fn assign_place(
     ensures completes { IfOk result (λ done. done.completes ≡ true) }
     ensures clean { OnOk result (fault_of node ≡ None) }
     ensures nd { OnOk result (IsTrue out.old.reaches_nd → IsTrue out.new.reaches_nd) }
-    ensures checks { Says result (λ made. passes (typed_stmt made.stmt) (walk_of body.now out.new)) refused (AssigningPlace node (plain_expr written.now) (plain_expr value.now) (walk_of body.now out.old)) }
+    ensures checks { Says result (λ made. passes (typed_stmt made.stmt) (walk_of body.now out.new)) refused (λ v. assign_place node (plain_expr written.now) (plain_expr value.now) (walk_of body.now out.old) ≡ v) }
 {
     let target = read_target(body.alloc, &body.env, out, written)?;
     let given = body.typed(value, out)?;
@@ -141,7 +141,7 @@ fn assign_target(
     ensures completes { IfOk result (λ done. done.completes ≡ true) }
     ensures clean { OnOk result (fault_of node ≡ None) }
     ensures nd { OnOk result (IsTrue out.old.reaches_nd → IsTrue out.new.reaches_nd) }
-    ensures checks { Says result (λ made. passes (typed_stmt made.stmt) (walk_of body.now out.new)) refused (Putting node place (plain_target target) (plain_typed given) (node_at value (plain_typed given)) (walk_of body.now out.old)) }
+    ensures checks { Says result (λ made. passes (typed_stmt made.stmt) (walk_of body.now out.new)) refused (λ v. put_in_place node place (Some (plain_target target)) (node_at value (plain_typed given)) (value_type given) (walk_of body.now out.old) ≡ v) }
 {
     let mut node = node;
     let fits = body.fits(&given, &target.ty)?;
@@ -158,7 +158,7 @@ fn assign_target(
 fn assign_anything(node: Node, place: Place, given: Typed, value: Place) -> Result<Checked, Stop>
     ensures completes { IfOk result (λ done. done.completes ≡ true) }
     ensures clean { OnOk result (fault_of node ≡ None) }
-    ensures checks { (w : Walk) → Says result (λ made. passes (typed_stmt made.stmt) w) refused (λ v. judged (fault_of (with_fault_if node Kind.Type (not (may_be is_value (value_type given))))) (typed.statement place (typed.perform (node_at value (plain_typed given)))) w ≡ v) }
+    ensures checks { (w : Walk) → Says result (λ made. passes (typed_stmt made.stmt) w) refused (λ v. put_in_place node place None (node_at value (plain_typed given)) (value_type given) w ≡ v) }
 {
     let mut node = node;
     node.note_if(Kind::Type, !given.is_value());
@@ -188,7 +188,7 @@ pub fn perform(body: &Body, node: Node, e: &Expr, out: &mut Found) -> Result<Che
     ensures completes { IfOk result (λ done. done.completes ≡ true) }
     ensures clean { OnOk result (fault_of node ≡ None) }
     ensures nd { OnOk result (IsTrue out.old.reaches_nd → IsTrue out.new.reaches_nd) }
-    ensures checks { Says result (λ made. passes (typed_stmt made.stmt) (walk_of body.now out.new)) refused (Performing node (plain_expr e.now) (walk_of body.now out.old)) }
+    ensures checks { Says result (λ made. passes (typed_stmt made.stmt) (walk_of body.now out.new)) refused (λ v. perform node (plain_expr e.now) (walk_of body.now out.old) ≡ v) }
 {
     let place = node.place;
     let mut node = node;
@@ -205,7 +205,7 @@ pub fn leave(body: &Body, around: Around, node: Node) -> Result<Checked, Stop>
     ensures completes { IfOk result (λ done. done.completes ≡ false) }
     ensures placed { OnOk result (is_misplaced around false ≡ false) }
     ensures clean { OnOk result (fault_of node ≡ None) }
-    ensures checks { (found : Found) → Says result (λ made. passes (typed_stmt made.stmt) (walk_of body.now found)) refused (λ v. judged (fault_of (with_fault_if node Kind.Return (is_misplaced around false))) (typed.statement node.place typed.return_nothing) (walk_of body.now found) ≡ v) }
+    ensures checks { (found : Found) → Says result (λ made. passes (typed_stmt made.stmt) (walk_of body.now found)) refused (λ v. leave around node (walk_of body.now found) ≡ v) }
 {
     let place = node.place;
     let mut node = node;
@@ -229,7 +229,7 @@ pub fn leave_with(
     ensures placed { OnOk result (is_misplaced around true ≡ false) }
     ensures clean { OnOk result (fault_of node ≡ None) }
     ensures nd { OnOk result (IsTrue out.old.reaches_nd → IsTrue out.new.reaches_nd) }
-    ensures checks { Says result (λ made. passes (typed_stmt made.stmt) (walk_of body.now out.new)) refused (Returning around node (plain_expr value.now) (walk_of body.now out.old)) }
+    ensures checks { Says result (λ made. passes (typed_stmt made.stmt) (walk_of body.now out.new)) refused (λ v. leave_with around node (plain_expr value.now) (walk_of body.now out.old) ≡ v) }
 {
     let place = node.place;
     let mut node = node;
@@ -256,7 +256,7 @@ pub fn print(body: &Body, node: Node, value: &Expr, out: &mut Found) -> Result<C
     ensures completes { IfOk result (λ done. done.completes ≡ true) }
     ensures clean { OnOk result (fault_of node ≡ None) }
     ensures nd { OnOk result (IsTrue out.old.reaches_nd → IsTrue out.new.reaches_nd) }
-    ensures checks { Says result (λ made. passes (typed_stmt made.stmt) (walk_of body.now out.new)) refused (Printing node (plain_expr value.now) (walk_of body.now out.old)) }
+    ensures checks { Says result (λ made. passes (typed_stmt made.stmt) (walk_of body.now out.new)) refused (λ v. print node (plain_expr value.now) (walk_of body.now out.old) ≡ v) }
 {
     let place = node.place;
     let mut node = node;
@@ -296,7 +296,7 @@ pub fn declare_regions(body: &mut Body, node: Node, names: &[Named]) -> Result<C
     ensures completes { IfOk result (λ done. done.completes ≡ true) }
     ensures clean { OnOk result (fault_of node ≡ None) }
     ensures home { OnOk result (home_of body.new ≡ home_of body.old) }
-    ensures checks { (found : Found) → Says result (λ made. passes (typed_stmt made.stmt) (walk_of body.new found)) refused (λ v. regions_declared node names.now (walk_of body.old found) ≡ v) }
+    ensures checks { (found : Found) → Says result (λ made. passes (typed_stmt made.stmt) (walk_of body.new found)) refused (λ v. declare_regions node names.now (walk_of body.old found) ≡ v) }
 {
     let place = node.place;
     let mut node = node;

@@ -4,10 +4,10 @@ ghost use Rattle.syntax_tree.specs.Nd.{holds_nd, form_holds_nd, some_holds_nd};
 ghost use Rattle.syntax_tree.specs.Plain.{plain_expr, plain_stmt, plain_stmts, return_form};
 ghost use Rattle.syntax_tree.specs.Plain.{choice_form as if_form};
 ghost use Rattle.syntax_tree.specs.Plain.{StmtForm as form};
-ghost use Rattle.body_check.specs.Checking.{Checking, Choosing, InBlock, InOrder, InScope, Standing};
+ghost use Rattle.body_check.specs.Checking.{check_stmt, check_form, check_scope, check_block, check_all};
 ghost use Rattle.body_check.specs.Completes.{completes, form_completes, all_complete};
-ghost use Rattle.body_check.specs.Deciding.{is_misplaced, AssignsOuter};
-ghost use Rattle.body_check.specs.Keeping.{inside, Keeps, FormKeeps, AllKeep};
+ghost use Rattle.body_check.specs.Deciding.{is_misplaced};
+ghost use Rattle.body_check.specs.Keeping.{Keeps, FormKeeps, AllKeep};
 ghost use Rattle.body_check.specs.Noting.{fault_of};
 ghost use Rattle.body_check.specs.Walks.{home_of, passes, refused, walk_of};
 ghost use Rattle.body_exprs.specs.Answer.{Says};
@@ -29,7 +29,7 @@ use crate::simple::{
 use body_exprs::Found;
 use lang_base::{Boxed, Items, Place, Stop};
 use lang_typed::{Expr as TypedExpr, Stmt as TypedStmt};
-use syntax_tree::{Expr, Named, Stmt, StmtKind};
+use syntax_tree::{Expr, Stmt, StmtKind};
 
 /// A statement that passed: whether it completes, and the typed one.
 #[derive(Drop)]
@@ -68,7 +68,7 @@ pub fn statement(
     ensures keeps { OnOk result (Keeps around (plain_stmt stmt.now)) }
     ensures nd { OnOk result (IsTrue (out.old.reaches_nd || holds_nd (plain_stmt stmt.now)) → IsTrue out.new.reaches_nd) }
     ensures home { OnOk result (home_of body.new ≡ home_of body.old) }
-    ensures checks { Says result (λ made. passes (typed_stmt made.stmt) (walk_of body.new out.new)) refused (Standing body.old.atomic_params around follows (plain_stmt stmt.now) (walk_of body.old out.old)) }
+    ensures checks { Says result (λ made. passes (typed_stmt made.stmt) (walk_of body.new out.new)) refused (λ v. check_stmt body.old.atomic_params around follows (plain_stmt stmt.now) (walk_of body.old out.old) ≡ v) }
 {
     let node = Node::of(stmt, follows);
     match &stmt.kind {
@@ -99,7 +99,7 @@ pub fn statement(
             start,
             count,
             body: turn,
-        } => iterating(body, around, node, *nd, *var, start, count, turn.get(), out),
+        } => foreach(body, around, node, *nd, *var, start, count, turn.get(), out),
         StmtKind::ForeachParts {
             view,
             var,
@@ -126,7 +126,7 @@ fn nested(
     ensures keeps { OnOk result (AllKeep around (plain_stmts (map plain_stmt all.now))) }
     ensures nd { OnOk result (IsTrue (out.old.reaches_nd || some_holds_nd (plain_stmts (map plain_stmt all.now))) → IsTrue out.new.reaches_nd) }
     ensures home { OnOk result (home_of body.new ≡ home_of body.old) }
-    ensures checks { Says result (λ made. passes (typed_stmt made.stmt) (walk_of body.new out.new)) refused (Checking body.old.atomic_params around node (form.block (plain_stmts (map plain_stmt all.now))) (walk_of body.old out.old)) }
+    ensures checks { Says result (λ made. passes (typed_stmt made.stmt) (walk_of body.new out.new)) refused (λ v. check_form body.old.atomic_params around node (form.block (plain_stmts (map plain_stmt all.now))) (walk_of body.old out.old) ≡ v) }
 {
     let place = node.place;
     let mut node = node;
@@ -154,7 +154,7 @@ fn branching(
     ensures keeps { OnOk result (FormKeeps around (if_form (plain_expr test.now) (plain_stmt then.now) (option_map plain_stmt (option_copied other.entry)))) }
     ensures nd { OnOk result (IsTrue (out.old.reaches_nd || form_holds_nd (if_form (plain_expr test.now) (plain_stmt then.now) (option_map plain_stmt (option_copied other.entry)))) → IsTrue out.new.reaches_nd) }
     ensures home { OnOk result (home_of body.new ≡ home_of body.old) }
-    ensures checks { Says result (λ made. passes (typed_stmt made.stmt) (walk_of body.new out.new)) refused (Choosing body.old.atomic_params around node (plain_expr test.now) (plain_stmt then.now) (option_map plain_stmt (option_copied other.entry)) (walk_of body.old out.old)) }
+    ensures checks { Says result (λ made. passes (typed_stmt made.stmt) (walk_of body.new out.new)) refused (λ v. check_form body.old.atomic_params around node (if_form (plain_expr test.now) (plain_stmt then.now) (option_map plain_stmt (option_copied other.entry))) (walk_of body.old out.old) ≡ v) }
 {
     let place = node.place;
     let mut node = node;
@@ -204,7 +204,7 @@ fn repeat(
     ensures keeps { OnOk result (Keeps around (plain_stmt turn.now)) }
     ensures nd { OnOk result (IsTrue (out.old.reaches_nd || holds_nd (plain_stmt turn.now)) → IsTrue out.new.reaches_nd) }
     ensures home { OnOk result (home_of body.new ≡ home_of body.old) }
-    ensures checks { Says result (λ made. passes (typed_stmt made.stmt) (walk_of body.new out.new)) refused (Checking body.old.atomic_params around node (form.while_loop (plain_expr test.now) (plain_stmt turn.now)) (walk_of body.old out.old)) }
+    ensures checks { Says result (λ made. passes (typed_stmt made.stmt) (walk_of body.new out.new)) refused (λ v. check_form body.old.atomic_params around node (form.while_loop (plain_expr test.now) (plain_stmt turn.now)) (walk_of body.old out.old) ≡ v) }
 {
     let place = node.place;
     let mut node = node;
@@ -230,40 +230,12 @@ fn returning(
     ensures placed { OnOk result (is_misplaced around (is_some value.entry) ≡ false) }
     ensures clean { OnOk result (fault_of node ≡ None) }
     ensures nd { OnOk result (IsTrue out.old.reaches_nd → IsTrue out.new.reaches_nd) }
-    ensures checks { (params : List Bool) → Says result (λ made. passes (typed_stmt made.stmt) (walk_of body.now out.new)) refused (Checking params around node (return_form (option_copied value.entry)) (walk_of body.now out.old)) }
+    ensures checks { (params : List Bool) → Says result (λ made. passes (typed_stmt made.stmt) (walk_of body.now out.new)) refused (λ v. check_form params around node (return_form (option_copied value.entry)) (walk_of body.now out.old) ≡ v) }
 {
     match value {
         None => leave(body, around, node),
         Some(value) => leave_with(body, around, node, value, out),
     }
-}
-
-/// `foreach (int var in start, count) turn`
-#[cycle(statements)]
-fn iterating(
-    body: &mut Body,
-    around: Around,
-    node: Node,
-    nd: bool,
-    var: Named,
-    start: &Expr,
-    count: &Expr,
-    turn: &Stmt,
-    out: &mut Found,
-) -> Result<Checked, Stop>
-    ensures completes { IfOk result (λ done. done.completes ≡ true) }
-    ensures clean { OnOk result (fault_of node ≡ None) }
-    ensures keeps { OnOk result (Keeps (inside around) (plain_stmt turn.now)) }
-    ensures locals { OnOk result (¬ AssignsOuter (plain_stmt turn.now)) }
-    ensures nd { OnOk result (IsTrue (out.old.reaches_nd || (nd || holds_nd (plain_stmt turn.now))) → IsTrue out.new.reaches_nd) }
-    ensures home { OnOk result (home_of body.new ≡ home_of body.old) }
-    ensures checks { Says result (λ made. passes (typed_stmt made.stmt) (walk_of body.new out.new)) refused (Checking body.old.atomic_params around node (form.foreach nd var (plain_expr start.now) (plain_expr count.now) (plain_stmt turn.now)) (walk_of body.old out.old)) }
-{
-    let mut node = node;
-    let first = body.int(start, out, &mut node)?;
-    let number = body.int(count, out, &mut node)?;
-    let range = (first.into_node(start.place), number.into_node(count.place));
-    foreach(body, around, node, nd, var, range, turn, out)
 }
 
 /// Checks the statements of a block in a scope of their own, and says whether they all complete. What they do is
@@ -279,7 +251,7 @@ pub fn block(
     ensures keeps { OnOk result (AllKeep around (plain_stmts (map plain_stmt stmts.now))) }
     ensures nd { OnOk result (IsTrue (out.old.reaches_nd || some_holds_nd (plain_stmts (map plain_stmt stmts.now))) → IsTrue out.new.reaches_nd) }
     ensures home { OnOk result (home_of body.new ≡ home_of body.old) }
-    ensures checks { Says result (λ made. passes (map typed_stmt made.stmts) (walk_of body.new out.new)) refused (InBlock body.old.atomic_params around (plain_stmts (map plain_stmt stmts.now)) (walk_of body.old out.old)) }
+    ensures checks { Says result (λ made. passes (map typed_stmt made.stmts) (walk_of body.new out.new)) refused (λ v. check_block body.old.atomic_params around (plain_stmts (map plain_stmt stmts.now)) (walk_of body.old out.old) ≡ v) }
 {
     let scope = body.env.mark();
     let leaving = Leaving::from_here(&body.env, Marks::Kept);
@@ -301,7 +273,7 @@ fn statements(
     ensures keeps { OnOk result (AllKeep around (plain_stmts (map plain_stmt stmts.now))) }
     ensures nd { OnOk result (IsTrue (out.old.reaches_nd || some_holds_nd (plain_stmts (map plain_stmt stmts.now))) → IsTrue out.new.reaches_nd) }
     ensures home { OnOk result (home_of body.new ≡ home_of body.old) }
-    ensures checks { Says result (λ made. passes (map typed_stmt made.stmts) (walk_of body.new out.new)) refused (InOrder body.old.atomic_params around true (plain_stmts (map plain_stmt stmts.now)) (walk_of body.old out.old)) }
+    ensures checks { Says result (λ made. passes (map typed_stmt made.stmts) (walk_of body.new out.new)) refused (λ v. check_all body.old.atomic_params around true (plain_stmts (map plain_stmt stmts.now)) (walk_of body.old out.old) ≡ v) }
 {
     let mut completes = true;
     let mut made = Items::new(body.alloc);
@@ -323,7 +295,7 @@ pub fn scoped(body: &mut Body, around: Around, stmt: &Stmt, out: &mut Found) -> 
     ensures keeps { OnOk result (Keeps around (plain_stmt stmt.now)) }
     ensures nd { OnOk result (IsTrue (out.old.reaches_nd || holds_nd (plain_stmt stmt.now)) → IsTrue out.new.reaches_nd) }
     ensures home { OnOk result (home_of body.new ≡ home_of body.old) }
-    ensures checks { Says result (λ made. passes (typed_stmt made.stmt) (walk_of body.new out.new)) refused (InScope body.old.atomic_params around (plain_stmt stmt.now) (walk_of body.old out.old)) }
+    ensures checks { Says result (λ made. passes (typed_stmt made.stmt) (walk_of body.new out.new)) refused (λ v. check_scope body.old.atomic_params around (plain_stmt stmt.now) (walk_of body.old out.old) ≡ v) }
 {
     let scope = body.env.mark();
     let done = statement(body, around, stmt, false, out)?;

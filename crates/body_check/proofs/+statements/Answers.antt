@@ -1,4 +1,4 @@
-use Rattle.std.proofs.Common.{◌≡◌, ◌∙◌, ◌+◌, ◌&&◌, ◌||◌, true, false, not, map, option_map, Some, None, IfOk, OnOk, IsTrue, refl, sym, ap, subst}
+use Rattle.std.proofs.Common.{◌≡◌, ◌∙◌, ◌&&◌, ◌||◌, true, false, not, map, option_map, Some, None, IfOk, OnOk, IsTrue, refl, sym, ap, subst}
 use Rattle.std.proofs.lemmas.List.{drop_all}
 use Rattle.std.specs.Option.{option_copied}
 use Rattle.syntax_tree.specs.Nd.{holds_nd, some_holds_nd}
@@ -7,44 +7,43 @@ use Rattle.syntax_tree.specs.Plain.{StmtForm as form}
 use Rattle.syntax_tree.specs.declared.stmt.Stmt.{Stmt}
 use Rattle.syntax_tree.specs.declared.stmt.StmtKind.TheVariants as tree
 use Rattle.lang_typed.specs.Plain.{TypedBranch, statement, stmts_of, plain_source}
-use Rattle.lang_typed.specs.Plain.{choice_form as typed_choice}
 use Rattle.lang_typed.specs.Plain.{StmtForm as made}
 use Rattle.lang_typed.specs.Plain.{plain_stmt as typed_stmt}
+use Rattle.body_exprs.specs.declared.found.Found.{Found}
 use Rattle.body_exprs.specs.Answer.{refused}
-use Rattle.body_exprs.specs.Typed.{plain_node, plain_typed}
+use Rattle.body_exprs.specs.Env.{bare, slots_in}
+use Rattle.body_exprs.specs.Typed.{plain_typed}
 use Rattle.body_exprs.specs.Typing.{Typing}
-use Rattle.body_check.specs.Checking.{plain_branch, Checking, Choosing, Standing, InScope, in_scope, InBlock, InOrder, Forking, Iterating, Parting, all_pass, Branching, ClashIs}
-use Rattle.body_check.specs.Checking.{Checking as rule}
-use Rattle.body_check.specs.Checking.{Choosing as choosing}
+use Rattle.body_check.specs.declared.body.Body.{Body}
+use Rattle.body_check.specs.declared.leaving.Marks.TheVariants as marks
+use Rattle.body_check.specs.Checking.{check_stmt, check_form, check_scope, check_block, check_all, cut, outer_part, part_slot, parts_declared, plain_branch, variable_declared, with_nd}
 use Rattle.body_check.specs.Completes.{completes}
+use Rattle.body_check.specs.Deciding.{marks_after}
+use Rattle.body_check.specs.Gathering.{handed_on, taken_in}
 use Rattle.body_check.specs.Keeping.{inside, Keeps}
 use Rattle.body_check.specs.Noting.{fault_of}
-use Rattle.body_check.specs.Simple.{node_of, Declaring, AssigningLocal, AssigningPlace, Performing, Printing, regions_declared}
-use Rattle.body_check.specs.Walks.{walk_of, passes, judged}
+use Rattle.body_check.specs.Walks.{walk_of, passes}
 use Rattle.body_check.specs.Walks.{Verdict as verdict}
-use Rattle.body_check.proofs.Atomics.{atomic_refused, atomic_reported, atomic_passes}
-use Rattle.body_check.proofs.Forks.{Branch, BranchesMet, branch_made, fork_more, fork_all, fork_stopped, fork_reported, fork_ends, fork_passes, clash_is}
-use Rattle.body_check.proofs.Homes.{home_params, piece_begun}
-use Rattle.body_check.proofs.Iterations.{iteration_in, iteration_stopped, iteration_reported, iterations_reported, iterations_pass, second_noted, Iterated, IterationsMet}
-use Rattle.body_check.proofs.Nodes.{node_made, choice_made, while_made}
+use Rattle.body_check.proofs.Atomics.{block_in, atomic_is}
+use Rattle.body_check.proofs.Forks.{Branch, BranchesMet, branch_made, fork_all, fork_is, fork_more, fork_refused, fork_reported, taken_so, touched_all, touched_more}
+use Rattle.body_check.proofs.Homes.{home_params, piece_in}
+use Rattle.body_check.proofs.Iterations.{Iterated, IterationsMet, iteration_reported, iterations_is}
+use Rattle.body_check.proofs.Nodes.{choice_made, foreach_made, node_made, parts_made}
 use Rattle.body_check.proofs.Orders.{map_pushed, order_refused, order_more, order_all, and_then_so, and_else_so, complete_step, keep_step, fork_keeps}
-use Rattle.body_check.proofs.Parting.{range_stopped, part_stopped, Part, part_reported, PartsMet, parts_reported, parts_pass}
-use Rattle.body_check.proofs.Passing.{says_all, stopped, settle_stopped}
-use Rattle.body_check.proofs.Reaching.{begun_nd, taken_nd, iterations_nd, parts_nd, either_nd, neither_nd, fork_nd, nd_step, or_then, or_else, reaching, reached_is}
+use Rattle.body_check.proofs.Parting.{Opened, Part, PartsMet, body_refused, part_reported, parts_is}
+use Rattle.body_check.proofs.Passing.{clean_passes, closed_is, judged_some, stopped, settle_stopped, walk_from}
+use Rattle.body_check.proofs.Reaching.{begun_nd, taken_nd, iterations_nd, parts_nd, either_nd, neither_nd, fork_nd, nd_step}
 use Rattle.body_check.proofs.Stands.{as_said, at_Block, at_Declare, at_AssignLocal, at_AssignField, at_AssignElement, at_Do, at_Print, at_PrintText, at_Region, at_Cobegin, at_Atomic, at_If, at_While, at_Foreach, at_Parts, at_Return}
-use Rattle.body_check.proofs.Walking.{block_stops, block_closes, scope_passes, then_reported, then_made, choice_is, FirstMet, either_so, neither_so, either_completes, neither_completes, either_keeps, neither_keeps, while_so, foreach_so}
+use Rattle.body_check.proofs.Touched.{AllTouched, assigned_is, clashing_is}
+use Rattle.body_check.proofs.Walking.{FirstMet, block_stops, block_closes, scope_passes, test_refused, first_refused, either_so, neither_so, either_completes, neither_completes, either_keeps, neither_keeps}
 use Rattle.body_check.proofs.+statements.Goals as goal
-use Rattle.body_check.proofs.+statements.Goals.{statements::statements-then-completes, statements::statements-else-completes, constructs::foreach-then-inner, constructs::foreach-else-inner, constructs::cobegin-then-out, constructs::cobegin-else-out}
+use Rattle.body_check.proofs.+statements.Goals.{statements::statements-then-completes, statements::statements-else-completes}
 
-pub statements::block-returns-in_err-done-clause-checks :
-    goal.statements::block-returns-in_err-done-clause-checks
+pub statements::block-returns-in_err-done-clause-checks : goal.statements::block-returns-in_err-done-clause-checks
 statements::block-returns-in_err-done-clause-checks t c =
-    stopped (λ q. InOrder c.args.body.now.atomic_params c.args.around true (plain_stmts (map plain_stmt c.args.stmts.now))
-    (walk_of c.args.body.now c.new-inner.result) (verdict.refused q))
-    (InBlock c.args.body.now.atomic_params c.args.around (plain_stmts (map plain_stmt c.args.stmts.now)) (walk_of c.args.body.now c.args.out.now))
-    c.from_residual.result _ c.in_err-done.field-0.0 c.from_residual.ensures.1
-    (λ q d. block_stops c.args.body.now.atomic_params c.args.around (plain_stmts (map plain_stmt c.args.stmts.now)) c.args.body.now c.args.out.now
-    c.new-inner.result q c.new-inner.ensures d)
+    stopped (λ q. check_all c.args.body.now.atomic_params c.args.around true (plain_stmts (map plain_stmt c.args.stmts.now)) (walk_of c.args.body.now c.new-inner.result) ≡ verdict.refused q)
+    (λ v. check_block c.args.body.now.atomic_params c.args.around (plain_stmts (map plain_stmt c.args.stmts.now)) (walk_of c.args.body.now c.args.out.now) ≡ v) c.from_residual.result _ c.in_err-done.field-0.0 c.from_residual.ensures.1
+    (λ q d. block_stops c.args.body.now.atomic_params c.args.around (plain_stmts (map plain_stmt c.args.stmts.now)) c.args.body.now c.args.out.now c.new-inner.result q c.new-inner.ensures d)
     c.in_err-done.ensures.checks
 
 pub statements::block-returns-clause-checks : goal.statements::block-returns-clause-checks
@@ -55,77 +54,56 @@ statements::block-returns-clause-checks t c =
     c.new-inner.ensures
     c.in_ok-done.ensures.checks c.mark-scope.ensures c.leave.ensures.whole c.from_here-leaving.ensures c.in_ok-take_in.ensures
 
-pub statements::scoped-returns-in_err-done-clause-checks :
-    goal.statements::scoped-returns-in_err-done-clause-checks
+pub statements::scoped-returns-in_err-done-clause-checks : goal.statements::scoped-returns-in_err-done-clause-checks
 statements::scoped-returns-in_err-done-clause-checks t c =
-    stopped (λ q. Standing c.args.body.now.atomic_params c.args.around false (plain_stmt c.args.stmt.now) (walk_of c.args.body.now c.args.out.now)
-    (verdict.refused q))
-    (InScope c.args.body.now.atomic_params c.args.around (plain_stmt c.args.stmt.now) (walk_of c.args.body.now c.args.out.now))
-    c.from_residual.result _ c.in_err-done.field-0.0 c.from_residual.ensures.1 (λ q d. in_scope d refl) c.in_err-done.ensures.checks
+    stopped (λ q. check_stmt c.args.body.now.atomic_params c.args.around false (plain_stmt c.args.stmt.now) (walk_of c.args.body.now c.args.out.now) ≡ verdict.refused q)
+    (λ v. check_scope c.args.body.now.atomic_params c.args.around (plain_stmt c.args.stmt.now) (walk_of c.args.body.now c.args.out.now) ≡ v)
+    c.from_residual.result _ c.in_err-done.field-0.0 c.from_residual.ensures.1 (λ q d. rw d) c.in_err-done.ensures.checks
 
 pub statements::scoped-returns-clause-checks : goal.statements::scoped-returns-clause-checks
 statements::scoped-returns-clause-checks t c =
     scope_passes c.args.body.now.atomic_params c.args.around (plain_stmt c.args.stmt.now) c.args.body.now c.statement.new.body c.args.out.now
     c.statement.new.out c.leave.new.self c.mark-scope.result (typed_stmt c.in_ok-stmt.stmt)
-    (subst (λ z. Standing c.args.body.now.atomic_params c.args.around false (plain_stmt c.args.stmt.now) (walk_of c.args.body.now c.args.out.now)
-    (passes (typed_stmt z) (walk_of c.statement.new.body c.statement.new.out)))
+    (subst (λ z. check_stmt c.args.body.now.atomic_params c.args.around false (plain_stmt c.args.stmt.now) (walk_of c.args.body.now c.args.out.now) ≡
+    passes (typed_stmt z) (walk_of c.statement.new.body c.statement.new.out))
     (sym c.in_ok-stmt.ensures) c.in_ok-done.ensures.checks)
     c.mark-scope.ensures c.leave.ensures.whole
 
 pub statements::statement-returns-in-Block-clause-checks : goal.statements::statement-returns-in-Block-clause-checks
 statements::statement-returns-in-Block-clause-checks t c =
-    as_said (Checking c.args.body.now.atomic_params c.args.around c.of-node.result
-    (form.block (plain_stmts (map plain_stmt c.as_slice.result.now))) (walk_of c.args.body.now c.args.out.now))
-    c.args.body.now.atomic_params c.args.around c.args.follows c.of-node.result c.args.stmt.now
-    (form.block (plain_stmts (map plain_stmt c.as_slice.result.now)))
-    (walk_of c.args.body.now c.args.out.now) c.nested.result _
-    (at_Block c.args.stmt.now c.as_slice.result.now (c.in-Block.is ∙ ap tree.Block (sym c.as_slice.ensures)))
-    c.of-node.ensures.node (λ v d. d) c.nested.ensures.checks
+    as_said c.args.body.now.atomic_params c.args.around c.args.follows c.of-node.result c.args.stmt.now
+    (form.block (plain_stmts (map plain_stmt c.as_slice.result.now))) (walk_of c.args.body.now c.args.out.now) c.nested.result _
+    (at_Block c.args.stmt.now c.as_slice.result.now (c.in-Block.is ∙ ap tree.Block (sym c.as_slice.ensures))) c.of-node.ensures.node c.nested.ensures.checks
 
 pub statements::statement-returns-in-Declare-clause-checks : goal.statements::statement-returns-in-Declare-clause-checks
 statements::statement-returns-in-Declare-clause-checks t c =
-    as_said (Declaring c.of-node.result c.in-Declare.is_final c.in-Declare.ty c.in-Declare.name (plain_expr c.in-Declare.value) (walk_of c.args.body.now c.args.out.now))
-    c.args.body.now.atomic_params c.args.around c.args.follows c.of-node.result c.args.stmt.now
-    (form.declare c.in-Declare.is_final c.in-Declare.ty c.in-Declare.name (plain_expr c.in-Declare.value))
-    (walk_of c.args.body.now c.args.out.now) c.declare.result _
-    (at_Declare c.args.stmt.now c.in-Declare.is_final c.in-Declare.ty c.in-Declare.name c.in-Declare.value c.in-Declare.is)
-    c.of-node.ensures.node (λ v d. rule.of_declaration d) c.declare.ensures.checks
+    as_said c.args.body.now.atomic_params c.args.around c.args.follows c.of-node.result c.args.stmt.now
+    (form.declare c.in-Declare.is_final c.in-Declare.ty c.in-Declare.name (plain_expr c.in-Declare.value)) (walk_of c.args.body.now c.args.out.now) c.declare.result _
+    (at_Declare c.args.stmt.now c.in-Declare.is_final c.in-Declare.ty c.in-Declare.name c.in-Declare.value c.in-Declare.is) c.of-node.ensures.node c.declare.ensures.checks
 
 pub statements::statement-returns-in-AssignLocal-clause-checks : goal.statements::statement-returns-in-AssignLocal-clause-checks
 statements::statement-returns-in-AssignLocal-clause-checks t c =
-    as_said (AssigningLocal c.of-node.result c.in-AssignLocal.target (plain_expr c.in-AssignLocal.value) (walk_of c.args.body.now c.args.out.now))
-    c.args.body.now.atomic_params c.args.around c.args.follows c.of-node.result c.args.stmt.now
-    (form.assign_local c.in-AssignLocal.target (plain_expr c.in-AssignLocal.value))
-    (walk_of c.args.body.now c.args.out.now) c.assign_local.result _
-    (at_AssignLocal c.args.stmt.now c.in-AssignLocal.target c.in-AssignLocal.value c.in-AssignLocal.is)
-    c.of-node.ensures.node (λ v d. rule.of_local_assignment d) c.assign_local.ensures.checks
+    as_said c.args.body.now.atomic_params c.args.around c.args.follows c.of-node.result c.args.stmt.now
+    (form.assign_local c.in-AssignLocal.target (plain_expr c.in-AssignLocal.value)) (walk_of c.args.body.now c.args.out.now) c.assign_local.result _
+    (at_AssignLocal c.args.stmt.now c.in-AssignLocal.target c.in-AssignLocal.value c.in-AssignLocal.is) c.of-node.ensures.node c.assign_local.ensures.checks
 
 pub statements::statement-returns-in-AssignField-clause-checks : goal.statements::statement-returns-in-AssignField-clause-checks
 statements::statement-returns-in-AssignField-clause-checks t c =
-    as_said (AssigningPlace c.of-node.result (plain_expr c.in-AssignField.target) (plain_expr c.in-AssignField.value) (walk_of c.args.body.now c.args.out.now))
-    c.args.body.now.atomic_params c.args.around c.args.follows c.of-node.result c.args.stmt.now
-    (form.assign_field (plain_expr c.in-AssignField.target) (plain_expr c.in-AssignField.value))
-    (walk_of c.args.body.now c.args.out.now) c.assign_place.result _
-    (at_AssignField c.args.stmt.now c.in-AssignField.target c.in-AssignField.value c.in-AssignField.is)
-    c.of-node.ensures.node (λ v d. rule.of_field_assignment d) c.assign_place.ensures.checks
+    as_said c.args.body.now.atomic_params c.args.around c.args.follows c.of-node.result c.args.stmt.now
+    (form.assign_field (plain_expr c.in-AssignField.target) (plain_expr c.in-AssignField.value)) (walk_of c.args.body.now c.args.out.now) c.assign_place.result _
+    (at_AssignField c.args.stmt.now c.in-AssignField.target c.in-AssignField.value c.in-AssignField.is) c.of-node.ensures.node c.assign_place.ensures.checks
 
 pub statements::statement-returns-in-AssignElement-clause-checks : goal.statements::statement-returns-in-AssignElement-clause-checks
 statements::statement-returns-in-AssignElement-clause-checks t c =
-    as_said (AssigningPlace c.of-node.result (plain_expr c.in-AssignElement.target) (plain_expr c.in-AssignElement.value) (walk_of c.args.body.now c.args.out.now))
-    c.args.body.now.atomic_params c.args.around c.args.follows c.of-node.result c.args.stmt.now
-    (form.assign_element (plain_expr c.in-AssignElement.target) (plain_expr c.in-AssignElement.value))
-    (walk_of c.args.body.now c.args.out.now) c.assign_place-in-AssignElement.result _
-    (at_AssignElement c.args.stmt.now c.in-AssignElement.target c.in-AssignElement.value c.in-AssignElement.is)
-    c.of-node.ensures.node (λ v d. rule.of_element_assignment d) c.assign_place-in-AssignElement.ensures.checks
+    as_said c.args.body.now.atomic_params c.args.around c.args.follows c.of-node.result c.args.stmt.now
+    (form.assign_element (plain_expr c.in-AssignElement.target) (plain_expr c.in-AssignElement.value)) (walk_of c.args.body.now c.args.out.now) c.assign_place-in-AssignElement.result _
+    (at_AssignElement c.args.stmt.now c.in-AssignElement.target c.in-AssignElement.value c.in-AssignElement.is) c.of-node.ensures.node c.assign_place-in-AssignElement.ensures.checks
 
 pub statements::statement-returns-in-Do-clause-checks : goal.statements::statement-returns-in-Do-clause-checks
 statements::statement-returns-in-Do-clause-checks t c =
-    as_said (Performing c.of-node.result (plain_expr c.in-Do.value) (walk_of c.args.body.now c.args.out.now))
-    c.args.body.now.atomic_params c.args.around c.args.follows c.of-node.result c.args.stmt.now
-    (form.perform (plain_expr c.in-Do.value))
-    (walk_of c.args.body.now c.args.out.now) c.perform.result _
-    (at_Do c.args.stmt.now c.in-Do.value c.in-Do.is)
-    c.of-node.ensures.node (λ v d. rule.of_call d) c.perform.ensures.checks
+    as_said c.args.body.now.atomic_params c.args.around c.args.follows c.of-node.result c.args.stmt.now
+    (form.perform (plain_expr c.in-Do.value)) (walk_of c.args.body.now c.args.out.now) c.perform.result _
+    (at_Do c.args.stmt.now c.in-Do.value c.in-Do.is) c.of-node.ensures.node c.perform.ensures.checks
 
 pub statements::statement-returns-in-If-clause-completes : goal.statements::statement-returns-in-If-clause-completes
 statements::statement-returns-in-If-clause-completes t c =
@@ -153,160 +131,111 @@ statements::statement-returns-in-If-clause-nd t c =
 
 pub statements::statement-returns-in-If-clause-checks : goal.statements::statement-returns-in-If-clause-checks
 statements::statement-returns-in-If-clause-checks t c =
-    as_said (Choosing c.args.body.now.atomic_params c.args.around c.of-node.result (plain_expr c.in-If.test) (plain_stmt c.get.result.now) (option_map plain_stmt (option_copied c.as_ref.result))
-    (walk_of c.args.body.now c.args.out.now))
-    c.args.body.now.atomic_params c.args.around c.args.follows c.of-node.result c.args.stmt.now
-    (choice_form (plain_expr c.in-If.test) (plain_stmt c.get.result.now) (option_map plain_stmt (option_copied c.as_ref.result)))
-    (walk_of c.args.body.now c.args.out.now) c.branching.result _
+    as_said c.args.body.now.atomic_params c.args.around c.args.follows c.of-node.result c.args.stmt.now
+    (choice_form (plain_expr c.in-If.test) (plain_stmt c.get.result.now) (option_map plain_stmt (option_copied c.as_ref.result))) (walk_of c.args.body.now c.args.out.now) c.branching.result _
     (at_If c.args.stmt.now c.in-If.test c.get.result.now (option_copied c.as_ref.result)
     (c.in-If.is ∙ ap (λ (z : Stmt). tree.If c.in-If.test z c.in-If.other) (sym c.get.ensures)
-    ∙ ap (tree.If c.in-If.test c.get.result.now) (sym c.as_ref.ensures.value)))
-    c.of-node.ensures.node (λ v d.
-    choice_is c.args.body.now.atomic_params c.args.around c.of-node.result (plain_expr c.in-If.test) (plain_stmt c.get.result.now)
-    (option_map plain_stmt (option_copied c.as_ref.result)) (walk_of c.args.body.now c.args.out.now) v d) c.branching.ensures.checks
+    ∙ ap (tree.If c.in-If.test c.get.result.now) (sym c.as_ref.ensures.value))) c.of-node.ensures.node c.branching.ensures.checks
 
 pub statements::statement-returns-in-While-clause-checks : goal.statements::statement-returns-in-While-clause-checks
 statements::statement-returns-in-While-clause-checks t c =
-    as_said (Checking c.args.body.now.atomic_params c.args.around c.of-node.result
-    (form.while_loop (plain_expr c.in-While.test) (plain_stmt c.get-in-While.result.now)) (walk_of c.args.body.now c.args.out.now))
-    c.args.body.now.atomic_params c.args.around c.args.follows c.of-node.result c.args.stmt.now
-    (form.while_loop (plain_expr c.in-While.test) (plain_stmt c.get-in-While.result.now))
-    (walk_of c.args.body.now c.args.out.now) c.repeat.result _
+    as_said c.args.body.now.atomic_params c.args.around c.args.follows c.of-node.result c.args.stmt.now
+    (form.while_loop (plain_expr c.in-While.test) (plain_stmt c.get-in-While.result.now)) (walk_of c.args.body.now c.args.out.now) c.repeat.result _
     (at_While c.args.stmt.now c.in-While.test c.get-in-While.result.now
-    (c.in-While.is ∙ ap (tree.While c.in-While.test) (sym c.get-in-While.ensures)))
-    c.of-node.ensures.node (λ v d. d) c.repeat.ensures.checks
+    (c.in-While.is ∙ ap (tree.While c.in-While.test) (sym c.get-in-While.ensures))) c.of-node.ensures.node c.repeat.ensures.checks
 
 pub statements::statement-returns-in-Return-clause-checks : goal.statements::statement-returns-in-Return-clause-checks
 statements::statement-returns-in-Return-clause-checks t c =
-    as_said (Checking c.args.body.now.atomic_params c.args.around c.of-node.result
-    (return_form (option_copied c.as_ref-in-Return.result)) (walk_of c.args.body.now c.args.out.now))
-    c.args.body.now.atomic_params c.args.around c.args.follows c.of-node.result c.args.stmt.now
-    (return_form (option_copied c.as_ref-in-Return.result))
-    (walk_of c.args.body.now c.args.out.now) c.returning.result _
-    (at_Return c.args.stmt.now (option_copied c.as_ref-in-Return.result) (c.in-Return.is ∙ ap tree.Return (sym c.as_ref-in-Return.ensures.value)))
-    c.of-node.ensures.node (λ v d. d) (c.returning.ensures.checks c.args.body.now.atomic_params)
+    as_said c.args.body.now.atomic_params c.args.around c.args.follows c.of-node.result c.args.stmt.now
+    (return_form (option_copied c.as_ref-in-Return.result)) (walk_of c.args.body.now c.args.out.now) c.returning.result _
+    (at_Return c.args.stmt.now (option_copied c.as_ref-in-Return.result) (c.in-Return.is ∙ ap tree.Return (sym c.as_ref-in-Return.ensures.value))) c.of-node.ensures.node (c.returning.ensures.checks c.args.body.now.atomic_params)
 
 pub statements::statement-returns-in-Print-clause-checks : goal.statements::statement-returns-in-Print-clause-checks
 statements::statement-returns-in-Print-clause-checks t c =
-    as_said (Printing c.of-node.result (plain_expr c.in-Print.value) (walk_of c.args.body.now c.args.out.now))
-    c.args.body.now.atomic_params c.args.around c.args.follows c.of-node.result c.args.stmt.now
-    (form.print (plain_expr c.in-Print.value))
-    (walk_of c.args.body.now c.args.out.now) c.print.result _
-    (at_Print c.args.stmt.now c.in-Print.value c.in-Print.is)
-    c.of-node.ensures.node (λ v d. rule.of_print d) c.print.ensures.checks
+    as_said c.args.body.now.atomic_params c.args.around c.args.follows c.of-node.result c.args.stmt.now
+    (form.print (plain_expr c.in-Print.value)) (walk_of c.args.body.now c.args.out.now) c.print.result _
+    (at_Print c.args.stmt.now c.in-Print.value c.in-Print.is) c.of-node.ensures.node c.print.ensures.checks
 
 pub statements::statement-returns-in-PrintText-clause-checks : goal.statements::statement-returns-in-PrintText-clause-checks
 statements::statement-returns-in-PrintText-clause-checks t c =
-    as_said (λ v. judged (fault_of c.of-node.result) (statement c.of-node.result.place (made.print_text c.in-PrintText.text)) (walk_of c.args.body.now c.args.out.now) ≡ v)
-    c.args.body.now.atomic_params c.args.around c.args.follows c.of-node.result c.args.stmt.now
-    (form.print_text c.in-PrintText.text)
-    (walk_of c.args.body.now c.args.out.now) c.print_text.result _
-    (at_PrintText c.args.stmt.now c.in-PrintText.text c.in-PrintText.is)
-    c.of-node.ensures.node (λ v d. rule.of_text d) (c.print_text.ensures.checks c.args.out.now)
+    as_said c.args.body.now.atomic_params c.args.around c.args.follows c.of-node.result c.args.stmt.now
+    (form.print_text c.in-PrintText.text) (walk_of c.args.body.now c.args.out.now) c.print_text.result _
+    (at_PrintText c.args.stmt.now c.in-PrintText.text c.in-PrintText.is) c.of-node.ensures.node (c.print_text.ensures.checks c.args.out.now)
 
 pub statements::statement-returns-in-Cobegin-clause-checks : goal.statements::statement-returns-in-Cobegin-clause-checks
 statements::statement-returns-in-Cobegin-clause-checks t c =
-    as_said (Forking c.args.body.now.atomic_params c.args.around c.of-node.result c.in-Cobegin.nd (plain_stmts (map plain_stmt c.as_slice-in-Cobegin.result.now)) (walk_of c.args.body.now c.args.out.now))
-    c.args.body.now.atomic_params c.args.around c.args.follows c.of-node.result c.args.stmt.now
-    (form.cobegin c.in-Cobegin.nd (plain_stmts (map plain_stmt c.as_slice-in-Cobegin.result.now)))
-    (walk_of c.args.body.now c.args.out.now) c.cobegin.result _
+    as_said c.args.body.now.atomic_params c.args.around c.args.follows c.of-node.result c.args.stmt.now
+    (form.cobegin c.in-Cobegin.nd (plain_stmts (map plain_stmt c.as_slice-in-Cobegin.result.now))) (walk_of c.args.body.now c.args.out.now) c.cobegin.result _
     (at_Cobegin c.args.stmt.now c.in-Cobegin.nd c.as_slice-in-Cobegin.result.now
-    (c.in-Cobegin.is ∙ ap (tree.Cobegin c.in-Cobegin.nd) (sym c.as_slice-in-Cobegin.ensures)))
-    c.of-node.ensures.node (λ v d. rule.of_cobegin d) c.cobegin.ensures.checks
+    (c.in-Cobegin.is ∙ ap (tree.Cobegin c.in-Cobegin.nd) (sym c.as_slice-in-Cobegin.ensures))) c.of-node.ensures.node c.cobegin.ensures.checks
 
 pub statements::statement-returns-in-Foreach-clause-checks : goal.statements::statement-returns-in-Foreach-clause-checks
 statements::statement-returns-in-Foreach-clause-checks t c =
-    as_said (Checking c.args.body.now.atomic_params c.args.around c.of-node.result
-    (form.foreach c.in-Foreach.nd c.in-Foreach.var (plain_expr c.in-Foreach.start) (plain_expr c.in-Foreach.count) (plain_stmt c.get-in-Foreach.result.now)) (walk_of c.args.body.now c.args.out.now))
-    c.args.body.now.atomic_params c.args.around c.args.follows c.of-node.result c.args.stmt.now
-    (form.foreach c.in-Foreach.nd c.in-Foreach.var (plain_expr c.in-Foreach.start) (plain_expr c.in-Foreach.count) (plain_stmt c.get-in-Foreach.result.now))
-    (walk_of c.args.body.now c.args.out.now) c.iterating.result _
+    as_said c.args.body.now.atomic_params c.args.around c.args.follows c.of-node.result c.args.stmt.now
+    (form.foreach c.in-Foreach.nd c.in-Foreach.var (plain_expr c.in-Foreach.start) (plain_expr c.in-Foreach.count)
+    (plain_stmt c.get-in-Foreach.result.now)) (walk_of c.args.body.now c.args.out.now) c.foreach.result _
     (at_Foreach c.args.stmt.now c.in-Foreach.nd c.in-Foreach.var c.in-Foreach.start c.in-Foreach.count c.get-in-Foreach.result.now
-    (c.in-Foreach.is ∙ ap (tree.Foreach c.in-Foreach.nd c.in-Foreach.var c.in-Foreach.start c.in-Foreach.count) (sym c.get-in-Foreach.ensures)))
-    c.of-node.ensures.node (λ v d. d) c.iterating.ensures.checks
+    (c.in-Foreach.is ∙ ap (tree.Foreach c.in-Foreach.nd c.in-Foreach.var c.in-Foreach.start c.in-Foreach.count) (sym c.get-in-Foreach.ensures))) c.of-node.ensures.node c.foreach.ensures.checks
 
 pub statements::statement-returns-in-ForeachParts-clause-checks : goal.statements::statement-returns-in-ForeachParts-clause-checks
 statements::statement-returns-in-ForeachParts-clause-checks t c =
-    as_said (Parting c.args.body.now.atomic_params c.args.around c.of-node.result c.in-ForeachParts.view c.in-ForeachParts.var (plain_expr c.in-ForeachParts.array) (plain_expr c.in-ForeachParts.count)
-    (plain_stmt c.get-in-ForeachParts.result.now) (walk_of c.args.body.now c.args.out.now))
-    c.args.body.now.atomic_params c.args.around c.args.follows c.of-node.result c.args.stmt.now
+    as_said c.args.body.now.atomic_params c.args.around c.args.follows c.of-node.result c.args.stmt.now
     (form.foreach_parts c.in-ForeachParts.view c.in-ForeachParts.var (plain_expr c.in-ForeachParts.array) (plain_expr c.in-ForeachParts.count)
-    (plain_stmt c.get-in-ForeachParts.result.now))
-    (walk_of c.args.body.now c.args.out.now) c.foreach_parts.result _
+    (plain_stmt c.get-in-ForeachParts.result.now)) (walk_of c.args.body.now c.args.out.now) c.foreach_parts.result _
     (at_Parts c.args.stmt.now c.in-ForeachParts.view c.in-ForeachParts.var c.in-ForeachParts.array c.in-ForeachParts.count
     c.get-in-ForeachParts.result.now
     (c.in-ForeachParts.is
     ∙ ap (tree.ForeachParts c.in-ForeachParts.view c.in-ForeachParts.var c.in-ForeachParts.array c.in-ForeachParts.count)
-    (sym c.get-in-ForeachParts.ensures)))
-    c.of-node.ensures.node (λ v d. rule.of_parts d) c.foreach_parts.ensures.checks
+    (sym c.get-in-ForeachParts.ensures))) c.of-node.ensures.node c.foreach_parts.ensures.checks
 
 pub statements::statement-returns-in-Atomic-clause-checks : goal.statements::statement-returns-in-Atomic-clause-checks
 statements::statement-returns-in-Atomic-clause-checks t c =
-    as_said (Checking c.args.body.now.atomic_params c.args.around c.of-node.result
-    (form.atomic (plain_stmts (map plain_stmt c.as_slice-in-Atomic.result.now))) (walk_of c.args.body.now c.args.out.now))
-    c.args.body.now.atomic_params c.args.around c.args.follows c.of-node.result c.args.stmt.now
-    (form.atomic (plain_stmts (map plain_stmt c.as_slice-in-Atomic.result.now)))
-    (walk_of c.args.body.now c.args.out.now) c.atomic.result _
-    (at_Atomic c.args.stmt.now c.as_slice-in-Atomic.result.now (c.in-Atomic.is ∙ ap tree.Atomic (sym c.as_slice-in-Atomic.ensures)))
-    c.of-node.ensures.node (λ v d. d) c.atomic.ensures.checks
+    as_said c.args.body.now.atomic_params c.args.around c.args.follows c.of-node.result c.args.stmt.now
+    (form.atomic (plain_stmts (map plain_stmt c.as_slice-in-Atomic.result.now))) (walk_of c.args.body.now c.args.out.now) c.atomic.result _
+    (at_Atomic c.args.stmt.now c.as_slice-in-Atomic.result.now (c.in-Atomic.is ∙ ap tree.Atomic (sym c.as_slice-in-Atomic.ensures))) c.of-node.ensures.node c.atomic.ensures.checks
 
 pub statements::statement-returns-in-Region-clause-checks : goal.statements::statement-returns-in-Region-clause-checks
 statements::statement-returns-in-Region-clause-checks t c =
-    as_said (λ v. regions_declared c.of-node.result c.as_slice-in-Region.result.now (walk_of c.args.body.now c.args.out.now) ≡ v)
-    c.args.body.now.atomic_params c.args.around c.args.follows c.of-node.result c.args.stmt.now
-    (form.local_regions c.as_slice-in-Region.result.now)
-    (walk_of c.args.body.now c.args.out.now) c.declare_regions.result _
-    (at_Region c.args.stmt.now c.as_slice-in-Region.result.now (c.in-Region.is ∙ ap tree.Region (sym c.as_slice-in-Region.ensures)))
-    c.of-node.ensures.node (λ v d. rule.of_regions d) (c.declare_regions.ensures.checks c.args.out.now)
+    as_said c.args.body.now.atomic_params c.args.around c.args.follows c.of-node.result c.args.stmt.now
+    (form.local_regions c.as_slice-in-Region.result.now) (walk_of c.args.body.now c.args.out.now) c.declare_regions.result _
+    (at_Region c.args.stmt.now c.as_slice-in-Region.result.now (c.in-Region.is ∙ ap tree.Region (sym c.as_slice-in-Region.ensures))) c.of-node.ensures.node (c.declare_regions.ensures.checks c.args.out.now)
 
 pub statements::nested-returns-in_err-done-clause-checks : goal.statements::nested-returns-in_err-done-clause-checks
 statements::nested-returns-in_err-done-clause-checks t c =
-    stopped (λ q. InBlock c.args.body.now.atomic_params c.args.around (plain_stmts (map plain_stmt c.args.all.now)) (walk_of c.args.body.now c.args.out.now) (verdict.refused q))
-    (Checking c.args.body.now.atomic_params c.args.around c.args.node (form.block (plain_stmts (map plain_stmt c.args.all.now))) (walk_of c.args.body.now c.args.out.now))
-    c.from_residual.result _ c.in_err-done.field-0.0 c.from_residual.ensures.1 (λ q d. rule.of_block d refl) c.in_err-done.ensures.checks
+    stopped (λ q. check_block c.args.body.now.atomic_params c.args.around (plain_stmts (map plain_stmt c.args.all.now)) (walk_of c.args.body.now c.args.out.now) ≡ verdict.refused q)
+    (λ v. check_form c.args.body.now.atomic_params c.args.around c.args.node (form.block (plain_stmts (map plain_stmt c.args.all.now))) (walk_of c.args.body.now c.args.out.now) ≡ v)
+    c.from_residual.result _ c.in_err-done.field-0.0 c.from_residual.ensures.1 (λ q d. rw d) c.in_err-done.ensures.checks
 
 pub statements::nested-returns-in_err-settle-clause-checks : goal.statements::nested-returns-in_err-settle-clause-checks
 statements::nested-returns-in_err-settle-clause-checks t c =
-    settle_stopped (Checking c.args.body.now.atomic_params c.args.around c.args.node (form.block (plain_stmts (map plain_stmt c.args.all.now))) (walk_of c.args.body.now c.args.out.now))
+    settle_stopped (λ v. check_form c.args.body.now.atomic_params c.args.around c.args.node (form.block (plain_stmts (map plain_stmt c.args.all.now))) (walk_of c.args.body.now c.args.out.now) ≡ v)
     (fault_of c.args.node) c.from_residual-in_err-settle.result c.in_err-settle.field-0.0 _ c.from_residual-in_err-settle.ensures.1
-    c.in_err-settle.ensures.result
-    (λ q reported.
-    rule.of_block c.in_ok-done.ensures.checks
-    (then_reported (fault_of c.args.node) (λ ss. statement c.args.node.place (made.block (stmts_of ss))) (map typed_stmt c.in_ok-done.done.stmts)
-    (walk_of c.block.new.body c.block.new.out) q reported))
+    c.in_err-settle.ensures.result (λ q reported. rw (c.in_ok-done.ensures.checks, reported))
 
 pub statements::nested-returns-clause-checks : goal.statements::nested-returns-clause-checks
 statements::nested-returns-clause-checks t c =
-    rule.of_block c.in_ok-done.ensures.checks
-    (then_made (fault_of c.args.node) (λ ss. statement c.args.node.place (made.block (stmts_of ss))) (map typed_stmt c.in_ok-done.done.stmts)
-    (walk_of c.block.new.body c.block.new.out)
-    (typed_stmt c.blocked.result) c.in_ok-settle.ensures.clean c.blocked.ensures)
+    rw (c.in_ok-done.ensures.checks, c.in_ok-settle.ensures.clean, c.blocked.ensures)
 
 pub statements::branching-returns-in_err-given-clause-checks : goal.statements::branching-returns-in_err-given-clause-checks
 statements::branching-returns-in_err-given-clause-checks t c =
     stopped (λ q. Typing c.args.body.now.env (plain_expr c.args.test.now) c.args.out.now (refused q))
-    (Choosing c.args.body.now.atomic_params c.args.around c.args.node (plain_expr c.args.test.now) (plain_stmt c.args.then.now)
-    (option_map plain_stmt (option_copied c.args.other)) (walk_of c.args.body.now c.args.out.now))
-    c.from_residual.result _ c.in_err-given.field-0.0 c.from_residual.ensures.1 (λ q d. choosing.test_refused d) c.in_err-given.ensures.answer
+    (λ v. check_form c.args.body.now.atomic_params c.args.around c.args.node (choice_form (plain_expr c.args.test.now) (plain_stmt c.args.then.now)
+    (option_map plain_stmt (option_copied c.args.other))) (walk_of c.args.body.now c.args.out.now) ≡ v) c.from_residual.result _ c.in_err-given.field-0.0 c.from_residual.ensures.1
+    (λ q d.
+    test_refused c.args.body.now.atomic_params c.args.around c.args.node (plain_expr c.args.test.now) (plain_stmt c.args.then.now) (option_map plain_stmt (option_copied c.args.other))
+    (walk_of c.args.body.now c.args.out.now) q d) c.in_err-given.ensures.answer
 
 pub statements::branching-returns-in_err-first-clause-checks : goal.statements::branching-returns-in_err-first-clause-checks
 statements::branching-returns-in_err-first-clause-checks t c =
-    stopped
-    (λ q. InScope c.args.body.now.atomic_params c.args.around (plain_stmt c.args.then.now) (walk_of c.args.body.now c.boolean.new.out) (verdict.refused q))
-    (Choosing c.args.body.now.atomic_params c.args.around c.args.node (plain_expr c.args.test.now) (plain_stmt c.args.then.now)
-    (option_map plain_stmt (option_copied c.args.other)) (walk_of c.args.body.now c.args.out.now))
-    c.from_residual-in_err-first.result _ c.in_err-first.field-0.0 c.from_residual-in_err-first.ensures.1
-    (λ q d. choosing.first_refused c.in_ok-given.ensures.answer d) c.in_err-first.ensures.checks
+    stopped (λ q. check_scope c.args.body.now.atomic_params c.args.around (plain_stmt c.args.then.now) (walk_of c.args.body.now c.boolean.new.out) ≡ verdict.refused q)
+    (λ v. check_form c.args.body.now.atomic_params c.args.around c.args.node (choice_form (plain_expr c.args.test.now) (plain_stmt c.args.then.now)
+    (option_map plain_stmt (option_copied c.args.other))) (walk_of c.args.body.now c.args.out.now) ≡ v) c.from_residual-in_err-first.result _ c.in_err-first.field-0.0 c.from_residual-in_err-first.ensures.1
+    (λ q d.
+    first_refused c.args.body.now.atomic_params c.args.around c.args.node (plain_expr c.args.test.now) (plain_stmt c.args.then.now) (option_map plain_stmt (option_copied c.args.other))
+    (walk_of c.args.body.now c.args.out.now) c.boolean.new.out (plain_typed c.in_ok-given.given) q c.in_ok-given.ensures.answer d) c.in_err-first.ensures.checks
 
 pub statements::branching-returns-in_err-second-in-Some-clause-checks : goal.statements::branching-returns-in_err-second-in-Some-clause-checks
 statements::branching-returns-in_err-second-in-Some-clause-checks t c =
-    stopped
-    (λ q. InScope c.scoped.new.body.atomic_params c.args.around (plain_stmt c.get.result.now) (walk_of c.scoped.new.body c.scoped.new.out)
-    (verdict.refused q))
-    (Choosing c.args.body.now.atomic_params c.args.around c.args.node (plain_expr c.args.test.now) (plain_stmt c.args.then.now)
-    (option_map plain_stmt (option_copied c.args.other)) (walk_of c.args.body.now c.args.out.now))
-    c.from_residual-in_err-second-in-Some.result _ c.in_err-second-in-Some.field-0.0 c.from_residual-in_err-second-in-Some.ensures.1
-    (λ q d.
     let met : FirstMet c.args.body.now c.scoped.new.body c.args.around c.args.node c.boolean.new.node (plain_expr c.args.test.now)
     (plain_stmt c.args.then.now) c.args.out.now c.boolean.new.out c.scoped.new.out (plain_typed c.in_ok-given.given)
     (typed_stmt c.in_ok-first.first.stmt) = record {
@@ -315,19 +244,16 @@ statements::branching-returns-in_err-second-in-Some-clause-checks t c =
       in_scope = c.in_ok-first.ensures.checks;
       home = c.in_ok-first.ensures.home;
     } in
-    either_so c.args.body.now c.scoped.new.body c.args.around c.args.node c.boolean.new.node (plain_expr c.args.test.now)
-    (plain_stmt c.args.then.now) (option_copied c.args.other) c.in-Some.other.now c.get.result.now c.args.out.now c.boolean.new.out
-    c.scoped.new.out (plain_typed c.in_ok-given.given) (typed_stmt c.in_ok-first.first.stmt)
-    (verdict.refused q) (verdict.refused q) (ap option_copied c.in-Some.is) met c.get.ensures d refl)
+    stopped
+    (λ q. check_scope c.scoped.new.body.atomic_params c.args.around (plain_stmt c.get.result.now) (walk_of c.scoped.new.body c.scoped.new.out) ≡ verdict.refused q)
+    (λ v. check_form c.args.body.now.atomic_params c.args.around c.args.node (choice_form (plain_expr c.args.test.now) (plain_stmt c.args.then.now)
+    (option_map plain_stmt (option_copied c.args.other))) (walk_of c.args.body.now c.args.out.now) ≡ v) c.from_residual-in_err-second-in-Some.result _ c.in_err-second-in-Some.field-0.0 c.from_residual-in_err-second-in-Some.ensures.1
+    (λ q d. either_so (option_copied c.args.other) c.in-Some.other.now c.get.result.now (verdict.refused q) (ap option_copied c.in-Some.is) met c.get.ensures
+    d)
     c.in_err-second-in-Some.ensures.checks
 
 pub statements::branching-returns-in_err-settle-in-Some-clause-checks : goal.statements::branching-returns-in_err-settle-in-Some-clause-checks
 statements::branching-returns-in_err-settle-in-Some-clause-checks t c =
-    settle_stopped (Choosing c.args.body.now.atomic_params c.args.around c.args.node (plain_expr c.args.test.now) (plain_stmt c.args.then.now)
-    (option_map plain_stmt (option_copied c.args.other)) (walk_of c.args.body.now c.args.out.now))
-    (fault_of c.boolean.new.node) c.from_residual-in_err-settle-in-Some.result c.in_err-settle-in-Some.field-0.0 _
-    c.from_residual-in_err-settle-in-Some.ensures.1 c.in_err-settle-in-Some.ensures.result
-    (λ q reported.
     let met : FirstMet c.args.body.now c.scoped.new.body c.args.around c.args.node c.boolean.new.node (plain_expr c.args.test.now)
     (plain_stmt c.args.then.now) c.args.out.now c.boolean.new.out c.scoped.new.out (plain_typed c.in_ok-given.given)
     (typed_stmt c.in_ok-first.first.stmt) = record {
@@ -336,15 +262,12 @@ statements::branching-returns-in_err-settle-in-Some-clause-checks t c =
       in_scope = c.in_ok-first.ensures.checks;
       home = c.in_ok-first.ensures.home;
     } in
-    either_so c.args.body.now c.scoped.new.body c.args.around c.args.node c.boolean.new.node (plain_expr c.args.test.now)
-    (plain_stmt c.args.then.now) (option_copied c.args.other) c.in-Some.other.now c.get.result.now c.args.out.now c.boolean.new.out
-    c.scoped.new.out (plain_typed c.in_ok-given.given) (typed_stmt c.in_ok-first.first.stmt)
-    (passes (typed_stmt c.in_ok-second-in-Some.second.stmt) (walk_of c.scoped-in-Some.new.body c.scoped-in-Some.new.out)) (verdict.refused q)
-    (ap option_copied c.in-Some.is) met c.get.ensures c.in_ok-second-in-Some.ensures.checks
-    (then_reported (fault_of c.boolean.new.node)
-    (λ z. statement c.args.node.place
-    (typed_choice (node_of (plain_expr c.args.test.now) (plain_typed c.in_ok-given.given)) (typed_stmt c.in_ok-first.first.stmt) z))
-    (Some (typed_stmt c.in_ok-second-in-Some.second.stmt)) (walk_of c.scoped-in-Some.new.body c.scoped-in-Some.new.out) q reported))
+    settle_stopped (λ v. check_form c.args.body.now.atomic_params c.args.around c.args.node (choice_form (plain_expr c.args.test.now) (plain_stmt c.args.then.now)
+    (option_map plain_stmt (option_copied c.args.other))) (walk_of c.args.body.now c.args.out.now) ≡ v)
+    (fault_of c.boolean.new.node) c.from_residual-in_err-settle-in-Some.result c.in_err-settle-in-Some.field-0.0 _
+    c.from_residual-in_err-settle-in-Some.ensures.1 c.in_err-settle-in-Some.ensures.result
+    (λ q reported. either_so (option_copied c.args.other) c.in-Some.other.now c.get.result.now (passes (typed_stmt c.in_ok-second-in-Some.second.stmt) (walk_of c.scoped-in-Some.new.body c.scoped-in-Some.new.out)) (ap option_copied c.in-Some.is) met c.get.ensures
+    c.in_ok-second-in-Some.ensures.checks ∙ judged_some _ _ _ q reported)
 
 pub statements::branching-returns-in_ok-settle-in-Some-clause-completes : goal.statements::branching-returns-in_ok-settle-in-Some-clause-completes
 statements::branching-returns-in_ok-settle-in-Some-clause-completes t c =
@@ -373,28 +296,15 @@ statements::branching-returns-in_ok-settle-in-Some-clause-checks t c =
       in_scope = c.in_ok-first.ensures.checks;
       home = c.in_ok-first.ensures.home;
     } in
-    either_so c.args.body.now c.scoped.new.body c.args.around c.args.node c.boolean.new.node (plain_expr c.args.test.now)
-    (plain_stmt c.args.then.now) (option_copied c.args.other) c.in-Some.other.now c.get.result.now c.args.out.now c.boolean.new.out
-    c.scoped.new.out (plain_typed c.in_ok-given.given) (typed_stmt c.in_ok-first.first.stmt)
-    (passes (typed_stmt c.in_ok-second-in-Some.second.stmt) (walk_of c.scoped-in-Some.new.body c.scoped-in-Some.new.out))
-    (passes (typed_stmt c.choose.result.stmt) (walk_of c.scoped-in-Some.new.body c.scoped-in-Some.new.out)) (ap option_copied c.in-Some.is) met c.get.ensures
+    either_so (option_copied c.args.other) c.in-Some.other.now c.get.result.now (passes (typed_stmt c.in_ok-second-in-Some.second.stmt) (walk_of c.scoped-in-Some.new.body c.scoped-in-Some.new.out)) (ap option_copied c.in-Some.is) met c.get.ensures
     c.in_ok-second-in-Some.ensures.checks
-    (then_made (fault_of c.boolean.new.node)
-    (λ z. statement c.args.node.place
-    (typed_choice (node_of (plain_expr c.args.test.now) (plain_typed c.in_ok-given.given)) (typed_stmt c.in_ok-first.first.stmt) z))
-    (Some (typed_stmt c.in_ok-second-in-Some.second.stmt)) (walk_of c.scoped-in-Some.new.body c.scoped-in-Some.new.out)
-    (typed_stmt c.choose.result.stmt) c.in_ok-settle-in-Some.ensures.clean
+    ∙ clean_passes _ (typed_stmt c.choose.result.stmt) _ _ _ c.in_ok-settle-in-Some.ensures.clean
     (choice_made c.args.test.now c.into_node-test.result (plain_typed c.in_ok-given.given) c.args.node.place
     (typed_stmt c.in_ok-first.first.stmt) (Some (typed_stmt c.in_ok-second-in-Some.second.stmt)) (typed_stmt c.choose.result.stmt)
-    c.into_node-test.ensures c.choose.ensures.stmt))
+    c.into_node-test.ensures c.choose.ensures.stmt) refl
 
 pub statements::branching-returns-in_err-settle-in-None-clause-checks : goal.statements::branching-returns-in_err-settle-in-None-clause-checks
 statements::branching-returns-in_err-settle-in-None-clause-checks t c =
-    settle_stopped (Choosing c.args.body.now.atomic_params c.args.around c.args.node (plain_expr c.args.test.now) (plain_stmt c.args.then.now)
-    (option_map plain_stmt (option_copied c.args.other)) (walk_of c.args.body.now c.args.out.now))
-    (fault_of c.boolean.new.node) c.from_residual-in_err-settle-in-None.result c.in_err-settle-in-None.field-0.0 _
-    c.from_residual-in_err-settle-in-None.ensures.1 c.in_err-settle-in-None.ensures.result
-    (λ q reported.
     let met : FirstMet c.args.body.now c.scoped.new.body c.args.around c.args.node c.boolean.new.node (plain_expr c.args.test.now)
     (plain_stmt c.args.then.now) c.args.out.now c.boolean.new.out c.scoped.new.out (plain_typed c.in_ok-given.given)
     (typed_stmt c.in_ok-first.first.stmt) = record {
@@ -403,14 +313,11 @@ statements::branching-returns-in_err-settle-in-None-clause-checks t c =
       in_scope = c.in_ok-first.ensures.checks;
       home = c.in_ok-first.ensures.home;
     } in
-    neither_so c.args.body.now c.scoped.new.body c.args.around c.args.node c.boolean.new.node (plain_expr c.args.test.now)
-    (plain_stmt c.args.then.now) (option_copied c.args.other) c.args.out.now c.boolean.new.out c.scoped.new.out
-    (plain_typed c.in_ok-given.given) (typed_stmt c.in_ok-first.first.stmt)
-    (verdict.refused q) (ap option_copied c.in-None.is) met
-    (then_reported (fault_of c.boolean.new.node)
-    (λ z. statement c.args.node.place
-    (typed_choice (node_of (plain_expr c.args.test.now) (plain_typed c.in_ok-given.given)) (typed_stmt c.in_ok-first.first.stmt) z))
-    None (walk_of c.scoped.new.body c.scoped.new.out) q reported))
+    settle_stopped (λ v. check_form c.args.body.now.atomic_params c.args.around c.args.node (choice_form (plain_expr c.args.test.now) (plain_stmt c.args.then.now)
+    (option_map plain_stmt (option_copied c.args.other))) (walk_of c.args.body.now c.args.out.now) ≡ v)
+    (fault_of c.boolean.new.node) c.from_residual-in_err-settle-in-None.result c.in_err-settle-in-None.field-0.0 _
+    c.from_residual-in_err-settle-in-None.ensures.1 c.in_err-settle-in-None.ensures.result
+    (λ q reported. neither_so (option_copied c.args.other) (ap option_copied c.in-None.is) met ∙ judged_some _ _ _ q reported)
 
 pub statements::branching-returns-in_ok-settle-in-None-clause-completes : goal.statements::branching-returns-in_ok-settle-in-None-clause-completes
 statements::branching-returns-in_ok-settle-in-None-clause-completes t c =
@@ -437,24 +344,17 @@ statements::branching-returns-in_ok-settle-in-None-clause-checks t c =
       in_scope = c.in_ok-first.ensures.checks;
       home = c.in_ok-first.ensures.home;
     } in
-    neither_so c.args.body.now c.scoped.new.body c.args.around c.args.node c.boolean.new.node (plain_expr c.args.test.now)
-    (plain_stmt c.args.then.now) (option_copied c.args.other) c.args.out.now c.boolean.new.out c.scoped.new.out
-    (plain_typed c.in_ok-given.given) (typed_stmt c.in_ok-first.first.stmt)
-    (passes (typed_stmt c.choose-in-None.result.stmt) (walk_of c.scoped.new.body c.scoped.new.out)) (ap option_copied c.in-None.is) met
-    (then_made (fault_of c.boolean.new.node)
-    (λ z. statement c.args.node.place
-    (typed_choice (node_of (plain_expr c.args.test.now) (plain_typed c.in_ok-given.given)) (typed_stmt c.in_ok-first.first.stmt) z))
-    None (walk_of c.scoped.new.body c.scoped.new.out) (typed_stmt c.choose-in-None.result.stmt) c.in_ok-settle-in-None.ensures.clean
+    neither_so (option_copied c.args.other) (ap option_copied c.in-None.is) met
+    ∙ clean_passes _ (typed_stmt c.choose-in-None.result.stmt) _ _ _ c.in_ok-settle-in-None.ensures.clean
     (choice_made c.args.test.now c.into_node-test.result (plain_typed c.in_ok-given.given) c.args.node.place
-    (typed_stmt c.in_ok-first.first.stmt) None (typed_stmt c.choose-in-None.result.stmt) c.into_node-test.ensures c.choose-in-None.ensures.stmt))
+    (typed_stmt c.in_ok-first.first.stmt) None (typed_stmt c.choose-in-None.result.stmt) c.into_node-test.ensures c.choose-in-None.ensures.stmt) refl
 
-pub statements::statements-returns-in_err-done-clause-checks :
-    goal.statements::statements-returns-in_err-done-clause-checks
+pub statements::statements-returns-in_err-done-clause-checks : goal.statements::statements-returns-in_err-done-clause-checks
 statements::statements-returns-in_err-done-clause-checks t c =
     stopped
-    (λ q. Standing c.loop-stmt.body.atomic_params c.args.around (not c.loop-stmt.completes) (plain_stmt c.stmt-item.result)
-    (walk_of c.loop-stmt.body c.loop-stmt.out) (verdict.refused q))
-    (InOrder c.args.body.now.atomic_params c.args.around true (plain_stmts (map plain_stmt c.args.stmts.now)) (walk_of c.args.body.now c.args.out.now))
+    (λ q. check_stmt c.loop-stmt.body.atomic_params c.args.around (not c.loop-stmt.completes) (plain_stmt c.stmt-item.result)
+    (walk_of c.loop-stmt.body c.loop-stmt.out) ≡ verdict.refused q)
+    (λ v. check_all c.args.body.now.atomic_params c.args.around true (plain_stmts (map plain_stmt c.args.stmts.now)) (walk_of c.args.body.now c.args.out.now) ≡ v)
     c.from_residual.result _ c.in_err-done.field-0.0 c.from_residual.ensures.1
     (λ q d.
     order_refused c.args.body.now.atomic_params c.loop-stmt.body.atomic_params c.args.around c.args.stmts.now (walk_of c.args.body.now c.args.out.now)
@@ -502,98 +402,54 @@ statements::statements-returns-clause-checks t c =
 pub statements::repeat-returns-in_err-given-clause-checks : goal.statements::repeat-returns-in_err-given-clause-checks
 statements::repeat-returns-in_err-given-clause-checks t c =
     stopped (λ q. Typing c.args.body.now.env (plain_expr c.args.test.now) c.args.out.now (refused q))
-    (Checking c.args.body.now.atomic_params c.args.around c.args.node
-    (form.while_loop (plain_expr c.args.test.now) (plain_stmt c.args.turn.now)) (walk_of c.args.body.now c.args.out.now))
-    c.from_residual.result _ c.in_err-given.field-0.0 c.from_residual.ensures.1 (λ q d. rule.while_refused d) c.in_err-given.ensures.answer
+    (λ v. check_form c.args.body.now.atomic_params c.args.around c.args.node (form.while_loop (plain_expr c.args.test.now) (plain_stmt c.args.turn.now)) (walk_of c.args.body.now c.args.out.now) ≡ v) c.from_residual.result _ c.in_err-given.field-0.0 c.from_residual.ensures.1 (λ q d. rw d) c.in_err-given.ensures.answer
 
 pub statements::repeat-returns-in_err-done-clause-checks : goal.statements::repeat-returns-in_err-done-clause-checks
 statements::repeat-returns-in_err-done-clause-checks t c =
     stopped
-    (λ q. InScope c.args.body.now.atomic_params c.args.around (plain_stmt c.args.turn.now) (walk_of c.args.body.now c.boolean.new.out) (verdict.refused q))
-    (Checking c.args.body.now.atomic_params c.args.around c.args.node
-    (form.while_loop (plain_expr c.args.test.now) (plain_stmt c.args.turn.now)) (walk_of c.args.body.now c.args.out.now))
-    c.from_residual-in_err-done.result _ c.in_err-done.field-0.0 c.from_residual-in_err-done.ensures.1
-    (λ q d.
-    while_so c.args.around c.args.node c.boolean.new.node (plain_expr c.args.test.now) (plain_stmt c.args.turn.now) c.args.body.now
-    c.args.out.now c.boolean.new.out (plain_typed c.in_ok-given.given)
-    (verdict.refused q) (verdict.refused q) c.in_ok-given.ensures.answer c.in_ok-given.ensures.node d refl)
-    c.in_err-done.ensures.checks
+    (λ q. check_scope c.args.body.now.atomic_params c.args.around (plain_stmt c.args.turn.now) (walk_of c.args.body.now c.boolean.new.out) ≡ verdict.refused q)
+    (λ v. check_form c.args.body.now.atomic_params c.args.around c.args.node (form.while_loop (plain_expr c.args.test.now) (plain_stmt c.args.turn.now)) (walk_of c.args.body.now c.args.out.now) ≡ v) c.from_residual-in_err-done.result _ c.in_err-done.field-0.0 c.from_residual-in_err-done.ensures.1
+    (λ q d. rw (c.in_ok-given.ensures.answer, d)) c.in_err-done.ensures.checks
 
 pub statements::repeat-returns-in_err-settle-clause-checks : goal.statements::repeat-returns-in_err-settle-clause-checks
 statements::repeat-returns-in_err-settle-clause-checks t c =
-    settle_stopped (Checking c.args.body.now.atomic_params c.args.around c.args.node
-    (form.while_loop (plain_expr c.args.test.now) (plain_stmt c.args.turn.now)) (walk_of c.args.body.now c.args.out.now))
+    settle_stopped (λ v. check_form c.args.body.now.atomic_params c.args.around c.args.node (form.while_loop (plain_expr c.args.test.now) (plain_stmt c.args.turn.now)) (walk_of c.args.body.now c.args.out.now) ≡ v)
     (fault_of c.boolean.new.node) c.from_residual-in_err-settle.result c.in_err-settle.field-0.0 _ c.from_residual-in_err-settle.ensures.1
     c.in_err-settle.ensures.result
-    (λ q reported.
-    while_so c.args.around c.args.node c.boolean.new.node (plain_expr c.args.test.now) (plain_stmt c.args.turn.now) c.args.body.now
-    c.args.out.now c.boolean.new.out (plain_typed c.in_ok-given.given)
-    (passes (typed_stmt c.in_ok-done.done.stmt) (walk_of c.scoped.new.body c.scoped.new.out)) (verdict.refused q)
-    c.in_ok-given.ensures.answer c.in_ok-given.ensures.node c.in_ok-done.ensures.checks
-    (then_reported (fault_of c.boolean.new.node)
-    (λ z. statement c.args.node.place (made.while_loop (node_of (plain_expr c.args.test.now) (plain_typed c.in_ok-given.given)) z))
-    (typed_stmt c.in_ok-done.done.stmt) (walk_of c.scoped.new.body c.scoped.new.out) q reported))
+    (λ q reported. rw (c.in_ok-given.ensures.answer, c.in_ok-done.ensures.checks, ← c.in_ok-given.ensures.node, reported))
 
 pub statements::repeat-returns-clause-checks : goal.statements::repeat-returns-clause-checks
 statements::repeat-returns-clause-checks t c =
-    while_so c.args.around c.args.node c.boolean.new.node (plain_expr c.args.test.now) (plain_stmt c.args.turn.now) c.args.body.now
-    c.args.out.now c.boolean.new.out (plain_typed c.in_ok-given.given)
-    (passes (typed_stmt c.in_ok-done.done.stmt) (walk_of c.scoped.new.body c.scoped.new.out))
-    (passes (typed_stmt c.repeated.result) (walk_of c.scoped.new.body c.scoped.new.out))
-    c.in_ok-given.ensures.answer c.in_ok-given.ensures.node c.in_ok-done.ensures.checks
-    (then_made (fault_of c.boolean.new.node)
-    (λ z. statement c.args.node.place (made.while_loop (node_of (plain_expr c.args.test.now) (plain_typed c.in_ok-given.given)) z))
-    (typed_stmt c.in_ok-done.done.stmt) (walk_of c.scoped.new.body c.scoped.new.out) (typed_stmt c.repeated.result)
-    c.in_ok-settle.ensures.clean
-    (while_made c.args.test.now c.into_node-test.result (plain_typed c.in_ok-given.given) c.args.node.place
-    (typed_stmt c.in_ok-done.done.stmt) (typed_stmt c.repeated.result) c.into_node-test.ensures c.repeated.ensures))
-
-pub statements::iterating-returns-in_err-first-clause-checks : goal.statements::iterating-returns-in_err-first-clause-checks
-statements::iterating-returns-in_err-first-clause-checks t c =
-    stopped (λ q. Typing c.args.body.now.env (plain_expr c.args.start.now) c.args.out.now (refused q))
-    (Checking c.args.body.now.atomic_params c.args.around c.args.node
-    (form.foreach c.args.nd c.args.var (plain_expr c.args.start.now) (plain_expr c.args.count.now) (plain_stmt c.args.turn.now)) (walk_of c.args.body.now c.args.out.now))
-    c.from_residual.result _ c.in_err-first.field-0.0 c.from_residual.ensures.1 (λ q d. rule.start_refused d) c.in_err-first.ensures.answer
-
-pub statements::iterating-returns-in_err-number-clause-checks : goal.statements::iterating-returns-in_err-number-clause-checks
-statements::iterating-returns-in_err-number-clause-checks t c =
-    stopped (λ q. Typing c.args.body.now.env (plain_expr c.args.count.now) c.int.new.out (refused q))
-    (Checking c.args.body.now.atomic_params c.args.around c.args.node
-    (form.foreach c.args.nd c.args.var (plain_expr c.args.start.now) (plain_expr c.args.count.now) (plain_stmt c.args.turn.now)) (walk_of c.args.body.now c.args.out.now))
-    c.from_residual-in_err-number.result _ c.in_err-number.field-0.0 c.from_residual-in_err-number.ensures.1
-    (λ q d. rule.count_refused c.in_ok-first.ensures.answer d) c.in_err-number.ensures.answer
-
-pub statements::iterating-returns-clause-checks : goal.statements::iterating-returns-clause-checks
-statements::iterating-returns-clause-checks t c =
-    says_all
-    (Iterating c.args.body.now.atomic_params c.args.around c.int-2.new.node c.args.nd c.args.var (plain_node c.into_node.result)
-    (plain_node c.into_node-2.result) (plain_stmt c.args.turn.now) (walk_of c.args.body.now c.int-2.new.out))
-    (Checking c.args.body.now.atomic_params c.args.around c.args.node
-    (form.foreach c.args.nd c.args.var (plain_expr c.args.start.now) (plain_expr c.args.count.now) (plain_stmt c.args.turn.now)) (walk_of c.args.body.now c.args.out.now))
-    c.foreach.result _
-    (λ v d.
-    foreach_so c.args.around c.args.node c.int.new.node c.int-2.new.node c.args.nd c.args.var (plain_expr c.args.start.now)
-    (plain_expr c.args.count.now) (plain_node c.into_node.result) (plain_node c.into_node-2.result) (plain_stmt c.args.turn.now)
-    c.args.body.now c.args.out.now c.int.new.out c.int-2.new.out (plain_typed c.in_ok-first.first) (plain_typed c.in_ok-number.number) v
-    c.in_ok-first.ensures.answer c.in_ok-first.ensures.node c.in_ok-number.ensures.answer c.in_ok-number.ensures.node
-    (node_made c.args.start.now c.into_node.result (plain_typed c.in_ok-first.first) c.into_node.ensures)
-    (node_made c.args.count.now c.into_node-2.result (plain_typed c.in_ok-number.number) c.into_node-2.ensures) d)
-    c.foreach.ensures.checks
+    rw (
+      c.in_ok-given.ensures.answer,
+      c.in_ok-done.ensures.checks,
+      ← c.in_ok-given.ensures.node,
+      c.in_ok-settle.ensures.clean,
+      c.repeated.ensures,
+      node_made c.args.test.now c.into_node-test.result (plain_typed c.in_ok-given.given) c.into_node-test.ensures,
+    )
 
 pub constructs::atomic-returns-in_err-done-clause-checks : goal.constructs::atomic-returns-in_err-done-clause-checks
 constructs::atomic-returns-in_err-done-clause-checks t c =
-    atomic_refused c.args.body.now.atomic_params c.args.body.now c.args.around c.inside.result c.args.node (plain_stmts (map plain_stmt c.args.stmts.now))
-    c.args.out.now c.new-inner.result
-    _ c.from_residual.result c.in_err-done.field-0.0 c.from_residual.ensures.1 c.inside.ensures
-    c.new-inner.ensures c.in_err-done.ensures.checks
+    stopped (λ q. check_block c.args.body.now.atomic_params c.inside.result (plain_stmts (map plain_stmt c.args.stmts.now)) (walk_of c.args.body.now c.new-inner.result) ≡ verdict.refused q)
+    (λ v. check_form c.args.body.now.atomic_params c.args.around c.args.node (form.atomic (plain_stmts (map plain_stmt c.args.stmts.now))) (walk_of c.args.body.now c.args.out.now) ≡ v) c.from_residual.result _ c.in_err-done.field-0.0 c.from_residual.ensures.1
+    (λ q d.
+    rw (block_in c.args.body.now.atomic_params c.args.body.now c.args.around c.inside.result (plain_stmts (map plain_stmt c.args.stmts.now)) c.args.out.now c.new-inner.result (verdict.refused q)
+    c.inside.ensures c.new-inner.ensures d))
+    c.in_err-done.ensures.checks
 
 pub constructs::atomic-returns-in_err-settle-clause-checks : goal.constructs::atomic-returns-in_err-settle-clause-checks
 constructs::atomic-returns-in_err-settle-clause-checks t c =
-    atomic_reported c.args.body.now.atomic_params c.args.body.now c.block.new.body c.args.around c.inside.result c.args.node c.note_if.new.self
-    (plain_stmts (map plain_stmt c.args.stmts.now))
-    c.args.out.now c.new-inner.result c.block.new.out (map typed_stmt c.in_ok-done.done.stmts) _ c.from_residual-in_err-settle.result
-    c.in_err-settle.field-0.0 c.from_residual-in_err-settle.ensures.1 c.inside.ensures c.new-inner.ensures c.in_ok-done.ensures.checks c.note_if.ensures.node
+    settle_stopped (λ v. check_form c.args.body.now.atomic_params c.args.around c.args.node (form.atomic (plain_stmts (map plain_stmt c.args.stmts.now))) (walk_of c.args.body.now c.args.out.now) ≡ v)
+    (fault_of c.note_if.new.self) c.from_residual-in_err-settle.result c.in_err-settle.field-0.0 _ c.from_residual-in_err-settle.ensures.1
     c.in_err-settle.ensures.result
+    (λ q reported.
+    atomic_is c.args.body.now.atomic_params c.args.body.now c.block.new.body c.args.around c.args.node c.note_if.new.self (plain_stmts (map plain_stmt c.args.stmts.now))
+    c.args.out.now c.block.new.out (map typed_stmt c.in_ok-done.done.stmts)
+    (block_in c.args.body.now.atomic_params c.args.body.now c.args.around c.inside.result (plain_stmts (map plain_stmt c.args.stmts.now)) c.args.out.now c.new-inner.result
+    (passes (map typed_stmt c.in_ok-done.done.stmts) (walk_of c.block.new.body c.block.new.out)) c.inside.ensures c.new-inner.ensures
+    c.in_ok-done.ensures.checks) c.note_if.ensures.node
+    ∙ judged_some _ _ _ q reported)
 
 pub constructs::atomic-returns-clause-nd : goal.constructs::atomic-returns-clause-nd
 constructs::atomic-returns-clause-nd t c =
@@ -603,280 +459,340 @@ constructs::atomic-returns-clause-nd t c =
 
 pub constructs::atomic-returns-clause-checks : goal.constructs::atomic-returns-clause-checks
 constructs::atomic-returns-clause-checks t c =
-    atomic_passes c.args.body.now.atomic_params c.args.body.now c.block.new.body c.args.around c.inside.result c.args.node c.note_if.new.self
-    (plain_stmts (map plain_stmt c.args.stmts.now))
-    c.args.out.now c.new-inner.result c.block.new.out c.take_in.new.out c.in_ok-effects.effects c.from_here-leaving.result
-    (map typed_stmt c.in_ok-done.done.stmts) (typed_stmt c.entered-2.result)
-    c.inside.ensures c.new-inner.ensures c.in_ok-done.ensures.checks c.note_if.ensures.node c.in_ok-settle.ensures.clean
-    c.in_ok-effects.ensures c.from_here-leaving.ensures c.in_ok-take_in.ensures c.entered-2.ensures
+    atomic_is c.args.body.now.atomic_params c.args.body.now c.block.new.body c.args.around c.args.node c.note_if.new.self (plain_stmts (map plain_stmt c.args.stmts.now))
+    c.args.out.now c.block.new.out (map typed_stmt c.in_ok-done.done.stmts)
+    (block_in c.args.body.now.atomic_params c.args.body.now c.args.around c.inside.result (plain_stmts (map plain_stmt c.args.stmts.now)) c.args.out.now c.new-inner.result
+    (passes (map typed_stmt c.in_ok-done.done.stmts) (walk_of c.block.new.body c.block.new.out)) c.inside.ensures c.new-inner.ensures
+    c.in_ok-done.ensures.checks) c.note_if.ensures.node
+    ∙ clean_passes _ (typed_stmt c.entered-2.result) _ (walk_of c.block.new.body c.take_in.new.out) _ c.in_ok-settle.ensures.clean
+    (c.entered-2.ensures
+    ∙ ap (λ z. statement c.args.node.place (made.atomic z (stmts_of (map typed_stmt c.in_ok-done.done.stmts)))) c.in_ok-effects.ensures)
+    (ap (λ (z : Found). walk_of c.block.new.body z)
+    (c.in_ok-take_in.ensures ∙ ap (λ z. taken_in z c.args.out.now c.block.new.out) c.from_here-leaving.ensures))
 
-pub constructs::foreach-returns-in_err-done-clause-checks :
-    goal.constructs::foreach-returns-in_err-done-clause-checks
+pub constructs::foreach-returns-in_err-first-clause-checks : goal.constructs::foreach-returns-in_err-first-clause-checks
+constructs::foreach-returns-in_err-first-clause-checks t c =
+    stopped (λ q. Typing c.args.body.now.env (plain_expr c.args.start.now) c.args.out.now (refused q))
+    (λ v. check_form c.args.body.now.atomic_params c.args.around c.args.node
+    (form.foreach c.args.nd c.args.var (plain_expr c.args.start.now) (plain_expr c.args.count.now) (plain_stmt c.args.iteration.now)) (walk_of c.args.body.now c.args.out.now) ≡ v) c.from_residual.result _ c.in_err-first.field-0.0 c.from_residual.ensures.1 (λ q d. rw d) c.in_err-first.ensures.answer
+
+pub constructs::foreach-returns-in_err-number-clause-checks : goal.constructs::foreach-returns-in_err-number-clause-checks
+constructs::foreach-returns-in_err-number-clause-checks t c =
+    stopped (λ q. Typing c.args.body.now.env (plain_expr c.args.count.now) c.int.new.out (refused q))
+    (λ v. check_form c.args.body.now.atomic_params c.args.around c.args.node
+    (form.foreach c.args.nd c.args.var (plain_expr c.args.start.now) (plain_expr c.args.count.now) (plain_stmt c.args.iteration.now)) (walk_of c.args.body.now c.args.out.now) ≡ v) c.from_residual-in_err-number.result _ c.in_err-number.field-0.0 c.from_residual-in_err-number.ensures.1
+    (λ q d. rw (c.in_ok-first.ensures.answer, d)) c.in_err-number.ensures.answer
+
+pub constructs::foreach-returns-in_err-done-clause-checks : goal.constructs::foreach-returns-in_err-done-clause-checks
 constructs::foreach-returns-in_err-done-clause-checks t c =
-    iteration_stopped c.args.body.now c.declare_variable.new.self c.args.around c.inside.result c.args.node c.args.nd c.args.var
-    (plain_node c.args.range.0) (plain_node c.args.range.1) (plain_stmt c.args.iteration.now)
-    c.args.out.now c.new-inner.result _ c.from_residual-in_err-done.result c.in_err-done.field-0.0
-    c.from_residual-in_err-done.ensures.1 c.new-inner.ensures c.in_ok-declare_variable.ensures.whole c.inside.ensures c.in_err-done.ensures.checks
+    stopped (λ q. check_scope c.declare_variable.new.self.atomic_params c.inside.result (plain_stmt c.args.iteration.now)
+    (walk_of c.declare_variable.new.self c.new-inner.result) ≡ verdict.refused q)
+    (λ v. check_form c.args.body.now.atomic_params c.args.around c.args.node
+    (form.foreach c.args.nd c.args.var (plain_expr c.args.start.now) (plain_expr c.args.count.now) (plain_stmt c.args.iteration.now)) (walk_of c.args.body.now c.args.out.now) ≡ v) c.from_residual-in_err-done.result _ c.in_err-done.field-0.0 c.from_residual-in_err-done.ensures.1
+    (λ q d.
+    rw (
+      c.in_ok-first.ensures.answer,
+      c.in_ok-number.ensures.answer,
+      piece_in c.args.body.now.atomic_params c.declare_variable.new.self (variable_declared c.args.body.now.env c.args.var) c.args.around c.inside.result
+          (plain_stmt c.args.iteration.now) c.new-inner.result (verdict.refused q)
+          (ap (λ (z : Body). z.atomic_params) c.in_ok-declare_variable.ensures.whole) (ap (λ (z : Body). z.env) c.in_ok-declare_variable.ensures.whole)
+          c.inside.ensures c.new-inner.ensures d,
+    ))
+    c.in_err-done.ensures.checks
 
-pub constructs::foreach-returns-in_err-settle-clause-checks :
-    goal.constructs::foreach-returns-in_err-settle-clause-checks
+pub constructs::foreach-returns-in_err-settle-clause-checks : goal.constructs::foreach-returns-in_err-settle-clause-checks
 constructs::foreach-returns-in_err-settle-clause-checks t c =
-    let passed : Iterated c.args.body.now c.scoped.new.body c.args.around c.args.node c.note_if.new.self c.args.var (plain_stmt c.args.iteration.now)
-    c.args.out.now
-    c.scoped.new.out (typed_stmt c.in_ok-done.done.stmt) c.in_ok-assigns_outer.field-0 = record {
-      second_is =
-          second_noted c.args.body.now.env c.args.var c.args.node c.note_declaration.new.node c.note_if.new.self c.in_ok-assigns_outer.field-0
-          c.note_declaration.ensures.node c.note_if.ensures.node;
+    let passed : Iterated c.args.body.now c.scoped.new.body c.args.around c.args.node c.int.new.node c.int-2.new.node c.note_declaration.new.node
+    c.note_if.new.self c.args.var (plain_expr c.args.start.now) (plain_expr c.args.count.now) (plain_stmt c.args.iteration.now) c.args.out.now
+    c.int.new.out c.int-2.new.out c.scoped.new.out (plain_typed c.in_ok-first.first) (plain_typed c.in_ok-number.number)
+    (typed_stmt c.in_ok-done.done.stmt) c.in_ok-assigns_outer.field-0 = record {
+      starts = c.in_ok-first.ensures.answer;
+      counts = c.in_ok-number.ensures.answer;
+      first_is = c.in_ok-first.ensures.node;
+      number_is = c.in_ok-number.ensures.node;
+      noted_is = c.note_declaration.ensures.node;
       in_scope =
-          iteration_in c.args.body.now c.declare_variable.new.self c.args.around c.inside.result c.args.var (plain_stmt c.args.iteration.now) c.args.out.now
-          c.new-inner.result (passes (typed_stmt c.in_ok-done.done.stmt) (walk_of c.scoped.new.body c.scoped.new.out)) c.new-inner.ensures
-          c.in_ok-declare_variable.ensures.whole
-          c.inside.ensures c.in_ok-done.ensures.checks;
-      assigning = c.in_ok-assigns_outer.ensures;
+          piece_in c.args.body.now.atomic_params c.declare_variable.new.self (variable_declared c.args.body.now.env c.args.var) c.args.around c.inside.result
+          (plain_stmt c.args.iteration.now) c.new-inner.result (passes (typed_stmt c.in_ok-done.done.stmt) (walk_of c.scoped.new.body c.scoped.new.out))
+          (ap (λ (z : Body). z.atomic_params) c.in_ok-declare_variable.ensures.whole) (ap (λ (z : Body). z.env) c.in_ok-declare_variable.ensures.whole)
+          c.inside.ensures c.new-inner.ensures c.in_ok-done.ensures.checks;
+      assigns_is = c.in_ok-assigns_outer.ensures;
+      second_is = c.note_if.ensures.node;
     } in
-    iteration_reported c.args.body.now c.scoped.new.body c.args.around c.args.node c.note_if.new.self c.args.nd c.args.var (plain_node c.args.range.0)
-    (plain_node c.args.range.1) (plain_stmt c.args.iteration.now)
-    c.args.out.now c.scoped.new.out (typed_stmt c.in_ok-done.done.stmt) c.in_ok-assigns_outer.field-0 _ c.from_residual-in_err-settle.result
-    c.in_err-settle.field-0.0
-    c.from_residual-in_err-settle.ensures.1 passed c.in_err-settle.ensures.result
+    settle_stopped (λ v. check_form c.args.body.now.atomic_params c.args.around c.args.node
+    (form.foreach c.args.nd c.args.var (plain_expr c.args.start.now) (plain_expr c.args.count.now) (plain_stmt c.args.iteration.now)) (walk_of c.args.body.now c.args.out.now) ≡ v)
+    (fault_of c.note_if.new.self) c.from_residual-in_err-settle.result c.in_err-settle.field-0.0 _ c.from_residual-in_err-settle.ensures.1
+    c.in_err-settle.ensures.result (λ q reported. iteration_reported c.args.nd q passed reported)
 
-pub constructs::foreach-returns-in_err-settle-2-clause-checks :
-    goal.constructs::foreach-returns-in_err-settle-2-clause-checks
+pub constructs::foreach-returns-in_err-settle-2-clause-checks : goal.constructs::foreach-returns-in_err-settle-2-clause-checks
 constructs::foreach-returns-in_err-settle-2-clause-checks t c =
-    let passed : Iterated c.args.body.now c.scoped.new.body c.args.around c.args.node c.note_if.new.self c.args.var (plain_stmt c.args.iteration.now)
-    c.args.out.now
-    c.scoped.new.out (typed_stmt c.in_ok-done.done.stmt) c.in_ok-assigns_outer.field-0 = record {
-      second_is =
-          second_noted c.args.body.now.env c.args.var c.args.node c.note_declaration.new.node c.note_if.new.self c.in_ok-assigns_outer.field-0
-          c.note_declaration.ensures.node c.note_if.ensures.node;
+    let passed : Iterated c.args.body.now c.scoped.new.body c.args.around c.args.node c.int.new.node c.int-2.new.node c.note_declaration.new.node
+    c.note_if.new.self c.args.var (plain_expr c.args.start.now) (plain_expr c.args.count.now) (plain_stmt c.args.iteration.now) c.args.out.now
+    c.int.new.out c.int-2.new.out c.scoped.new.out (plain_typed c.in_ok-first.first) (plain_typed c.in_ok-number.number)
+    (typed_stmt c.in_ok-done.done.stmt) c.in_ok-assigns_outer.field-0 = record {
+      starts = c.in_ok-first.ensures.answer;
+      counts = c.in_ok-number.ensures.answer;
+      first_is = c.in_ok-first.ensures.node;
+      number_is = c.in_ok-number.ensures.node;
+      noted_is = c.note_declaration.ensures.node;
       in_scope =
-          iteration_in c.args.body.now c.declare_variable.new.self c.args.around c.inside.result c.args.var (plain_stmt c.args.iteration.now) c.args.out.now
-          c.new-inner.result (passes (typed_stmt c.in_ok-done.done.stmt) (walk_of c.scoped.new.body c.scoped.new.out)) c.new-inner.ensures
-          c.in_ok-declare_variable.ensures.whole
-          c.inside.ensures c.in_ok-done.ensures.checks;
-      assigning = c.in_ok-assigns_outer.ensures;
+          piece_in c.args.body.now.atomic_params c.declare_variable.new.self (variable_declared c.args.body.now.env c.args.var) c.args.around c.inside.result
+          (plain_stmt c.args.iteration.now) c.new-inner.result (passes (typed_stmt c.in_ok-done.done.stmt) (walk_of c.scoped.new.body c.scoped.new.out))
+          (ap (λ (z : Body). z.atomic_params) c.in_ok-declare_variable.ensures.whole) (ap (λ (z : Body). z.env) c.in_ok-declare_variable.ensures.whole)
+          c.inside.ensures c.new-inner.ensures c.in_ok-done.ensures.checks;
+      assigns_is = c.in_ok-assigns_outer.ensures;
+      second_is = c.note_if.ensures.node;
     } in
-    let reached : c.if-inner.inner ≡ (c.scoped.new.out.reaches_nd || c.args.nd) = (elim c.if-inner.branch [
-      | constructs::foreach-then-inner w ↦ or_then c.scoped.new.out.reaches_nd c.args.nd c.if-inner.inner w.if-inner.true w.inner-is
-      | constructs::foreach-else-inner w ↦ or_else c.scoped.new.out.reaches_nd c.args.nd c.if-inner.inner w.if-inner.false w.inner-is
-    ]) in
     let met : IterationsMet c.args.body.now c.scoped.new.body c.note_if.new.self c.settle.new.self c.note_if-2.new.self c.args.nd c.in_ok-clash.clash
-    c.slots-slot.result c.leave.new.self c.mark-scope.result c.scoped.new.out (reaching c.scoped.new.out c.if-inner.inner) c.interference.result = record {
+    c.slots-slot.result c.leave.new.self c.scoped.new.out c.reach_nd.new.found c.interference.result = record {
       home = c.in_ok-done.ensures.home ∙ c.in_ok-declare_variable.ensures.home;
-      scope_is = c.mark-scope.ensures;
-      env_is = c.leave.ensures.whole;
+      env_is = ap bare c.leave.ensures.whole;
       slot_is = c.slots-slot.ensures;
-      iteration_is = reached_is c.scoped.new.out c.args.nd c.if-inner.inner reached;
+      iteration_is = c.reach_nd.ensures;
       clash_is = c.in_ok-clash.ensures;
       settle_is = c.settle.ensures.forgotten;
       reason_is = c.interference.ensures;
-      third_is = c.note_if-2.ensures.node;
+      third_noted = c.note_if-2.ensures.node;
     } in
-    iterations_reported c.args.body.now c.scoped.new.body c.args.around c.args.node c.note_if.new.self c.settle.new.self c.note_if-2.new.self c.args.nd
-    c.in_ok-assigns_outer.field-0 c.in_ok-clash.clash c.args.var (plain_node c.args.range.0) (plain_node c.args.range.1) (plain_stmt c.args.iteration.now)
-    c.slots-slot.result c.leave.new.self c.mark-scope.result
-    c.args.out.now c.scoped.new.out (reaching c.scoped.new.out c.if-inner.inner) (typed_stmt c.in_ok-done.done.stmt) c.interference.result _
-    c.from_residual-in_err-settle-2.result
-    c.in_err-settle-2.field-0.0 c.from_residual-in_err-settle-2.ensures.1 passed met c.in_ok-settle.ensures.clean c.in_err-settle-2.ensures.result
+    settle_stopped (λ v. check_form c.args.body.now.atomic_params c.args.around c.args.node
+    (form.foreach c.args.nd c.args.var (plain_expr c.args.start.now) (plain_expr c.args.count.now) (plain_stmt c.args.iteration.now)) (walk_of c.args.body.now c.args.out.now) ≡ v)
+    (fault_of c.note_if-2.new.self) c.from_residual-in_err-settle-2.result c.in_err-settle-2.field-0.0 _ c.from_residual-in_err-settle-2.ensures.1
+    c.in_err-settle-2.ensures.result (λ q reported. iterations_is passed met c.in_ok-settle.ensures.clean ∙ judged_some _ _ _ q reported)
 
 pub constructs::foreach-returns-clause-nd : goal.constructs::foreach-returns-clause-nd
 constructs::foreach-returns-clause-nd t c =
-    let reached : c.if-inner.inner ≡ (c.scoped.new.out.reaches_nd || c.args.nd) = (elim c.if-inner.branch [
-      | constructs::foreach-then-inner w ↦ or_then c.scoped.new.out.reaches_nd c.args.nd c.if-inner.inner w.if-inner.true w.inner-is
-      | constructs::foreach-else-inner w ↦ or_else c.scoped.new.out.reaches_nd c.args.nd c.if-inner.inner w.if-inner.false w.inner-is
-    ]) in
-    iterations_nd c.from_here-leaving.result c.args.out.now c.scoped.new.out c.new-inner.result (reaching c.scoped.new.out c.if-inner.inner) c.take_in.new.out
-    c.args.nd (holds_nd (plain_stmt c.args.iteration.now)) c.new-inner.ensures (reached_is c.scoped.new.out c.args.nd c.if-inner.inner reached)
-    c.in_ok-take_in.ensures c.in_ok-done.ensures.nd
+    iterations_nd c.from_here-leaving.result c.args.out.now c.int-2.new.out c.scoped.new.out c.new-inner.result c.reach_nd.new.found c.take_in.new.out
+    c.args.nd (holds_nd (plain_stmt c.args.iteration.now)) c.new-inner.ensures c.reach_nd.ensures c.in_ok-take_in.ensures
+    (λ n. c.in_ok-number.ensures.nd (c.in_ok-first.ensures.nd n)) c.in_ok-done.ensures.nd
 
 pub constructs::foreach-returns-clause-checks : goal.constructs::foreach-returns-clause-checks
 constructs::foreach-returns-clause-checks t c =
-    let passed : Iterated c.args.body.now c.scoped.new.body c.args.around c.args.node c.note_if.new.self c.args.var (plain_stmt c.args.iteration.now)
-    c.args.out.now
-    c.scoped.new.out (typed_stmt c.in_ok-done.done.stmt) c.in_ok-assigns_outer.field-0 = record {
-      second_is =
-          second_noted c.args.body.now.env c.args.var c.args.node c.note_declaration.new.node c.note_if.new.self c.in_ok-assigns_outer.field-0
-          c.note_declaration.ensures.node c.note_if.ensures.node;
+    let passed : Iterated c.args.body.now c.scoped.new.body c.args.around c.args.node c.int.new.node c.int-2.new.node c.note_declaration.new.node
+    c.note_if.new.self c.args.var (plain_expr c.args.start.now) (plain_expr c.args.count.now) (plain_stmt c.args.iteration.now) c.args.out.now
+    c.int.new.out c.int-2.new.out c.scoped.new.out (plain_typed c.in_ok-first.first) (plain_typed c.in_ok-number.number)
+    (typed_stmt c.in_ok-done.done.stmt) c.in_ok-assigns_outer.field-0 = record {
+      starts = c.in_ok-first.ensures.answer;
+      counts = c.in_ok-number.ensures.answer;
+      first_is = c.in_ok-first.ensures.node;
+      number_is = c.in_ok-number.ensures.node;
+      noted_is = c.note_declaration.ensures.node;
       in_scope =
-          iteration_in c.args.body.now c.declare_variable.new.self c.args.around c.inside.result c.args.var (plain_stmt c.args.iteration.now) c.args.out.now
-          c.new-inner.result (passes (typed_stmt c.in_ok-done.done.stmt) (walk_of c.scoped.new.body c.scoped.new.out)) c.new-inner.ensures
-          c.in_ok-declare_variable.ensures.whole
-          c.inside.ensures c.in_ok-done.ensures.checks;
-      assigning = c.in_ok-assigns_outer.ensures;
+          piece_in c.args.body.now.atomic_params c.declare_variable.new.self (variable_declared c.args.body.now.env c.args.var) c.args.around c.inside.result
+          (plain_stmt c.args.iteration.now) c.new-inner.result (passes (typed_stmt c.in_ok-done.done.stmt) (walk_of c.scoped.new.body c.scoped.new.out))
+          (ap (λ (z : Body). z.atomic_params) c.in_ok-declare_variable.ensures.whole) (ap (λ (z : Body). z.env) c.in_ok-declare_variable.ensures.whole)
+          c.inside.ensures c.new-inner.ensures c.in_ok-done.ensures.checks;
+      assigns_is = c.in_ok-assigns_outer.ensures;
+      second_is = c.note_if.ensures.node;
     } in
-    let reached : c.if-inner.inner ≡ (c.scoped.new.out.reaches_nd || c.args.nd) = (elim c.if-inner.branch [
-      | constructs::foreach-then-inner w ↦ or_then c.scoped.new.out.reaches_nd c.args.nd c.if-inner.inner w.if-inner.true w.inner-is
-      | constructs::foreach-else-inner w ↦ or_else c.scoped.new.out.reaches_nd c.args.nd c.if-inner.inner w.if-inner.false w.inner-is
-    ]) in
     let met : IterationsMet c.args.body.now c.scoped.new.body c.note_if.new.self c.settle.new.self c.note_if-2.new.self c.args.nd c.in_ok-clash.clash
-    c.slots-slot.result c.leave.new.self c.mark-scope.result c.scoped.new.out (reaching c.scoped.new.out c.if-inner.inner) c.interference.result = record {
+    c.slots-slot.result c.leave.new.self c.scoped.new.out c.reach_nd.new.found c.interference.result = record {
       home = c.in_ok-done.ensures.home ∙ c.in_ok-declare_variable.ensures.home;
-      scope_is = c.mark-scope.ensures;
-      env_is = c.leave.ensures.whole;
+      env_is = ap bare c.leave.ensures.whole;
       slot_is = c.slots-slot.ensures;
-      iteration_is = reached_is c.scoped.new.out c.args.nd c.if-inner.inner reached;
+      iteration_is = c.reach_nd.ensures;
       clash_is = c.in_ok-clash.ensures;
       settle_is = c.settle.ensures.forgotten;
       reason_is = c.interference.ensures;
-      third_is = c.note_if-2.ensures.node;
+      third_noted = c.note_if-2.ensures.node;
     } in
-    iterations_pass c.args.body.now c.scoped.new.body c.args.around c.args.node c.note_if.new.self c.settle.new.self c.note_if-2.new.self c.args.nd
-    c.in_ok-assigns_outer.field-0 c.in_ok-clash.clash c.args.var (plain_node c.args.range.0) (plain_node c.args.range.1) (plain_stmt c.args.iteration.now)
-    c.slots-slot.result c.leave.new.self c.mark-scope.result
-    c.args.out.now c.scoped.new.out (reaching c.scoped.new.out c.if-inner.inner) c.take_in.new.out (typed_stmt c.in_ok-done.done.stmt)
-    (typed_stmt c.iterated.result) c.interference.result c.marks_after.result
-    c.from_here-leaving.result passed met c.in_ok-settle.ensures.clean c.in_ok-settle-2.ensures.clean c.marks_after.ensures
-    c.from_here-leaving.ensures c.in_ok-take_in.ensures c.iterated.ensures
+    iterations_is passed met c.in_ok-settle.ensures.clean
+    ∙ clean_passes _ (typed_stmt c.iterated.result) _ (walk_from c.leave.new.self c.take_in.new.out) _ c.in_ok-settle-2.ensures.clean
+    (foreach_made c.args.start.now c.args.count.now c.into_node.result c.into_node-2.result (plain_typed c.in_ok-first.first) (plain_typed c.in_ok-number.number)
+    c.args.node.place c.args.nd c.slots-slot.result (slots_in c.args.body.now.env) (typed_stmt c.in_ok-done.done.stmt) (typed_stmt c.iterated.result)
+    c.into_node.ensures c.into_node-2.ensures c.slots-slot.ensures c.iterated.ensures)
+    (sym
+    (closed_is c.args.body.now c.scoped.new.body c.leave.new.self c.mark-scope.result c.from_here-leaving.result c.marks_after.result (marks_after c.args.nd)
+    c.int-2.new.out c.int-2.new.out c.reach_nd.new.found (with_nd c.args.nd c.scoped.new.out) c.scoped.new.out c.take_in.new.out c.mark-scope.ensures
+    c.leave.ensures.whole c.from_here-leaving.ensures c.marks_after.ensures c.reach_nd.ensures c.in_ok-take_in.ensures))
 
-pub parts::foreach_parts-returns-in_err-source-clause-checks :
-    goal.parts::foreach_parts-returns-in_err-source-clause-checks
-parts::foreach_parts-returns-in_err-source-clause-checks t c =
-    range_stopped c.args.body.now c.args.around c.args.node c.args.view.now c.args.var.now (plain_expr c.args.array.now) (plain_expr c.args.count.now)
-    (plain_stmt c.args.iteration.now)
-    c.args.out.now _ c.from_residual.result c.in_err-source.field-0.0 c.from_residual.ensures.1 c.in_err-source.ensures.opening
+pub parts::foreach_parts-returns-in_err-whole-clause-checks : goal.parts::foreach_parts-returns-in_err-whole-clause-checks
+parts::foreach_parts-returns-in_err-whole-clause-checks t c =
+    stopped (λ q. cut (plain_expr c.args.array.now) (walk_of c.args.body.now c.args.out.now) ≡ verdict.refused q)
+    (λ v. check_form c.args.body.now.atomic_params c.args.around c.args.node
+    (form.foreach_parts c.args.view.now c.args.var.now (plain_expr c.args.array.now) (plain_expr c.args.count.now) (plain_stmt c.args.iteration.now)) (walk_of c.args.body.now c.args.out.now) ≡ v) c.from_residual.result _ c.in_err-whole.field-0.0 c.from_residual.ensures.1 (λ q d. rw d) c.in_err-whole.ensures.cut
 
-pub parts::foreach_parts-returns-in_err-done-clause-checks :
-    goal.parts::foreach_parts-returns-in_err-done-clause-checks
+pub parts::foreach_parts-returns-in_err-given-clause-checks : goal.parts::foreach_parts-returns-in_err-given-clause-checks
+parts::foreach_parts-returns-in_err-given-clause-checks t c =
+    stopped (λ q. Typing c.args.body.now.env (plain_expr c.args.count.now) c.whole_of.new.out (refused q))
+    (λ v. check_form c.args.body.now.atomic_params c.args.around c.args.node
+    (form.foreach_parts c.args.view.now c.args.var.now (plain_expr c.args.array.now) (plain_expr c.args.count.now) (plain_stmt c.args.iteration.now)) (walk_of c.args.body.now c.args.out.now) ≡ v) c.from_residual-in_err-given.result _ c.in_err-given.field-0.0 c.from_residual-in_err-given.ensures.1
+    (λ q d. rw (c.in_ok-whole.ensures.cut, d)) c.in_err-given.ensures.answer
+
+pub parts::foreach_parts-returns-in_err-done-clause-checks : goal.parts::foreach_parts-returns-in_err-done-clause-checks
 parts::foreach_parts-returns-in_err-done-clause-checks t c =
-    part_stopped c.args.body.now c.open.new.body c.args.around c.inside.result c.args.node c.open.new.node c.args.view.now c.args.var.now
-    (plain_expr c.args.array.now) (plain_expr c.args.count.now)
-    (plain_stmt c.args.iteration.now) c.args.out.now c.open.new.out c.new-inner.result (plain_source c.in_ok-source.source) (plain_node c.in_ok-source.count)
-    _
-    c.from_residual-in_err-done.result c.in_err-done.field-0.0 c.from_residual-in_err-done.ensures.1 c.in_ok-source.ensures.opening
-    c.in_ok-source.ensures.home c.inside.ensures c.new-inner.ensures c.in_err-done.ensures.checks
-
-pub parts::foreach_parts-returns-in_err-settle-clause-checks :
-    goal.parts::foreach_parts-returns-in_err-settle-clause-checks
-parts::foreach_parts-returns-in_err-settle-clause-checks t c =
-    let part : Part c.args.body.now c.open.new.body c.scoped.new.body c.args.around c.args.node c.open.new.node c.note_if.new.self c.args.view.now
-    c.args.var.now (plain_expr c.args.array.now) (plain_expr c.args.count.now)
-    (plain_stmt c.args.iteration.now) c.args.out.now c.open.new.out c.scoped.new.out (plain_source c.in_ok-source.source) (plain_node c.in_ok-source.count)
-    (typed_stmt c.in_ok-done.done.stmt) c.in_ok-assigns_outer.field-0 = record {
-      opening = c.in_ok-source.ensures.opening;
-      second_is = c.note_if.ensures.node;
-      in_scope =
-          piece_begun c.args.body.now c.open.new.body c.args.around c.inside.result (plain_stmt c.args.iteration.now) c.open.new.out c.new-inner.result
-          (passes (typed_stmt c.in_ok-done.done.stmt) (walk_of c.scoped.new.body c.scoped.new.out)) c.in_ok-source.ensures.home c.inside.ensures
-          c.new-inner.ensures
-          c.in_ok-done.ensures.checks;
-      assigning = c.in_ok-assigns_outer.ensures;
+    let opened : Opened c.args.body.now c.args.node c.note_found.new.self c.int.new.node c.open.new.node c.args.view.now c.args.var.now
+    (plain_expr c.args.array.now) (plain_expr c.args.count.now) c.args.out.now c.whole_of.new.out c.int.new.out c.in_ok-whole.whole
+    (plain_typed c.in_ok-given.given) = record {
+      cuts = c.in_ok-whole.ensures.cut;
+      seen_is = c.note_found.ensures.node;
+      counts = c.in_ok-given.ensures.answer;
+      number_is = c.in_ok-given.ensures.node;
+      first_is = c.in_ok-open.ensures.noted;
     } in
-    part_reported c.args.body.now c.open.new.body c.scoped.new.body c.args.around c.args.node c.open.new.node c.note_if.new.self c.args.view.now c.args.var.now
-    (plain_expr c.args.array.now) (plain_expr c.args.count.now)
-    (plain_stmt c.args.iteration.now) c.args.out.now c.open.new.out c.scoped.new.out (plain_source c.in_ok-source.source) (plain_node c.in_ok-source.count)
-    (typed_stmt c.in_ok-done.done.stmt) c.in_ok-assigns_outer.field-0 _
-    c.from_residual-in_err-settle.result c.in_err-settle.field-0.0 c.from_residual-in_err-settle.ensures.1 part c.in_err-settle.ensures.result
+    stopped (λ q. check_scope c.open.new.body.atomic_params c.inside.result (plain_stmt c.args.iteration.now)
+    (walk_of c.open.new.body c.new-inner.result) ≡ verdict.refused q)
+    (λ v. check_form c.args.body.now.atomic_params c.args.around c.args.node
+    (form.foreach_parts c.args.view.now c.args.var.now (plain_expr c.args.array.now) (plain_expr c.args.count.now) (plain_stmt c.args.iteration.now)) (walk_of c.args.body.now c.args.out.now) ≡ v) c.from_residual-in_err-done.result _ c.in_err-done.field-0.0 c.from_residual-in_err-done.ensures.1
+    (λ q d. body_refused c.args.around (plain_stmt c.args.iteration.now) q opened
+    (piece_in c.args.body.now.atomic_params c.open.new.body (parts_declared c.args.body.now.env c.args.view.now c.args.var.now c.in_ok-whole.whole.ty) c.args.around c.inside.result
+    (plain_stmt c.args.iteration.now) c.new-inner.result (verdict.refused q)
+    (ap (λ (z : Body). z.atomic_params) c.in_ok-open.ensures.whole) (ap (λ (z : Body). z.env) c.in_ok-open.ensures.whole)
+    c.inside.ensures c.new-inner.ensures d))
+    c.in_err-done.ensures.checks
 
-pub parts::foreach_parts-returns-in_err-settle-2-clause-checks :
-    goal.parts::foreach_parts-returns-in_err-settle-2-clause-checks
-parts::foreach_parts-returns-in_err-settle-2-clause-checks t c =
-    let part : Part c.args.body.now c.open.new.body c.scoped.new.body c.args.around c.args.node c.open.new.node c.note_if.new.self c.args.view.now
-    c.args.var.now (plain_expr c.args.array.now) (plain_expr c.args.count.now)
-    (plain_stmt c.args.iteration.now) c.args.out.now c.open.new.out c.scoped.new.out (plain_source c.in_ok-source.source) (plain_node c.in_ok-source.count)
-    (typed_stmt c.in_ok-done.done.stmt) c.in_ok-assigns_outer.field-0 = record {
-      opening = c.in_ok-source.ensures.opening;
-      second_is = c.note_if.ensures.node;
+pub parts::foreach_parts-returns-in_err-settle-clause-checks : goal.parts::foreach_parts-returns-in_err-settle-clause-checks
+parts::foreach_parts-returns-in_err-settle-clause-checks t c =
+    let opened : Opened c.args.body.now c.args.node c.note_found.new.self c.int.new.node c.open.new.node c.args.view.now c.args.var.now
+    (plain_expr c.args.array.now) (plain_expr c.args.count.now) c.args.out.now c.whole_of.new.out c.int.new.out c.in_ok-whole.whole
+    (plain_typed c.in_ok-given.given) = record {
+      cuts = c.in_ok-whole.ensures.cut;
+      seen_is = c.note_found.ensures.node;
+      counts = c.in_ok-given.ensures.answer;
+      number_is = c.in_ok-given.ensures.node;
+      first_is = c.in_ok-open.ensures.noted;
+    } in
+    let part : Part c.args.body.now c.scoped.new.body c.args.around c.args.node c.note_found.new.self c.int.new.node c.open.new.node c.note_if.new.self
+    c.args.view.now c.args.var.now (plain_expr c.args.array.now) (plain_expr c.args.count.now) (plain_stmt c.args.iteration.now) c.args.out.now
+    c.whole_of.new.out c.int.new.out c.scoped.new.out c.in_ok-whole.whole (plain_typed c.in_ok-given.given) (typed_stmt c.in_ok-done.done.stmt)
+    c.in_ok-assigns_outer.field-0 = record {
+      opened = opened;
       in_scope =
-          piece_begun c.args.body.now c.open.new.body c.args.around c.inside.result (plain_stmt c.args.iteration.now) c.open.new.out c.new-inner.result
-          (passes (typed_stmt c.in_ok-done.done.stmt) (walk_of c.scoped.new.body c.scoped.new.out)) c.in_ok-source.ensures.home c.inside.ensures
-          c.new-inner.ensures
-          c.in_ok-done.ensures.checks;
-      assigning = c.in_ok-assigns_outer.ensures;
+          piece_in c.args.body.now.atomic_params c.open.new.body (parts_declared c.args.body.now.env c.args.view.now c.args.var.now c.in_ok-whole.whole.ty) c.args.around c.inside.result
+          (plain_stmt c.args.iteration.now) c.new-inner.result (passes (typed_stmt c.in_ok-done.done.stmt) (walk_of c.scoped.new.body c.scoped.new.out))
+          (ap (λ (z : Body). z.atomic_params) c.in_ok-open.ensures.whole) (ap (λ (z : Body). z.env) c.in_ok-open.ensures.whole)
+          c.inside.ensures c.new-inner.ensures c.in_ok-done.ensures.checks;
+      assigns_is = c.in_ok-assigns_outer.ensures;
+      second_is = c.note_if.ensures.node;
+    } in
+    settle_stopped (λ v. check_form c.args.body.now.atomic_params c.args.around c.args.node
+    (form.foreach_parts c.args.view.now c.args.var.now (plain_expr c.args.array.now) (plain_expr c.args.count.now) (plain_stmt c.args.iteration.now)) (walk_of c.args.body.now c.args.out.now) ≡ v)
+    (fault_of c.note_if.new.self) c.from_residual-in_err-settle.result c.in_err-settle.field-0.0 _ c.from_residual-in_err-settle.ensures.1
+    c.in_err-settle.ensures.result (λ q reported. part_reported q part reported)
+
+pub parts::foreach_parts-returns-in_err-settle-2-clause-checks : goal.parts::foreach_parts-returns-in_err-settle-2-clause-checks
+parts::foreach_parts-returns-in_err-settle-2-clause-checks t c =
+    let opened : Opened c.args.body.now c.args.node c.note_found.new.self c.int.new.node c.open.new.node c.args.view.now c.args.var.now
+    (plain_expr c.args.array.now) (plain_expr c.args.count.now) c.args.out.now c.whole_of.new.out c.int.new.out c.in_ok-whole.whole
+    (plain_typed c.in_ok-given.given) = record {
+      cuts = c.in_ok-whole.ensures.cut;
+      seen_is = c.note_found.ensures.node;
+      counts = c.in_ok-given.ensures.answer;
+      number_is = c.in_ok-given.ensures.node;
+      first_is = c.in_ok-open.ensures.noted;
+    } in
+    let part : Part c.args.body.now c.scoped.new.body c.args.around c.args.node c.note_found.new.self c.int.new.node c.open.new.node c.note_if.new.self
+    c.args.view.now c.args.var.now (plain_expr c.args.array.now) (plain_expr c.args.count.now) (plain_stmt c.args.iteration.now) c.args.out.now
+    c.whole_of.new.out c.int.new.out c.scoped.new.out c.in_ok-whole.whole (plain_typed c.in_ok-given.given) (typed_stmt c.in_ok-done.done.stmt)
+    c.in_ok-assigns_outer.field-0 = record {
+      opened = opened;
+      in_scope =
+          piece_in c.args.body.now.atomic_params c.open.new.body (parts_declared c.args.body.now.env c.args.view.now c.args.var.now c.in_ok-whole.whole.ty) c.args.around c.inside.result
+          (plain_stmt c.args.iteration.now) c.new-inner.result (passes (typed_stmt c.in_ok-done.done.stmt) (walk_of c.scoped.new.body c.scoped.new.out))
+          (ap (λ (z : Body). z.atomic_params) c.in_ok-open.ensures.whole) (ap (λ (z : Body). z.env) c.in_ok-open.ensures.whole)
+          c.inside.ensures c.new-inner.ensures c.in_ok-done.ensures.checks;
+      assigns_is = c.in_ok-assigns_outer.ensures;
+      second_is = c.note_if.ensures.node;
     } in
     let met : PartsMet c.args.body.now c.scoped.new.body c.note_if.new.self c.settle.new.self c.note_if-2.new.self c.in_ok-passes.passes c.slots-part.result
-    (c.slots-part.result + 4) c.leave.new.self c.mark-scope.result c.scoped.new.out = record {
-      home = c.in_ok-done.ensures.home ∙ c.in_ok-source.ensures.home;
-      scope_is = c.mark-scope.ensures;
-      env_is = c.leave.ensures.whole;
+    c.leave.new.self c.scoped.new.out = record {
+      home = c.in_ok-done.ensures.home ∙ c.in_ok-open.ensures.home;
+      env_is = ap bare c.leave.ensures.whole;
       part_is = c.slots-part.ensures;
-      variable_is = refl;
       pass_is = c.in_ok-passes.ensures;
       settle_is = c.settle.ensures.forgotten;
-      third_is = c.note_if-2.ensures.node;
+      third_noted = c.note_if-2.ensures.node;
     } in
-    parts_reported c.args.body.now c.open.new.body c.scoped.new.body c.args.around c.args.node c.open.new.node c.note_if.new.self c.settle.new.self
-    c.note_if-2.new.self
-    c.args.view.now c.args.var.now (plain_expr c.args.array.now) (plain_expr c.args.count.now) (plain_stmt c.args.iteration.now) c.args.out.now
-    c.open.new.out c.scoped.new.out
-    (plain_source c.in_ok-source.source) (plain_node c.in_ok-source.count) (typed_stmt c.in_ok-done.done.stmt) c.in_ok-assigns_outer.field-0
-    c.in_ok-passes.passes c.slots-part.result (c.slots-part.result + 4) c.leave.new.self
-    c.mark-scope.result _ c.from_residual-in_err-settle-2.result c.in_err-settle-2.field-0.0 c.from_residual-in_err-settle-2.ensures.1 part met
-    c.in_ok-settle.ensures.clean c.in_err-settle-2.ensures.result
+    settle_stopped (λ v. check_form c.args.body.now.atomic_params c.args.around c.args.node
+    (form.foreach_parts c.args.view.now c.args.var.now (plain_expr c.args.array.now) (plain_expr c.args.count.now) (plain_stmt c.args.iteration.now)) (walk_of c.args.body.now c.args.out.now) ≡ v)
+    (fault_of c.note_if-2.new.self) c.from_residual-in_err-settle-2.result c.in_err-settle-2.field-0.0 _ c.from_residual-in_err-settle-2.ensures.1
+    c.in_err-settle-2.ensures.result (λ q reported. parts_is part met c.in_ok-settle.ensures.clean ∙ judged_some _ _ _ q reported)
 
 pub parts::foreach_parts-returns-clause-nd : goal.parts::foreach_parts-returns-clause-nd
 parts::foreach_parts-returns-clause-nd t c =
-    parts_nd c.from_here-leaving.result c.args.out.now c.open.new.out c.scoped.new.out c.new-inner.result c.in_ok-inner.inner c.take_in.new.out
+    parts_nd c.from_here-leaving.result c.args.out.now c.int.new.out c.scoped.new.out c.new-inner.result c.in_ok-inner.inner c.take_in.new.out
     c.slots-part.result c.outer_part.result (holds_nd (plain_stmt c.args.iteration.now)) c.new-inner.ensures c.in_ok-inner.ensures c.in_ok-take_in.ensures
-    c.in_ok-source.ensures.nd c.in_ok-done.ensures.nd
+    (λ n. c.in_ok-given.ensures.nd (c.in_ok-whole.ensures.nd n)) c.in_ok-done.ensures.nd
 
 pub parts::foreach_parts-returns-clause-checks : goal.parts::foreach_parts-returns-clause-checks
 parts::foreach_parts-returns-clause-checks t c =
-    let part : Part c.args.body.now c.open.new.body c.scoped.new.body c.args.around c.args.node c.open.new.node c.note_if.new.self c.args.view.now
-    c.args.var.now (plain_expr c.args.array.now) (plain_expr c.args.count.now)
-    (plain_stmt c.args.iteration.now) c.args.out.now c.open.new.out c.scoped.new.out (plain_source c.in_ok-source.source) (plain_node c.in_ok-source.count)
-    (typed_stmt c.in_ok-done.done.stmt) c.in_ok-assigns_outer.field-0 = record {
-      opening = c.in_ok-source.ensures.opening;
-      second_is = c.note_if.ensures.node;
+    let opened : Opened c.args.body.now c.args.node c.note_found.new.self c.int.new.node c.open.new.node c.args.view.now c.args.var.now
+    (plain_expr c.args.array.now) (plain_expr c.args.count.now) c.args.out.now c.whole_of.new.out c.int.new.out c.in_ok-whole.whole
+    (plain_typed c.in_ok-given.given) = record {
+      cuts = c.in_ok-whole.ensures.cut;
+      seen_is = c.note_found.ensures.node;
+      counts = c.in_ok-given.ensures.answer;
+      number_is = c.in_ok-given.ensures.node;
+      first_is = c.in_ok-open.ensures.noted;
+    } in
+    let part : Part c.args.body.now c.scoped.new.body c.args.around c.args.node c.note_found.new.self c.int.new.node c.open.new.node c.note_if.new.self
+    c.args.view.now c.args.var.now (plain_expr c.args.array.now) (plain_expr c.args.count.now) (plain_stmt c.args.iteration.now) c.args.out.now
+    c.whole_of.new.out c.int.new.out c.scoped.new.out c.in_ok-whole.whole (plain_typed c.in_ok-given.given) (typed_stmt c.in_ok-done.done.stmt)
+    c.in_ok-assigns_outer.field-0 = record {
+      opened = opened;
       in_scope =
-          piece_begun c.args.body.now c.open.new.body c.args.around c.inside.result (plain_stmt c.args.iteration.now) c.open.new.out c.new-inner.result
-          (passes (typed_stmt c.in_ok-done.done.stmt) (walk_of c.scoped.new.body c.scoped.new.out)) c.in_ok-source.ensures.home c.inside.ensures
-          c.new-inner.ensures
-          c.in_ok-done.ensures.checks;
-      assigning = c.in_ok-assigns_outer.ensures;
+          piece_in c.args.body.now.atomic_params c.open.new.body (parts_declared c.args.body.now.env c.args.view.now c.args.var.now c.in_ok-whole.whole.ty) c.args.around c.inside.result
+          (plain_stmt c.args.iteration.now) c.new-inner.result (passes (typed_stmt c.in_ok-done.done.stmt) (walk_of c.scoped.new.body c.scoped.new.out))
+          (ap (λ (z : Body). z.atomic_params) c.in_ok-open.ensures.whole) (ap (λ (z : Body). z.env) c.in_ok-open.ensures.whole)
+          c.inside.ensures c.new-inner.ensures c.in_ok-done.ensures.checks;
+      assigns_is = c.in_ok-assigns_outer.ensures;
+      second_is = c.note_if.ensures.node;
     } in
     let met : PartsMet c.args.body.now c.scoped.new.body c.note_if.new.self c.settle.new.self c.note_if-2.new.self c.in_ok-passes.passes c.slots-part.result
-    (c.slots-part.result + 4) c.leave.new.self c.mark-scope.result c.scoped.new.out = record {
-      home = c.in_ok-done.ensures.home ∙ c.in_ok-source.ensures.home;
-      scope_is = c.mark-scope.ensures;
-      env_is = c.leave.ensures.whole;
+    c.leave.new.self c.scoped.new.out = record {
+      home = c.in_ok-done.ensures.home ∙ c.in_ok-open.ensures.home;
+      env_is = ap bare c.leave.ensures.whole;
       part_is = c.slots-part.ensures;
-      variable_is = refl;
       pass_is = c.in_ok-passes.ensures;
       settle_is = c.settle.ensures.forgotten;
-      third_is = c.note_if-2.ensures.node;
+      third_noted = c.note_if-2.ensures.node;
     } in
-    parts_pass c.args.body.now c.open.new.body c.scoped.new.body c.args.around c.args.node c.open.new.node c.note_if.new.self c.settle.new.self
-    c.note_if-2.new.self
-    c.args.view.now c.args.var.now (plain_expr c.args.array.now) (plain_expr c.args.count.now) (plain_stmt c.args.iteration.now) c.args.out.now
-    c.open.new.out c.scoped.new.out
-    c.in_ok-inner.inner c.take_in.new.out (plain_source c.in_ok-source.source) (plain_node c.in_ok-source.count) (typed_stmt c.in_ok-done.done.stmt)
-    (typed_stmt c.parted.result) c.outer_part.result c.in_ok-assigns_outer.field-0 c.in_ok-passes.passes c.slots-part.result
-    (c.slots-part.result + 4) c.leave.new.self c.mark-scope.result c.from_here-leaving.result part met c.in_ok-settle.ensures.clean
-    c.in_ok-settle-2.ensures.clean c.outer_part.ensures c.in_ok-inner.ensures c.from_here-leaving.ensures c.in_ok-take_in.ensures
-    c.parted.ensures
+    parts_is part met c.in_ok-settle.ensures.clean
+    ∙ clean_passes _ (typed_stmt c.parted.result) _ (walk_from c.leave.new.self c.take_in.new.out) _ c.in_ok-settle-2.ensures.clean
+    (parts_made c.args.count.now c.into_node-count.result (plain_typed c.in_ok-given.given) c.args.node.place c.slots-part.result
+    (slots_in c.args.body.now.env) (plain_source c.in_ok-whole.whole.source) (typed_stmt c.in_ok-done.done.stmt) (typed_stmt c.parted.result)
+    c.into_node-count.ensures c.slots-part.ensures c.parted.ensures)
+    (sym
+    (closed_is c.args.body.now c.scoped.new.body c.leave.new.self c.mark-scope.result c.from_here-leaving.result marks.Dropped marks.Dropped c.args.out.now
+    c.int.new.out c.in_ok-inner.inner
+    (handed_on (part_slot c.args.body.now.env) (outer_part (plain_source c.in_ok-whole.whole.source)) c.scoped.new.out) c.scoped.new.out c.take_in.new.out
+    c.mark-scope.ensures c.leave.ensures.whole c.from_here-leaving.ensures refl
+    (c.in_ok-inner.ensures ∙ ap (λ z. handed_on c.slots-part.result z c.scoped.new.out) c.outer_part.ensures
+    ∙ ap (λ z. handed_on z (outer_part (plain_source c.in_ok-whole.whole.source)) c.scoped.new.out) c.slots-part.ensures) c.in_ok-take_in.ensures))
 
-pub constructs::cobegin-returns-in_err-done-clause-checks :
-    goal.constructs::cobegin-returns-in_err-done-clause-checks
+pub constructs::cobegin-returns-in_err-done-clause-checks : goal.constructs::cobegin-returns-in_err-done-clause-checks
 constructs::cobegin-returns-in_err-done-clause-checks t c =
-    fork_stopped c.args.body.now c.loop-branch.body c.args.around c.inside.result c.args.node c.args.nd c.args.branches.now c.loop-branch.branch-index
-    c.loop-branch.effects c.loop-branch.locals (map plain_branch c.loop-branch.made)
-    c.args.out.now c.loop-branch.out c.new-inner.result c.branch-item.result _ c.from_residual-in_err-done.result
-    c.in_err-done.field-0.0 c.from_residual-in_err-done.ensures.1 c.loop-branch.invariant.forks c.loop-branch-test.true c.branch-item.is
-    c.loop-branch.invariant.home
-    c.inside.ensures
-    c.new-inner.ensures c.in_err-done.ensures.checks
+    stopped (λ q. check_scope c.loop-branch.body.atomic_params c.inside.result (plain_stmt c.branch-item.result)
+    (walk_of c.loop-branch.body c.new-inner.result) ≡ verdict.refused q)
+    (λ v. check_form c.args.body.now.atomic_params c.args.around c.args.node (form.cobegin c.args.nd (plain_stmts (map plain_stmt c.args.branches.now))) (walk_of c.args.body.now c.args.out.now) ≡ v) c.from_residual-in_err-done.result _ c.in_err-done.field-0.0 c.from_residual-in_err-done.ensures.1
+    (λ q d.
+    fork_refused c.args.body.now.atomic_params c.args.around c.args.node c.args.nd c.args.branches.now (walk_of c.args.body.now c.args.out.now) c.loop-branch.branch-index c.loop-branch.effects
+    (map plain_branch c.loop-branch.made) (walk_of c.loop-branch.body c.loop-branch.out) c.branch-item.result q c.loop-branch.invariant.forks
+    c.loop-branch-test.true c.branch-item.is
+    (piece_in c.args.body.now.atomic_params c.loop-branch.body c.loop-branch.body.env c.args.around c.inside.result (plain_stmt c.branch-item.result) c.new-inner.result
+    (verdict.refused q) (home_params c.args.body.now c.loop-branch.body c.loop-branch.invariant.home) refl c.inside.ensures c.new-inner.ensures
+    d))
+    c.in_err-done.ensures.checks
 
 pub constructs::cobegin-loop-branch-preserved : goal.constructs::cobegin-loop-branch-preserved
 constructs::cobegin-loop-branch-preserved t c =
     let one : TypedBranch = plain_branch (record { copies = c.in_ok-copies.copies; body = c.into_inner-checked.result }) in
-    let found : Branch c.args.body.now.atomic_params (inside c.args.around) c.args.nd c.loop-branch.body c.scoped.new.body c.loop-branch.out c.scoped.new.out
-    c.take_in.new.out c.branch-item.result
-    c.in_ok-all_effects.field-0 c.in_ok-names.names one c.marks_after.result c.from_here-leaving.result (typed_stmt c.into_inner-checked.result) = record {
+    let found : Branch c.args.body.now.atomic_params (inside c.args.around) c.args.nd c.loop-branch.body c.scoped.new.body c.loop-branch.out c.scoped.new.out c.take_in.new.out
+    c.branch-item.result c.in_ok-all_effects.field-0 one (typed_stmt c.into_inner-checked.result) = record {
       in_scope =
-          piece_begun c.args.body.now c.loop-branch.body c.args.around c.inside.result (plain_stmt c.branch-item.result) c.loop-branch.out c.new-inner.result
-          (passes (typed_stmt c.into_inner-checked.result) (walk_of c.scoped.new.body c.scoped.new.out)) c.loop-branch.invariant.home
-          c.inside.ensures c.new-inner.ensures
+          piece_in c.args.body.now.atomic_params c.loop-branch.body c.loop-branch.body.env c.args.around c.inside.result (plain_stmt c.branch-item.result) c.new-inner.result
+          (passes (typed_stmt c.into_inner-checked.result) (walk_of c.scoped.new.body c.scoped.new.out)) (home_params c.args.body.now c.loop-branch.body c.loop-branch.invariant.home) refl c.inside.ensures c.new-inner.ensures
           (subst
-          (λ z. InScope c.loop-branch.body.atomic_params c.inside.result (plain_stmt c.branch-item.result)
-          (walk_of c.loop-branch.body c.new-inner.result) (passes (typed_stmt z) (walk_of c.scoped.new.body c.scoped.new.out)))
+          (λ z. check_scope c.loop-branch.body.atomic_params c.inside.result (plain_stmt c.branch-item.result)
+          (walk_of c.loop-branch.body c.new-inner.result) ≡ passes (typed_stmt z) (walk_of c.scoped.new.body c.scoped.new.out))
           (sym c.into_inner-checked.ensures) c.in_ok-done.ensures.checks);
-      touched = record { reads = c.in_ok-names.ensures.reads; assigns = c.in_ok-names.ensures.writes; once = c.in_ok-names.ensures.once };
       set_is = c.in_ok-all_effects.ensures;
-      one_is = branch_made c.loop-branch.body.env c.in_ok-names.names c.as_slice.result.now c.in_ok-copies.copies c.into_inner-checked.result
-          c.as_slice.ensures c.in_ok-copies.ensures;
-      kept_is = c.marks_after.ensures;
-      leaving_is = c.from_here-leaving.ensures;
-      out_is = c.in_ok-take_in.ensures;
+      one_is =
+          branch_made c.loop-branch.body.env c.branch-item.result c.as_slice.result.now c.in_ok-copies.copies c.into_inner-checked.result
+          (c.as_slice.ensures ∙ assigned_is (plain_stmt c.branch-item.result) c.in_ok-names.names.writes c.in_ok-names.ensures.writes c.in_ok-names.ensures.once.1)
+          c.in_ok-copies.ensures;
+      out_is =
+          taken_so c.loop-branch.body.env c.args.nd c.marks_after.result c.from_here-leaving.result c.loop-branch.out c.scoped.new.out c.take_in.new.out
+          c.marks_after.ensures c.from_here-leaving.ensures c.in_ok-take_in.ensures;
     } in
     record {
       keeps =
@@ -890,108 +806,81 @@ constructs::cobegin-loop-branch-preserved t c =
           c.take_in.new.out c.loop-branch-test.true c.branch-item.is c.new-inner.ensures c.in_ok-take_in.ensures c.in_ok-done.ensures.nd
           c.loop-branch.invariant.nd;
       forks =
-          fork_more c.args.body.now.atomic_params (inside c.args.around) c.args.nd c.args.branches.now (walk_of c.args.body.now c.args.out.now)
-          c.loop-branch.branch-index
-          c.loop-branch.effects c.push-in-loop-branch-2.new.self c.loop-branch.locals c.push-in-loop-branch.new.self (map plain_branch c.loop-branch.made)
+          fork_more c.args.body.now.atomic_params (inside c.args.around) c.args.nd c.args.branches.now (walk_of c.args.body.now c.args.out.now) c.loop-branch.branch-index
+          c.loop-branch.effects c.push-in-loop-branch-2.new.self (map plain_branch c.loop-branch.made)
           (map plain_branch c.push.new.self) c.loop-branch.body c.scoped.new.body c.loop-branch.out
-          c.scoped.new.out c.take_in.new.out c.branch-item.result c.in_ok-all_effects.field-0 c.in_ok-names.names one c.marks_after.result
-          c.from_here-leaving.result (typed_stmt c.into_inner-checked.result) c.loop-branch.invariant.forks c.loop-branch-test.true c.branch-item.is found
-          c.in_ok-push-3.ensures.ok
-          c.in_ok-push-2.ensures.ok
+          c.scoped.new.out c.take_in.new.out c.branch-item.result c.in_ok-all_effects.field-0 one (typed_stmt c.into_inner-checked.result)
+          c.loop-branch.invariant.forks c.loop-branch-test.true c.branch-item.is found c.in_ok-push-3.ensures.ok
           (map_pushed plain_branch c.loop-branch.made c.push.new.self (record { copies = c.in_ok-copies.copies; body = c.into_inner-checked.result })
           c.in_ok-push.ensures.ok);
+      touched =
+          touched_more c.args.branches.now c.loop-branch.branch-index c.branch-item.result c.loop-branch.locals c.push-in-loop-branch.new.self
+          c.in_ok-names.names c.loop-branch-test.true c.branch-item.is
+          (record { reads = c.in_ok-names.ensures.reads; assigns = c.in_ok-names.ensures.writes; once = c.in_ok-names.ensures.once })
+          c.in_ok-push-2.ensures.ok c.loop-branch.invariant.touched;
       home = c.in_ok-done.ensures.home ∙ c.loop-branch.invariant.home;
     }
 
-pub constructs::cobegin-returns-in_err-settle-clause-checks :
-    goal.constructs::cobegin-returns-in_err-settle-clause-checks
+pub constructs::cobegin-returns-in_err-settle-clause-checks : goal.constructs::cobegin-returns-in_err-settle-clause-checks
 constructs::cobegin-returns-in_err-settle-clause-checks t c =
-    let all : Branching c.args.body.now.atomic_params (inside c.args.around) c.args.nd (plain_stmts (map plain_stmt c.args.branches.now))
-    (walk_of c.args.body.now c.args.out.now)
-    (all_pass c.loop-branch.effects c.loop-branch.locals (map plain_branch c.loop-branch.made) (walk_of c.loop-branch.body c.loop-branch.out)) =
-    fork_all c.args.body.now.atomic_params (inside c.args.around) c.args.nd c.args.branches.now (walk_of c.args.body.now c.args.out.now)
-    c.loop-branch.branch-index
-    c.loop-branch.effects c.loop-branch.locals (map plain_branch c.loop-branch.made) (walk_of c.loop-branch.body c.loop-branch.out)
-    c.loop-branch.invariant.forks
-    (drop_all c.loop-branch.branch-index c.args.branches.now c.loop-branch-test.false) in
-    let clash : ClashIs c.loop-branch.locals c.in_ok-has_clash.field-0 =
-    clash_is c.loop-branch.locals c.as_slice-2.result.now c.in_ok-has_clash.field-0 c.as_slice-2.ensures c.in_ok-has_clash.ensures.none
-    c.in_ok-has_clash.ensures.some in
-    fork_reported c.args.body.now.atomic_params c.args.around c.args.node c.note_if.new.self c.args.nd c.in_ok-has_clash.field-0
-    (plain_stmts (map plain_stmt c.args.branches.now))
-    c.loop-branch.effects c.loop-branch.locals (map plain_branch c.loop-branch.made) (walk_of c.args.body.now c.args.out.now)
-    (walk_of c.loop-branch.body c.loop-branch.out) _
-    c.from_residual-in_err-settle.result c.in_err-settle.field-0.0 c.from_residual-in_err-settle.ensures.1 all clash c.note_if.ensures.node
-    c.in_err-settle.ensures.result
-
-pub constructs::cobegin-returns-in_err-settle-2-clause-checks :
-    goal.constructs::cobegin-returns-in_err-settle-2-clause-checks
-constructs::cobegin-returns-in_err-settle-2-clause-checks t c =
-    let all : Branching c.args.body.now.atomic_params (inside c.args.around) c.args.nd (plain_stmts (map plain_stmt c.args.branches.now))
-    (walk_of c.args.body.now c.args.out.now)
-    (all_pass c.loop-branch.effects c.loop-branch.locals (map plain_branch c.loop-branch.made) (walk_of c.loop-branch.body c.loop-branch.out)) =
-    fork_all c.args.body.now.atomic_params (inside c.args.around) c.args.nd c.args.branches.now (walk_of c.args.body.now c.args.out.now)
-    c.loop-branch.branch-index
-    c.loop-branch.effects c.loop-branch.locals (map plain_branch c.loop-branch.made) (walk_of c.loop-branch.body c.loop-branch.out)
-    c.loop-branch.invariant.forks
-    (drop_all c.loop-branch.branch-index c.args.branches.now c.loop-branch-test.false) in
-    let clash : ClashIs c.loop-branch.locals c.in_ok-has_clash.field-0 =
-    clash_is c.loop-branch.locals c.as_slice-2.result.now c.in_ok-has_clash.field-0 c.as_slice-2.ensures c.in_ok-has_clash.ensures.none
-    c.in_ok-has_clash.ensures.some in
-    let reached : c.if-out.out ≡ (c.loop-branch.out.reaches_nd || c.args.nd) = (elim c.if-out.branch [
-      | constructs::cobegin-then-out w ↦ or_then c.loop-branch.out.reaches_nd c.args.nd c.if-out.out w.if-out.true w.out-is
-      | constructs::cobegin-else-out w ↦ or_else c.loop-branch.out.reaches_nd c.args.nd c.if-out.out w.if-out.false w.out-is
-    ]) in
-    let met : BranchesMet c.args.body.now c.loop-branch.body c.args.node c.note_if.new.self c.settle.new.self c.note_if-2.new.self c.args.nd
-    c.in_ok-has_clash.field-0
-    c.in_ok-passes.passes c.if-out.out c.loop-branch.effects c.as_slice-3.result.now c.loop-branch.out c.interference.result = record {
-      home = c.loop-branch.invariant.home;
+    let met : BranchesMet c.args.body.now c.loop-branch.body c.args.around c.args.node c.note_if.new.self c.args.nd c.in_ok-has_clash.field-0
+    (plain_stmts (map plain_stmt c.args.branches.now)) c.loop-branch.effects (map plain_branch c.loop-branch.made) c.args.out.now c.loop-branch.out = record {
+      all =
+          fork_all c.args.body.now.atomic_params (inside c.args.around) c.args.nd c.args.branches.now (walk_of c.args.body.now c.args.out.now) c.loop-branch.branch-index c.loop-branch.effects
+          (map plain_branch c.loop-branch.made) (walk_of c.loop-branch.body c.loop-branch.out) c.loop-branch.invariant.forks
+          (drop_all c.loop-branch.branch-index c.args.branches.now c.loop-branch-test.false);
+      clash_is =
+          clashing_is (plain_stmts (map plain_stmt c.args.branches.now)) c.as_slice-2.result.now c.in_ok-has_clash.field-0
+          (subst (AllTouched (plain_stmts (map plain_stmt c.args.branches.now))) (sym c.as_slice-2.ensures)
+          (touched_all c.args.branches.now c.loop-branch.branch-index c.loop-branch.locals
+          (drop_all c.loop-branch.branch-index c.args.branches.now c.loop-branch-test.false) c.loop-branch.invariant.touched))
+          c.in_ok-has_clash.ensures.none c.in_ok-has_clash.ensures.some;
       second_is = c.note_if.ensures.node;
-      read_is = c.as_slice-3.ensures;
-      apart = c.in_ok-passes.ensures;
-      settle_is = c.settle.ensures.forgotten;
-      reason_is = c.interference.ensures;
-      third_is = c.note_if-2.ensures.node;
-      reached_by = reached;
     } in
-    fork_ends c.args.body.now c.loop-branch.body c.args.around c.args.node c.note_if.new.self c.settle.new.self c.note_if-2.new.self c.args.nd
-    c.in_ok-has_clash.field-0
-    c.in_ok-passes.passes c.if-out.out (plain_stmts (map plain_stmt c.args.branches.now)) c.loop-branch.effects c.as_slice-3.result.now c.loop-branch.locals
-    (map plain_branch c.loop-branch.made) c.args.out.now c.loop-branch.out c.interference.result _
-    c.from_residual-in_err-settle-2.result c.in_err-settle-2.field-0.0 c.from_residual-in_err-settle-2.ensures.1 all clash met c.in_ok-settle.ensures.clean
+    settle_stopped (λ v. check_form c.args.body.now.atomic_params c.args.around c.args.node (form.cobegin c.args.nd (plain_stmts (map plain_stmt c.args.branches.now))) (walk_of c.args.body.now c.args.out.now) ≡ v)
+    (fault_of c.note_if.new.self) c.from_residual-in_err-settle.result c.in_err-settle.field-0.0 _ c.from_residual-in_err-settle.ensures.1
+    c.in_err-settle.ensures.result (λ q reported. fork_reported q met reported)
+
+pub constructs::cobegin-returns-in_err-settle-2-clause-checks : goal.constructs::cobegin-returns-in_err-settle-2-clause-checks
+constructs::cobegin-returns-in_err-settle-2-clause-checks t c =
+    let met : BranchesMet c.args.body.now c.loop-branch.body c.args.around c.args.node c.note_if.new.self c.args.nd c.in_ok-has_clash.field-0
+    (plain_stmts (map plain_stmt c.args.branches.now)) c.loop-branch.effects (map plain_branch c.loop-branch.made) c.args.out.now c.loop-branch.out = record {
+      all =
+          fork_all c.args.body.now.atomic_params (inside c.args.around) c.args.nd c.args.branches.now (walk_of c.args.body.now c.args.out.now) c.loop-branch.branch-index c.loop-branch.effects
+          (map plain_branch c.loop-branch.made) (walk_of c.loop-branch.body c.loop-branch.out) c.loop-branch.invariant.forks
+          (drop_all c.loop-branch.branch-index c.args.branches.now c.loop-branch-test.false);
+      clash_is =
+          clashing_is (plain_stmts (map plain_stmt c.args.branches.now)) c.as_slice-2.result.now c.in_ok-has_clash.field-0
+          (subst (AllTouched (plain_stmts (map plain_stmt c.args.branches.now))) (sym c.as_slice-2.ensures)
+          (touched_all c.args.branches.now c.loop-branch.branch-index c.loop-branch.locals
+          (drop_all c.loop-branch.branch-index c.args.branches.now c.loop-branch-test.false) c.loop-branch.invariant.touched))
+          c.in_ok-has_clash.ensures.none c.in_ok-has_clash.ensures.some;
+      second_is = c.note_if.ensures.node;
+    } in
+    settle_stopped (λ v. check_form c.args.body.now.atomic_params c.args.around c.args.node (form.cobegin c.args.nd (plain_stmts (map plain_stmt c.args.branches.now))) (walk_of c.args.body.now c.args.out.now) ≡ v)
+    (fault_of c.note_if-2.new.self) c.from_residual-in_err-settle-2.result c.in_err-settle-2.field-0.0 _ c.from_residual-in_err-settle-2.ensures.1
     c.in_err-settle-2.ensures.result
+    (λ q reported.
+    fork_is met c.in_ok-settle.ensures.clean c.loop-branch.invariant.home c.as_slice-3.ensures c.in_ok-passes.ensures c.settle.ensures.forgotten
+    c.interference.ensures c.note_if-2.ensures.node ∙ judged_some _ _ _ q reported)
 
 pub constructs::cobegin-returns-clause-checks : goal.constructs::cobegin-returns-clause-checks
 constructs::cobegin-returns-clause-checks t c =
-    let all : Branching c.args.body.now.atomic_params (inside c.args.around) c.args.nd (plain_stmts (map plain_stmt c.args.branches.now))
-    (walk_of c.args.body.now c.args.out.now)
-    (all_pass c.loop-branch.effects c.loop-branch.locals (map plain_branch c.loop-branch.made) (walk_of c.loop-branch.body c.loop-branch.out)) =
-    fork_all c.args.body.now.atomic_params (inside c.args.around) c.args.nd c.args.branches.now (walk_of c.args.body.now c.args.out.now)
-    c.loop-branch.branch-index
-    c.loop-branch.effects c.loop-branch.locals (map plain_branch c.loop-branch.made) (walk_of c.loop-branch.body c.loop-branch.out)
-    c.loop-branch.invariant.forks
-    (drop_all c.loop-branch.branch-index c.args.branches.now c.loop-branch-test.false) in
-    let clash : ClashIs c.loop-branch.locals c.in_ok-has_clash.field-0 =
-    clash_is c.loop-branch.locals c.as_slice-2.result.now c.in_ok-has_clash.field-0 c.as_slice-2.ensures c.in_ok-has_clash.ensures.none
-    c.in_ok-has_clash.ensures.some in
-    let reached : c.if-out.out ≡ (c.loop-branch.out.reaches_nd || c.args.nd) = (elim c.if-out.branch [
-      | constructs::cobegin-then-out w ↦ or_then c.loop-branch.out.reaches_nd c.args.nd c.if-out.out w.if-out.true w.out-is
-      | constructs::cobegin-else-out w ↦ or_else c.loop-branch.out.reaches_nd c.args.nd c.if-out.out w.if-out.false w.out-is
-    ]) in
-    let met : BranchesMet c.args.body.now c.loop-branch.body c.args.node c.note_if.new.self c.settle.new.self c.note_if-2.new.self c.args.nd
-    c.in_ok-has_clash.field-0
-    c.in_ok-passes.passes c.if-out.out c.loop-branch.effects c.as_slice-3.result.now c.loop-branch.out c.interference.result = record {
-      home = c.loop-branch.invariant.home;
+    let met : BranchesMet c.args.body.now c.loop-branch.body c.args.around c.args.node c.note_if.new.self c.args.nd c.in_ok-has_clash.field-0
+    (plain_stmts (map plain_stmt c.args.branches.now)) c.loop-branch.effects (map plain_branch c.loop-branch.made) c.args.out.now c.loop-branch.out = record {
+      all =
+          fork_all c.args.body.now.atomic_params (inside c.args.around) c.args.nd c.args.branches.now (walk_of c.args.body.now c.args.out.now) c.loop-branch.branch-index c.loop-branch.effects
+          (map plain_branch c.loop-branch.made) (walk_of c.loop-branch.body c.loop-branch.out) c.loop-branch.invariant.forks
+          (drop_all c.loop-branch.branch-index c.args.branches.now c.loop-branch-test.false);
+      clash_is =
+          clashing_is (plain_stmts (map plain_stmt c.args.branches.now)) c.as_slice-2.result.now c.in_ok-has_clash.field-0
+          (subst (AllTouched (plain_stmts (map plain_stmt c.args.branches.now))) (sym c.as_slice-2.ensures)
+          (touched_all c.args.branches.now c.loop-branch.branch-index c.loop-branch.locals
+          (drop_all c.loop-branch.branch-index c.args.branches.now c.loop-branch-test.false) c.loop-branch.invariant.touched))
+          c.in_ok-has_clash.ensures.none c.in_ok-has_clash.ensures.some;
       second_is = c.note_if.ensures.node;
-      read_is = c.as_slice-3.ensures;
-      apart = c.in_ok-passes.ensures;
-      settle_is = c.settle.ensures.forgotten;
-      reason_is = c.interference.ensures;
-      third_is = c.note_if-2.ensures.node;
-      reached_by = reached;
     } in
-    fork_passes c.args.body.now c.loop-branch.body c.args.around c.args.node c.note_if.new.self c.settle.new.self c.note_if-2.new.self c.args.nd
-    c.in_ok-has_clash.field-0
-    c.in_ok-passes.passes c.if-out.out (plain_stmts (map plain_stmt c.args.branches.now)) c.loop-branch.effects c.as_slice-3.result.now c.loop-branch.locals
-    (map plain_branch c.loop-branch.made) c.args.out.now c.loop-branch.out c.interference.result
-    (typed_stmt c.forked.result) all clash met c.in_ok-settle.ensures.clean c.in_ok-settle-2.ensures.clean c.forked.ensures
+    fork_is met c.in_ok-settle.ensures.clean c.loop-branch.invariant.home c.as_slice-3.ensures c.in_ok-passes.ensures c.settle.ensures.forgotten
+    c.interference.ensures c.note_if-2.ensures.node
+    ∙ clean_passes _ (typed_stmt c.forked.result) _ (walk_of c.loop-branch.body c.reach_nd.new.found) _ c.in_ok-settle-2.ensures.clean c.forked.ensures
+    (ap (λ (z : Found). walk_of c.loop-branch.body z) c.reach_nd.ensures)

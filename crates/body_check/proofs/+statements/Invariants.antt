@@ -8,7 +8,7 @@ use Rattle.body_check.specs.Checking.{plain_branch}
 use Rattle.body_check.specs.Completes.{all_complete}
 use Rattle.body_check.specs.Keeping.{MayFollow, AllKeep, BranchesKeep, inside}
 use Rattle.body_check.specs.Walks.{home_of, walk_of}
-use Rattle.body_check.proofs.Forks.{ForkSoFar}
+use Rattle.body_check.proofs.Forks.{ForkSoFar, TouchedSoFar}
 use Rattle.body_check.proofs.Orders.{OrderSoFar}
 use Rattle.body_check.proofs.+statements.Given as goal
 
@@ -33,9 +33,6 @@ decreases-statements::branching l = 4 * max (size-Stmt l.then.now) (option_map_o
 
 abbrev pub decreases-statements::repeat : goal.decreases-statements::repeat
 decreases-statements::repeat l = 4 * size-Stmt l.turn.now + 3
-
-abbrev pub decreases-statements::iterating : goal.decreases-statements::iterating
-decreases-statements::iterating l = 4 * size-Stmt l.turn.now + 3
 
 abbrev pub decreases-constructs::foreach : goal.decreases-constructs::foreach
 decreases-constructs::foreach l = 4 * size-Stmt l.iteration.now + 2
@@ -67,7 +64,8 @@ invariant-constructs::cobegin-loop-branch l = record {
       BranchesKeep (inside l.around) (plain_stmts (map plain_stmt l.branches));
   nd : IsTrue (l.fn.out.reaches_nd || some_holds_nd (plain_stmts (map plain_stmt l.branches))) →
       IsTrue (l.out.reaches_nd || some_holds_nd (plain_stmts (map plain_stmt (drop l.branch-index l.branches))));
-  forks : ForkSoFar l.fn.body.atomic_params (inside l.around) l.nd l.branches (walk_of l.fn.body l.fn.out) l.branch-index l.effects l.locals
+  forks : ForkSoFar l.fn.body.atomic_params (inside l.around) l.nd l.branches (walk_of l.fn.body l.fn.out) l.branch-index l.effects
       (map plain_branch l.made) (walk_of l.body l.out);
+  touched : TouchedSoFar l.branches l.branch-index l.locals;
   home : home_of l.body ≡ home_of l.fn.body;
 }

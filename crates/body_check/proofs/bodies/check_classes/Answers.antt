@@ -1,16 +1,16 @@
-use Rattle.std.proofs.Common.{Err, map, refl, ap, subst}
+use Rattle.std.proofs.Common.{◌≡◌, Err, map, refl, ap, subst}
 use Rattle.std.proofs.lemmas.List.{drop_all}
 use Rattle.body_assembly.specs.Assembled.{plain_body}
 use Rattle.body_check.specs.Keeping.{ClassesKeep}
-use Rattle.body_check.specs.Methods.{ClassesChecking}
-use Rattle.body_check.proofs.Methodic.{classes_all, classes_begin, classes_go_on, classes_stop, map_both, stopped_at, left_is, Members}
+use Rattle.body_check.specs.Methods.{check_classes}
+use Rattle.body_check.proofs.Methodic.{classes_all, classes_begin, classes_go_on, classes_stop, map_both, stopped_at, left_is, members_in}
 use Rattle.body_check.proofs.bodies.check_classes.Goals as goal
 
 pub returns-in_err-done-clause-checks : goal.returns-in_err-done-clause-checks
 returns-in_err-done-clause-checks c =
     stopped_at
-    (λ q. Members c.loop-number.body.env c.number_at.result c.index-classes-number.result.members c.loop-number.methods (Err q))
-    (ClassesChecking c.args.body.now.env 0 c.args.classes.now 0) c.from_residual.result _ c.in_err-done.field-0.0
+    (λ q. members_in c.loop-number.body.env c.number_at.result c.index-classes-number.result.members c.loop-number.methods ≡ Err q)
+    (λ v. check_classes c.args.body.now.env 0 c.args.classes.now 0 ≡ v) c.from_residual.result _ c.in_err-done.field-0.0
     c.from_residual.ensures.1
     (λ q d.
     classes_stop c.args.body.now.env c.loop-number.body.env c.loop-number.number c.loop-number.methods c.number_at.result c.args.classes.now

@@ -1,9 +1,9 @@
-use Rattle.std.proofs.Common.{◌∙◌, map, refl, ap, sym}
+use Rattle.std.proofs.Common.{◌≡◌, ◌∙◌, map, ap, sym}
 use Rattle.std.specs.Option.{option_copied}
 use Rattle.decl_table.specs.Table.{numbered}
 use Rattle.lang_typed.specs.Plain.{plain_stmt as typed_stmt}
-use Rattle.body_check.specs.Checking.{InBlock}
-use Rattle.body_check.specs.Methods.{formals_declared, of_method, MethodChecking}
+use Rattle.body_check.specs.Checking.{check_block}
+use Rattle.body_check.specs.Methods.{check_method, formals_declared, method_judged}
 use Rattle.body_check.specs.Walks.{passes, refused, walk_of, with_env}
 use Rattle.body_check.proofs.Methodic.{around_of, body_from, method_passes, method_stmts, method_stops, stopped_at, Begun, BodyMet}
 use Rattle.body_check.proofs.bodies.check_method.Goals as goal
@@ -20,15 +20,14 @@ returns-in_err-checked-clause-checks c around is =
           ∙ ap (λ fs. with_env c.args.body.now (formals_declared c.args.body.now.env fs c.types_of.result.now)) c.as_slice.ensures;
     } in
     stopped_at
-    (λ q. InBlock c.declare_formals.new.body.atomic_params (around_of c.args.method.now) (method_stmts c.args.method.now)
-    (walk_of c.declare_formals.new.body c.new-done.result) (refused q))
-    (MethodChecking around c.args.body.now.atomic_params c.args.number c.args.method.now)
+    (λ q. check_block c.declare_formals.new.body.atomic_params (around_of c.args.method.now) (method_stmts c.args.method.now)
+    (walk_of c.declare_formals.new.body c.new-done.result) ≡ refused q)
+    (λ v. check_method around c.args.body.now.atomic_params c.args.number c.args.method.now ≡ v)
     c.from_residual-in_err-checked.result _ c.in_err-checked.field-0.0 c.from_residual-in_err-checked.ensures.1
     (λ q d.
-    of_method
+    ap (method_judged around c.args.number c.args.method.now)
     (body_from around c.args.number c.args.method.now (option_copied c.numbered-row.result) c.types_of.result.now c.args.body.now c.declare_formals.new.body
-    c.new-done.result (refused q) begun c.new-done.ensures d)
-    refl)
+    c.new-done.result (refused q) begun c.new-done.ensures d))
     c.in_err-checked.ensures.checks
 
 pub returns-in_err-settle_method-clause-checks : goal.returns-in_err-settle_method-clause-checks

@@ -1,9 +1,9 @@
 use Rattle.std.proofs.Common.{arith}
 use Rattle.region_interfere.specs.Nd.{plain_nd}
-use Rattle.body_check.proofs.Meeting.{apart_counted}
+use Rattle.body_check.proofs.Meeting.{pass_where_counted}
 use Rattle.body_check.proofs.meet.branches_pass.Goals as goal
 
 pub returns : goal.returns
 returns c =
-    apart_counted c.args.body.now.atomic_params c.args.nd c.args.body.now.env c.given.result.now (plain_nd c.declared_atomic-atomic.result)
+    pass_where_counted c.args.body.now.atomic_params c.args.nd c.args.body.now.env c.given.result.now (plain_nd c.declared_atomic-atomic.result)
     c.args.branches.now c.branches_apart.result (omega arith) c.given.ensures c.declared_atomic-atomic.ensures c.branches_apart.ensures

@@ -1,13 +1,11 @@
+use Rattle.std.proofs.Common.{◌≡◌}
 use Rattle.syntax_tree.specs.Plain.{plain_expr}
-use Rattle.lang_typed.specs.Plain.{plain_stmt as typed_stmt}
 use Rattle.body_exprs.specs.Answer.{refused}
-use Rattle.body_exprs.specs.Typed.{plain_node, plain_typed}
+use Rattle.body_exprs.specs.Typed.{plain_typed}
 use Rattle.body_exprs.specs.Typing.{Typing}
 use Rattle.body_check.specs.Noting.{fault_of}
-use Rattle.body_check.specs.Simple.{Performing}
-use Rattle.body_check.specs.Simple.{Performing as rule}
+use Rattle.body_check.specs.Simple.{perform}
 use Rattle.body_check.specs.Walks.{walk_of}
-use Rattle.body_check.proofs.Leaves.{performed_so, performed_reported}
 use Rattle.body_check.proofs.Nodes.{node_made}
 use Rattle.body_check.proofs.Passing.{stopped, settle_stopped}
 use Rattle.body_check.proofs.simple.perform.Goals as goal
@@ -15,21 +13,15 @@ use Rattle.body_check.proofs.simple.perform.Goals as goal
 pub returns-in_err-given-clause-checks : goal.returns-in_err-given-clause-checks
 returns-in_err-given-clause-checks c =
     stopped (λ q. Typing c.args.body.now.env (plain_expr c.args.e.now) c.args.out.now (refused q))
-    (Performing c.args.node (plain_expr c.args.e.now) (walk_of c.args.body.now c.args.out.now))
-    c.from_residual.result _ c.in_err-given.field-0.0 c.from_residual.ensures.1
-    (λ q d. rule.refused_itself d)
-    c.in_err-given.ensures.answer
+    (λ v. perform c.args.node (plain_expr c.args.e.now) (walk_of c.args.body.now c.args.out.now) ≡ v)
+    c.from_residual.result _ c.in_err-given.field-0.0 c.from_residual.ensures.1 (λ q d. rw d) c.in_err-given.ensures.answer
 
 pub returns-in_err-settle-clause-checks : goal.returns-in_err-settle-clause-checks
 returns-in_err-settle-clause-checks c =
-    settle_stopped (Performing c.args.node (plain_expr c.args.e.now) (walk_of c.args.body.now c.args.out.now)) (fault_of c.args.node)
+    settle_stopped (λ v. perform c.args.node (plain_expr c.args.e.now) (walk_of c.args.body.now c.args.out.now) ≡ v) (fault_of c.args.node)
     c.from_residual-in_err-settle.result c.in_err-settle.field-0.0 _ c.from_residual-in_err-settle.ensures.1 c.in_err-settle.ensures.result
-    (λ q reported.
-    performed_reported c.args.node (plain_expr c.args.e.now) c.args.body.now c.args.out.now c.typed.new.out (plain_typed c.in_ok-given.given) q
-    c.in_ok-given.ensures.answer reported)
+    (λ q reported. rw (c.in_ok-given.ensures.answer, reported))
 
 pub returns-clause-checks : goal.returns-clause-checks
 returns-clause-checks c =
-    performed_so c.args.node (plain_expr c.args.e.now) c.args.body.now c.args.out.now c.typed.new.out (plain_typed c.in_ok-given.given)
-    (plain_node c.into_node.result) (typed_stmt c.performed.result) c.in_ok-given.ensures.answer
-    (node_made c.args.e.now c.into_node.result (plain_typed c.in_ok-given.given) c.into_node.ensures) c.performed.ensures c.in_ok-settle.ensures.clean
+    rw (c.in_ok-given.ensures.answer, c.in_ok-settle.ensures.clean, c.performed.ensures, node_made c.args.e.now c.into_node.result (plain_typed c.in_ok-given.given) c.into_node.ensures)
