@@ -26,8 +26,8 @@ use Rattle.body_exprs.specs.Env.{table_of}
 use Rattle.body_exprs.specs.Typing.{Typing}
 use Rattle.body_check.specs.declared.node.Around.{Around}
 use Rattle.body_check.specs.declared.node.Node.{Node}
-use Rattle.body_check.specs.Checking.{InBlock}
-use Rattle.body_check.specs.Simple.{declared_type, declared_reported, AssigningLocal, Performing, Returning, Printing}
+use Rattle.body_check.specs.Checking.{check_block}
+use Rattle.body_check.specs.Simple.{declared_type, declared_reported, assign_local, perform, leave_with, print}
 use Rattle.body_check.specs.Walks.{Walk, passes}
 use Rattle.sound_lemmas.specs.Accepted.{IsAccepted}
 use Rattle.sound_bodies.specs.Gathered.{Gathers}
@@ -69,13 +69,13 @@ pub record Passing (P : PlainProgram) (L : Scope) (before : Found) (s : TypedStm
 -- a statement that holds no other, and neither declares something nor assigns to a field or an element
 pub record SingleAgrees (P : PlainProgram) (L : Scope) (params : List Bool) (around : Around) (w : Walk) (may_read may_assign : ℕ → Bool) : Type 0 where
   pub assigned : (node : Node) (target : Named) (value : PlainExpr) (u : Walk) (s : TypedStmt) → Fitting value → ((x : ℕ) → IsTrue (expr_reads x value) → IsTrue (may_read x)) →
-      IsTrue (may_assign target.name) → AssigningLocal node target value w (passes s u) → Passing P L w.found s u.found
+      IsTrue (may_assign target.name) → assign_local node target value w ≡ passes s u → Passing P L w.found s u.found
   pub performed : (node : Node) (value : PlainExpr) (u : Walk) (s : TypedStmt) → Fitting value → ((x : ℕ) → IsTrue (expr_reads x value) → IsTrue (may_read x)) → IsPerformed value →
-      Performing node value w (passes s u) → Passing P L w.found s u.found
+      perform node value w ≡ passes s u → Passing P L w.found s u.found
   pub returned : (node : Node) (value : PlainExpr) (u : Walk) (s : TypedStmt) → Fitting value → ((x : ℕ) → IsTrue (expr_reads x value) → IsTrue (may_read x)) → Returns L w.env around →
-      Returning around node value w (passes s u) → Passing P L w.found s u.found
+      leave_with around node value w ≡ passes s u → Passing P L w.found s u.found
   pub printed : (node : Node) (value : PlainExpr) (u : Walk) (s : TypedStmt) → Fitting value → ((x : ℕ) → IsTrue (expr_reads x value) → IsTrue (may_read x)) →
-      Printing node value w (passes s u) → Passing P L w.found s u.found
+      print node value w ≡ passes s u → Passing P L w.found s u.found
 
 abbrev pub SinglesAgree : Type 0
 SinglesAgree =
@@ -104,4 +104,4 @@ abbrev pub BlocksAgree : Type 0
 BlocksAgree =
     (P : PlainProgram) → Signed P → (L : Scope) (params : List Bool) (around : Around) (reads assigns : ℕ → Bool) (w : Walk) → Ready P L w.env params around reads assigns →
     (all : PlainStmts) → StmtsFitting all → ((x : ℕ) → IsTrue (stmts_read x all) → IsTrue (reads x)) → ((x : ℕ) → IsTrue (stmts_assign x all) → IsTrue (assigns x)) →
-    (made : List TypedStmt) (u : Walk) → InBlock params around all w (passes made u) → Room L u.env → NdFree L u → BlockPasses P L w.found made u.found
+    (made : List TypedStmt) (u : Walk) → check_block params around all w ≡ passes made u → Room L u.env → NdFree L u → BlockPasses P L w.found made u.found

@@ -21,7 +21,7 @@ use Rattle.lang_typed.specs.Table.{body_scope}
 use Rattle.body_assembly.specs.Assembled.{PlainBody, program_of}
 use Rattle.body_exprs.specs.declared.env.Env.{Env}
 use Rattle.body_exprs.specs.Env.{at_class, IsFresh}
-use Rattle.body_check.specs.Checking.{InBlock}
+use Rattle.body_check.specs.Checking.{check_block}
 use Rattle.body_check.specs.Deciding.{has_value}
 use Rattle.body_check.specs.Keeping.{method_around}
 use Rattle.body_check.specs.Methods.{body_begun}
@@ -71,7 +71,7 @@ ForksAreReported =
     (start : Env) → IsFresh table (name_number program.names (codes "length")) start →
     (method : Method) (number class : ℕ) → StandsAmong method number class program.classes 0 0 →
     (params : List Bool) (made : List TypedStmt) (u : Walk) →
-    InBlock params (method_around (has_value method.result)) (plain_stmts (map plain_stmt method.body)) (body_begun (at_class start class) number method) (passes made u) →
+    check_block params (method_around (has_value method.result)) (plain_stmts (map plain_stmt method.body)) (body_begun (at_class start class) number method) ≡ passes made u →
     u.found.reaches_nd ≡ true → IsTrue (is_forking table number)
 
 -- and where a program has no nd construct, none is reached through any method

@@ -8,7 +8,8 @@ use Rattle.syntax_tree.specs.declared.class.Member.TheVariants as member
 use Rattle.syntax_tree.specs.declared.class.Method.{Method}
 use Rattle.body_assembly.specs.Assembled.{PlainBody}
 use Rattle.body_exprs.specs.declared.env.Env.{Env}
-use Rattle.body_check.specs.Methods.{is_method, MemberChecking, bodies_of, PlainBodies, after_bodies, after_ok, MembersChecking, ClassesChecking}
+use Rattle.body_check.specs.Methods.{bodies_of, PlainBodies, after_bodies, after_ok}
+use Rattle.sound_lemmas.proofs.BodyRules.{is_method, MemberChecking, MembersChecking, ClassesChecking}
 use Rattle.sound_lemmas.proofs.Signatures.{own_in, methods_in, all_methods}
 
 both_as_many : {A B : Type 0} (xs ys : List A) (us vs : List B) → length xs ≡ length us → length ys ≡ length vs → length (xs ++ ys) ≡ length (us ++ vs)
@@ -44,7 +45,7 @@ more_made m ms made (Err refusal) h k = tt
 
 members_made : {env : Env} {params : List Bool} {ms : List Member} {number : ℕ} {r : Result PlainBodies Refusal} → MembersChecking env params ms number r → AllMade ms r
 members_made MembersChecking.no_members = refl
-members_made (MembersChecking.one_refused d) = tt
+members_made MembersChecking.is_refused = tt
 members_made (MembersChecking.then_members {m = m} {ms = ms} {made = made} {u = u} d rest j) =
     subst (AllMade (m ∷ ms)) j (more_made m ms made u (member_made d) (members_made rest))
 
@@ -60,7 +61,7 @@ more_classes class classes made (Err refusal) h k = tt
 
 classes_made : {start : Env} {at number : ℕ} {classes : List Class} {r : Result (List PlainBody) Refusal} → ClassesChecking start at classes number r → ClassesMade classes r
 classes_made ClassesChecking.no_classes = refl
-classes_made (ClassesChecking.member_refused d) = tt
+classes_made ClassesChecking.is_refused = tt
 classes_made (ClassesChecking.then_classes {class = class} {classes = classes} {made = made} {u = u} d rest j) =
     subst (ClassesMade (class ∷ classes)) j (more_classes class classes made u (members_made d) (classes_made rest))
 

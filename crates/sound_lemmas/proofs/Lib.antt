@@ -1,5 +1,6 @@
 pub mod Assembled
 pub mod Bodies
+pub mod BodyRules
 pub mod Counting
 pub mod Free
 pub mod Known
@@ -7,3 +8,5 @@ pub mod Lists
 pub mod Rows
 pub mod Rules
 pub mod Signatures
+pub mod StatementRules
+pub mod StatementSteps

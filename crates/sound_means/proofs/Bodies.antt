@@ -43,13 +43,16 @@ use Rattle.decl_table.specs.Table.{headers_of, field_of, method_of, numbered}
 use Rattle.body_assembly.specs.Assembled.{PlainBody}
 use Rattle.body_exprs.specs.declared.env.Env.{Env}
 use Rattle.body_exprs.specs.Env.{table_of, scope_of, at_class, at_members, with_row, params_named}
-use Rattle.body_check.specs.Checking.{InBlock}
+use Rattle.body_check.specs.Checking.{check_block}
 use Rattle.body_check.specs.Completes.{all_complete}
 use Rattle.body_check.specs.Deciding.{has_value}
 use Rattle.body_check.specs.Keeping.{method_around}
-use Rattle.body_check.specs.Methods.{MethodChecking, body_begun, class_params, own_params, formals_declared, formal_types, typed_body, reported, method_reported, method_judged, summary_of}
+use Rattle.body_check.specs.Methods.{body_begun, class_params, own_params, formals_declared, formal_types, typed_body, reported, method_reported, method_judged, summary_of}
 use Rattle.body_check.specs.Simple.{has_room}
 use Rattle.body_check.specs.Walks.{Walk, Verdict, passes, refused}
+use Rattle.sound_lemmas.proofs.StatementSteps.{in_block_of}
+use Rattle.sound_lemmas.proofs.BodyRules.{MethodChecking, start_in, fresh_start}
+use Rattle.sound_lemmas.proofs.StatementRules.{InBlock}
 use Rattle.lang_base.specs.Effects.{set_covers}
 use Rattle.lang_base.specs.Types.{plain_type}
 use Rattle.sound_lemmas.specs.Accepted.{IsAccepted}
@@ -106,14 +109,14 @@ has_slots f false false room h = cc
 passed_of : {env : Env} {params : List Bool} {number : ℕ} {method : Method} {body : PlainBody} → MethodChecking env params number method (Ok body) → Passed env params number method body
 passed_of {env} {params} {number} {method} {body} (MethodChecking.of_method {u = u} d j) = by u d j
   where
-    by : (v : Verdict (List TypedStmt)) → InBlock params (method_around (has_value method.result)) (plain_stmts (map plain_stmt method.body)) (body_begun env number method) v → method_judged env number method v ≡ Ok body →
+    by : (v : Verdict (List TypedStmt)) → check_block params (method_around (has_value method.result)) (plain_stmts (map plain_stmt method.body)) (body_begun env number method) ≡ v → method_judged env number method v ≡ Ok body →
         Passed env params number method body
     by (passes ss w) d is =
         let r = reported_none (method_reported env number method w.found.effects) (typed_body ss w.env) body is in
         record {
           made = ss;
           walk = w;
-          block = d;
+          block = in_block_of d;
           is = r.1;
           room = has_slots (λ reason. fault reason method.place) (has_value method.result && all_complete (plain_stmts (map plain_stmt method.body)))
               (set_covers (summary_of (numbered (table_of env) number)) w.found.effects) (has_room (body_begun env number method).env) r.0;
@@ -121,17 +124,17 @@ passed_of {env} {params} {number} {method} {body} (MethodChecking.of_method {u =
     by (refused refusal) d is = cc
 
 module _ (program : Program) (table : Table) (bodies : List PlainBody) (named : length program.names ≤ 4294967295) (written : IsWritten program) (accepted : IsAccepted program table bodies)
-    (tells : Tells (made_of program table bodies) table (never_forks table)) (n : ℕ) (m : PlainMember) (class : PlainClass) (k : IsMember program table accepted.checked.start n m class) (text : Class)
+    (tells : Tells (made_of program table bodies) table (never_forks table)) (n : ℕ) (m : PlainMember) (class : PlainClass) (k : IsMember program table (start_in program table) n m class) (text : Class)
     (there : slice_get program.classes k.number ≡ Some text)
   where
     abbrev P : PlainProgram
     P = made_of program table bodies
 
     abbrev start : Env
-    start = accepted.checked.start
+    start = start_in program table
 
     table_is : table_of start ≡ table
-    table_is = accepted.checked.fresh.table_is
+    table_is = (fresh_start program table).table_is
 
     numbered_is : Some k.row ≡ numbered (table_of start) n
     numbered_is = sym (ap (λ (t : Table). numbered t n) table_is ∙ k.row_there)
@@ -188,7 +191,7 @@ module _ (program : Program) (table : Table) (bodies : List PlainBody) (named : 
       };
       locals = λ name row h. cc;
       parts = λ name row h. cc;
-      spelled = λ name h. length_spelled name start.length accepted.checked.fresh.length_is h;
+      spelled = λ name h. length_spelled name start.length (fresh_start program table).length_is h;
       fields = λ class name row h. field_found program table bodies written accepted class name row (sym (ap (λ (t : Table). field_of t class name) table_is) ∙ h);
       methods = λ class name row h. method_called program table bodies written accepted class name row (sym (ap (λ (t : Table). method_of t class name) table_is) ∙ h);
       nd_free = never_forks table;

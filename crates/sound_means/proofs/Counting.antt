@@ -13,18 +13,18 @@ use Rattle.syntax_tree.specs.Plain as tree
 use Rattle.lang_typed.specs.Plain.{TypedExpr, type_of, TypedStmt, statement, stmts_of, branches_of, choice_form}
 use Rattle.lang_typed.specs.Plain as typed
 use Rattle.syntax_means.specs.Numbered.{Counts, given_in, given_in_all, given_in_branches, own_slots, own_regions}
-use Rattle.body_locals.specs.declared.branch.Touched.{Touched}
 use Rattle.body_exprs.specs.declared.env.Env.{Env}
 use Rattle.body_exprs.specs.Env.{with_local, with_part, with_region}
 use Rattle.body_exprs.specs.Targeting.{PlainSpot, to_field, to_element, to_part}
 use Rattle.body_exprs.specs.Typed.{may_be, is_int, is_boolean, type_in}
 use Rattle.body_check.specs.declared.node.Around.{Around}
 use Rattle.body_check.specs.declared.node.Node.{Node}
-use Rattle.body_check.specs.Checking.{block_left, branch_of, variable_declared, variable_noted, parts_noted, parts_declared, Opening, BranchesVerdict, all_pass, one_refused, after_branch, Checking, Choosing, InOther, Standing, standing, InScope, in_scope, InBlock, in_block, InOrder, Branching, Forking, Iterating, Parting}
+use Rattle.body_check.specs.Checking.{own_block, own_scope, branch_of, variable_declared, variable_noted, parts_noted, parts_declared}
 use Rattle.body_check.specs.Methods.{formals_declared}
 use Rattle.body_check.specs.Noting.{with_fault, with_found, with_fault_if, fault_of}
-use Rattle.body_check.specs.Simple.{place_of, node_of, has_room, local_declared, part_declared, declaration_noted, region_declared, is_region_name, region_noted, regions_noted, with_regions, regions_made, stored, printed_form, Declaring, AssigningLocal, AssigningPlace, Performing, Returning, Printing}
-use Rattle.body_check.specs.Walks.{Walk, Verdict, passes, refused, left_scope}
+use Rattle.body_check.specs.Simple.{place_of, node_of, has_room, local_declared, part_declared, declaration_noted, region_declared, is_region_name, region_noted, regions_noted, with_regions, regions_made, stored, printed_form}
+use Rattle.body_check.specs.Walks.{Walk, Verdict, passes, refused}
+use Rattle.sound_lemmas.proofs.StatementRules.{Opening, BranchesVerdict, all_pass, one_refused, after_branch, Checking, Choosing, InOther, Standing, standing, InScope, in_scope, InBlock, in_block, InOrder, Branching, Forking, Iterating, Parting, Declaring, AssigningLocal, AssigningPlace, Performing, Returning, Printing}
 use Rattle.sound_lemmas.proofs.Bodies.{not_faulty, free_if, declared_free, regions_free}
 use Rattle.sound_bodies.proofs.scope.Growing.{room_free}
 use Rattle.sound_bodies.proofs.statements.Walks.{If, judged_if, after_if}
@@ -52,7 +52,7 @@ OtherCounted a None u = Counted a u.env [] []
 OtherCounted a (Some made) u = CountedSo a made u
 
 abbrev BranchesCounted : Env → BranchesVerdict → Type 0
-BranchesCounted a (all_pass effects touched made u) = Counted a u.env (given_in_branches own_slots (branches_of made)) (given_in_branches own_regions (branches_of made))
+BranchesCounted a (all_pass effects made u) = Counted a u.env (given_in_branches own_slots (branches_of made)) (given_in_branches own_regions (branches_of made))
 BranchesCounted a (one_refused refusal) = Unit {0}
 
 -- what is declared, where there is room for it
@@ -111,16 +111,14 @@ formals_counted env (formal ∷ formals) (t ∷ types) many room =
 
 declaring_counted : {node : Node} {is_final : Bool} {written : _} {name : ℕ} {value : PlainExpr} {w : Walk} {v : Verdict TypedStmt} →
     Declaring node is_final written name value w v → If (CountedSo w.env) v
-declaring_counted (Declaring.type_refused reported) = tt
-declaring_counted (Declaring.value_refused unreported d) = tt
+declaring_counted Declaring.is_refused = tt
 declaring_counted {node} {is_final} {written} {name} {value} {w} (Declaring.declared {fit = fit} made unreported same d fits j) =
     subst (If (CountedSo w.env)) j
     (judged_if (CountedSo w.env) _ _ _
-    (λ free. local_counted w.env name made is_final (room_free w.env name node.place node (free_if (declaration_noted w.env name node.place node) kind.Type (not fit) free).0)))
+    (λ free. local_counted w.env name made is_final (room_free w.env name node.place node (free_if (declaration_noted w.env name node.place node) _ (not fit) free).0)))
 
 assigning_counted : {node : Node} {target : Named} {value : PlainExpr} {w : Walk} {v : Verdict TypedStmt} → AssigningLocal node target value w v → If (CountedSo w.env) v
-assigning_counted (AssigningLocal.value_refused d) = tt
-assigning_counted (AssigningLocal.no_local d is reported) = tt
+assigning_counted AssigningLocal.is_refused = tt
 assigning_counted {w = w} (AssigningLocal.assigned d is fits j) = subst (If (CountedSo w.env)) j (judged_if (CountedSo w.env) _ _ _ (λ free. (refl, refl)))
 
 stored_counted : (a : Env) (place : Place) (spot : PlainSpot) (e : TypedExpr) →
@@ -130,18 +128,17 @@ stored_counted a place (to_element array index) e = (refl, refl)
 stored_counted a place (to_part part index) e = (refl, refl)
 
 placing_counted : {node : Node} {target value : PlainExpr} {w : Walk} {v : Verdict TypedStmt} → AssigningPlace node target value w v → If (CountedSo w.env) v
-placing_counted (AssigningPlace.target_refused d) = tt
-placing_counted (AssigningPlace.value_refused d i) = tt
+placing_counted AssigningPlace.is_refused = tt
 placing_counted {w = w} (AssigningPlace.anything_assigned d i j) = subst (If (CountedSo w.env)) j (judged_if (CountedSo w.env) _ _ _ (λ free. (refl, refl)))
 placing_counted {target = target} {value = value} {w = w} (AssigningPlace.place_assigned {aim = aim} {t = t} d i fits j) =
     subst (If (CountedSo w.env)) j (judged_if (CountedSo w.env) _ _ _ (λ free. stored_counted w.env (place_of target) aim.spot (node_of value t)))
 
 performing_counted : {node : Node} {value : PlainExpr} {w : Walk} {v : Verdict TypedStmt} → Performing node value w v → If (CountedSo w.env) v
-performing_counted (Performing.refused_itself d) = tt
+performing_counted Performing.is_refused = tt
 performing_counted {w = w} (Performing.performed d j) = subst (If (CountedSo w.env)) j (judged_if (CountedSo w.env) _ _ _ (λ free. (refl, refl)))
 
 returning_counted : {around : Around} {node : Node} {value : PlainExpr} {w : Walk} {v : Verdict TypedStmt} → Returning around node value w v → If (CountedSo w.env) v
-returning_counted (Returning.value_refused d) = tt
+returning_counted Returning.is_refused = tt
 returning_counted {w = w} (Returning.returned d fits j) = subst (If (CountedSo w.env)) j (judged_if (CountedSo w.env) _ _ _ (λ free. (refl, refl)))
 
 printed_counted : (a : Env) (place : Place) (e : TypedExpr) →
@@ -154,18 +151,18 @@ printed_counted a place e = by (is_boolean (type_of e))
     by false = (refl, refl)
 
 printing_counted : {node : Node} {value : PlainExpr} {w : Walk} {v : Verdict TypedStmt} → Printing node value w v → If (CountedSo w.env) v
-printing_counted (Printing.value_refused d) = tt
+printing_counted Printing.is_refused = tt
 printing_counted {node = node} {value = value} {w = w} (Printing.printed {t = t} d j) =
     subst (If (CountedSo w.env)) j (judged_if (CountedSo w.env) _ _ _ (λ free. printed_counted w.env node.place (node_of value t)))
 
 -- the parts of statements
 
 -- what a scope declared is given no more
-left_counted : (a : Env) (before : Walk) (u : Verdict TypedStmt) → If (CountedSo a) u → If (CountedSo a) (left_scope before u)
+left_counted : (a : Env) (before : Walk) (u : Verdict TypedStmt) → If (CountedSo a) u → If (CountedSo a) (own_scope before u)
 left_counted a before (passes made x) h = h
 left_counted a before (refused refusal) h = tt
 
-left_all_counted : (a : Env) (before : Walk) (u : Verdict (List TypedStmt)) → If (AllCounted a) u → If (AllCounted a) (block_left before u)
+left_all_counted : (a : Env) (before : Walk) (u : Verdict (List TypedStmt)) → If (AllCounted a) u → If (AllCounted a) (own_block before u)
 left_all_counted a before (passes made x) h = h
 left_all_counted a before (refused refusal) h = tt
 
@@ -175,11 +172,11 @@ chosen_counted a b place test made None u h o = (subst (λ k. Counts a.slots k (
 chosen_counted a b place test made (Some other) u h o =
     counted_then a b u.env (given_in own_slots made) (given_in own_slots other) (given_in own_regions made) (given_in own_regions other) h o
 
-branch_counted : (a b : Env) (made : TypedStmt) (effects : List Effect) (touched : Touched) (v : BranchesVerdict) → Counted a b (given_in own_slots made) (given_in own_regions made) → BranchesCounted b v →
-    BranchesCounted a (after_branch effects touched (branch_of a touched made) v)
-branch_counted a b made effects touched (all_pass others more branches u) h rest =
+branch_counted : (a b : Env) (made : TypedStmt) (effects : List Effect) (s : PlainStmt) (v : BranchesVerdict) → Counted a b (given_in own_slots made) (given_in own_regions made) → BranchesCounted b v →
+    BranchesCounted a (after_branch effects (branch_of a s made) v)
+branch_counted a b made effects s (all_pass others branches u) h rest =
     counted_then a b u.env (given_in own_slots made) (given_in_branches own_slots (branches_of branches)) (given_in own_regions made) (given_in_branches own_regions (branches_of branches)) h rest
-branch_counted a b made effects touched (one_refused refusal) h rest = tt
+branch_counted a b made effects s (one_refused refusal) h rest = tt
 
 mutual
   checking_counted : {params : List Bool} {around : Around} {node : Node} {f : tree.StmtForm} {w : Walk} {v : Verdict TypedStmt} → Checking params around node f w v → If (CountedSo w.env) v
@@ -202,23 +199,19 @@ mutual
   checking_counted {w = w} (Checking.of_text j) = subst (If (CountedSo w.env)) j (judged_if (CountedSo w.env) _ _ _ (λ free. (refl, refl)))
   checking_counted (Checking.of_choice d) = choosing_counted d
   checking_counted (Checking.of_choice_else d) = choosing_counted d
-  checking_counted (Checking.while_refused d) = tt
+  checking_counted Checking.is_refused = tt
   checking_counted {node = node} {w = w} (Checking.of_while {test = test} {t = t} {u = u} d i j) =
       subst (If (CountedSo w.env)) j
       (after_if (CountedSo w.env) (CountedSo w.env) (fault_of (with_fault_if node kind.Type (not (may_be is_boolean (type_in t)))))
       (λ s. statement node.place (typed.while_loop (node_of test t) s)) u (scope_counted i) (λ made x free h. h))
   checking_counted (Checking.of_cobegin d) = forking_counted d
-  checking_counted (Checking.start_refused d) = tt
-  checking_counted (Checking.count_refused d i) = tt
   checking_counted (Checking.of_foreach d i n) = iterating_counted n
   checking_counted (Checking.of_parts d) = parting_counted d
-  checking_counted (Checking.block_refused d) = tt
   checking_counted {w = w} (Checking.of_atomic d j) = subst (If (CountedSo w.env)) j (judged_if (CountedSo w.env) _ _ _ (λ free. block_counted d))
 
   choosing_counted : {params : List Bool} {around : Around} {node : Node} {test : PlainExpr} {first : PlainStmt} {other : Option PlainStmt} {w : Walk} {v : Verdict TypedStmt} →
       Choosing params around node test first other w v → If (CountedSo w.env) v
-  choosing_counted (Choosing.test_refused d) = tt
-  choosing_counted (Choosing.first_refused d i) = tt
+  choosing_counted Choosing.choice_refused = tt
   choosing_counted {node = node} {test = test} {w = w} (Choosing.chosen {x = x} {t = t} {made = made} {u = u} d i n j) =
       subst (If (CountedSo w.env)) j
       (after_if (OtherCounted x.env) (CountedSo w.env) (fault_of (with_fault_if node kind.Type (not (may_be is_boolean (type_in t)))))
@@ -241,7 +234,7 @@ mutual
 
   order_counted : {params : List Bool} {around : Around} {complete : Bool} {all : PlainStmts} {w : Walk} {v : Verdict (List TypedStmt)} → InOrder params around complete all w v → If (AllCounted w.env) v
   order_counted InOrder.none_left = (refl, refl)
-  order_counted (InOrder.statement_refused d) = tt
+  order_counted InOrder.order_refused = tt
   order_counted {w = w} (InOrder.then_others {u = u} {made = made} {x = x} d rest j) =
       subst (If (AllCounted w.env)) j
       (after_if (AllCounted u.env) (AllCounted w.env) None (λ others. made ∷ others) x (order_counted rest)
@@ -249,34 +242,30 @@ mutual
 
   branching_counted : {params : List Bool} {around : Around} {nd : Bool} {ss : PlainStmts} {w : Walk} {v : BranchesVerdict} → Branching params around nd ss w v → BranchesCounted w.env v
   branching_counted Branching.no_branches = (refl, refl)
-  branching_counted (Branching.branch_refused d) = tt
-  branching_counted {w = w} (Branching.then_branches {u = u} {touched = touched} {made = made} {v = v} d t rest j) =
-      subst (BranchesCounted w.env) j (branch_counted w.env u.env made _ touched v (scope_counted d) (branching_counted rest))
+  branching_counted Branching.branch_refused = tt
+  branching_counted {w = w} (Branching.then_branches {s = s} {u = u} {made = made} {v = v} d rest j) =
+      subst (BranchesCounted w.env) j (branch_counted w.env u.env made _ s v (scope_counted d) (branching_counted rest))
 
   forking_counted : {params : List Bool} {around : Around} {node : Node} {nd : Bool} {branches : PlainStmts} {w : Walk} {v : Verdict TypedStmt} → Forking params around node nd branches w v → If (CountedSo w.env) v
-  forking_counted (Forking.some_refused d) = tt
-  forking_counted (Forking.clashing effects touched clash d c reported) = tt
-  forking_counted {w = w} (Forking.forked effects touched clash apart d c free a j) = subst (If (CountedSo w.env)) j (judged_if (CountedSo w.env) _ _ _ (λ later. branching_counted d))
+  forking_counted Forking.fork_refused = tt
+  forking_counted {w = w} (Forking.forked effects d free j) = subst (If (CountedSo w.env)) j (judged_if (CountedSo w.env) _ _ _ (λ later. branching_counted d))
 
   iterating_counted : {params : List Bool} {around : Around} {node : Node} {nd : Bool} {var : Named} {start count : TypedExpr} {body : PlainStmt} {w : Walk} {v : Verdict TypedStmt} →
       Iterating params around node nd var start count body w v → If (CountedSo w.env) v
-  iterating_counted (Iterating.iteration_refused d) = tt
-  iterating_counted (Iterating.iteration_assigning assigns d a reported) = tt
-  iterating_counted {node = node} {var = var} {w = w} (Iterating.iterated {u = u} {made = made} assigns d a free j) =
-      let room = room_free w.env var.name var.place node (free_if (variable_noted w.env var node) kind.Assign assigns free).0 in
+  iterating_counted Iterating.iteration_refused = tt
+  iterating_counted {node = node} {var = var} {w = w} (Iterating.iterated {u = u} {made = made} place placed d free j) =
+      let room = room_free w.env var.name var.place node (free_if (variable_noted w.env var node) _ _ free).0 in
       subst (If (CountedSo w.env)) j
       (judged_if (CountedSo w.env) _ _ _ (λ later.
       counted_then w.env (variable_declared w.env var) u.env (w.env.slots ∷ []) (given_in own_slots made) [] (given_in own_regions made) (local_counted w.env var.name variant.Int true room) (scope_counted d)))
 
   parting_counted : {params : List Bool} {around : Around} {node : Node} {view var : Named} {array count : PlainExpr} {body : PlainStmt} {w : Walk} {v : Verdict TypedStmt} →
       Parting params around node view var array count body w v → If (CountedSo w.env) v
-  parting_counted (Parting.range_refused o) = tt
-  parting_counted (Parting.part_refused o d) = tt
-  parting_counted (Parting.part_assigning assigns o d a reported) = tt
-  parting_counted {node = node} {view = view} {var = var} {w = w} (Parting.parted {u = u} {made = made} assigns (Opening.both_given t {fault = wrong} {u = q} c i) d a free j) =
+  parting_counted Parting.parting_refused = tt
+  parting_counted {node = node} {view = view} {var = var} {w = w} (Parting.parted {u = u} {made = made} (Opening.both_given t {fault = wrong} {u = q} c i) d free j) =
       let first : Node = with_fault_if (with_found node wrong) kind.Type (not (may_be is_int (type_in q))) in
       let part : Env = part_declared w.env view.name t in
-      let f = free_if (parts_noted w.env view var t first) kind.Assign assigns free in
+      let f = free_if (parts_noted w.env view var t first) _ _ free in
       let var_room = room_free part var.name var.place (declaration_noted w.env view.name view.place first) f.0 in
       let view_room = room_free w.env view.name view.place first (declared_free part var.name var.place (declaration_noted w.env view.name view.place first) f.0) in
       let slot = ap (λ b. (cond b (with_part w.env view.name t) w.env).slots) view_room in

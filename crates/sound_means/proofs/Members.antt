@@ -38,6 +38,7 @@ use Rattle.lang_typed.specs.Plain.{PlainProgram, PlainClass, PlainMember}
 use Rattle.lang_typed.specs.Scope.{member_at}
 use Rattle.body_assembly.specs.Assembled.{PlainBody, class_of, member_of}
 use Rattle.syntax_laws.specs.Written.{IsWritten}
+use Rattle.sound_lemmas.proofs.BodyRules.{start_in}
 use Rattle.sound_lemmas.specs.Accepted.{IsAccepted}
 use Rattle.sound_lemmas.proofs.Free.{append_none}
 use Rattle.sound_lemmas.proofs.Lists.{some_same, got_first, got_later}
@@ -120,7 +121,7 @@ module _ (program : Program) (table : Table) (bodies : List PlainBody) (named : 
     abbrev headers : Headers
     headers = headers_of table
 
-    module _ (n : ℕ) (m : PlainMember) (k : PlainClass) (one : IsMember program table accepted.checked.start n m k) (class : Class) (stands : slice_get program.classes one.number ≡ Some class)
+    module _ (n : ℕ) (m : PlainMember) (k : PlainClass) (one : IsMember program table (start_in program table) n m k) (class : Class) (stands : slice_get program.classes one.number ≡ Some class)
       where
         abbrev method : Method
         method = one.method

@@ -25,7 +25,6 @@ use Rattle.lang_typed.specs.Plain as typed
 use Rattle.syntax_means.specs.Bodies.{with_local, ExprMeans, SourceMeans, StmtMeans, PartMeans, AllMean, BranchesMean}
 use Rattle.syntax_means.specs.Bodies.{with_regions as numbered_regions}
 use Rattle.syntax_means.specs.Paths.{Around, TypeMeans}
-use Rattle.body_locals.specs.declared.branch.Touched.{Touched}
 use Rattle.body_exprs.specs.declared.env.Env.{Env}
 use Rattle.body_exprs.specs.declared.env.LocalRow.{LocalRow}
 use Rattle.body_exprs.specs.declared.found.Found.{Found}
@@ -38,12 +37,13 @@ use Rattle.body_exprs.specs.Typed.{may_be, is_int, is_boolean, is_array, type_in
 use Rattle.body_exprs.specs.Typing.{Typing}
 use Rattle.body_check.specs.declared.node.Around.{Around as Standing'}
 use Rattle.body_check.specs.declared.node.Node.{Node}
-use Rattle.body_check.specs.Checking.{block_left, branch_of, variable_noted, cut_fault, cut_type, Cutting, parts_noted, parts_declared, Opening, BranchesVerdict, all_pass, one_refused, after_branch, Checking, Choosing, InOther, Standing, standing, InScope, in_scope, InBlock, in_block, InOrder, Branching, Forking, Iterating, Parting}
+use Rattle.body_check.specs.Checking.{own_block, own_scope, branch_of, variable_noted, parts_noted, parts_declared}
 use Rattle.body_check.specs.Deciding.{whole_fault}
 use Rattle.body_check.specs.Gathering.{with_uses}
 use Rattle.body_check.specs.Noting.{with_found, with_fault_if, node_at as standing_node, fault_of}
-use Rattle.body_check.specs.Simple.{place_of, node_of, declared_type, declared_reported, declaration_noted, part_declared, region_declared, region_noted, regions_noted, with_regions, regions_made, stored, printed_form, Declaring, AssigningLocal, AssigningPlace, Performing, Returning, Printing}
-use Rattle.body_check.specs.Walks.{Walk, Verdict, passes, refused, left_scope}
+use Rattle.body_check.specs.Simple.{place_of, node_of, declared_type, declared_reported, declaration_noted, part_declared, region_declared, region_noted, regions_noted, with_regions, regions_made, stored, printed_form}
+use Rattle.body_check.specs.Walks.{Walk, Verdict, passes, refused}
+use Rattle.sound_lemmas.proofs.StatementRules.{cut_fault, cut_type, Cutting, Opening, BranchesVerdict, all_pass, one_refused, after_branch, Checking, Choosing, InOther, Standing, standing, InScope, in_scope, InBlock, in_block, InOrder, Branching, Forking, Iterating, Parting, Declaring, AssigningLocal, AssigningPlace, Performing, Returning, Printing}
 use Rattle.sound_lemmas.proofs.Bodies.{free_if, free_found, declared_free, regions_free}
 use Rattle.sound_lemmas.proofs.Free.{parts_free}
 use Rattle.sound_lemmas.proofs.Rules.{TargetRules, target_rules}
@@ -63,6 +63,9 @@ expr_made A env k e f g (Some t) fits d = typing_meant A env k e f fits d
 -- what is made of a statement that stands at a node, of one with a scope of its own, and of several, is what they mean
 abbrev MeansSo : Around → Node → tree.StmtForm → TypedStmt → Walk → Type 0
 MeansSo A node f made u = StmtMeans A (tree.statement node.place f) made
+
+at_place : {A : Around} {f : tree.StmtForm} {made : TypedStmt} (at place : Place) → at ≡ place → StmtMeans A (tree.statement at f) made → StmtMeans A (tree.statement place f) made
+at_place {A} {f} {made} at place same m = subst (λ (z : Place). StmtMeans A (tree.statement z f) made) same m
 
 abbrev PartSo : Around → PlainStmt → TypedStmt → Walk → Type 0
 PartSo A s made u = PartMeans A s made
@@ -91,13 +94,12 @@ declared_means A env k written few unreported =
 
 declaring_goes : (A : Around) {node : Node} {is_final : Bool} {written : TypeTree} {name : ℕ} {value : PlainExpr} {w : Walk} {v : Verdict TypedStmt} → Knows A w.env → length written.suffixes ≤ 4294967295 → Fitting value →
     Declaring node is_final written name value w v → If (Goes A (tree.statement node.place (tree.declare is_final written name value))) v
-declaring_goes A k few fits (Declaring.type_refused reported) = tt
-declaring_goes A k few fits (Declaring.value_refused unreported d) = tt
+declaring_goes A k few fits Declaring.is_refused = tt
 declaring_goes A {node} {is_final} {written} {name} {value} {w} k few fits (Declaring.declared {t = t} {g = g} {fit = fit} made unreported same d fitting j) =
     subst (If (Goes A (tree.statement node.place (tree.declare is_final written name value)))) j
     (judged_if (Goes A (tree.statement node.place (tree.declare is_final written name value))) _ _ _ (λ free. record {
       after = with_local name w.env.slots A;
-      knows = knows_local A w.env name made is_final (room_free w.env name node.place node (free_if (declaration_noted w.env name node.place node) kind.Type (not fit) free).0) k;
+      knows = knows_local A w.env name made is_final (room_free w.env name node.place node (free_if (declaration_noted w.env name node.place node) _ (not fit) free).0) k;
       before = λ ds ss rest. AllMean.a_declaration (declared_means A w.env k written few unreported) (expr_made A w.env k value w.found g t fits d) rest;
     }))
 
@@ -118,8 +120,7 @@ regions_go A env node (named ∷ names) k free =
 
 local_means : (A : Around) {node : Node} {target : Named} {value : PlainExpr} {w : Walk} {v : Verdict TypedStmt} → Knows A w.env → Fitting value → AssigningLocal node target value w v →
     If (MeansSo A node (tree.assign_local target value)) v
-local_means A k fits (AssigningLocal.value_refused d) = tt
-local_means A k fits (AssigningLocal.no_local d is reported) = tt
+local_means A k fits AssigningLocal.is_refused = tt
 local_means A {node} {target} {value} {w} k fits (AssigningLocal.assigned {t = t} {g = g} {row = row} d is fitting j) =
     subst (If (MeansSo A node (tree.assign_local target value))) j
     (judged_if (MeansSo A node (tree.assign_local target value)) _ _ _ (λ free. StmtMeans.to_local (k.locals target.name row is) (expr_made A w.env k value w.found g t fits d)))
@@ -197,8 +198,7 @@ module _ (A : Around) (env : Env) (k : Knows A env)
 
 placing_means : (A : Around) (make : PlainExpr → PlainExpr → tree.StmtForm) {node : Node} {target value : PlainExpr} {w : Walk} {v : Verdict TypedStmt} → Knows A w.env → Fitting value →
     ((a : TargetAnswer) → Targeting w.env target w.found a → StoreMeans A make target a) → AssigningPlace node target value w v → If (MeansSo A node (make target value)) v
-placing_means A make k fits store (AssigningPlace.target_refused d) = tt
-placing_means A make k fits store (AssigningPlace.value_refused d i) = tt
+placing_means A make k fits store AssigningPlace.is_refused = tt
 placing_means A make k fits store (AssigningPlace.anything_assigned {g = g} d i j) = absurd (store (aims None g) d)
 placing_means A make {node} {target} {value} {w} k fits store (AssigningPlace.place_assigned {aim = aim} {g = g} {h = h} {t = t} d i fitting j) =
     subst (If (MeansSo A node (make target value))) j
@@ -238,21 +238,21 @@ OtherFitting None = Unit {0}
 OtherFitting (Some s) = StmtFitting s
 
 abbrev BranchesMeant : Around → PlainStmts → BranchesVerdict → Type 0
-BranchesMeant A ss (all_pass effects touched made u) = BranchesMean A ss (branches_of made)
+BranchesMeant A ss (all_pass effects made u) = BranchesMean A ss (branches_of made)
 BranchesMeant A ss (one_refused refusal) = Unit {0}
 
-branch_means : (A : Around) (s : PlainStmt) (ss : PlainStmts) (effects : List Effect) (touched : Touched) (env : Env) (made : TypedStmt) (v : BranchesVerdict) → PartMeans A s made → BranchesMeant A ss v →
-    BranchesMeant A (tree.more_stmts s ss) (after_branch effects touched (branch_of env touched made) v)
-branch_means A s ss effects touched env made (all_pass others more branches u) m rest = BranchesMean.more_branches m rest
-branch_means A s ss effects touched env made (one_refused refusal) m rest = tt
+branch_means : (A : Around) (s : PlainStmt) (ss : PlainStmts) (effects : List Effect) (env : Env) (made : TypedStmt) (v : BranchesVerdict) → PartMeans A s made → BranchesMeant A ss v →
+    BranchesMeant A (tree.more_stmts s ss) (after_branch effects (branch_of env s made) v)
+branch_means A s ss effects env made (all_pass others branches u) m rest = BranchesMean.more_branches m rest
+branch_means A s ss effects env made (one_refused refusal) m rest = tt
 
 -- a statement in a scope of its own
-scope_means : (A : Around) (s : PlainStmt) (before : Walk) (u : Verdict TypedStmt) → If (Goes A s) u → If (PartSo A s) (left_scope before u)
+scope_means : (A : Around) (s : PlainStmt) (before : Walk) (u : Verdict TypedStmt) → If (Goes A s) u → If (PartSo A s) (own_scope before u)
 scope_means A s before (passes made x) g = PartMeans.a_part (g.before tree.no_stmts typed.no_stmts AllMean.no_stmts)
 scope_means A s before (refused refusal) g = tt
 
 block_means : (A : Around) (all : PlainStmts) (before : Walk) (u : Verdict (List TypedStmt)) → If (AllSo A all) u →
-    If (AllSo A all) (block_left before u)
+    If (AllSo A all) (own_block before u)
 block_means A all before (passes made x) m = m
 block_means A all before (refused refusal) m = tt
 
@@ -309,7 +309,7 @@ mutual
   checking_goes {params = params} {around = around} {node = node} {w = w} {v = v} A k targets fits (Checking.of_element_assignment {target = target} {value = value} d) =
       kept_goes A (tree.assign_element target value) node w (λ a b h. h) k v
       (placing_means A tree.assign_element k fits.1 (λ a aim. elements_store A w.env k targets fits.0 (target_rules w.env target w.found aim)) d) (checking_walked {params = params} {around = around} k.step (Checking.of_element_assignment d))
-  checking_goes A k targets fits (Checking.of_call (Performing.refused_itself d)) = tt
+  checking_goes A k targets fits (Checking.of_call Performing.is_refused) = tt
   checking_goes {params = params} {around = around} {node = node} {w = w} {v = v} A k targets fits (Checking.of_call {value = value} (Performing.performed {t = t} {g = g} d j)) =
       kept_goes A (tree.perform value) node w (λ a b h. h) k v
       (subst (If (MeansSo A node (tree.perform value))) j (judged_if (MeansSo A node (tree.perform value)) _ _ _ (λ free. StmtMeans.performed (expr_made A w.env k value w.found g t fits.0 d))))
@@ -318,12 +318,12 @@ mutual
       kept_goes A tree.return_nothing node w (λ a b h. h) k v
       (subst (If (MeansSo A node tree.return_nothing)) j (judged_if (MeansSo A node tree.return_nothing) _ _ _ (λ free. StmtMeans.a_return)))
       (checking_walked {params = params} {around = around} k.step (Checking.of_return j))
-  checking_goes A k targets fits (Checking.of_return_value (Returning.value_refused d)) = tt
+  checking_goes A k targets fits (Checking.of_return_value Returning.is_refused) = tt
   checking_goes {params = params} {around = around} {node = node} {w = w} {v = v} A k targets fits (Checking.of_return_value {value = value} (Returning.returned {t = t} {g = g} d fitting j)) =
       kept_goes A (tree.return_value value) node w (λ a b h. h) k v
       (subst (If (MeansSo A node (tree.return_value value))) j (judged_if (MeansSo A node (tree.return_value value)) _ _ _ (λ free. StmtMeans.a_return_value (expr_made A w.env k value w.found g t fits d))))
       (checking_walked {params = params} {around = around} k.step (Checking.of_return_value (Returning.returned d fitting j)))
-  checking_goes A k targets fits (Checking.of_print (Printing.value_refused d)) = tt
+  checking_goes A k targets fits (Checking.of_print Printing.is_refused) = tt
   checking_goes {params = params} {around = around} {node = node} {w = w} {v = v} A k targets fits (Checking.of_print {value = value} (Printing.printed {t = t} {g = g} d j)) =
       kept_goes A (tree.print value) node w (λ a b h. h) k v
       (subst (If (MeansSo A node (tree.print value))) j
@@ -337,7 +337,7 @@ mutual
       kept_goes A (tree.choice test part) node w (λ a b h. h) k v (choosing_means A k (targets, tt) (fits.0, fits.1, tt) d) (checking_walked {params = params} {around = around} k.step (Checking.of_choice d))
   checking_goes {params = params} {around = around} {node = node} {w = w} {v = v} A k targets fits (Checking.of_choice_else {test = test} {first = first} {second = second} d) =
       kept_goes A (tree.choice_else test first second) node w (λ a b h. h) k v (choosing_means A k (targets.0, targets.1) (fits.0, fits.1, fits.2) d) (checking_walked {params = params} {around = around} k.step (Checking.of_choice_else d))
-  checking_goes A k targets fits (Checking.while_refused d) = tt
+  checking_goes A k targets fits Checking.is_refused = tt
   checking_goes {params = params} {around = around} {node = node} {w = w} {v = v} A k targets fits (Checking.of_while {test = test} {body = body} {t = t} {g = g} {u = u} d i j) =
       kept_goes A (tree.while_loop test body) node w (λ a b h. h) k v
       (subst (If (MeansSo A node (tree.while_loop test body))) j
@@ -347,8 +347,6 @@ mutual
       (checking_walked {params = params} {around = around} k.step (Checking.of_while d i j))
   checking_goes {params = params} {around = around} {node = node} {w = w} {v = v} A k targets fits (Checking.of_cobegin {nd = nd} {branches = branches} d) =
       kept_goes A (tree.cobegin nd branches) node w (λ a b h. h) k v (forking_means A k targets fits d) (checking_walked {params = params} {around = around} k.step (Checking.of_cobegin d))
-  checking_goes A k targets fits (Checking.start_refused d) = tt
-  checking_goes A k targets fits (Checking.count_refused d i) = tt
   checking_goes {params = params} {around = around} {node = node} {w = w} {v = v} A k targets fits (Checking.of_foreach {nd = nd} {var = var} {start = start} {count = count} {body = body} {t = t} {u = u} {g = g} {h = h} d i n) =
       kept_goes A (tree.foreach nd var start count body) node w (λ a b h. h) k v
       (subst (λ place. If (λ made x. StmtMeans A (tree.statement place (tree.foreach nd var start count body)) made) v)
@@ -357,7 +355,6 @@ mutual
       (checking_walked {params = params} {around = around} k.step (Checking.of_foreach d i n))
   checking_goes {params = params} {around = around} {node = node} {w = w} {v = v} A k targets fits (Checking.of_parts {view = view} {var = var} {array = array} {count = count} {body = body} d) =
       kept_goes A (tree.foreach_parts view var array count body) node w (λ a b h. h) k v (parting_means A k targets fits.0 fits.1 fits.2 d) (checking_walked {params = params} {around = around} k.step (Checking.of_parts d))
-  checking_goes A k targets fits (Checking.block_refused d) = tt
   checking_goes {params = params} {around = around} {node = node} {w = w} {v = v} A k targets fits (Checking.of_atomic {all = all} d j) =
       kept_goes A (tree.atomic all) node w (λ a b h. h) k v
       (subst (If (MeansSo A node (tree.atomic all))) j (judged_if (MeansSo A node (tree.atomic all)) _ _ _ (λ free. StmtMeans.an_atomic (blocks_mean A k targets fits d))))
@@ -366,8 +363,7 @@ mutual
   choosing_means : {params : List Bool} {around : Standing'} {node : Node} {test : PlainExpr} {first : PlainStmt} {other : Option PlainStmt} {w : Walk} {v : Verdict TypedStmt} (A : Around) → Knows A w.env →
       HasTargets first × OtherHasTargets other → Fitting test × StmtFitting first × OtherFitting other → Choosing params around node test first other w v →
       If (MeansSo A node (tree.choice_form test first other)) v
-  choosing_means A k targets fits (Choosing.test_refused d) = tt
-  choosing_means A k targets fits (Choosing.first_refused d i) = tt
+  choosing_means A k targets fits Choosing.choice_refused = tt
   choosing_means {node = node} {test = test} {first = first} {other = other} {w = w} A k targets fits (Choosing.chosen {x = x} {t = t} {g = g} {made = made} {u = u} d i n j) =
       let h = scope_walked k.step i in
       subst (If (MeansSo A node (tree.choice_form test first other))) j
@@ -397,7 +393,7 @@ mutual
   order_means : {params : List Bool} {around : Standing'} {complete : Bool} {all : PlainStmts} {w : Walk} {v : Verdict (List TypedStmt)} (A : Around) → Knows A w.env → AllHaveTargets all → StmtsFitting all →
       InOrder params around complete all w v → If (AllSo A all) v
   order_means A k targets fits InOrder.none_left = AllMean.no_stmts
-  order_means A k targets fits (InOrder.statement_refused d) = tt
+  order_means A k targets fits InOrder.order_refused = tt
   order_means A k targets fits (InOrder.then_others {s = s} {ss = ss} {made = made} {x = x} d rest j) =
       let g = standing_goes A k targets.0 fits.0 d in
       subst (If (AllSo A (tree.more_stmts s ss))) j
@@ -407,43 +403,39 @@ mutual
   branching_means : {params : List Bool} {around : Standing'} {nd : Bool} {ss : PlainStmts} {w : Walk} {v : BranchesVerdict} (A : Around) → Knows A w.env → AllHaveTargets ss → StmtsFitting ss → Branching params around nd ss w v →
       BranchesMeant A ss v
   branching_means A k targets fits Branching.no_branches = BranchesMean.no_branches
-  branching_means A k targets fits (Branching.branch_refused d) = tt
-  branching_means {w = w} A k targets fits (Branching.then_branches {s = s} {ss = ss} {u = u} {touched = touched} {made = made} {v = v} d touches rest j) =
+  branching_means A k targets fits Branching.branch_refused = tt
+  branching_means {w = w} A k targets fits (Branching.then_branches {s = s} {ss = ss} {u = u} {made = made} {v = v} d rest j) =
       subst (BranchesMeant A (tree.more_stmts s ss)) j
-      (branch_means A s ss (with_uses u.found.effects u.found.uses) touched w.env made v (scopes_mean A k targets.0 fits.0 d)
+      (branch_means A s ss (with_uses u.found.effects u.found.uses) w.env made v (scopes_mean A k targets.0 fits.0 d)
       (branching_means A (knows_kept A w.env u.env (scope_walked k.step d).kept k) targets.1 fits.1 rest))
 
   forking_means : {params : List Bool} {around : Standing'} {node : Node} {nd : Bool} {branches : PlainStmts} {w : Walk} {v : Verdict TypedStmt} (A : Around) → Knows A w.env → AllHaveTargets branches → StmtsFitting branches →
       Forking params around node nd branches w v → If (MeansSo A node (tree.cobegin nd branches)) v
-  forking_means A k targets fits (Forking.some_refused d) = tt
-  forking_means A k targets fits (Forking.clashing effects touched clash d c reported) = tt
-  forking_means {node = node} {nd = nd} {branches = branches} A k targets fits (Forking.forked effects touched clash apart d c free a j) =
+  forking_means A k targets fits Forking.fork_refused = tt
+  forking_means {node = node} {nd = nd} {branches = branches} A k targets fits (Forking.forked effects d free j) =
       subst (If (MeansSo A node (tree.cobegin nd branches))) j (judged_if (MeansSo A node (tree.cobegin nd branches)) _ _ _ (λ free. StmtMeans.a_cobegin refl (branching_means A k targets fits d)))
 
   iterating_means : {params : List Bool} {around : Standing'} {node : Node} {nd : Bool} {var : Named} {lowest size : TypedExpr} {body : PlainStmt} {w : Walk} {v : Verdict TypedStmt} (A : Around) (start count : PlainExpr) → Knows A w.env →
       HasTargets body → StmtFitting body → ExprMeans A start lowest → ExprMeans A count size → Iterating params around node nd var lowest size body w v →
       If (MeansSo A node (tree.foreach nd var start count body)) v
-  iterating_means A start count k targets fits low high (Iterating.iteration_refused d) = tt
-  iterating_means A start count k targets fits low high (Iterating.iteration_assigning assigns d a reported) = tt
-  iterating_means {node = node} {nd = nd} {var = var} {body = body} {w = w} A start count k targets fits low high (Iterating.iterated assigns d a free j) =
-      let room = room_free w.env var.name var.place node (free_if (variable_noted w.env var node) kind.Assign assigns free).0 in
+  iterating_means A start count k targets fits low high Iterating.iteration_refused = tt
+  iterating_means {node = node} {nd = nd} {var = var} {body = body} {w = w} A start count k targets fits low high (Iterating.iterated place placed d free j) =
+      let room = room_free w.env var.name var.place node (free_if (variable_noted w.env var node) _ _ free).0 in
       subst (If (MeansSo A node (tree.foreach nd var start count body))) j
-      (judged_if (MeansSo A node (tree.foreach nd var start count body)) _ _ _ (λ later. StmtMeans.a_foreach refl low high
-      (scopes_mean (with_local var.name w.env.slots A) (knows_local A w.env var.name variant.Int true room k) targets fits d)))
+      (judged_if (MeansSo A node (tree.foreach nd var start count body)) _ _ _ (λ later. at_place place node.place placed (StmtMeans.a_foreach refl low high
+      (scopes_mean (with_local var.name w.env.slots A) (knows_local A w.env var.name variant.Int true room k) targets fits d))))
 
   parting_means : {params : List Bool} {around : Standing'} {node : Node} {view var : Named} {array count : PlainExpr} {body : PlainStmt} {w : Walk} {v : Verdict TypedStmt} (A : Around) → Knows A w.env → HasTargets body → Fitting array →
       Fitting count → StmtFitting body → Parting params around node view var array count body w v → If (MeansSo A node (tree.foreach_parts view var array count body)) v
-  parting_means A k targets array_fits count_fits fits (Parting.range_refused o) = tt
-  parting_means A k targets array_fits count_fits fits (Parting.part_refused o d) = tt
-  parting_means A k targets array_fits count_fits fits (Parting.part_assigning assigns o d a reported) = tt
+  parting_means A k targets array_fits count_fits fits Parting.parting_refused = tt
   parting_means {node = node} {view = view} {var = var} {array = array} {count = count} {body = body} {w = w} A k targets array_fits count_fits fits
-      (Parting.parted assigns (Opening.both_given t {source = source} {fault = wrong} {g = g} {h = h} {u = q} c i) d a free j) =
+      (Parting.parted (Opening.both_given t {source = source} {fault = wrong} {g = g} {h = h} {u = q} c i) d free j) =
       let first : Node = with_fault_if (with_found node wrong) kind.Type (not (may_be is_int (type_in q))) in
-      let f = free_if (parts_noted w.env view var t first) kind.Assign assigns free in
+      let f = free_if (parts_noted w.env view var t first) _ _ free in
       let var_room = room_free (part_declared w.env view.name t) var.name var.place (declaration_noted w.env view.name view.place first) f.0 in
       let before = declared_free (part_declared w.env view.name t) var.name var.place (declaration_noted w.env view.name view.place first) f.0 in
       let view_room = room_free w.env view.name view.place first before in
-      let found = free_if (with_found node wrong) kind.Type (not (may_be is_int (type_in q))) (declared_free w.env view.name view.place first before) in
+      let found = free_if (with_found node wrong) _ (not (may_be is_int (type_in q))) (declared_free w.env view.name view.place first before) in
       let cut = cutting_means A k array_fits c (free_found node wrong found.0).1 in
       let slots = ap (λ b. (cond b (with_part w.env view.name t) w.env).slots) view_room in
       let inside = subst (λ x. Knows (with_local var.name x (with_local view.name w.env.slots A)) (parts_declared w.env view var t)) slots

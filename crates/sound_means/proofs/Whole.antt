@@ -42,6 +42,7 @@ use Rattle.lang_typed.specs.Plain.{PlainProgram}
 use Rattle.body_assembly.specs.Assembled.{PlainBody, members_of}
 use Rattle.body_assembly.specs.Assembled.{class_of as made_class}
 use Rattle.syntax_laws.specs.Written.{IsWritten}
+use Rattle.sound_lemmas.proofs.BodyRules.{checks_in}
 use Rattle.sound_lemmas.specs.Accepted.{IsAccepted}
 use Rattle.sound_lemmas.proofs.Assembled.{facts}
 use Rattle.sound_lemmas.proofs.Counting.{bodies_made}
@@ -125,7 +126,7 @@ module _ (program : Program) (table : Table) (bodies : List PlainBody) (named : 
 
     all_members : length P.members ≡ length (all_methods program)
     all_members =
-        members_many (methods_of table) bodies (bodies_made accepted.checked.checks ∙ sym (methods_many program table accepted.rows.is_table.read))
+        members_many (methods_of table) bodies (bodies_made (checks_in program table accepted.checked) ∙ sym (methods_many program table accepted.rows.is_table.read))
         ∙ rows_many program table accepted.rows
 
     region_names : P.region_names ≡ map (λ (region : OwnRegion). region.is_atomic) (all_regions program)

@@ -1,5 +1,5 @@
 -- The bodies of a small text that passes are narrow, and so is the code that is made of them.
-use Rattle.std.proofs.Common.{◌≡◌, ◌≤◌, ◌<◌, ℕ, ◌^◌, Bool, List, [], ◌∷◌, ◌++◌, All, Option, Some, None, Result, Ok, Err, subst, arith}
+use Rattle.std.proofs.Common.{◌≡◌, ◌≤◌, ◌<◌, ℕ, ◌^◌, Bool, List, [], ◌∷◌, ◌++◌, All, map, Option, Some, None, Result, Ok, Err, subst, arith}
 use Rattle.std.proofs.lemmas.List.Elements.{All-nil, All-cons, All-head, All-tail, All-append}
 use Rattle.std.proofs.lemmas.List.Sums.{sum_by-cons}
 use Rattle.std.specs.Prelude.{sum_by}
@@ -16,8 +16,13 @@ use Rattle.decl_table.specs.declared.table.Table.{Table}
 use Rattle.decl_table.specs.Table.{methods_of}
 use Rattle.body_assembly.specs.Assembled.{PlainBody, members_of, program_of}
 use Rattle.body_exprs.specs.declared.env.Env.{Env}
-use Rattle.body_check.specs.Methods.{typed_body, after_ok, reported, method_reported, method_judged, MethodChecking, of_method, MemberChecking, bodies_of, PlainBodies, after_bodies, MembersChecking, ClassesChecking}
+use Rattle.syntax_tree.specs.Plain.{plain_stmt, plain_stmts}
+use Rattle.body_check.specs.Keeping.{method_around}
+use Rattle.body_check.specs.Deciding.{has_value}
+use Rattle.body_check.specs.Methods.{typed_body, after_ok, reported, method_reported, method_judged, bodies_of, PlainBodies, after_bodies, body_begun}
 use Rattle.body_check.specs.Walks.{Verdict, passes, refused}
+use Rattle.sound_lemmas.proofs.StatementSteps.{in_block_of}
+use Rattle.sound_lemmas.proofs.BodyRules.{MethodChecking, of_method, MemberChecking, MembersChecking, ClassesChecking, checks_in}
 use Rattle.code_instrs.specs.declared.code.Code.{Code}
 use Rattle.code_instrs.specs.Plain.{plain_code}
 use Rattle.code_scheme.specs.Whole.{compiled}
@@ -50,7 +55,7 @@ module _ (n : ℕ)
     judged_narrow env number method (refused refusal) h = tt
 
     method_narrow : {env : Env} {params : List Bool} {number : ℕ} {method : Method} {r : Result PlainBody Refusal} → method_size method ≤ n → MethodChecking env params number method r → IfOk OfBody r
-    method_narrow {env} {params} {number} {method} small (of_method {u = u} d j) = subst (IfOk OfBody) j (judged_narrow env number method u (block_narrow n (omega (arith, small)) d))
+    method_narrow {env} {params} {number} {method} small (of_method {u = u} d j) = subst (IfOk OfBody) j (judged_narrow env number method u (block_narrow n (omega (arith, small)) (in_block_of {params = params} {around = method_around (has_value method.result)} {all = plain_stmts (map plain_stmt method.body)} {w = body_begun env number method} d)))
 
     abbrev OfBodies : PlainBodies → Type 0
     OfBodies made = All OfBody made.bodies
@@ -64,7 +69,7 @@ module _ (n : ℕ)
 
     members_narrow : {env : Env} {params : List Bool} {ms : List Member} {number : ℕ} {r : Result PlainBodies Refusal} → sum_by member_size ms ≤ n → MembersChecking env params ms number r → IfOk OfBodies r
     members_narrow small MembersChecking.no_members = All-nil OfBody
-    members_narrow small (MembersChecking.one_refused d) = tt
+    members_narrow small MembersChecking.is_refused = tt
     members_narrow small (MembersChecking.then_members {m = m} {ms = ms} {made = made} {u = u} d rest j) =
         let both = sum_by-cons member_size m ms in
         let h = member_narrow (omega (arith, small, both)) d in
@@ -74,7 +79,7 @@ module _ (n : ℕ)
     classes_narrow : {start : Env} {at number : ℕ} {classes : List Class} {r : Result (List PlainBody) Refusal} → sum_by class_size classes ≤ n → ClassesChecking start at classes number r →
         IfOk (All OfBody) r
     classes_narrow small ClassesChecking.no_classes = All-nil OfBody
-    classes_narrow small (ClassesChecking.member_refused d) = tt
+    classes_narrow small ClassesChecking.is_refused = tt
     classes_narrow small (ClassesChecking.then_classes {class = class} {classes = classes} {made = made} {u = u} d rest j) =
         let both = sum_by-cons class_size class classes in
         let h = members_narrow (omega (arith, small, both)) d in
@@ -91,5 +96,5 @@ pub accepted_narrow : (program : Program) (table : Table) (bodies : List PlainBo
     (code : Code) → plain_code code ≡ compiled (program_of table program.names (program_uses_nd program) bodies) → All IsWidthBounded code.sites
 accepted_narrow program table bodies small accepted code is =
     let below : 1048576 < 2 ^ 31 = omega arith in
-    let narrow = with_rows 1048576 (methods_of table) bodies (classes_narrow 1048576 small accepted.checked.checks) in
+    let narrow = with_rows 1048576 (methods_of table) bodies (classes_narrow 1048576 small (checks_in program table accepted.checked)) in
     code_few 1048576 below (program_of table program.names (program_uses_nd program) bodies) narrow code is

@@ -1,5 +1,5 @@
 -- A text passes or has a fault.
-use Rattle.std.proofs.Common.{◌⊎◌, ◌≤◌, ℕ, List, length, inl, inr, refl, arith}
+use Rattle.std.proofs.Common.{◌≡◌, ◌⊎◌, ◌≤◌, ℕ, List, length, Result, Ok, Err, inl, inr, refl, arith}
 use Rattle.lang_base.specs.declared.place.Place.{Place}
 use Rattle.lang_base.specs.declared.refusal.Refusal.{Refusal}
 use Rattle.syntax_tokens.specs.declared.token.Token.{Token}
@@ -14,11 +14,11 @@ use Rattle.syntax_parse.specs.Program.{IsProgram}
 use Rattle.syntax_parse.proofs.Promised.{sized_in}
 use Rattle.decl_table.specs.declared.table.Table.{Table}
 use Rattle.lang_typed.specs.Plain.{PlainProgram}
-use Rattle.body_assembly.specs.Assembled.{program_of}
+use Rattle.body_assembly.specs.Assembled.{PlainBody, program_of}
+use Rattle.body_check.specs.Methods.{check_bodies, BodiesChecking}
 use Rattle.tool_front.specs.Front.{first_place, of_grammar, of_program}
 use Rattle.decl_classes.specs.Build.{HasTable}
 use Rattle.tool_front.specs.Judging.{IsAccepted, IsFaulty, of_table, of_bodies}
-use Rattle.sound_total.specs.Laws.{EachJudged, PassedKeeps}
 use Rattle.sound_text.specs.Laws.{HasVerdict}
 use Rattle.syntax_laws.specs.Laws.{EachText, EachReading}
 use Rattle.decl_laws.specs.Laws.{EachTable}
@@ -27,7 +27,18 @@ use Rattle.decl_laws.specs.Laws.{EachTable}
 abbrev IsJudged : Program → Type 0
 IsJudged program = ((typed : PlainProgram) × IsAccepted program typed) ⊎ ((refusal : Refusal) × IsFaulty program refusal)
 
-module _ (each_text : EachText) (each_reading : EachReading) (each_table : EachTable) (each_judged : EachJudged) (keeps : PassedKeeps) where
+-- over a class table the bodies of each program pass, or there is a first fault in them
+abbrev AreJudged : Program → Table → Type 0
+AreJudged program table = ((bodies : List PlainBody) × BodiesChecking program table (Ok bodies)) ⊎ ((refusal : Refusal) × BodiesChecking program table (Err refusal))
+
+each_judged : (program : Program) (table : Table) → AreJudged program table
+each_judged program table = by (check_bodies program table) refl
+  where
+    by : (v : Result (List PlainBody) Refusal) → check_bodies program table ≡ v → AreJudged program table
+    by (Ok bodies) is = inl (bodies, is)
+    by (Err refusal) is = inr (refusal, is)
+
+module _ (each_text : EachText) (each_reading : EachReading) (each_table : EachTable) where
   with_table : (program : Program) (table : Table) → HasTable program table → IsJudged program
   with_table program table has = elim (each_judged program table) [
     | inl passed ↦ inl (
@@ -38,7 +49,6 @@ module _ (each_text : EachText) (each_reading : EachReading) (each_table : EachT
         bodies = passed.0;
         checked = passed.1;
         typed_so = refl;
-        keeps = keeps program table passed.0 passed.1;
       },
     )
     | inr refused ↦ inr (refused.0, of_bodies table has refused.1)

@@ -6,7 +6,6 @@ use decl_laws::laws::law_each_table;
 use lang_typed::laws::law_resolved;
 use sound_bodies::laws::law_well_typed;
 use sound_lemmas::laws::law_has_rows;
-use sound_total::laws::law_each_judged;
 use syntax_laws::laws::{law_each_reading, law_each_text, law_written};
 use syntax_parse::{one_program, one_refusal};
 use syntax_tokens::one_cutting;
@@ -37,7 +36,6 @@ pub fn law_one_passing()
     law_each_text();
     law_each_reading();
     law_each_table();
-    law_each_judged();
     one_cutting();
     one_program();
     one_refusal();

@@ -5,7 +5,8 @@
 //! for each statement of a `cobegin`, and a machine is opened only on code whose forks have fewer than 2^31 (`IsWidthBounded` of `exec_task`).
 //!
 //! And a text has one verdict: it passes as one typed program, or it has one fault. That it has one at all is joined of what each part
-//! answers: tokens and grammar (`syntax_laws`), the class table (`decl_laws`), bodies (`sound_total`). All is in `specs/Laws.antt`.
+//! answers: tokens and grammar (`syntax_laws`), the class table (`decl_laws`), and bodies, whose rules are a function (`body_check`). All is in
+//! `specs/Laws.antt`.
 #![tactic(auto)]
 
 pub mod laws;

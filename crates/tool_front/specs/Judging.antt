@@ -5,7 +5,6 @@ use Rattle.lang_base.specs.declared.refusal.Refusal.{Refusal}
 use Rattle.syntax_tree.specs.declared.class.Program.{Program}
 use Rattle.decl_table.specs.declared.table.Table.{Table}
 use Rattle.decl_classes.specs.Build.{HasTable, IsReported}
-use Rattle.body_check.specs.Keeping.{ProgramKeeps}
 use Rattle.syntax_means.specs.Declares.{own_fields, spelled}
 use Rattle.syntax_tree.specs.Nd.{program_uses_nd}
 use Rattle.lang_typed.specs.Names.{ProgramNames}
@@ -16,14 +15,13 @@ use Rattle.body_check.specs.Methods.{BodiesChecking}
 use Rattle.tool_front.specs.declared.passing.Passed.{Passed}
 
 -- the program has a class table, all its bodies pass the rules of the language, and this is the typed program that the table
--- and the typed bodies make; and its bodies keep to the rules that need no types
+-- and the typed bodies make
 pub record IsAccepted (program : Program) (typed : PlainProgram) : Type 0 where
   pub table : Table
   pub has_table : HasTable program table
   pub bodies : List PlainBody
   pub checked : BodiesChecking program table (Ok bodies)
   pub typed_so : typed ≡ program_of table program.names (program_uses_nd program) bodies
-  pub keeps : ProgramKeeps program
 
 -- the program is accepted, and these are the names that its typed program has beside its plain form
 pub record HasNames (program : Program) (names : ProgramNames) : Type 0 where

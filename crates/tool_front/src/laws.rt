@@ -1,7 +1,6 @@
 //! What the definitions of a verdict say of themselves.
 ghost use Rattle.tool_front.specs.Judging.{OneJudgement};
 
-use body_check::one_checking;
 use decl_classes::{one_fault, one_table};
 
 /// A program is accepted, with one list of names, or it has one fault, and not both.
@@ -10,5 +9,4 @@ pub fn one_judgement()
 {
     one_table();
     one_fault();
-    one_checking();
 }

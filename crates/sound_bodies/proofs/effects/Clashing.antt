@@ -16,6 +16,7 @@ use Rattle.body_exprs.specs.declared.found.Found.{Found}
 use Rattle.body_check.specs.Checking.{outer_part}
 use Rattle.body_check.specs.Gathering.{with_uses, entered, of_view, moved}
 use Rattle.body_check.specs.Gathering.{handed_on as hand_on}
+use Rattle.body_check.specs.Meeting.{interferes_with_some, some_interfere}
 use Rattle.body_check.specs.Walks.{nothing_found}
 use Rattle.sound_bodies.specs.Gathered.{InFound, Gathers}
 use Rattle.sound_bodies.proofs.effects.Gathered.{nothing_in, head_in, later_in, in_cases}
@@ -249,6 +250,22 @@ module _ (given : List Constraint) (nd : Option Atomic)
     same_at (G ∷ Fs) [] h i F E l = absurd h
     same_at (G ∷ Fs) (H ∷ Es) h zero F E l = h.0
     same_at (G ∷ Fs) (H ∷ Es) h (suc i) F E l = same_at Fs Es h.1 i F E (omega (arith, l))
+
+    -- the effects of branches of which no two interfere
+    either_so : (a b : Bool) → (a || b) ≡ false → (a ≡ false) × (b ≡ false)
+    either_so true b h = cc
+    either_so false b h = (refl, h)
+
+    none_interferes : (es : List Effect) (Fs : List (List Effect)) → interferes_with_some given nd es Fs ≡ false → (j : ℕ) (d : List Effect) → j < length Fs → lists_clash given nd es (slice_index_or Fs j d) ≡ false
+    none_interferes es [] h j d lt = absurd (omega (arith, lt))
+    none_interferes es (F ∷ Fs) h zero d lt = (either_so (lists_clash given nd es F) (interferes_with_some given nd es Fs) h).0
+    none_interferes es (F ∷ Fs) h (suc j) d lt = none_interferes es Fs (either_so (lists_clash given nd es F) (interferes_with_some given nd es Fs) h).1 j d (omega (arith, lt))
+
+    pub no_pair : (Fs : List (List Effect)) → some_interfere given nd Fs ≡ false → NoPair (λ es fs. IsTrue (lists_clash given nd es fs)) Fs
+    no_pair [] h i j d order lt c = omega (arith, lt)
+    no_pair (F ∷ Fs) h zero (suc j) d order lt c = false≢true (sym (none_interferes F Fs (either_so (interferes_with_some given nd F Fs) (some_interfere given nd Fs) h).0 j d (omega (arith, lt))) ∙ c)
+    no_pair (F ∷ Fs) h (suc i) (suc j) d order lt c = no_pair Fs (either_so (interferes_with_some given nd F Fs) (some_interfere given nd Fs) h).1 i j d (omega (arith, order)) (omega (arith, lt)) c
+    no_pair (F ∷ Fs) h i zero d order lt c = omega (arith, order)
 
     pub none_apart : (Fs : List (List Effect)) (Es : List (List Done)) → AllSame Fs Es → NoPair (λ es fs. IsTrue (lists_clash given nd es fs)) Fs →
         AllPairs (λ E F. lists_clash given nd (as_effects E) (as_effects F) ≡ false) Es

@@ -32,8 +32,11 @@ use Rattle.decl_classes.specs.Signatures.{known_type}
 use Rattle.decl_table.specs.Table.{headers_of, methods_of, numbered}
 use Rattle.body_exprs.specs.declared.env.Env.{Env}
 use Rattle.body_exprs.specs.Env.{table_of, at_class, at_members, with_row, with_local}
+use Rattle.body_check.specs.Deciding.{has_value}
+use Rattle.body_check.specs.Keeping.{method_around}
 use Rattle.body_check.specs.Methods.{formals_declared, formal_types, body_begun}
 use Rattle.body_check.specs.Simple.{has_room}
+use Rattle.sound_lemmas.proofs.StatementSteps.{in_block_of}
 use Rattle.sound_lemmas.proofs.Lists.{some_same}
 use Rattle.sound_bodies.specs.Whole.{StandsIn, StandsAmong, ForksAreReported}
 use Rattle.sound_bodies.proofs.reach.ForkEdges.{mark_there, leads_first, edge_there}
@@ -99,7 +102,7 @@ begun_shaped table start class number method same has few = by (numbered (table_
 pub forks_reported : ForksAreReported
 forks_reported program table bodies written accepted start fresh method number class stands params made u d reached =
     (accepted.rows.is_table.reached.each number).1
-    (by ((block_reaches table class (rows_shallow program.classes table accepted.rows.is_table.read written.small) (formal_shapes (headers_of table) method.formals) (begun_shaped table start class number method fresh.table_is has few) d).adds reached))
+    (by ((block_reaches table class (rows_shallow program.classes table accepted.rows.is_table.read written.small) (formal_shapes (headers_of table) method.formals) (begun_shaped table start class number method fresh.table_is has few) (in_block_of {params = params} {around = method_around (has_value method.result)} {all = plain_stmts (map plain_stmt method.body)} {w = body_begun (at_class start class) number method} d)).adds reached))
   where
     marks : List Bool
     marks = flat_map class_marks program.classes

@@ -8,7 +8,6 @@ use Rattle.lang_base.specs.declared.ty.Ty.{the_lemmas}
 use Rattle.lang_base.specs.declared.ty.Ty.TheVariants as variant
 use Rattle.lang_base.specs.Types.{PlainType, plain_type}
 use Rattle.lang_base.specs.Types.{PlainType as ty}
-use Rattle.body_locals.specs.declared.branch.Touched.{Touched}
 use Rattle.syntax_tree.specs.declared.region.Named.{Named}
 use Rattle.syntax_tree.specs.declared.region.TypeTree.{TypeTree}
 use Rattle.syntax_tree.specs.Nd.{holds_nd, some_holds_nd}
@@ -34,13 +33,14 @@ use Rattle.body_exprs.specs.Typed.{may_be, is_int, is_boolean, type_in}
 use Rattle.body_exprs.specs.Typing.{Typing}
 use Rattle.body_check.specs.declared.node.Around.{Around}
 use Rattle.body_check.specs.declared.node.Node.{Node}
-use Rattle.body_check.specs.Checking.{block_left, branch_of, gathers, cut_type, Cutting, Opened, opened, not_opened, Opening, outer_part, part_slot, variable_noted, BranchesVerdict, all_pass, one_refused, after_branch, Checking, Choosing, InOther, Standing, standing, InScope, in_scope, InBlock, in_block, InOrder, Branching, Forking, Iterating, Parting}
+use Rattle.body_check.specs.Checking.{own_block, own_scope, branch_of, gathers, outer_part, part_slot, variable_noted}
 use Rattle.body_check.specs.Deciding.{marks_after}
 use Rattle.body_check.specs.Gathering.{with_uses, taken_in}
 use Rattle.body_check.specs.Leaving.{from_here}
 use Rattle.body_check.specs.Noting.{with_fault_if, with_found, fault_of}
-use Rattle.body_check.specs.Simple.{node_of, declaration_noted, part_declared, Declaring, AssigningLocal, AssigningPlace, Performing, Returning, Printing}
-use Rattle.body_check.specs.Walks.{Walk, Verdict, passes, refused, apart_from, left_scope}
+use Rattle.body_check.specs.Simple.{node_of, declaration_noted, part_declared}
+use Rattle.body_check.specs.Walks.{Walk, Verdict, passes, refused, apart_from}
+use Rattle.sound_lemmas.proofs.StatementRules.{cut_type, Cutting, Opened, opened, not_opened, Opening, BranchesVerdict, all_pass, one_refused, after_branch, Checking, Choosing, InOther, Standing, standing, InScope, in_scope, InBlock, in_block, InOrder, Branching, Forking, Iterating, Parting, Declaring, AssigningLocal, AssigningPlace, Performing, Returning, Printing}
 use Rattle.sound_lemmas.proofs.Bodies.{free_if, declared_free}
 use Rattle.sound_bodies.proofs.scope.Growing.{room_free}
 use Rattle.sound_bodies.proofs.reach.Reached.{Adds, adds_none, adds_then, adds_apart, adds_nd, write_same, handed_same}
@@ -107,12 +107,11 @@ module _ (table : Table) (class : ℕ) (rows : AreShallow table)
 
     declaring : {locals : Names Shape} {node : Node} {is_final : Bool} {written : TypeTree} {name : ℕ} {value : PlainExpr} {w : Walk} {v : Verdict TypedStmt} → Shaped table class locals w.env →
         Declaring node is_final written name value w v → If (λ made u. Goes false (calls locals value) (with_name locals name (tree_shape (headers_of table) written)) w u) v
-    declaring at (Declaring.type_refused reported) = tt
-    declaring at (Declaring.value_refused unreported d) = tt
+    declaring at Declaring.is_refused = tt
     declaring {locals} {node} {is_final} {written} {name} {value} {w} at (Declaring.declared {t = t} {g = g} {fit = fit} made unreported same d fits j) =
         subst (If (λ made u. Goes false (calls locals value) (with_name locals name (tree_shape (headers_of table) written)) w u)) j
         (judged_if (λ made u. Goes false (calls locals value) (with_name locals name (tree_shape (headers_of table) written)) w u) _ _ _ (λ free.
-        let f = free_if (declaration_noted w.env name node.place node) kind.Type (not fit) free in
+        let f = free_if (declaration_noted w.env name node.place node) _ (not fit) free in
         record {
           env = local_added name made is_final (tree_shape (headers_of table) written) (room_free w.env name node.place node f.0)
               (subst (λ z. IsShape (tree_shape (headers_of z) written) (plain_type made)) at.table_is
@@ -122,16 +121,14 @@ module _ (table : Table) (class : ℕ) (rows : AreShallow table)
 
     assigning : {locals : Names Shape} {node : Node} {target : Named} {value : PlainExpr} {w : Walk} {v : Verdict TypedStmt} → Shaped table class locals w.env → AssigningLocal node target value w v →
         If (λ made u. Goes false (calls locals value) locals w u) v
-    assigning at (AssigningLocal.value_refused d) = tt
-    assigning at (AssigningLocal.no_local d is reported) = tt
+    assigning at AssigningLocal.is_refused = tt
     assigning {locals} {node} {target} {value} {w} at (AssigningLocal.assigned d is fits j) =
         subst (If (λ made u. Goes false (calls locals value) locals w u)) j
         (judged_if (λ made u. Goes false (calls locals value) locals w u) _ _ _ (λ free. record { env = at; adds = (expr_at value w.found at d).1 }))
 
     placing : {locals : Names Shape} {node : Node} {target value : PlainExpr} {w : Walk} {v : Verdict TypedStmt} → Shaped table class locals w.env → AssigningPlace node target value w v →
         If (λ made u. Goes false (calls locals target ++ calls locals value) locals w u) v
-    placing at (AssigningPlace.target_refused d) = tt
-    placing at (AssigningPlace.value_refused d i) = tt
+    placing at AssigningPlace.is_refused = tt
     placing {locals} {node} {target} {value} {w} at (AssigningPlace.anything_assigned {g = g} {h = h} d i j) =
         subst (If (λ made u. Goes false (calls locals target ++ calls locals value) locals w u)) j
         (judged_if (λ made u. Goes false (calls locals target ++ calls locals value) locals w u) _ _ _
@@ -145,20 +142,20 @@ module _ (table : Table) (class : ℕ) (rows : AreShallow table)
         }))
 
     performing : {locals : Names Shape} {node : Node} {value : PlainExpr} {w : Walk} {v : Verdict TypedStmt} → Shaped table class locals w.env → Performing node value w v → If (λ made u. Goes false (calls locals value) locals w u) v
-    performing at (Performing.refused_itself d) = tt
+    performing at Performing.is_refused = tt
     performing {locals} {node} {value} {w} at (Performing.performed d j) =
         subst (If (λ made u. Goes false (calls locals value) locals w u)) j
         (judged_if (λ made u. Goes false (calls locals value) locals w u) _ _ _ (λ free. record { env = at; adds = (expr_at value w.found at d).1 }))
 
     returning : {locals : Names Shape} {around : Around} {node : Node} {value : PlainExpr} {w : Walk} {v : Verdict TypedStmt} → Shaped table class locals w.env → Returning around node value w v →
         If (λ made u. Goes false (calls locals value) locals w u) v
-    returning at (Returning.value_refused d) = tt
+    returning at Returning.is_refused = tt
     returning {locals} {around} {node} {value} {w} at (Returning.returned d fits j) =
         subst (If (λ made u. Goes false (calls locals value) locals w u)) j
         (judged_if (λ made u. Goes false (calls locals value) locals w u) _ _ _ (λ free. record { env = at; adds = (expr_at value w.found at d).1 }))
 
     printing : {locals : Names Shape} {node : Node} {value : PlainExpr} {w : Walk} {v : Verdict TypedStmt} → Shaped table class locals w.env → Printing node value w v → If (λ made u. Goes false (calls locals value) locals w u) v
-    printing at (Printing.value_refused d) = tt
+    printing at Printing.is_refused = tt
     printing {locals} {node} {value} {w} at (Printing.printed d j) =
         subst (If (λ made u. Goes false (calls locals value) locals w u)) j
         (judged_if (λ made u. Goes false (calls locals value) locals w u) _ _ _ (λ free. record { env = at; adds = (expr_at value w.found at d).1 }))
@@ -178,8 +175,6 @@ module _ (table : Table) (class : ℕ) (rows : AreShallow table)
 
     opening : {locals : Names Shape} {node : Node} {view var : Named} {array count : PlainExpr} {w : Walk} {o : Opened} → Shaped table class locals w.env → Opening node view var array count w o →
         OpenedSo locals view var array count w o
-    opening at (Opening.array_refused l d) = tt
-    opening at (Opening.count_refused c d) = tt
     opening {locals} {node} {view} {var} {array} {count} {w} at (Opening.both_given t {fault = found} {g = g} {h = h} {u = u} c d) = λ free.
         let cut = cutting_at at c in
         let plain = with_fault_if (with_found node found) kind.Type (not (may_be is_int (type_in u))) in
@@ -210,7 +205,7 @@ module _ (table : Table) (class : ℕ) (rows : AreShallow table)
     OtherGoes locals (Some s) w made u = Goes (holds_nd s) (inner locals s) locals w u
 
     abbrev BranchesGo : Names Shape → PlainStmts → Walk → BranchesVerdict → Type 0
-    BranchesGo locals ss w (all_pass effects touched made u) = Goes (some_holds_nd ss) (branch_calls T class locals ss) locals w u
+    BranchesGo locals ss w (all_pass effects made u) = Goes (some_holds_nd ss) (branch_calls T class locals ss) locals w u
     BranchesGo locals ss w (one_refused refusal) = Unit {0}
 
     abbrev choice_nd : PlainStmt → Option PlainStmt → Bool
@@ -221,11 +216,11 @@ module _ (table : Table) (class : ℕ) (rows : AreShallow table)
     choice_calls locals test first None = calls locals test ++ inner locals first
     choice_calls locals test first (Some s) = calls locals test ++ inner locals first ++ inner locals s
 
-    scope_goes : (locals : Names Shape) (s : PlainStmt) (w : Walk) (v : Verdict TypedStmt) → Shaped table class locals w.env → If (StmtGoes locals s w) v → If (ScopeGoes locals s w) (left_scope w v)
+    scope_goes : (locals : Names Shape) (s : PlainStmt) (w : Walk) (v : Verdict TypedStmt) → Shaped table class locals w.env → If (StmtGoes locals s w) v → If (ScopeGoes locals s w) (own_scope w v)
     scope_goes locals s w (passes made u) at h = record { env = scope_closed (longer_after (headers_of table) locals s) at h.env; adds = h.adds }
     scope_goes locals s w (refused refusal) at h = tt
 
-    block_goes : (locals : Names Shape) (ss : PlainStmts) (w : Walk) (v : Verdict (List TypedStmt)) → Shaped table class locals w.env → If (OrderGoes locals ss (apart_from w)) v → If (BlockGoes locals ss w) (block_left w v)
+    block_goes : (locals : Names Shape) (ss : PlainStmts) (w : Walk) (v : Verdict (List TypedStmt)) → Shaped table class locals w.env → If (OrderGoes locals ss (apart_from w)) v → If (BlockGoes locals ss w) (own_block w v)
     block_goes locals ss w (passes made u) at h = record {
       env = scope_closed (longer_all (headers_of table) locals ss) at h.env;
       adds = adds_apart table w.found.reaches_nd u.found.reaches_nd (some_holds_nd ss) (block_calls T class locals ss) h.adds;
@@ -239,10 +234,10 @@ module _ (table : Table) (class : ℕ) (rows : AreShallow table)
       adds = then_more w.found u.found z.found (holds_nd s) (some_holds_nd ss) (inner locals s) (block_calls T class (after_stmt (headers_of table) locals s) ss) first.adds rest.adds;
     }
 
-    branch_goes : (locals : Names Shape) (env : Env) (nd : Bool) (s : PlainStmt) (ss : PlainStmts) (w u : Walk) (es : List Effect) (t : Touched) (made : TypedStmt) (v : BranchesVerdict) → ScopeGoes locals s (apart_from w) made u →
-        BranchesGo locals ss (gathers (taken_in (from_here w.env (marks_after nd)) w.found u.found) u) v → BranchesGo locals (tree.more_stmts s ss) w (after_branch es t (branch_of env t made) v)
-    branch_goes locals env nd s ss w u es t made (one_refused refusal) first rest = tt
-    branch_goes locals env nd s ss w u es t made (all_pass effects touched bs z) first rest = record {
+    branch_goes : (locals : Names Shape) (env : Env) (nd : Bool) (s : PlainStmt) (ss : PlainStmts) (w u : Walk) (es : List Effect) (made : TypedStmt) (v : BranchesVerdict) → ScopeGoes locals s (apart_from w) made u →
+        BranchesGo locals ss (gathers (taken_in (from_here w.env (marks_after nd)) w.found u.found) u) v → BranchesGo locals (tree.more_stmts s ss) w (after_branch es (branch_of env s made) v)
+    branch_goes locals env nd s ss w u es made (one_refused refusal) first rest = tt
+    branch_goes locals env nd s ss w u es made (all_pass effects bs z) first rest = record {
       env = rest.env;
       adds = adds_then table w.found.reaches_nd (w.found.reaches_nd || u.found.reaches_nd) z.found.reaches_nd (holds_nd s) (some_holds_nd ss) (inner locals s) (branch_calls T class locals ss)
           (adds_apart table w.found.reaches_nd u.found.reaches_nd (holds_nd s) (inner locals s) first.adds) rest.adds;
@@ -291,15 +286,13 @@ module _ (table : Table) (class : ℕ) (rows : AreShallow table)
           subst (If (NoneGoes locals w)) j (judged_if (NoneGoes locals w) _ _ _ (λ free. record { env = regions_added w.env names at; adds = adds_none table w.found.reaches_nd }))
       checking_goes place locals at (Checking.of_choice d) = choosing_goes locals at d
       checking_goes place locals at (Checking.of_choice_else d) = choosing_goes locals at d
-      checking_goes place locals at (Checking.while_refused d) = tt
+      checking_goes place locals at Checking.is_refused = tt
       checking_goes {node = node} {w = w} place locals at (Checking.of_while {test = test} {body = body} {t = t} {g = g} {u = u} d i j) =
           subst (If (WhileGoes locals test body w)) j
           (after_if (ScopeGoes locals body (record w { found = g })) (WhileGoes locals test body w) (fault_of (with_fault_if node kind.Type (not (may_be is_boolean (type_in t)))))
           (λ s. typed.statement node.place (typed.while_loop (node_of test t) s)) u (scope_reaches locals at i)
           (λ made x free h. record { env = h.env; adds = then_more w.found g x.found false (holds_nd body) (calls locals test) (inner locals body) (expr_at test w.found at d).1 h.adds }))
       checking_goes place locals at (Checking.of_cobegin d) = forking_goes locals at d
-      checking_goes place locals at (Checking.start_refused d) = tt
-      checking_goes place locals at (Checking.count_refused d i) = tt
       checking_goes {w = w} place locals at (Checking.of_foreach {nd = nd} {var = var} {start = start} {count = count} {body = body} {g = g} {h = h} {v = v} d i n) =
           by v (iterating_goes locals at n)
         where
@@ -314,7 +307,6 @@ module _ (table : Table) (class : ℕ) (rows : AreShallow table)
           }
           by (refused refusal) k = tt
       checking_goes place locals at (Checking.of_parts d) = parting_goes locals at d
-      checking_goes place locals at (Checking.block_refused d) = tt
       checking_goes {node = node} {w = w} place locals at (Checking.of_atomic {all = all} {u = u} d j) =
           let h = block_reaches locals at d in
           subst (If (InnerGoes locals all w)) j
@@ -323,8 +315,7 @@ module _ (table : Table) (class : ℕ) (rows : AreShallow table)
 
       choosing_goes : {params : List Bool} {around : Around} {node : Node} {test : PlainExpr} {first : PlainStmt} {other : Option PlainStmt} {w : Walk} {v : Verdict TypedStmt} (locals : Names Shape) → Shaped table class locals w.env →
           Choosing params around node test first other w v → If (λ made u. Goes (choice_nd first other) (choice_calls locals test first other) locals w u) v
-      choosing_goes locals at (Choosing.test_refused d) = tt
-      choosing_goes locals at (Choosing.first_refused d i) = tt
+      choosing_goes locals at Choosing.choice_refused = tt
       choosing_goes {node = node} {test = test} {first = first} {other = other} {w = w} locals at (Choosing.chosen {x = x} {t = t} {g = g} {made = made} {u = u} d i n j) =
           let h = scope_reaches locals at i in
           subst (If (λ made u. Goes (choice_nd first other) (choice_calls locals test first other) locals w u)) j
@@ -352,7 +343,7 @@ module _ (table : Table) (class : ℕ) (rows : AreShallow table)
       order_reaches : {params : List Bool} {around : Around} {before : Bool} {ss : PlainStmts} {w : Walk} {v : Verdict (List TypedStmt)} (locals : Names Shape) → Shaped table class locals w.env → InOrder params around before ss w v →
           If (OrderGoes locals ss w) v
       order_reaches {w = w} locals at InOrder.none_left = record { env = at; adds = adds_none table w.found.reaches_nd }
-      order_reaches locals at (InOrder.statement_refused d) = tt
+      order_reaches locals at InOrder.order_refused = tt
       order_reaches {w = w} locals at (InOrder.then_others {s = s} {ss = ss} {u = u} {made = made} {x = x} d rest j) =
           let first = standing_goes locals at d in
           subst (If (OrderGoes locals (tree.more_stmts s ss) w)) j
@@ -362,17 +353,16 @@ module _ (table : Table) (class : ℕ) (rows : AreShallow table)
       branching_goes : {params : List Bool} {around : Around} {nd : Bool} {ss : PlainStmts} {w : Walk} {v : BranchesVerdict} (locals : Names Shape) → Shaped table class locals w.env → Branching params around nd ss w v →
           BranchesGo locals ss w v
       branching_goes {w = w} locals at Branching.no_branches = record { env = at; adds = adds_none table w.found.reaches_nd }
-      branching_goes locals at (Branching.branch_refused d) = tt
-      branching_goes {nd = nd} {w = w} locals at (Branching.then_branches {s = s} {ss = ss} {u = u} {touched = touched} {made = made} {v = v} d t rest j) =
+      branching_goes locals at Branching.branch_refused = tt
+      branching_goes {nd = nd} {w = w} locals at (Branching.then_branches {s = s} {ss = ss} {u = u} {made = made} {v = v} d rest j) =
           let first = scope_reaches locals at d in
           subst (BranchesGo locals (tree.more_stmts s ss) w) j
-          (branch_goes locals w.env nd s ss w u (with_uses u.found.effects u.found.uses) touched made v first (branching_goes locals first.env rest))
+          (branch_goes locals w.env nd s ss w u (with_uses u.found.effects u.found.uses) made v first (branching_goes locals first.env rest))
 
       forking_goes : {params : List Bool} {around : Around} {node : Node} {nd : Bool} {branches : PlainStmts} {w : Walk} {v : Verdict TypedStmt} (locals : Names Shape) → Shaped table class locals w.env → Forking params around node nd branches w v →
           If (λ made u. Goes (nd || some_holds_nd branches) (branch_calls T class locals branches) locals w u) v
-      forking_goes locals at (Forking.some_refused d) = tt
-      forking_goes locals at (Forking.clashing effects touched clash d c reported) = tt
-      forking_goes {nd = nd} {branches = branches} {w = w} locals at (Forking.forked {u = u} effects touched clash apart d c free a j) =
+      forking_goes locals at Forking.fork_refused = tt
+      forking_goes {nd = nd} {branches = branches} {w = w} locals at (Forking.forked {u = u} effects d free j) =
           let h = branching_goes locals at d in
           subst (If (λ made u. Goes (nd || some_holds_nd branches) (branch_calls T class locals branches) locals w u)) j
           (judged_if (λ made u. Goes (nd || some_holds_nd branches) (branch_calls T class locals branches) locals w u) _ _ _
@@ -380,10 +370,9 @@ module _ (table : Table) (class : ℕ) (rows : AreShallow table)
 
       iterating_goes : {params : List Bool} {around : Around} {node : Node} {nd : Bool} {var : Named} {start count : TypedExpr} {body : PlainStmt} {w : Walk} {v : Verdict TypedStmt} (locals : Names Shape) → Shaped table class locals w.env →
           Iterating params around node nd var start count body w v → If (λ made u. Goes (nd || holds_nd body) (inner (with_name locals var.name no_class) body) locals w u) v
-      iterating_goes locals at (Iterating.iteration_refused d) = tt
-      iterating_goes locals at (Iterating.iteration_assigning assigns d a reported) = tt
-      iterating_goes {node = node} {nd = nd} {var = var} {body = body} {w = w} locals at (Iterating.iterated {u = u} assigns d a free j) =
-          let f = free_if (variable_noted w.env var node) kind.Assign assigns free in
+      iterating_goes locals at Iterating.iteration_refused = tt
+      iterating_goes {node = node} {nd = nd} {var = var} {body = body} {w = w} locals at (Iterating.iterated {u = u} place placed d free j) =
+          let f = free_if (variable_noted w.env var node) _ _ free in
           let more = with_name locals var.name no_class in
           let h = scope_reaches more (local_added var.name variant.Int true no_class (room_free w.env var.name var.place node f.0) (int_shaped no_class) at) d in
           subst (If (λ made u. Goes (nd || holds_nd body) (inner (with_name locals var.name no_class) body) locals w u)) j
@@ -396,11 +385,9 @@ module _ (table : Table) (class : ℕ) (rows : AreShallow table)
       parting_goes : {params : List Bool} {around : Around} {node : Node} {view var : Named} {array count : PlainExpr} {body : PlainStmt} {w : Walk} {v : Verdict TypedStmt} (locals : Names Shape) → Shaped table class locals w.env →
           Parting params around node view var array count body w v →
           If (λ made u. Goes (holds_nd body) (calls locals array ++ calls locals count ++ inner (parts_locals locals view var array) body) locals w u) v
-      parting_goes locals at (Parting.range_refused o) = tt
-      parting_goes locals at (Parting.part_refused o d) = tt
-      parting_goes locals at (Parting.part_assigning assigns o d a reported) = tt
-      parting_goes {view = view} {var = var} {array = array} {count = count} {body = body} {w = w} locals at (Parting.parted {x = x} {u = u} {source = source} {noted = noted} assigns o d a free j) =
-          let k = opening at o (free_if noted kind.Assign assigns free).0 in
+      parting_goes locals at Parting.parting_refused = tt
+      parting_goes {view = view} {var = var} {array = array} {count = count} {body = body} {w = w} locals at (Parting.parted {x = x} {u = u} {source = source} {noted = noted} o d free j) =
+          let k = opening at o (free_if noted _ _ free).0 in
           let more = parts_locals locals view var array in
           let h = scope_reaches more k.env d in
           subst (If (λ made u. Goes (holds_nd body) (calls locals array ++ calls locals count ++ inner (parts_locals locals view var array) body) locals w u)) j

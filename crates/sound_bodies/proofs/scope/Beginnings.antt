@@ -40,6 +40,7 @@ use Rattle.body_check.specs.Keeping.{method_around}
 use Rattle.body_check.specs.Methods.{atomic_of, class_params, own_params, formals_declared, body_begun}
 use Rattle.body_check.specs.Methods.{formal_types as types_of}
 use Rattle.body_check.specs.Simple.{has_room}
+use Rattle.sound_lemmas.proofs.BodyRules.{start_in, fresh_start}
 use Rattle.sound_lemmas.specs.Accepted.{IsAccepted}
 use Rattle.sound_lemmas.proofs.Free.{append_none}
 use Rattle.sound_lemmas.proofs.Lists.{some_same, got_mapped, map_there}
@@ -80,13 +81,13 @@ no_result scope outcome.Void none = refl
 no_result scope (outcome.Value tree) none = cc
 
 module _ (program : Program) (table : Table) (bodies : List PlainBody) (accepted : IsAccepted program table bodies) (tells : Tells (made_of program table bodies) table (never_forks table))
-    (supers : SupersAgree (made_of program table bodies) (superclasses table)) (n : ℕ) (one : PlainMember) (class : PlainClass) (k : IsMember program table accepted.checked.start n one class)
+    (supers : SupersAgree (made_of program table bodies) (superclasses table)) (n : ℕ) (one : PlainMember) (class : PlainClass) (k : IsMember program table (start_in program table) n one class)
   where
     abbrev P : PlainProgram
     P = made_of program table bodies
 
     abbrev start : Env
-    start = accepted.checked.start
+    start = start_in program table
 
     abbrev m : PlainMember
     m = member_of k.row k.body
@@ -107,7 +108,7 @@ module _ (program : Program) (table : Table) (bodies : List PlainBody) (accepted
     everything x = true
 
     table_is : table_of start ≡ table
-    table_is = accepted.checked.fresh.table_is
+    table_is = (fresh_start program table).table_is
 
     numbered_is : Some k.row ≡ numbered (table_of start) n
     numbered_is = sym (ap (λ (t : Table). numbered t n) table_is ∙ k.row_there)
@@ -196,7 +197,7 @@ module _ (program : Program) (table : Table) (bodies : List PlainBody) (accepted
       tells = subst (λ t. Tells P t (never_forks table)) (sym table_is) tells;
       sees = record {
         given = ap (λ z. z ++ k.row.given) given_so;
-        supers = supers_taken P (superclasses table) (supers_of start) accepted.checked.fresh.supers_are supers;
+        supers = supers_taken P (superclasses table) (supers_of start) (fresh_start program table).supers_are supers;
         self = self_is;
         locals = λ name row h. cc;
         declared = λ name row h final. cc;

@@ -5,7 +5,6 @@ use Rattle.std.specs.Option.{option_map_or}
 use Rattle.std.proofs.lemmas.Bool.{eq-eqb, false≢true}
 use Rattle.std.proofs.lemmas.List.Elements.{All-nil, All-cons}
 use Rattle.lang_base.specs.Types.{PlainType}
-use Rattle.body_locals.specs.declared.branch.Touched.{Touched}
 use Rattle.body_locals.specs.Touches.{stmt_reads, stmt_assigns}
 use Rattle.syntax_tree.specs.Plain.{PlainStmt}
 use Rattle.lang_typed.specs.Plain.{PlainProgram}
@@ -16,8 +15,10 @@ use Rattle.body_exprs.specs.declared.env.Env.{Env}
 use Rattle.body_exprs.specs.declared.env.LocalRow.{LocalRow}
 use Rattle.body_exprs.specs.Env.{local_of}
 use Rattle.body_check.specs.declared.node.Around.{Around}
-use Rattle.body_check.specs.Checking.{TouchedBy, slots_of}
+use Rattle.body_check.specs.Checking.{slots_of}
 use Rattle.body_check.specs.Keeping.{inside}
+use Rattle.body_check.specs.Touching.{assigned}
+use Rattle.body_check.proofs.Touched.{assigned_has}
 use Rattle.sound_lemmas.proofs.Lists.{some_same}
 use Rattle.sound_bodies.specs.Ready.{Ready}
 use Rattle.sound_bodies.specs.Seen.{RowIs}
@@ -27,13 +28,13 @@ use Rattle.sound_bodies.proofs.scope.Readiness.{row_less, row_alone}
 use Rattle.sound_bodies.proofs.statements.Walks.{NonFinal}
 
 -- a slot that a branch beside one assigns: that of an outer variable, which the one doesn't touch
-pub record Foreign (L : Scope) (env : Env) (touched : Touched) (x : ℕ) : Type 0 where
+pub record Foreign (L : Scope) (env : Env) (s : PlainStmt) (x : ℕ) : Type 0 where
   pub name : ℕ
   pub row : LocalRow
   pub is : local_of env name ≡ Some row
   pub slot : row.slot ≡ x
-  pub unread : Contains touched.reads name → ⊥
-  pub unassigned : Contains touched.writes name → ⊥
+  pub unread : IsTrue (stmt_reads name s) → ⊥
+  pub unassigned : IsTrue (stmt_assigns name s) → ⊥
   pub kept : IsVariable L x
 
 -- the slot of a name that is assigned is among those that the branch gives back
@@ -81,8 +82,8 @@ not_so : (b : Bool) → (b ≡ true → ⊥) → b ≡ false
 not_so true h = absurd (h refl)
 not_so false h = refl
 
-module _ (P : PlainProgram) (L : Scope) (env : Env) (params : List Bool) (around : Around) (reads assigns : ℕ → Bool) (ready : Ready P L env params around reads assigns) (s : PlainStmt) (touched : Touched) (touches : TouchedBy s touched)
-    (own others : List ℕ) (own_is : own ≡ slots_of env touched.writes) (foreign : (x : ℕ) → list_any (λ y. x == y) others ≡ true → Foreign L env touched x) (open' : (n : ℕ) → IsTrue (stmt_assigns n s) → NonFinal env n)
+module _ (P : PlainProgram) (L : Scope) (env : Env) (params : List Bool) (around : Around) (reads assigns : ℕ → Bool) (ready : Ready P L env params around reads assigns) (s : PlainStmt)
+    (own others : List ℕ) (own_is : own ≡ slots_of env (assigned s)) (foreign : (x : ℕ) → list_any (λ y. x == y) others ≡ true → Foreign L env s x) (open' : (n : ℕ) → IsTrue (stmt_assigns n s) → NonFinal env n)
     (all : (n : ℕ) → IsTrue (stmt_reads n s) → IsTrue (reads n)) (writes : (n : ℕ) → IsTrue (stmt_assigns n s) → IsTrue (assigns n))
   where
     seen_row : (name : ℕ) (row : LocalRow) → local_of env name ≡ Some row → RowIs (stmt_reads name s) (stmt_assigns name s) row (seen_in_branch own others row.slot (L.local row.slot))
@@ -91,12 +92,12 @@ module _ (P : PlainProgram) (L : Scope) (env : Env) (params : List Bool) (around
         outer : RowIs (reads name) (assigns name) row (L.local row.slot)
         outer = ready.sees.locals name row h
 
-        beside : Foreign L env touched row.slot → RowIs (stmt_reads name s) (stmt_assigns name s) row (option_map (λ k. reserved) (L.local row.slot))
+        beside : Foreign L env s row.slot → RowIs (stmt_reads name s) (stmt_assigns name s) row (option_map (λ k. reserved) (L.local row.slot))
         beside f =
             let same : f.name ≡ name = ready.step.apart f.name name f.row row f.is h f.slot in
             row_reserved (reads name) (assigns name) (stmt_reads name s) (stmt_assigns name s) row (L.local row.slot) outer f.kept.0 f.kept.1
-            (not_so (stmt_reads name s) (λ t. f.unread (subst (Contains touched.reads) (sym same) ((touches.reads name).0 t))))
-            (not_so (stmt_assigns name s) (λ t. f.unassigned (subst (Contains touched.writes) (sym same) ((touches.assigns name).0 t))))
+            (not_so (stmt_reads name s) (λ t. f.unread (subst (λ z. IsTrue (stmt_reads z s)) (sym same) t)))
+            (not_so (stmt_assigns name s) (λ t. f.unassigned (subst (λ z. IsTrue (stmt_assigns z s)) (sym same) t)))
 
         by : (b : Bool) → list_any (λ y. row.slot == y) others ≡ b → (c : Bool) → list_any (λ y. row.slot == y) own ≡ c →
             RowIs (stmt_reads name s) (stmt_assigns name s) row (cond b (option_map (λ k. reserved) (L.local row.slot)) (cond c (L.local row.slot) (option_map read_alone (L.local row.slot))))
@@ -104,7 +105,7 @@ module _ (P : PlainProgram) (L : Scope) (env : Env) (params : List Bool) (around
         by false at_b true at_c = row_less (reads name) (assigns name) (stmt_reads name s) (stmt_assigns name s) row (L.local row.slot) (all name) (writes name) outer
         by false at_b false at_c =
             let none : stmt_assigns name s ≡ false =
-            not_so (stmt_assigns name s) (λ t. false≢true (sym at_c ∙ ap (list_any (λ y. row.slot == y)) own_is ∙ slot_among env touched.writes name row ((touches.assigns name).0 t) h)) in
+            not_so (stmt_assigns name s) (λ t. false≢true (sym at_c ∙ ap (list_any (λ y. row.slot == y)) own_is ∙ slot_among env (assigned s) name row (assigned_has s name t) h)) in
             row_less (reads name) false (stmt_reads name s) (stmt_assigns name s) row (option_map read_alone (L.local row.slot)) (all name) (λ t. absurd (false≢true (sym none ∙ t)))
             (row_alone (reads name) (assigns name) row (L.local row.slot) outer)
 

@@ -24,14 +24,17 @@ use Rattle.decl_table.specs.Table.{numbered, is_forking, supers_of}
 use Rattle.body_exprs.specs.declared.env.Env.{Env}
 use Rattle.body_exprs.specs.declared.found.Found.{Found}
 use Rattle.body_exprs.specs.Env.{table_of, at_class}
+use Rattle.body_check.specs.Checking.{check_block}
 use Rattle.body_check.specs.declared.node.Around.{Around}
-use Rattle.body_check.specs.Checking.{InBlock}
 use Rattle.body_check.specs.Completes as tree_completes
 use Rattle.body_check.specs.Deciding.{has_value}
 use Rattle.body_check.specs.Keeping.{method_around}
-use Rattle.body_check.specs.Methods.{MethodChecking, own_params, class_params, summary_of, body_begun, typed_body, method_reported, reported, method_judged}
+use Rattle.body_check.specs.Methods.{own_params, class_params, summary_of, body_begun, typed_body, method_reported, reported, method_judged}
 use Rattle.body_check.specs.Simple.{has_room}
 use Rattle.body_check.specs.Walks.{Walk, Verdict, passes, refused}
+use Rattle.sound_lemmas.proofs.StatementSteps.{in_block_of}
+use Rattle.sound_lemmas.proofs.BodyRules.{MethodChecking, start_in, fresh_start}
+use Rattle.sound_lemmas.proofs.StatementRules.{InBlock}
 use Rattle.sound_lemmas.specs.Accepted.{IsAccepted}
 use Rattle.sound_lemmas.proofs.Lists.{ok_same, map_there}
 use Rattle.syntax_laws.specs.Written.{IsWritten}
@@ -70,7 +73,7 @@ all_covered L summary after none covered (uses k e ∷ E) done found = absurd (n
 record Passed (env : Env) (params : List Bool) (number : ℕ) (method : Method) (body : PlainBody) : Type 0 where
   made : List TypedStmt
   walk : Walk
-  block : InBlock params (method_around (has_value method.result)) (plain_stmts (map plain_stmt method.body)) (body_begun env number method) (passes made walk)
+  block : check_block params (method_around (has_value method.result)) (plain_stmts (map plain_stmt method.body)) (body_begun env number method) ≡ passes made walk
   is : typed_body made walk.env ≡ body
   ends : (has_value method.result && tree_completes.all_complete (plain_stmts (map plain_stmt method.body))) ≡ false
   covered : set_covers (summary_of (numbered (table_of env) number)) walk.found.effects ≡ true
@@ -90,7 +93,7 @@ no_faults f false false room h = cc
 passed_of : {env : Env} {params : List Bool} {number : ℕ} {method : Method} {body : PlainBody} → MethodChecking env params number method (Ok body) → Passed env params number method body
 passed_of {env} {params} {number} {method} {body} (MethodChecking.of_method {u = u} d j) = by u d j
   where
-    by : (v : Verdict (List TypedStmt)) → InBlock params (method_around (has_value method.result)) (plain_stmts (map plain_stmt method.body)) (body_begun env number method) v → method_judged env number method v ≡ Ok body →
+    by : (v : Verdict (List TypedStmt)) → check_block params (method_around (has_value method.result)) (plain_stmts (map plain_stmt method.body)) (body_begun env number method) ≡ v → method_judged env number method v ≡ Ok body →
         Passed env params number method body
     by (passes ss w) d is =
         let r = reported_none (method_reported env number method w.found.effects) (typed_body ss w.env) body is in
@@ -113,7 +116,7 @@ no_part class m (suc i) t a h = let w = map_there variable (slice_get m.formals 
 module _ (program : Program) (table : Table) (bodies : List PlainBody) (written : IsWritten program) (accepted : IsAccepted program table bodies) (tells : Tells (made_of program table bodies) table (never_forks table))
     (supers : SupersAgree (made_of program table bodies) (supers_of table)) (signed : Signed (made_of program table bodies)) (forks : ForksAreReported)
   where
-    body_passes : (n : ℕ) (one : PlainMember) (class : PlainClass) (k : IsMember program table accepted.checked.start n one class) →
+    body_passes : (n : ℕ) (one : PlainMember) (class : PlainClass) (k : IsMember program table (start_in program table) n one class) →
         GoodBody (made_of program table bodies) (never_forks table) n (member_of k.row k.body) class
     body_passes n one class k = record {
       room = (let more = walked.kept.slots in let begun = ready.1 in let rows = length-map k.row.params plain_type in let slots = slots_so in omega (arith, more, begun, slots, rows));
@@ -127,7 +130,7 @@ module _ (program : Program) (table : Table) (bodies : List PlainBody) (written 
         P = made_of program table bodies
 
         start : Env
-        start = accepted.checked.start
+        start = start_in program table
 
         m : PlainMember
         m = member_of k.row k.body
@@ -154,7 +157,7 @@ module _ (program : Program) (table : Table) (bodies : List PlainBody) (written 
         ready = ready_begun program table bodies accepted tells supers n one class k p.room
 
         walked : Blocked all begin p.made p.walk
-        walked = block_walked ready.0.step p.block
+        walked = block_walked ready.0.step (in_block_of p.block)
 
         slots_so : p.walk.env.slots ≡ k.body.slots
         slots_so = ap (λ (z : PlainBody). z.slots) p.is
@@ -164,14 +167,14 @@ module _ (program : Program) (table : Table) (bodies : List PlainBody) (written 
 
         b : BlockPasses P L begin.found p.made p.walk.found
         b =
-            block_agrees P signed L params around (λ x. true) (λ x. true) begin ready.0 all k.written.numbers (λ x h. refl) (λ x h. refl) p.made p.walk p.block
+            block_agrees P signed L params around (λ x. true) (λ x. true) begin ready.0 all k.written.numbers (λ x h. refl) (λ x h. refl) p.made p.walk (in_block_of p.block)
             (record { slots = omega (arith, slots_so); regions = omega (arith, regions_so) })
             (nd_free_of p.walk.found.reaches_nd (is_forking table n)
-            (forks program table bodies written accepted start accepted.checked.fresh k.method n k.number k.stands params p.made p.walk p.block))
+            (forks program table bodies written accepted start (fresh_start program table) k.method n k.number k.stands params p.made p.walk p.block))
 
         covered : set_covers k.row.summary p.walk.found.effects ≡ true
         covered =
-            ap (λ o. set_covers (summary_of o) p.walk.found.effects) (sym (ap (λ (t : Table). numbered t n) accepted.checked.fresh.table_is ∙ k.row_there)) ∙ p.covered
+            ap (λ o. set_covers (summary_of o) p.walk.found.effects) (sym (ap (λ (t : Table). numbered t n) (fresh_start program table).table_is ∙ k.row_there)) ∙ p.covered
 
         by : (valued : Bool) → has_value k.method.result ≡ valued → (valued && tree_completes.all_complete all) ≡ false → (plain_type k.row.result ≡ void) ⊎ (all_complete k.body.stmts ≡ false)
         by true is h = inr (ap (λ (z : PlainBody). all_complete z.stmts) (sym p.is) ∙ walked.complete_so ∙ h)

@@ -33,7 +33,7 @@ use Rattle.body_exprs.specs.Env.{given_in, local_of, local_row, part_row, with_l
 use Rattle.body_exprs.specs.Typing.{Typing}
 use Rattle.body_check.specs.declared.leaving.Marks.TheVariants as marks
 use Rattle.body_check.specs.declared.node.Around.{Around}
-use Rattle.body_check.specs.Checking.{cut_type, cut_fault, Cutting, outer_part, parts_left}
+use Rattle.body_check.specs.Checking.{outer_part, parts_left}
 use Rattle.body_check.specs.Deciding.{whole_fault}
 use Rattle.body_check.specs.Gathering.{taken_in}
 use Rattle.body_check.specs.Gathering.{handed_on as hand_on}
@@ -41,6 +41,7 @@ use Rattle.body_check.specs.Keeping.{inside}
 use Rattle.body_check.specs.Leaving.{from_here}
 use Rattle.body_check.specs.Simple.{node_of}
 use Rattle.body_check.specs.Walks.{Walk, nothing_found}
+use Rattle.sound_lemmas.proofs.StatementRules.{cut_type, cut_fault, Cutting}
 use Rattle.sound_lemmas.proofs.Lists.{some_same}
 use Rattle.sound_bodies.specs.Gathered.{Gathers}
 use Rattle.sound_bodies.specs.Laws.{Stands}

@@ -26,12 +26,14 @@ use Rattle.body_exprs.specs.Answer.{Answer, gives, refused}
 use Rattle.body_exprs.specs.Env.{table_of, supers_of}
 use Rattle.body_exprs.specs.Typed.{type_in, is_int, is_boolean, FitsAs}
 use Rattle.body_exprs.specs.Typing.{Typing}
+use Rattle.body_exprs.proofs.Fitted.{fits_is}
 use Rattle.body_check.specs.declared.node.Around.{Around}
 use Rattle.body_check.specs.declared.node.Node.{Node}
-use Rattle.body_check.specs.Deciding.{is_misplaced, local_fault, Returned}
+use Rattle.body_check.specs.Deciding.{is_misplaced, local_fault, may_return}
 use Rattle.body_check.specs.Noting.{with_found, with_fault_if, fault_of}
-use Rattle.body_check.specs.Simple.{node_of, AssigningLocal, Performing, Returning, Printing, may_print, printed_form}
+use Rattle.body_check.specs.Simple.{node_of, may_print, printed_form}
 use Rattle.body_check.specs.Walks.{Walk, passes, judged, found_so}
+use Rattle.sound_lemmas.proofs.StatementRules.{AssigningLocal, Performing, Returning, Printing}
 use Rattle.sound_lemmas.proofs.Free.{noted_reported, not_false}
 use Rattle.sound_lemmas.proofs.Rules.{leaf_typed, CallOf, Call, CreationOf, Creation, Rules, rules}
 use Rattle.sound_bodies.specs.Laws.{Stands, Passing}
@@ -148,7 +150,7 @@ module _ (P : PlainProgram) (L : Scope) (w : Walk) (may_read may_assign : ℕ �
     pub printing : (node : Node) (value : tree.PlainExpr) (u : Walk) (s : TypedStmt) → Fitting value → Reads value → Printing node value w (passes s u) → Passing P L w.found s u.found
     printing node value u s fits all (Printing.printed {t = t} {g = g} d j) =
         let r = judged_passes _ (statement node.place (printed_form (node_of value t))) s (found_so w g) u j in
-        let may = not_false (may_print (type_in t)) (free_if node kind.Type (not (may_print (type_in t))) r.0).1 in
+        let may = not_false (may_print (type_in t)) (free_if node _ (not (may_print (type_in t))) r.0).1 in
         with_value value g t s u fits all d r.2 (λ e is stands.
         passing_on w.found g e s stands
         (λ E h. subst (λ z. Passes P L z E) (ap (λ z. statement node.place (printed_form (node_of value z))) (sym is) ∙ r.1)
@@ -174,14 +176,14 @@ module _ (P : PlainProgram) (L : Scope) (w : Walk) (may_read may_assign : ℕ �
         (λ E h. subst (λ z. Passes P L z E) (ap (λ z. statement target.place (stmt.store row.slot (node_of value z))) (sym is) ∙ r.1)
         (Passes.store (variable_slot (may_read target.name) (may_assign target.name) row (L.local row.slot) (sees.locals target.name row l) q.1 may) h
         (fits_subtype P (supers_of w.env) sees.supers (type_of e) (plain_type row.ty) (sees.declared target.name row l q.1)
-        (subst (λ z. FitsAs (supers_of w.env) (type_in z) (plain_type row.ty)) is (fits_so.0 q.0))))))
+        (subst (λ z. FitsAs (supers_of w.env) (type_in z) (plain_type row.ty)) is ((fits_is (supers_of w.env) (type_in t) (plain_type row.ty)).0 (fits_so ∙ q.0)))))))
 
     pub returning : (around : Around) (node : Node) (value : tree.PlainExpr) (u : Walk) (s : TypedStmt) → Fitting value → Reads value → Returns L w.env around →
         Returning around node value w (passes s u) → Passing P L w.found s u.found
     returning around node value u s fits all returns (Returning.returned {t = t} {g = g} {fit = fit} d fits_so j) =
         let r = judged_passes _ (statement node.place (stmt.return_value (node_of value t))) s (found_so w g) u j in
-        let first = free_if (with_fault_if node kind.Return (is_misplaced around true)) kind.Type (not fit) r.0 in
-        let placed = or_parts around.enclosed (not (same_bool true around.has_result)) (free_if node kind.Return (is_misplaced around true) first.0).1 in
+        let first = free_if (with_fault_if node kind.Return (is_misplaced around true)) _ (not fit) r.0 in
+        let placed = or_parts around.enclosed (not (same_bool true around.has_result)) (free_if node _ (is_misplaced around true) first.0).1 in
         let has = not_false (same_bool true around.has_result) placed.1 in
         let row = returns.value placed.0 has in
         with_value value g t s u fits all d r.2 (λ e is stands.
@@ -190,7 +192,9 @@ module _ (P : PlainProgram) (L : Scope) (w : Walk) (may_read may_assign : ℕ �
         (Passes.return_value row.2 h
         (fits_subtype P (supers_of w.env) sees.supers (type_of e) (plain_type row.0.result) row.3
         (subst (λ z. FitsAs (supers_of w.env) (type_in z) (plain_type row.0.result)) is
-        (right around.has_result (numbered (table_of w.env) w.env.method) row.0 has row.1 (fits_so.0 (not_false fit first.1))))))))
+        (right around.has_result (numbered (table_of w.env) w.env.method) row.0 has row.1 (fits_so ∙ not_false fit first.1)))))))
       where
-        right : (b : Bool) (o : Option MethodRow) (row : MethodRow) → b ≡ true → o ≡ Some row → Returned (supers_of w.env) b o (type_in t) → FitsAs (supers_of w.env) (type_in t) (plain_type row.result)
-        right b o row at is h = subst (λ z. Returned (supers_of w.env) true z (type_in t)) is (subst (λ z. Returned (supers_of w.env) z o (type_in t)) at h)
+        right : (b : Bool) (o : Option MethodRow) (row : MethodRow) → b ≡ true → o ≡ Some row → may_return (supers_of w.env) b o (type_in t) ≡ true → FitsAs (supers_of w.env) (type_in t) (plain_type row.result)
+        right b o row at is h =
+            (fits_is (supers_of w.env) (type_in t) (plain_type row.result)).0
+            (subst (λ z. may_return (supers_of w.env) true z (type_in t) ≡ true) is (subst (λ z. may_return (supers_of w.env) z o (type_in t) ≡ true) at h))

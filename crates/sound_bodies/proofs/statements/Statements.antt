@@ -23,16 +23,18 @@ use Rattle.body_exprs.specs.Answer.{gives}
 use Rattle.body_exprs.specs.Env.{supers_of, local_row, with_local}
 use Rattle.body_exprs.specs.Typed.{may_be, is_boolean, type_in, FitsAs}
 use Rattle.body_exprs.specs.Typing.{Typing}
+use Rattle.body_exprs.proofs.Fitted.{fits_is}
+use Rattle.body_check.specs.Checking.{own_block, own_scope}
 use Rattle.body_check.specs.declared.leaving.Leaving.{Leaving}
 use Rattle.body_check.specs.declared.leaving.Marks.TheVariants as marks
 use Rattle.body_check.specs.declared.node.Around.{Around}
 use Rattle.body_check.specs.declared.node.Node.{Node}
-use Rattle.body_check.specs.Checking.{block_left}
 use Rattle.body_check.specs.Completes as tree_completes
 use Rattle.body_check.specs.Gathering.{entered, taken_in}
 use Rattle.body_check.specs.Leaving.{from_here}
-use Rattle.body_check.specs.Simple.{declared_type, declaration_noted, node_of, Declaring}
-use Rattle.body_check.specs.Walks.{Walk, Verdict, passes, refused, found_so, apart_from, left_scope, following}
+use Rattle.body_check.specs.Simple.{declared_type, declaration_noted, node_of}
+use Rattle.body_check.specs.Walks.{Walk, Verdict, passes, refused, found_so, apart_from}
+use Rattle.sound_lemmas.proofs.StatementRules.{Declaring, following}
 use Rattle.sound_lemmas.proofs.Bodies.{free_if}
 use Rattle.sound_lemmas.proofs.Free.{not_false}
 use Rattle.sound_bodies.specs.Gathered.{Gathers}
@@ -188,12 +190,11 @@ module _ (P : PlainProgram) (signed : Signed P)
     pub declaring_goes : (L : Scope) (params : List Bool) (around : Around) (reads assigns : ℕ → Bool) {node : Node} {is_final : Bool} {tree_type : _} {name : ℕ} {value : PlainExpr} {w : Walk} {v : Verdict TypedStmt} →
         Ready P L w.env params around reads assigns → StmtFormFitting (tree.declare is_final tree_type name value) → ((x : ℕ) → IsTrue (stmt_form_reads x (tree.declare is_final tree_type name value)) → IsTrue (reads x)) →
         Declaring node is_final tree_type name value w v → If (Goes L params around reads assigns (tree.declare is_final tree_type name value) w) v
-    declaring_goes L params around reads assigns ready fits all (Declaring.type_refused reported) = tt
-    declaring_goes L params around reads assigns ready fits all (Declaring.value_refused unreported d) = tt
+    declaring_goes L params around reads assigns ready fits all Declaring.is_refused = tt
     declaring_goes L params around reads assigns {node} {is_final} {tree_type} {name} {value} {w} ready fits all (Declaring.declared {t = t} {g = g} {fit = fit} made unreported same d fit_is j) =
         subst (If (Goes L params around reads assigns (tree.declare is_final tree_type name value) w)) j
         (judged_if (Goes L params around reads assigns (tree.declare is_final tree_type name value) w) _ _ _ (λ free.
-        let f = free_if (declaration_noted w.env name node.place node) kind.Type (not fit) free in
+        let f = free_if (declaration_noted w.env name node.place node) _ (not fit) free in
         let has_one = room_free w.env name node.place node f.0 in
         subst (λ (z : Env). Goes L params around reads assigns (tree.declare is_final tree_type name value) w
         (statement node.place (typed.declare w.env.slots (declared_type w.env tree_type) is_final (node_of value t))) (record { env = z; found = g }))
@@ -235,7 +236,7 @@ module _ (P : PlainProgram) (signed : Signed P)
                 AllPass.declare (free, (let k = room.slots in omega (arith, k))) good
                 (subst (λ z. Has P L z x.2.effects) (sym (ap (node_of value) x.1)) (x.2.has nd_free))
                 (subst (λ z. Subtype P (type_of z) T) (sym (ap (node_of value) x.1))
-                (fits_subtype P (supers_of w.env) ready.sees.supers (type_of x.0) T (good_stands P L 0 T good) (subst (λ z. FitsAs (supers_of w.env) (type_in z) T) x.1 (fit_is.0 fit_so)))) rest;
+                (fits_subtype P (supers_of w.env) ready.sees.supers (type_of x.0) T (good_stands P L 0 T good) (subst (λ z. FitsAs (supers_of w.env) (type_in z) T) x.1 ((fits_is (supers_of w.env) (type_in t) T).0 (fit_is ∙ fit_so))))) rest;
             leaves = λ D raw. left_stepped n w.env.declared (Later (IsIndex (in_scope n (declared_as is_final T) L)) (n + 1)) (Later (IsRegion L) w.env.declared) (in_scope n (declared_as is_final T) L)
                 (λ k u a h. path_stays L n (free_none L n free) a (ready.locals k (part u a) (part_parts P signed n (declared_as is_final T) L (declared_no_part P signed is_final T) k u a h)).0) D raw;
             raws = λ D raw. all_raw_before L (in_scope n (declared_as is_final T) L) n w.env.declared (n + 1) w.env.declared
@@ -256,7 +257,7 @@ module _ (P : PlainProgram) (signed : Signed P)
 
     -- what holds after the parts of a statement
 
-    pub scope_if : (L : Scope) (params : List Bool) (around : Around) (reads assigns : ℕ → Bool) (f : tree.StmtForm) (w : Walk) (v : Verdict TypedStmt) → If (Goes L params around reads assigns f w) v → If (ScopeGoes L w) (left_scope w v)
+    pub scope_if : (L : Scope) (params : List Bool) (around : Around) (reads assigns : ℕ → Bool) (f : tree.StmtForm) (w : Walk) (v : Verdict TypedStmt) → If (Goes L params around reads assigns f w) v → If (ScopeGoes L w) (own_scope w v)
     scope_if L params around reads assigns f w (passes made u) h = record { nd_free = h.nd_free; goes = λ room nd_free. by (h.on (record { slots = room.slots; regions = room.regions }) nd_free) }
       where
         by : On L h.scope w made u → (E : List Done) × AllPass P L (typed.more_stmts made typed.no_stmts) E × Gathers w.found E u.found
@@ -266,7 +267,7 @@ module _ (P : PlainProgram) (signed : Signed P)
     nd_before : (a b : Bool) → (a || b) ≡ false → (a ≡ false) × (b ≡ false)
     nd_before a b h = or_parts a b h
 
-    pub block_if : (L : Scope) (w : Walk) (v : Verdict (List TypedStmt)) → If (OrderGoes L (apart_from w)) v → If (BlockGoes L w) (block_left w v)
+    pub block_if : (L : Scope) (w : Walk) (v : Verdict (List TypedStmt)) → If (OrderGoes L (apart_from w)) v → If (BlockGoes L w) (own_block w v)
     block_if L w (passes made u) h = record {
       nd_free = λ z. (nd_before w.found.reaches_nd u.found.reaches_nd z).0;
       goes = λ room nd_free.

@@ -35,9 +35,11 @@ use Rattle.body_exprs.specs.Fields.{PlainField as SeenField}
 use Rattle.body_exprs.specs.Partial.{mentions_partial}
 use Rattle.body_exprs.specs.Targeting.{to_element, PlainTarget, with_write, TargetAnswer, aims, misses, aimed, in_field, field_target, in_array, in_element, element_target, in_part_element, part_target, Targeting}
 use Rattle.body_exprs.specs.Typed.{type_in, is_int, FitsAs}
+use Rattle.body_exprs.proofs.Fitted.{fits_is}
 use Rattle.body_check.specs.declared.node.Node.{Node}
-use Rattle.body_check.specs.Simple.{node_of, place_of, stored, target_fault, AssigningPlace}
+use Rattle.body_check.specs.Simple.{node_of, place_of, stored, target_fault}
 use Rattle.body_check.specs.Walks.{Walk, passes, found_so}
+use Rattle.sound_lemmas.proofs.StatementRules.{AssigningPlace}
 use Rattle.sound_lemmas.proofs.Rules.{TargetRules, target_rules}
 use Rattle.sound_bodies.specs.Gathered.{Gathers}
 use Rattle.sound_bodies.specs.Laws.{Stands, Passing}
@@ -220,7 +222,7 @@ module _ (P : PlainProgram) (L : Scope) (w : Walk) (may_read may_assign : ℕ �
           effects = a.effects ++ (x.2.effects ++ a.access ∷ []);
           does_so = λ c.
               let nd_free : IsTrue L.nd_free → h.reaches_nd ≡ false = λ z. sym (a.still h) ∙ c z in
-              a.stores (place_of target) x.0 x.2.effects (λ z. x.2.nd_free (nd_free z)) q.1 (x.2.has nd_free) (subst (λ z. FitsAs (supers_of env) (type_in z) aim.ty) x.1 (fits_so.0 q.0));
+              a.stores (place_of target) x.0 x.2.effects (λ z. x.2.nd_free (nd_free z)) q.1 (x.2.has nd_free) (subst (λ z. FitsAs (supers_of env) (type_in z) aim.ty) x.1 ((fits_is (supers_of env) (type_in t) aim.ty).0 (fits_so ∙ q.0)));
           gathers = then_gathered w.found g (with_write h aim) a.effects (x.2.effects ++ a.access ∷ []) a.gathers (then_gathered g h (with_write h aim) x.2.effects (a.access ∷ []) x.2.gathers (a.wrote h));
           nd_free = λ z. a.nd_free (x.2.nd_free (sym (a.still h) ∙ z));
         }))

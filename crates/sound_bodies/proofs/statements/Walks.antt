@@ -6,7 +6,6 @@ use Rattle.lang_base.specs.declared.place.Place.{Place}
 use Rattle.lang_base.specs.declared.refusal.Kind.TheVariants as kind
 use Rattle.lang_base.specs.declared.refusal.Refusal.{Refusal}
 use Rattle.lang_base.specs.declared.ty.Ty.{Ty}
-use Rattle.body_locals.specs.declared.branch.Touched.{Touched}
 use Rattle.body_locals.specs.Touches.{stmt_assigns, stmt_form_assigns, stmts_assign, branches_assign, declares}
 use Rattle.syntax_tree.specs.declared.region.Named.{Named}
 use Rattle.syntax_tree.specs.Plain.{PlainExpr, PlainStmt, PlainStmts}
@@ -21,14 +20,17 @@ use Rattle.body_exprs.specs.Env.{local_of, left_to, mark_of}
 use Rattle.body_exprs.specs.Typed.{may_be, is_int, is_boolean, is_value, type_in}
 use Rattle.body_check.specs.declared.node.Around.{Around}
 use Rattle.body_check.specs.declared.node.Node.{Node}
-use Rattle.body_check.specs.Checking.{gathers, block_left, branch_of, variable_declared, variable_noted, parts_declared, Opened, opened, not_opened, Opening, BranchesVerdict, all_pass, one_refused, after_branch, Checking, Choosing, InOther, Standing, standing, InScope, in_scope, InBlock, in_block, InOrder, Branching, Forking, Iterating, Parting}
+use Rattle.body_check.specs.Checking.{own_block, own_scope, gathers, branch_of, variable_declared, variable_noted, parts_declared}
 use Rattle.body_check.specs.Completes as tree_completes
 use Rattle.body_check.specs.Deciding.{is_misplaced, local_fault, marks_after}
 use Rattle.body_check.specs.Gathering.{with_uses, taken_in}
 use Rattle.body_check.specs.Leaving.{from_here}
 use Rattle.body_check.specs.Noting.{with_found, with_fault_if, node_at, fault_of}
-use Rattle.body_check.specs.Simple.{place_of, node_of, declaration_noted, stored, target_fault, printed_form, may_print, Declaring, AssigningLocal, AssigningPlace, Performing, Returning, Printing}
-use Rattle.body_check.specs.Walks.{Walk, Verdict, passes, refused, left_scope, judged, following}
+use Rattle.body_check.specs.Simple.{place_of, node_of, declaration_noted, stored, target_fault, printed_form, may_print}
+use Rattle.body_check.specs.Touching.{assigns_outer, some_disturb}
+use Rattle.body_check.proofs.Touched.{assigns_some}
+use Rattle.body_check.specs.Walks.{Walk, Verdict, passes, refused, judged}
+use Rattle.sound_lemmas.proofs.StatementRules.{Opened, opened, not_opened, Opening, BranchesVerdict, all_pass, one_refused, after_branch, Checking, Choosing, InOther, Standing, standing, InScope, in_scope, InBlock, in_block, InOrder, Branching, Forking, Iterating, Parting, Declaring, AssigningLocal, AssigningPlace, Performing, Returning, Printing, following}
 use Rattle.body_exprs.specs.Targeting.{PlainSpot, to_field, to_element, to_part}
 use Rattle.sound_lemmas.proofs.Bodies.{free_if, free_found, declared_free, parts_free, regions_free, follows_none}
 use Rattle.sound_bodies.specs.Seen.{InStep}
@@ -122,7 +124,7 @@ OtherDone None w (Some made) u = ⊥
 OtherDone (Some s) w None u = ⊥
 
 abbrev pub BranchesDone : PlainStmts → Walk → BranchesVerdict → Type 0
-BranchesDone all w (all_pass effects touched made u) = Kept w.env u.env × ((x : ℕ) → IsTrue (branches_assign x all) → NonFinal w.env x)
+BranchesDone all w (all_pass effects made u) = Kept w.env u.env × ((x : ℕ) → IsTrue (branches_assign x all) → NonFinal w.env x)
 BranchesDone all w (one_refused refusal) = Unit {0}
 
 no_case : {X : Type 0} → IsTrue false → X
@@ -152,12 +154,11 @@ kept_stands (tree.atomic all) place node w made u step h = record { complete_so 
 
 walked_declaring : {node : Node} {is_final : Bool} {ty : _} {name : ℕ} {value : PlainExpr} {w : Walk} {v : Verdict TypedStmt} → InStep w.env → Declaring node is_final ty name value w v →
     If (Walked node (tree.declare is_final ty name value) w) v
-walked_declaring step (Declaring.type_refused reported) = tt
-walked_declaring step (Declaring.value_refused unreported d) = tt
+walked_declaring step Declaring.is_refused = tt
 walked_declaring {node} {is_final} {ty} {name} {value} {w} step (Declaring.declared {t = t} {g = g} {fit = fit} made unreported same d fits j) =
     subst (If (Walked node (tree.declare is_final ty name value) w)) j
     (judged_if (Walked node (tree.declare is_final ty name value) w) _ _ _ (λ free. record {
-      free = declared_free w.env name node.place node (free_if (declaration_noted w.env name node.place node) kind.Type (not fit) free).0;
+      free = declared_free w.env name node.place node (free_if (declaration_noted w.env name node.place node) _ (not fit) free).0;
       complete_so = refl;
       env = (grown_local w.env name made is_final, step_local w.env name made is_final step, λ x other. local_other w.env name made is_final x step other);
       assigned = λ x h. no_case h;
@@ -169,8 +170,7 @@ local_fits true false h = (refl, refl)
 local_fits false is_final h = cc
 
 walked_assigning : {node : Node} {target : Named} {value : PlainExpr} {w : Walk} {v : Verdict TypedStmt} → AssigningLocal node target value w v → If (Walked node (tree.assign_local target value) w) v
-walked_assigning (AssigningLocal.value_refused d) = tt
-walked_assigning (AssigningLocal.no_local d is reported) = tt
+walked_assigning AssigningLocal.is_refused = tt
 walked_assigning {node} {target} {value} {w} (AssigningLocal.assigned {row = row} {fit = fit} d is fits j) =
     subst (If (Walked node (tree.assign_local target value) w)) j
     (judged_if (Walked node (tree.assign_local target value) w) _ _ _ (λ free.
@@ -194,12 +194,11 @@ pub record Elsewhere (f : tree.StmtForm) : Type 0 where
   pub kept : (a b : Env) → Kept a b → After f a b
 
 walked_placing : (f : tree.StmtForm) → Elsewhere f → {node : Node} {target value : PlainExpr} {w : Walk} {v : Verdict TypedStmt} → AssigningPlace node target value w v → If (Walked node f w) v
-walked_placing f e (AssigningPlace.target_refused d) = tt
-walked_placing f e (AssigningPlace.value_refused d i) = tt
+walked_placing f e AssigningPlace.is_refused = tt
 walked_placing f e {node} {target} {value} {w} (AssigningPlace.anything_assigned {t = t} d i j) =
     subst (If (Walked node f w)) j
     (judged_if (Walked node f w) _ _ _ (λ free. record {
-      free = (free_if node kind.Type (not (may_be is_value (type_in t))) free).0;
+      free = (free_if node _ (not (may_be is_value (type_in t))) free).0;
       complete_so = sym e.completes_so;
       env = e.kept w.env w.env (kept_same w.env);
       assigned = λ x h. absurd (e.none x h);
@@ -265,11 +264,11 @@ chosen_of place node test first (Some s) w x u made (Some second) free a o = rec
 chosen_of place node test first None w x u made (Some second) free a o = absurd o
 chosen_of place node test first (Some s) w x u made None free a o = absurd o
 
-scope_done : (s : PlainStmt) (before : Walk) (u : Verdict TypedStmt) → InStep before.env → If (Stood s before) u → If (Scoped s before) (left_scope before u)
+scope_done : (s : PlainStmt) (before : Walk) (u : Verdict TypedStmt) → InStep before.env → If (Stood s before) u → If (Scoped s before) (own_scope before u)
 scope_done s before (passes made w) step h = record { complete_so = h.complete_so; kept = kept_left before.env w.env step h.grown; assigned = h.assigned }
 scope_done s before (refused refusal) step h = tt
 
-block_done : (all : PlainStmts) (before begun : Walk) (u : Verdict (List TypedStmt)) → begun.env ≡ before.env → InStep before.env → If (Ordered true all begun) u → If (Blocked all before) (block_left before u)
+block_done : (all : PlainStmts) (before begun : Walk) (u : Verdict (List TypedStmt)) → begun.env ≡ before.env → InStep before.env → If (Ordered true all begun) u → If (Blocked all before) (own_block before u)
 block_done all before begun (passes made w) same step h = record {
   complete_so = h.complete_so;
   kept = kept_left before.env w.env step (subst (λ z. Grown z w.env) same h.grown);
@@ -297,15 +296,15 @@ order_done before s ss w u z made others begun first rest = record {
       (or_true (stmt_assigns x s) (not (declares x s) && stmts_assign x ss) h);
 }
 
-branch_done : (s : PlainStmt) (ss : PlainStmts) (w u g : Walk) (es : List Effect) (touched : Touched) (env : Env) (made : TypedStmt) (v : BranchesVerdict) → g.env ≡ u.env → Scoped s w made u → BranchesDone ss g v →
-    BranchesDone (tree.more_stmts s ss) w (after_branch es touched (branch_of env touched made) v)
-branch_done s ss w u g es touched env made (all_pass effects all branches z) same first rest =
+branch_done : (s : PlainStmt) (ss : PlainStmts) (w u g : Walk) (es : List Effect) (env : Env) (made : TypedStmt) (v : BranchesVerdict) → g.env ≡ u.env → Scoped s w made u → BranchesDone ss g v →
+    BranchesDone (tree.more_stmts s ss) w (after_branch es (branch_of env s made) v)
+branch_done s ss w u g es env made (all_pass effects branches z) same first rest =
     let later : Kept u.env z.env = subst (λ e. Kept e z.env) same rest.0 in (
       kept_then w.env u.env z.env first.kept later,
       λ x h. ⊎_elim (λ t. first.assigned x t)
           (λ t. non_final_by u.env w.env x (kept_local w.env u.env x first.kept) (subst (λ e. NonFinal e x) same (rest.1 x t))) (or_true (stmt_assigns x s) (branches_assign x ss) h),
     )
-branch_done s ss w u g es touched env made (one_refused refusal) same first rest = tt
+branch_done s ss w u g es env made (one_refused refusal) same first rest = tt
 
 -- the scope of the body of a `foreach_parts`
 pub record PartsOpened (node : Node) (view var : Named) (w : Walk) (noted : Node) (x : Walk) : Type 0 where
@@ -318,14 +317,12 @@ OpenedSo node view var w (opened source size noted x) = PartsOpened node view va
 OpenedSo node view var w (not_opened refusal) = Unit {0}
 
 pub opening_done : {node : Node} {view var : Named} {array count : PlainExpr} {w : Walk} {o : Opened} → Opening node view var array count w o → OpenedSo node view var w o
-opening_done (Opening.array_refused l d) = tt
-opening_done (Opening.count_refused c d) = tt
 opening_done {node} {view} {var} {array} {count} {w} (Opening.both_given t {fault = found} {u = u} c d) = record {
   ty = t;
   env_is = refl;
   free = λ none.
       let f = parts_free w.env view var t (with_fault_if (with_found node found) kind.Type (not (may_be is_int (type_in u)))) none in
-      (free_found node found (free_if (with_found node found) kind.Type (not (may_be is_int (type_in u))) f).0).0;
+      (free_found node found (free_if (with_found node found) _ (not (may_be is_int (type_in u))) f).0).0;
 }
 
 -- what goes on after a piece with its own node
@@ -353,32 +350,32 @@ mutual
   checking_walked step (Checking.of_local_assignment d) = walked_assigning d
   checking_walked step (Checking.of_field_assignment {target = target} {value = value} d) = walked_placing (tree.assign_field target value) (record { none = λ x h. no_case h; completes_so = refl; kept = λ a b k. k }) d
   checking_walked step (Checking.of_element_assignment {target = target} {value = value} d) = walked_placing (tree.assign_element target value) (record { none = λ x h. no_case h; completes_so = refl; kept = λ a b k. k }) d
-  checking_walked step (Checking.of_call (Performing.refused_itself d)) = tt
+  checking_walked step (Checking.of_call Performing.is_refused) = tt
   checking_walked {node = node} {w = w} step (Checking.of_call {value = value} (Performing.performed {t = t} d j)) =
       subst (If (Walked node (tree.perform value) w)) j
       (judged_if (Walked node (tree.perform value) w) _ _ _ (λ free. record { free = free; complete_so = refl; env = kept_same w.env; assigned = λ x h. no_case h }))
   checking_walked {around = around} {node = node} {w = w} step (Checking.of_return j) =
       subst (If (Walked node tree.return_nothing w)) j
       (judged_if (Walked node tree.return_nothing w) _ _ _ (λ free. record {
-        free = (free_if node kind.Return (is_misplaced around false) free).0;
+        free = (free_if node _ (is_misplaced around false) free).0;
         complete_so = refl;
         env = kept_same w.env;
         assigned = λ x h. no_case h;
       }))
-  checking_walked step (Checking.of_return_value (Returning.value_refused d)) = tt
+  checking_walked step (Checking.of_return_value Returning.is_refused) = tt
   checking_walked {around = around} {node = node} {w = w} step (Checking.of_return_value {value = value} (Returning.returned {fit = fit} d fits j)) =
       subst (If (Walked node (tree.return_value value) w)) j
       (judged_if (Walked node (tree.return_value value) w) _ _ _ (λ free. record {
-        free = (free_if node kind.Return (is_misplaced around true) (free_if (with_fault_if node kind.Return (is_misplaced around true)) kind.Type (not fit) free).0).0;
+        free = (free_if node _ (is_misplaced around true) (free_if (with_fault_if node kind.Return (is_misplaced around true)) _ (not fit) free).0).0;
         complete_so = refl;
         env = kept_same w.env;
         assigned = λ x h. no_case h;
       }))
-  checking_walked step (Checking.of_print (Printing.value_refused d)) = tt
+  checking_walked step (Checking.of_print Printing.is_refused) = tt
   checking_walked {node = node} {w = w} step (Checking.of_print {value = value} (Printing.printed {t = t} d j)) =
       subst (If (Walked node (tree.print value) w)) j
       (judged_if (Walked node (tree.print value) w) _ _ _ (λ free. record {
-        free = (free_if node kind.Type (not (may_print (type_in t))) free).0;
+        free = (free_if node _ (not (may_print (type_in t))) free).0;
         complete_so = printed_completes node.place (node_of value t);
         env = kept_same w.env;
         assigned = λ x h. no_case h;
@@ -407,36 +404,32 @@ mutual
       chosen_so : (x : Verdict TypedStmt) → If (Chosen node first (Some second) w) x → If (Walked node (tree.choice_else test first second) w) x
       chosen_so (passes made u) h = record { free = h.free; complete_so = h.complete_so; env = h.kept; assigned = h.assigned }
       chosen_so (refused refusal) h = tt
-  checking_walked step (Checking.while_refused d) = tt
+  checking_walked step Checking.is_refused = tt
   checking_walked {node = node} {w = w} step (Checking.of_while {test = test} {body = body} {t = t} {g = g} {u = u} d i j) =
       subst (If (Walked node (tree.while_loop test body) w)) j
       (after_if (Scoped body w) (Walked node (tree.while_loop test body) w) (fault_of (with_fault_if node kind.Type (not (may_be is_boolean (type_in t)))))
       (λ s. statement node.place (typed.while_loop (node_of test t) s)) u (scope_found w body u g (scope_walked step i))
-      (λ made x free h. record { free = (free_if node kind.Type (not (may_be is_boolean (type_in t))) free).0; complete_so = refl; env = h.kept; assigned = h.assigned }))
+      (λ made x free h. record { free = (free_if node _ (not (may_be is_boolean (type_in t))) free).0; complete_so = refl; env = h.kept; assigned = h.assigned }))
   checking_walked step (Checking.of_cobegin d) = forking_walked step d
-  checking_walked step (Checking.start_refused d) = tt
-  checking_walked step (Checking.count_refused d i) = tt
   checking_walked {node = node} {w = w} {v = v} step (Checking.of_foreach {nd = nd} {var = var} {start = start} {count = count} {body = body} {t = t} {u = u} d i n) =
       noted_of (tree.foreach nd var start count body) node _ w v
-      (λ free. (free_if node kind.Type (not (may_be is_int (type_in t))) (free_if (with_fault_if node kind.Type (not (may_be is_int (type_in t)))) kind.Type (not (may_be is_int (type_in u))) free).0).0)
+      (λ free. (free_if node _ (not (may_be is_int (type_in t))) (free_if (with_fault_if node kind.Type (not (may_be is_int (type_in t)))) kind.Type (not (may_be is_int (type_in u))) free).0).0)
       (iterating_walked start count w refl step n)
   checking_walked step (Checking.of_parts d) = parting_walked step d
-  checking_walked step (Checking.block_refused d) = tt
   checking_walked {node = node} {w = w} step (Checking.of_atomic {all = all} {u = u} d j) =
       let h = block_walked step d in
       subst (If (Walked node (tree.atomic all) w)) j
-      (judged_if (Walked node (tree.atomic all) w) _ _ _ (λ free. record { free = (free_if node kind.AtomicBody u.found.reaches_nd free).0; complete_so = refl; env = h.kept; assigned = h.assigned }))
+      (judged_if (Walked node (tree.atomic all) w) _ _ _ (λ free. record { free = (free_if node _ u.found.reaches_nd free).0; complete_so = refl; env = h.kept; assigned = h.assigned }))
 
   choosing_walked : {params : List Bool} {around : Around} {node : Node} {test : PlainExpr} {first : PlainStmt} {other : Option PlainStmt} {w : Walk} {v : Verdict TypedStmt} → InStep w.env →
       Choosing params around node test first other w v → If (Chosen node first other w) v
-  choosing_walked step (Choosing.test_refused d) = tt
-  choosing_walked step (Choosing.first_refused d i) = tt
+  choosing_walked step Choosing.choice_refused = tt
   choosing_walked {node = node} {test = test} {first = first} {other = other} {w = w} step (Choosing.chosen {x = x} {t = t} {made = made} {u = u} d i n j) =
       let h = scope_walked step i in
       subst (If (Chosen node first other w)) j
       (after_if (OtherDone other x) (Chosen node first other w) (fault_of (with_fault_if node kind.Type (not (may_be is_boolean (type_in t)))))
       (λ part. statement node.place (choice_form (node_of test t) made part)) u (other_walked (kept_step w.env x.env h.kept step) n)
-      (λ part y free o. chosen_of node.place node (node_of test t) first other w x y made part (free_if node kind.Type (not (may_be is_boolean (type_in t))) free).0
+      (λ part y free o. chosen_of node.place node (node_of test t) first other w x y made part (free_if node _ (not (may_be is_boolean (type_in t))) free).0
       (record { complete_so = h.complete_so; kept = h.kept; assigned = h.assigned }) o))
 
   pub other_walked : {params : List Bool} {around : Around} {other : Option PlainStmt} {w : Walk} {v : Verdict (Option TypedStmt)} → InStep w.env → InOther params around other w v → If (OtherDone other w) v
@@ -456,7 +449,7 @@ mutual
 
   pub order_walked : {params : List Bool} {around : Around} {before : Bool} {ss : PlainStmts} {w : Walk} {v : Verdict (List TypedStmt)} → InStep w.env → InOrder params around before ss w v → If (Ordered before ss w) v
   order_walked {w = w} step InOrder.none_left = record { starts = inr refl; complete_so = refl; grown = grown_kept w.env w.env (kept_same w.env); assigned = λ x h. no_case h }
-  order_walked step (InOrder.statement_refused d) = tt
+  order_walked step InOrder.order_refused = tt
   order_walked {before = before} {w = w} step (InOrder.then_others {s = s} {ss = ss} {u = u} {made = made} {x = x} d rest j) =
       let first = standing_walked step d in
       subst (If (Ordered before (tree.more_stmts s ss) w)) j
@@ -465,29 +458,27 @@ mutual
 
   pub branching_walked : {params : List Bool} {around : Around} {nd : Bool} {ss : PlainStmts} {w : Walk} {v : BranchesVerdict} → InStep w.env → Branching params around nd ss w v → BranchesDone ss w v
   branching_walked {w = w} step Branching.no_branches = (kept_same w.env, λ x h. no_case h)
-  branching_walked step (Branching.branch_refused d) = tt
-  branching_walked {nd = nd} {w = w} step (Branching.then_branches {s = s} {ss = ss} {u = u} {touched = touched} {made = made} {v = v} d t rest j) =
+  branching_walked step Branching.branch_refused = tt
+  branching_walked {nd = nd} {w = w} step (Branching.then_branches {s = s} {ss = ss} {u = u} {made = made} {v = v} d rest j) =
       let first = scope_walked step d in
       subst (BranchesDone (tree.more_stmts s ss) w) j
-      (branch_done s ss w u (gathers (taken_in (from_here w.env (marks_after nd)) w.found u.found) u) (with_uses u.found.effects u.found.uses) touched w.env made v refl (record { complete_so = first.complete_so; kept = first.kept; assigned = first.assigned }) (branching_walked (kept_step w.env u.env first.kept step) rest))
+      (branch_done s ss w u (gathers (taken_in (from_here w.env (marks_after nd)) w.found u.found) u) (with_uses u.found.effects u.found.uses) w.env made v refl (record { complete_so = first.complete_so; kept = first.kept; assigned = first.assigned }) (branching_walked (kept_step w.env u.env first.kept step) rest))
 
   forking_walked : {params : List Bool} {around : Around} {node : Node} {nd : Bool} {branches : PlainStmts} {w : Walk} {v : Verdict TypedStmt} → InStep w.env → Forking params around node nd branches w v →
       If (Walked node (tree.cobegin nd branches) w) v
-  forking_walked step (Forking.some_refused d) = tt
-  forking_walked step (Forking.clashing effects touched clash d c reported) = tt
-  forking_walked {node = node} {nd = nd} {branches = branches} {w = w} step (Forking.forked effects touched clash apart d c free a j) =
+  forking_walked step Forking.fork_refused = tt
+  forking_walked {node = node} {nd = nd} {branches = branches} {w = w} step (Forking.forked effects d free j) =
       let h = branching_walked step d in
       subst (If (Walked node (tree.cobegin nd branches) w)) j
-      (judged_if (Walked node (tree.cobegin nd branches) w) _ _ _ (λ later. record { free = (free_if node kind.Assign clash free).0; complete_so = refl; env = h.0; assigned = h.1 }))
+      (judged_if (Walked node (tree.cobegin nd branches) w) _ _ _ (λ later. record { free = (free_if node _ (some_disturb branches) free).0; complete_so = refl; env = h.0; assigned = h.1 }))
 
   iterating_walked : {params : List Bool} {around : Around} {node : Node} {nd : Bool} {var : Named} {lowest size : TypedExpr} {body : PlainStmt} {w : Walk} {v : Verdict TypedStmt} (start count : PlainExpr) (before : Walk) →
       w.env ≡ before.env → InStep before.env → Iterating params around node nd var lowest size body w v → If (Walked node (tree.foreach nd var start count body) before) v
-  iterating_walked start count before same step (Iterating.iteration_refused d) = tt
-  iterating_walked start count before same step (Iterating.iteration_assigning assigns d a reported) = tt
-  iterating_walked {node = node} {nd = nd} {var = var} {body = body} {w = w} start count before same step (Iterating.iterated {u = u} assigns d a free j) =
+  iterating_walked start count before same step Iterating.iteration_refused = tt
+  iterating_walked {node = node} {nd = nd} {var = var} {body = body} {w = w} start count before same step (Iterating.iterated {u = u} place placed d free j) =
       let begun : InStep w.env = subst InStep (sym same) step in
       let h = scope_walked (step_local w.env var.name _ true begun) d in
-      let f = free_if (variable_noted w.env var node) kind.Assign assigns free in
+      let f = free_if (variable_noted w.env var node) _ (assigns_outer body) free in
       subst (If (Walked node (tree.foreach nd var start count body) before)) j
       (judged_if (Walked node (tree.foreach nd var start count body) before) _ _ _ (λ later. record {
         free = declared_free w.env var.name var.place node f.0;
@@ -496,19 +487,17 @@ mutual
             (kept_left w.env u.env begun (grown_then w.env (variable_declared w.env var) u.env (grown_local w.env var.name _ true) (grown_kept (variable_declared w.env var) u.env h.kept)));
         assigned = λ x t.
             let p = and_true (not (var.name == x)) (stmt_assigns x body) t in
-            absurd (false≢true (sym f.1 ∙ a.1 (x, p.1)));
+            absurd (false≢true (sym f.1 ∙ assigns_some body x p.1));
       }))
 
   parting_walked : {params : List Bool} {around : Around} {node : Node} {view var : Named} {array count : PlainExpr} {body : PlainStmt} {w : Walk} {v : Verdict TypedStmt} → InStep w.env →
       Parting params around node view var array count body w v → If (Walked node (tree.foreach_parts view var array count body) w) v
-  parting_walked step (Parting.range_refused o) = tt
-  parting_walked step (Parting.part_refused o d) = tt
-  parting_walked step (Parting.part_assigning assigns o d a reported) = tt
-  parting_walked {node = node} {view = view} {var = var} {array = array} {count = count} {body = body} {w = w} step (Parting.parted {x = x} {u = u} {noted = noted} assigns o d a free j) =
+  parting_walked step Parting.parting_refused = tt
+  parting_walked {node = node} {view = view} {var = var} {array = array} {count = count} {body = body} {w = w} step (Parting.parted {x = x} {u = u} {noted = noted} o d free j) =
       let p = opening_done o in
       let begun : InStep x.env = subst InStep (sym p.env_is) (step_parts w.env view var p.ty step) in
       let h = scope_walked begun d in
-      let f = free_if noted kind.Assign assigns free in
+      let f = free_if noted _ (assigns_outer body) free in
       let grown : Grown w.env x.env = subst (Grown w.env) (sym p.env_is) (grown_parts w.env view var p.ty) in
       subst (If (Walked node (tree.foreach_parts view var array count body) w)) j
       (judged_if (Walked node (tree.foreach_parts view var array count body) w) _ _ _ (λ later. record {
@@ -518,5 +507,5 @@ mutual
         assigned = λ n t.
             let q = and_true (not (view.name == n)) (not (var.name == n) && stmt_assigns n body) t in
             let r = and_true (not (var.name == n)) (stmt_assigns n body) q.1 in
-            absurd (false≢true (sym f.1 ∙ a.1 (n, r.1)));
+            absurd (false≢true (sym f.1 ∙ assigns_some body n r.1));
       }))

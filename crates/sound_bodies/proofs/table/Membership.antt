@@ -28,7 +28,8 @@ use Rattle.decl_classes.specs.Rows.{method_row, method_faults, all_constraint_fa
 use Rattle.decl_table.specs.Table.{headers_of, given_of, methods_of, numbered}
 use Rattle.body_exprs.specs.declared.env.Env.{Env}
 use Rattle.body_exprs.specs.Env.{table_of, at_class}
-use Rattle.body_check.specs.Methods.{MethodChecking, own_params, class_params}
+use Rattle.body_check.specs.Methods.{own_params, class_params}
+use Rattle.sound_lemmas.proofs.BodyRules.{MethodChecking, start_in, checks_in}
 use Rattle.sound_lemmas.specs.Accepted.{IsAccepted}
 use Rattle.sound_lemmas.proofs.Assembled.{is_member}
 use Rattle.sound_lemmas.proofs.Free.{none_reported, append_none}
@@ -68,7 +69,7 @@ params_mapped (Some header) = refl
 module _ (program : Program) (table : Table) (bodies : List PlainBody) (written : IsWritten program) (accepted : IsAccepted program table bodies)
   where
     abbrev start : Env
-    start = accepted.checked.start
+    start = start_in program table
 
     signatures_free : signature_faults (headers_of table) table.given 0 program.classes ≡ []
     signatures_free =
@@ -107,7 +108,7 @@ module _ (program : Program) (table : Table) (bodies : List PlainBody) (written 
         s =
             let none : 0 ≡ as_number 0 = refl in
             let on : n ≡ 0 + n = omega arith in
-            all_made start (headers_of table) table.given 0 none written.classes signatures_free accepted.checked.checks n n body on body_there
+            all_made start (headers_of table) table.given 0 none written.classes signatures_free (checks_in program table accepted.checked) n n body on body_there
 
         text_there : slice_get program.classes s.class ≡ Some s.text
         text_there = let at = s.class_at in let same : s.class_place ≡ s.class = omega (arith, at) in subst (λ k. slice_get program.classes k ≡ Some s.text) same s.class_there

@@ -21,7 +21,8 @@ use Rattle.decl_classes.specs.Rows.{method_row, method_faults, member_faults, ow
 use Rattle.body_assembly.specs.Assembled.{PlainBody}
 use Rattle.body_exprs.specs.declared.env.Env.{Env}
 use Rattle.body_exprs.specs.Env.{table_of, at_class}
-use Rattle.body_check.specs.Methods.{MethodChecking, is_method, MemberChecking, number_after, bodies_of, PlainBodies, after_bodies, after_ok, MembersChecking, own_params, class_params, ClassesChecking}
+use Rattle.body_check.specs.Methods.{number_after, bodies_of, PlainBodies, after_bodies, after_ok, own_params, class_params}
+use Rattle.sound_lemmas.proofs.BodyRules.{MethodChecking, is_method, MemberChecking, MembersChecking, ClassesChecking}
 use Rattle.decl_laws.proofs.Facts.{got_either}
 use Rattle.sound_lemmas.proofs.Free.{append_none}
 use Rattle.sound_lemmas.proofs.Lists.{some_same, got_first, got_later}
@@ -156,7 +157,7 @@ members_made : {env : Env} {params : List Bool} {ms : List Member} {number : ℕ
 members_made scope count is written free MembersChecking.no_members =
     let on : as_number count ≡ as_number (count + 0) = omega arith in
     record { next = is ∙ on; many = refl; each = λ i n body on e. cc }
-members_made scope count is written free (MembersChecking.one_refused d) = tt
+members_made scope count is written free MembersChecking.is_refused = tt
 members_made {env} {params} scope count is written free (MembersChecking.then_members {m = m} {ms = ms} {number = number} {made = made} {u = u} d rest j) =
     let f = append_none (member_faults scope m) (flat_map (member_faults scope) ms) free in
     subst (IfMade env params scope (m ∷ ms) count) j
@@ -245,7 +246,7 @@ module _ (start : Env) (headers : Headers) (all : List (List Constraint))
     pub all_made : {at number : ℕ} {classes : List Class} {r : Result (List PlainBody) Refusal} (count : ℕ) → number ≡ as_number count → All ClassIsWritten classes → signature_faults headers all at classes ≡ [] →
         ClassesChecking start at classes number r → AllMade start headers all classes at count r
     all_made count is written free ClassesChecking.no_classes = λ i n body on e. cc
-    all_made count is written free (ClassesChecking.member_refused d) = tt
+    all_made count is written free ClassesChecking.is_refused = tt
     all_made count is written free (ClassesChecking.then_classes {at = at} {class = class} {classes = classes} {made = made} {u = u} d rest j) =
         let scope = class_scope headers all (as_number at) in
         let f = append_none (class_faults scope class) (signature_faults headers all (at + 1) classes) free in

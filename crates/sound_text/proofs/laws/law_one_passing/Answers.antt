@@ -7,6 +7,6 @@ returns c = record {
   one = one_passing c.one_cutting.ensures c.one_program.ensures c.one_judgement.ensures;
   naming = one_naming c.one_cutting.ensures c.one_program.ensures c.one_judgement.ensures;
   verdict = one_verdict
-      (some_verdict c.law_each_text.ensures.some c.law_each_reading.ensures.some c.law_each_table.ensures.some c.law_each_judged.ensures.judged c.law_each_judged.ensures.keeps)
+      (some_verdict c.law_each_text.ensures.some c.law_each_reading.ensures.some c.law_each_table.ensures.some)
       c.one_cutting.ensures c.one_program.ensures c.one_refusal.ensures c.one_judgement.ensures;
 }

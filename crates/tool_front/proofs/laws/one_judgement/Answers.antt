@@ -3,8 +3,8 @@ use Rattle.tool_front.proofs.laws.one_judgement.Goals as goal
 
 pub returns : goal.returns
 returns c = record {
-  one_fault = fault-unique c.one_table.ensures c.one_fault.ensures c.one_checking.ensures;
-  one_program = program-unique c.one_table.ensures c.one_checking.ensures;
-  one_naming = names-unique c.one_table.ensures c.one_checking.ensures;
-  not_both = accepted-alone c.one_table.ensures c.one_fault.ensures c.one_checking.ensures;
+  one_fault = fault-unique c.one_table.ensures c.one_fault.ensures;
+  one_program = program-unique c.one_table.ensures;
+  one_naming = names-unique c.one_table.ensures;
+  not_both = accepted-alone c.one_table.ensures c.one_fault.ensures;
 }

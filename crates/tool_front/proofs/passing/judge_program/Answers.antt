@@ -37,7 +37,6 @@ returns-clause-accepted c = record {
   checked = c.in_ok-checked.ensures.checks;
   typed_so =
       ap (λ nd. program_of c.in_ok-table.table c.args.tree.names nd (map plain_body c.in_ok-checked.checked.bodies)) c.in_ok-checked.ensures.nd;
-  keeps = c.in_ok-checked.ensures.keeps;
 }
 
 pub returns-clause-named : goal.returns-clause-named
