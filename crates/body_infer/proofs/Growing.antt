@@ -138,9 +138,12 @@ mutual
   statement_less P Q L h (statement at (form.choice e s)) = both _ _ _ _ (done_less P Q L h e) (statement_less P Q L h s)
   statement_less P Q L h (statement at (form.choice_else e s t)) = both _ _ _ _ (done_less P Q L h e) (both _ _ _ _ (statement_less P Q L h s) (statement_less P Q L h t))
   statement_less P Q L h (statement at (form.while_loop e s)) = both _ _ _ _ (done_less P Q L h e) (statement_less P Q L h s)
+  statement_less P Q L h (statement at form.return_nothing) = tt
   statement_less P Q L h (statement at (form.return_value e)) = done_less P Q L h e
   statement_less P Q L h (statement at (form.print_int e)) = done_less P Q L h e
   statement_less P Q L h (statement at (form.print_boolean e)) = done_less P Q L h e
+  statement_less P Q L h (statement at (form.print_text text)) = tt
+  statement_less P Q L h (statement at (form.local_regions rs)) = tt
   statement_less P Q L h (statement at (form.atomic entry ss)) = marked_fewer true (effects_of_all P L ss) (effects_of_all Q L ss) (block_less P Q L h ss)
   statement_less P Q L h (statement at (form.cobegin forking bs)) = branches_less forking (effects_of_branches P L bs) (effects_of_branches Q L bs) (each_branch_less P Q L h bs)
   statement_less P Q L h (statement at (form.foreach forking x start count s)) =
@@ -152,7 +155,6 @@ mutual
       both _ _ _ _ (source_less P Q L h source) (both _ _ _ _ (done_less P Q L h count)
       (variable_less (k + 4) (after_branches Deterministic (after_parts k source (effects_of P K s))) (after_branches Deterministic (after_parts k source (effects_of Q K s)))
       (branches_less Deterministic (after_parts k source (effects_of P K s)) (after_parts k source (effects_of Q K s)) (parts_less k source (effects_of P K s) (effects_of Q K s) (statement_less P Q K h s)))))
-  statement_less P Q L h s = tt
 
   pub block_less : (P Q : PlainProgram) (L : Scope) → Grows P Q → (ss : TypedStmts) → Fewer Less (effects_of_all P L ss) (effects_of_all Q L ss)
   block_less P Q L h no_stmts = tt
@@ -160,7 +162,24 @@ mutual
       let K = with_local x (declared_as is_final t) L in
       both _ _ _ _ (done_less P Q L h e) (variable_less x (effects_of_all P K ss) (effects_of_all Q K ss) (block_less P Q K h ss))
   block_less P Q L h (more_stmts (statement at (form.local_regions rs)) ss) = regions_less rs (effects_of_all P L ss) (effects_of_all Q L ss) (block_less P Q L h ss)
-  block_less P Q L h (more_stmts s ss) = both _ _ _ _ (statement_less P Q L h s) (block_less P Q L h ss)
+  block_less P Q L h (more_stmts (statement at (form.store x e)) ss) = both _ _ _ _ (statement_less P Q L h (statement at (form.store x e))) (block_less P Q L h ss)
+  block_less P Q L h (more_stmts (statement at (form.store_field o c k e)) ss) = both _ _ _ _ (statement_less P Q L h (statement at (form.store_field o c k e))) (block_less P Q L h ss)
+  block_less P Q L h (more_stmts (statement at (form.store_element a i e)) ss) = both _ _ _ _ (statement_less P Q L h (statement at (form.store_element a i e))) (block_less P Q L h ss)
+  block_less P Q L h (more_stmts (statement at (form.store_part k i e)) ss) = both _ _ _ _ (statement_less P Q L h (statement at (form.store_part k i e))) (block_less P Q L h ss)
+  block_less P Q L h (more_stmts (statement at (form.perform e)) ss) = both _ _ _ _ (statement_less P Q L h (statement at (form.perform e))) (block_less P Q L h ss)
+  block_less P Q L h (more_stmts (statement at (form.block ts)) ss) = both _ _ _ _ (statement_less P Q L h (statement at (form.block ts))) (block_less P Q L h ss)
+  block_less P Q L h (more_stmts (statement at (form.choice e s)) ss) = both _ _ _ _ (statement_less P Q L h (statement at (form.choice e s))) (block_less P Q L h ss)
+  block_less P Q L h (more_stmts (statement at (form.choice_else e s t)) ss) = both _ _ _ _ (statement_less P Q L h (statement at (form.choice_else e s t))) (block_less P Q L h ss)
+  block_less P Q L h (more_stmts (statement at (form.while_loop e s)) ss) = both _ _ _ _ (statement_less P Q L h (statement at (form.while_loop e s))) (block_less P Q L h ss)
+  block_less P Q L h (more_stmts (statement at form.return_nothing) ss) = block_less P Q L h ss
+  block_less P Q L h (more_stmts (statement at (form.return_value e)) ss) = both _ _ _ _ (statement_less P Q L h (statement at (form.return_value e))) (block_less P Q L h ss)
+  block_less P Q L h (more_stmts (statement at (form.print_int e)) ss) = both _ _ _ _ (statement_less P Q L h (statement at (form.print_int e))) (block_less P Q L h ss)
+  block_less P Q L h (more_stmts (statement at (form.print_boolean e)) ss) = both _ _ _ _ (statement_less P Q L h (statement at (form.print_boolean e))) (block_less P Q L h ss)
+  block_less P Q L h (more_stmts (statement at (form.print_text text)) ss) = block_less P Q L h ss
+  block_less P Q L h (more_stmts (statement at (form.atomic entry ts)) ss) = both _ _ _ _ (statement_less P Q L h (statement at (form.atomic entry ts))) (block_less P Q L h ss)
+  block_less P Q L h (more_stmts (statement at (form.cobegin forking bs)) ss) = both _ _ _ _ (statement_less P Q L h (statement at (form.cobegin forking bs))) (block_less P Q L h ss)
+  block_less P Q L h (more_stmts (statement at (form.foreach forking x start count s)) ss) = both _ _ _ _ (statement_less P Q L h (statement at (form.foreach forking x start count s))) (block_less P Q L h ss)
+  block_less P Q L h (more_stmts (statement at (form.foreach_parts k source count s)) ss) = both _ _ _ _ (statement_less P Q L h (statement at (form.foreach_parts k source count s))) (block_less P Q L h ss)
 
   each_branch_less : (P Q : PlainProgram) (L : Scope) → Grows P Q → (bs : TypedBranches) → Fewer Less (effects_of_branches P L bs) (effects_of_branches Q L bs)
   each_branch_less P Q L h no_branches = tt

@@ -9,7 +9,7 @@ use Rattle.lang_typed.specs.Plain.{PlainProgram, PlainClass, PlainField, PlainMe
 use Rattle.lang_typed.specs.Plain.{StmtForm as form}
 use Rattle.lang_typed.specs.Scope.{Scope, Local, part, class_at, member_at, field_at, row_at, constructor_of, with_local, Above}
 use Rattle.lang_typed.specs.Effects.{Own, summary_with, outside_variable, outside_regions}
-use Rattle.lang_typed.specs.Statements.{declared_as, joined, Passes, print_text}
+use Rattle.lang_typed.specs.Statements.{declared_as, joined, Passes, store, store_field, store_element, store_part, perform, nested, choice, choice_else, while_loop, return_nothing, return_value, print_int, print_boolean, print_text, atomic, cobegin, foreach, foreach_parts}
 use Rattle.lang_typed.specs.Typing.{index_elem}
 use Rattle.body_infer.specs.Doing.{of_field, of_element, of_local, of_callee, of_constructor, member_in, constructed, effects_of, effects_of_all, effects_of_branches}
 use Rattle.sound_infer.proofs.Chains.{Falls, seen_is}
@@ -56,12 +56,48 @@ together s E F = E ++ F
 
 pub first_does : (P : PlainProgram) (L : Scope) (s : TypedStmt) (ss : TypedStmts) → effects_of_all P L (more_stmts s ss) ≡ together s (effects_of P L s) (effects_of_all P (scope_behind s L) ss)
 first_does P L (statement at (form.declare x t is_final e)) ss = refl
+first_does P L (statement at (form.store x e)) ss = refl
+first_does P L (statement at (form.store_field o c k e)) ss = refl
+first_does P L (statement at (form.store_element a i e)) ss = refl
+first_does P L (statement at (form.store_part k i e)) ss = refl
+first_does P L (statement at (form.perform e)) ss = refl
+first_does P L (statement at (form.block ts)) ss = refl
+first_does P L (statement at (form.choice e s)) ss = refl
+first_does P L (statement at (form.choice_else e s t)) ss = refl
+first_does P L (statement at (form.while_loop e s)) ss = refl
+first_does P L (statement at form.return_nothing) ss = refl
+first_does P L (statement at (form.return_value e)) ss = refl
+first_does P L (statement at (form.print_int e)) ss = refl
+first_does P L (statement at (form.print_boolean e)) ss = refl
+first_does P L (statement at (form.print_text text)) ss = refl
 first_does P L (statement at (form.local_regions rs)) ss = refl
+first_does P L (statement at (form.atomic entry ts)) ss = refl
+first_does P L (statement at (form.cobegin forking bs)) ss = refl
+first_does P L (statement at (form.foreach forking x start count s)) ss = refl
+first_does P L (statement at (form.foreach_parts k source count s)) ss = refl
 
 -- a statement by itself
 pub alone_does : (P : PlainProgram) (L : Scope) (s : TypedStmt) → effects_of_all P L (more_stmts s no_stmts) ≡ effects_of P L s
+alone_does P L (statement at (form.declare x t is_final e)) = append-nil (effects_of P L (statement at (form.declare x t is_final e)))
+alone_does P L (statement at (form.store x e)) = append-nil (effects_of P L (statement at (form.store x e)))
+alone_does P L (statement at (form.store_field o c k e)) = append-nil (effects_of P L (statement at (form.store_field o c k e)))
+alone_does P L (statement at (form.store_element a i e)) = append-nil (effects_of P L (statement at (form.store_element a i e)))
+alone_does P L (statement at (form.store_part k i e)) = append-nil (effects_of P L (statement at (form.store_part k i e)))
+alone_does P L (statement at (form.perform e)) = append-nil (effects_of P L (statement at (form.perform e)))
+alone_does P L (statement at (form.block ts)) = append-nil (effects_of P L (statement at (form.block ts)))
+alone_does P L (statement at (form.choice e s)) = append-nil (effects_of P L (statement at (form.choice e s)))
+alone_does P L (statement at (form.choice_else e s t)) = append-nil (effects_of P L (statement at (form.choice_else e s t)))
+alone_does P L (statement at (form.while_loop e s)) = append-nil (effects_of P L (statement at (form.while_loop e s)))
+alone_does P L (statement at form.return_nothing) = refl
+alone_does P L (statement at (form.return_value e)) = append-nil (effects_of P L (statement at (form.return_value e)))
+alone_does P L (statement at (form.print_int e)) = append-nil (effects_of P L (statement at (form.print_int e)))
+alone_does P L (statement at (form.print_boolean e)) = append-nil (effects_of P L (statement at (form.print_boolean e)))
+alone_does P L (statement at (form.print_text text)) = refl
 alone_does P L (statement at (form.local_regions rs)) = refl
-alone_does P L s = append-nil (effects_of P L s)
+alone_does P L (statement at (form.atomic entry ts)) = append-nil (effects_of P L (statement at (form.atomic entry ts)))
+alone_does P L (statement at (form.cobegin forking bs)) = append-nil (effects_of P L (statement at (form.cobegin forking bs)))
+alone_does P L (statement at (form.foreach forking x start count s)) = append-nil (effects_of P L (statement at (form.foreach forking x start count s)))
+alone_does P L (statement at (form.foreach_parts k source count s)) = append-nil (effects_of P L (statement at (form.foreach_parts k source count s)))
 
 -- a statement that passes declares nothing
 
@@ -70,13 +106,28 @@ pub record DeclaresNothing (s : TypedStmt) : Type 0 where
   pub joins : (E F : List Own) → together s E F ≡ E ++ F
 
 pub declares_nothing : {P : PlainProgram} {L : Scope} {s : TypedStmt} {E : List Own} → Passes P L s E → DeclaresNothing s
+declares_nothing (store a b c) = record { behind = λ L. refl; joins = λ E F. refl }
+declares_nothing (store_field a b c d e f) = record { behind = λ L. refl; joins = λ E F. refl }
+declares_nothing (store_element a b c d e f g) = record { behind = λ L. refl; joins = λ E F. refl }
+declares_nothing (store_part a b c d e) = record { behind = λ L. refl; joins = λ E F. refl }
+declares_nothing (perform a b) = record { behind = λ L. refl; joins = λ E F. refl }
+declares_nothing (nested a) = record { behind = λ L. refl; joins = λ E F. refl }
+declares_nothing (choice a b c) = record { behind = λ L. refl; joins = λ E F. refl }
+declares_nothing (choice_else a b c d) = record { behind = λ L. refl; joins = λ E F. refl }
+declares_nothing (while_loop a b c) = record { behind = λ L. refl; joins = λ E F. refl }
+declares_nothing (return_nothing a) = record { behind = λ L. refl; joins = λ E F. refl }
+declares_nothing (return_value a b c) = record { behind = λ L. refl; joins = λ E F. refl }
+declares_nothing (print_int a b) = record { behind = λ L. refl; joins = λ E F. refl }
+declares_nothing (print_boolean a b) = record { behind = λ L. refl; joins = λ E F. refl }
 declares_nothing print_text = record { behind = λ L. refl; joins = λ E F. refl }
-declares_nothing p = record { behind = λ L. refl; joins = λ E F. refl }
+declares_nothing (atomic a b) = record { behind = λ L. refl; joins = λ E F. refl }
+declares_nothing (cobegin a b c) = record { behind = λ L. refl; joins = λ E F. refl }
+declares_nothing (foreach a b c d e f g h) = record { behind = λ L. refl; joins = λ E F. refl }
+declares_nothing (foreach_parts a b c d e f g) = record { behind = λ L. refl; joins = λ E F. refl }
 
 pub then_does : (P : PlainProgram) (L : Scope) (s : TypedStmt) (ss : TypedStmts) → DeclaresNothing s → effects_of_all P L (more_stmts s ss) ≡ effects_of P L s ++ effects_of_all P L ss
 then_does P L s ss n =
     first_does P L s ss ∙ n.joins (effects_of P L s) (effects_of_all P (scope_behind s L) ss) ∙ ap (λ K. effects_of P L s ++ effects_of_all P K ss) (n.behind L)
-first_does P L s ss = refl
 
 -- what each branch does
 abbrev pub each_branch : PlainProgram → Scope → TypedBranches → List (List Own)
