@@ -12,7 +12,7 @@ use Rattle.body_check.specs.declared.node.Around.{Around}
 use Rattle.body_check.specs.declared.node.Node.{Node}
 use Rattle.body_check.specs.Checking.{check_form, check_block}
 use Rattle.body_check.specs.Gathering.{entered, taken_in}
-use Rattle.body_check.specs.Keeping.{inside}
+use Rattle.body_check.specs.Around.{inside}
 use Rattle.body_check.specs.Leaving.{from_here}
 use Rattle.body_check.specs.Noting.{fault_of, with_fault_if}
 use Rattle.body_check.specs.Walks.{Verdict, passes, judged, apart_from, nothing_found, walk_of}

@@ -23,7 +23,7 @@ use Rattle.body_check.specs.declared.node.Node.{Node}
 use Rattle.body_check.specs.Checking.{check_branches, check_form, check_scope, forking_of, meeting, slots_of, branch_of, plain_branch, with_first, with_nd, Branches}
 use Rattle.body_check.specs.Deciding.{interference, marks_after}
 use Rattle.body_check.specs.Gathering.{taken_in, with_uses}
-use Rattle.body_check.specs.Keeping.{inside}
+use Rattle.body_check.specs.Around.{inside}
 use Rattle.body_check.specs.Leaving.{from_here}
 use Rattle.body_check.specs.Meeting.{branches_interfere}
 use Rattle.body_check.specs.Noting.{fault_of, settled_node, with_fault_if}

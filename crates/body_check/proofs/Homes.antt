@@ -16,7 +16,7 @@ use Rattle.body_exprs.specs.Env.{bare, given_in, table_of}
 use Rattle.body_check.specs.declared.body.Body.{Body}
 use Rattle.body_check.specs.declared.node.Around.{Around}
 use Rattle.body_check.specs.Checking.{check_scope}
-use Rattle.body_check.specs.Keeping.{inside}
+use Rattle.body_check.specs.Around.{inside}
 use Rattle.body_check.specs.Meeting.{declared_atomic, some_interfere, branches_interfere}
 use Rattle.body_check.specs.Walks.{Verdict, Home, home_of, nothing_found, walk_of}
 use Rattle.body_check.proofs.Passing.{walk_from}

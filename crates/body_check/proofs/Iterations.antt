@@ -21,7 +21,7 @@ use Rattle.body_check.specs.declared.node.Node.{Node}
 use Rattle.body_check.specs.Checking.{check_form, check_scope, closed, forking_of, iteration_begun, meeting, variable_noted, with_nd}
 use Rattle.body_check.specs.Deciding.{interference, marks_after}
 use Rattle.body_check.specs.Gathering.{with_uses}
-use Rattle.body_check.specs.Keeping.{inside}
+use Rattle.body_check.specs.Around.{inside}
 use Rattle.body_check.specs.Meeting.{declared_atomic}
 use Rattle.body_check.specs.Noting.{fault_of, settled_node, with_fault_if}
 use Rattle.body_check.specs.Simple.{node_of}

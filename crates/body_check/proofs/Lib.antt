@@ -13,7 +13,6 @@ pub mod Orders
 mod Pairs
 pub mod Parting
 pub mod Passing
-pub mod Reaching
 pub mod Slots
 pub mod Stands
 pub mod Touched

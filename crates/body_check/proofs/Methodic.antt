@@ -38,7 +38,7 @@ use Rattle.body_check.specs.declared.node.Around.{Around}
 use Rattle.body_check.specs.Checking.{check_block}
 use Rattle.body_check.specs.Completes.{all_complete}
 use Rattle.body_check.specs.Deciding.{has_value, method_fault, reported_at}
-use Rattle.body_check.specs.Keeping.{method_around}
+use Rattle.body_check.specs.Around.{method_around}
 use Rattle.body_check.specs.Methods.{class_params, own_params, formals_declared, formal_types, summary_of, body_begun, method_reported, method_judged, after_ok, reported, number_after, bodies_of, PlainBodies, after_bodies, IsIn, check_method, check_member, check_members, check_classes}
 use Rattle.body_check.specs.Simple.{has_room}
 use Rattle.body_check.specs.Walks.{Walk, Verdict, nothing_found, with_env, passes, walk_of}

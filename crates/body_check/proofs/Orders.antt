@@ -7,7 +7,6 @@ use Rattle.lang_typed.specs.Plain.{TypedStmt}
 use Rattle.body_check.specs.declared.node.Around.{Around}
 use Rattle.body_check.specs.Checking.{check_all, check_stmt}
 use Rattle.body_check.specs.Completes.{completes, all_complete}
-use Rattle.body_check.specs.Keeping.{Keeps, MayFollow, AllKeep, BranchesKeep, inside}
 use Rattle.body_check.specs.Walks.{Walk, Verdict, passes, refused, ◌>>=◌}
 
 -- the next statement stands first in what is left
@@ -99,34 +98,3 @@ complete_step all i s complete done next below is done_is next_so so_far =
     ∙ and_step complete (completes (plain_stmt s)) (all_complete (plain_stmts (map plain_stmt (drop (i + 1) all))))
     ∙ ap (λ ss. complete && all_complete (plain_stmts (map plain_stmt ss))) (sym (next_is all i s below is))
     ∙ so_far
-
-follow_so : (complete done next : Bool) (rest : PlainStmts) → not complete ≡ false → next ≡ (complete && done) → MayFollow next rest → MayFollow done rest
-follow_so true done next rest on next_so h = subst (λ (z : Bool). MayFollow z rest) next_so h
-follow_so false done next rest on next_so h = cc
-
-was_true : (complete : Bool) → not complete ≡ false → IsTrue complete
-was_true true on = refl
-was_true false on = cc
-
-pub keep_step : (around : Around) (all : List Stmt) (i : ℕ) (s : Stmt) (complete done next : Bool) → i < length all → s ≡ get_or all i s →
-    not complete ≡ false → Keeps around (plain_stmt s) → done ≡ completes (plain_stmt s) → next ≡ (complete && done) →
-    (MayFollow complete (plain_stmts (map plain_stmt (drop i all))) → AllKeep around (plain_stmts (map plain_stmt (drop i all))) →
-    AllKeep around (plain_stmts (map plain_stmt all))) →
-    MayFollow next (plain_stmts (map plain_stmt (drop (i + 1) all))) → AllKeep around (plain_stmts (map plain_stmt (drop (i + 1) all))) →
-    AllKeep around (plain_stmts (map plain_stmt all))
-keep_step around all i s complete done next below is on keeps done_is next_so so_far follows rest =
-    let may : MayFollow done (plain_stmts (map plain_stmt (drop (i + 1) all))) =
-    follow_so complete done next (plain_stmts (map plain_stmt (drop (i + 1) all))) on next_so follows in
-    so_far (subst (λ ss. MayFollow complete (plain_stmts (map plain_stmt ss))) (sym (next_is all i s below is)) (was_true complete on))
-    (subst (λ ss. AllKeep around (plain_stmts (map plain_stmt ss))) (sym (next_is all i s below is))
-    (keeps, subst (λ (z : Bool). MayFollow z (plain_stmts (map plain_stmt (drop (i + 1) all)))) done_is may, rest))
-
--- one branch more
-pub fork_keeps : (around within : Around) (all : List Stmt) (i : ℕ) (branch : Stmt) → i < length all → branch ≡ get_or all i branch →
-    within ≡ inside around → Keeps within (plain_stmt branch) →
-    (BranchesKeep (inside around) (plain_stmts (map plain_stmt (drop i all))) → BranchesKeep (inside around) (plain_stmts (map plain_stmt all))) →
-    BranchesKeep (inside around) (plain_stmts (map plain_stmt (drop (i + 1) all))) → BranchesKeep (inside around) (plain_stmts (map plain_stmt all))
-fork_keeps around within all i branch below is within_is keeps before rest =
-    let here : BranchesKeep (inside around)
-    (plain_stmts (map plain_stmt (branch ∷ drop (i + 1) all))) = (subst (λ (z : Around). Keeps z (plain_stmt branch)) within_is keeps, rest) in
-    before (subst (λ (z : List Stmt). BranchesKeep (inside around) (plain_stmts (map plain_stmt z))) (sym (next_is all i branch below is)) here)

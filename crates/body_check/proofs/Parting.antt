@@ -32,7 +32,7 @@ use Rattle.body_check.specs.declared.node.Node.{Node}
 use Rattle.body_check.specs.declared.parts.Whole.{Whole as Cut}
 use Rattle.body_check.specs.Checking.{check_form, check_scope, cut, cut_array, meeting, part_slot, part_variable, parts_declared, parts_left, parts_noted, plain_whole, variable_declared, Whole}
 use Rattle.body_check.specs.Deciding.{whole_fault}
-use Rattle.body_check.specs.Keeping.{inside}
+use Rattle.body_check.specs.Around.{inside}
 use Rattle.body_check.specs.Noting.{fault_of, settled_node, with_fault_if, with_found}
 use Rattle.body_check.specs.Simple.{declaration_noted, node_of, part_declared}
 use Rattle.body_check.specs.Touching.{assigns_outer}

@@ -22,7 +22,6 @@ use Rattle.body_check.specs.declared.node.Node.{Node}
 use Rattle.body_check.specs.Checking.{check_form, check_stmt, check_scope, check_block, check_all}
 use Rattle.body_check.specs.Completes.{completes, form_completes}
 use Rattle.body_check.specs.Gathering.{taken_in}
-use Rattle.body_check.specs.Keeping.{Keeps, FormKeeps}
 use Rattle.body_check.specs.Leaving.{from_here}
 use Rattle.body_check.specs.Noting.{fault_of, with_fault_if}
 use Rattle.body_check.specs.Simple.{node_of}
@@ -120,14 +119,3 @@ pub neither_completes : (done first : Bool) (test : PlainExpr) (part : PlainStmt
     done ≡ form_completes (choice_form test part (option_map plain_stmt other))
 neither_completes done first test part other is done_is =
     subst (λ (z : Option Stmt). done ≡ form_completes (choice_form test part (option_map plain_stmt z))) (sym is) (done_is ∙ or_true first)
-
-pub either_keeps : (around : Around) (test : PlainExpr) (part : PlainStmt) (other : Option Stmt) (second shown : Stmt) → other ≡ Some second → shown ≡ second →
-    Keeps around part → Keeps around (plain_stmt shown) → FormKeeps around (choice_form test part (option_map plain_stmt other))
-either_keeps around test part other second shown is shows first next =
-    subst (λ (z : Option Stmt). FormKeeps around (choice_form test part (option_map plain_stmt z))) (sym is)
-    (first, subst (λ (z : Stmt). Keeps around (plain_stmt z)) shows next)
-
-pub neither_keeps : (around : Around) (test : PlainExpr) (part : PlainStmt) (other : Option Stmt) → other ≡ None → Keeps around part →
-    FormKeeps around (choice_form test part (option_map plain_stmt other))
-neither_keeps around test part other is first =
-    subst (λ (z : Option Stmt). FormKeeps around (choice_form test part (option_map plain_stmt z))) (sym is) first

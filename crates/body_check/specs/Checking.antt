@@ -34,7 +34,7 @@ use Rattle.body_check.specs.declared.parts.Whole.{Whole as Cut}
 use Rattle.body_check.specs.Completes.{completes}
 use Rattle.body_check.specs.Deciding.{interference, marks_after, whole_fault}
 use Rattle.body_check.specs.Gathering.{with_uses, entered, taken_in, handed_on}
-use Rattle.body_check.specs.Keeping.{inside}
+use Rattle.body_check.specs.Around.{inside}
 use Rattle.body_check.specs.Leaving.{from_here}
 use Rattle.body_check.specs.Meeting.{declared_atomic, branches_interfere}
 use Rattle.body_check.specs.Noting.{node_at, with_found, with_fault_if, fault_of, settled_node}

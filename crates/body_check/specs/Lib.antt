@@ -1,8 +1,8 @@
+pub mod Around
 pub mod Checking
 pub mod Completes
 pub mod Deciding
 pub mod Gathering
-pub mod Keeping
 pub mod Leaving
 pub mod Meeting
 pub mod Methods

@@ -33,7 +33,7 @@ use Rattle.body_exprs.specs.Env.{table_of, at_class, at_members, at_method, decl
 use Rattle.body_check.specs.Checking.{check_block}
 use Rattle.body_check.specs.Completes.{all_complete}
 use Rattle.body_check.specs.Deciding.{has_value, method_fault}
-use Rattle.body_check.specs.Keeping.{method_around}
+use Rattle.body_check.specs.Around.{method_around}
 use Rattle.body_check.specs.Simple.{has_room, local_declared}
 use Rattle.body_check.specs.Walks.{Walk, Verdict, passes, refused, nothing_found}
 

@@ -10,7 +10,7 @@ ghost use Rattle.body_exprs.specs.Env.{table_of, at_class, at_method};
 ghost use Rattle.body_check.specs.Checking.{check_block};
 ghost use Rattle.body_check.specs.Completes.{all_complete};
 ghost use Rattle.body_check.specs.Deciding.{has_value, method_fault, reported_at};
-ghost use Rattle.body_check.specs.Keeping.{AllKeep, ClassesKeep, MethodKeeps, MemberKeeps, MembersKeep, ProgramKeeps, method_around};
+ghost use Rattle.body_check.specs.Around.{method_around};
 ghost use Rattle.body_check.specs.Methods.{formals_declared, formal_types, summary_of, bodies_of, class_params, number_after, plain_bodies, check_classes, check_members, check_member, check_method, BodiesChecking, IsIn};
 ghost use Rattle.body_check.specs.Walks.{home_of, passes, refused, walk_of, with_env};
 ghost use Rattle.body_exprs.specs.Answer.{Says};
@@ -32,7 +32,6 @@ use syntax_tree::{Class, Formal, Member, Method, MethodResult, Program, uses_nd}
 /// the first node that has a fault. `table` is the program's.
 pub fn check(alloc: Global, program: &Program, table: &Table) -> Result<Accepted, Stop>
     ensures nd { IfOk result (λ found. found.uses_nd ≡ program_uses_nd program.now) }
-    ensures keeps { OnOk result (ProgramKeeps program.now) }
     ensures checks { Says result (λ found. Ok (map plain_body found.bodies)) Err (BodiesChecking program.now table.now) }
 {
     let mut body = Body::new(alloc, Env::new(alloc, table, length_name(program)));
@@ -44,7 +43,6 @@ pub fn check(alloc: Global, program: &Program, table: &Table) -> Result<Accepted
 }
 
 fn check_classes(body: &mut Body, classes: &[Class]) -> Result<Items<MemberBody>, Stop>
-    ensures keeps { OnOk result (ClassesKeep classes.now) }
     ensures checks { Says result (λ bodies. Ok (map plain_body bodies)) Err (λ v. check_classes body.old.env 0 classes.now 0 ≡ v) }
 {
     let mut bodies = Items::new(body.alloc);
@@ -75,7 +73,6 @@ struct ClassBodies {
 
 /// Checks the bodies of the class of a number, of which the first has the other number.
 fn check_class(body: &mut Body, class: &Class, number: u32, first: u32) -> Result<ClassBodies, Stop>
-    ensures keeps { OnOk result (MembersKeep class.now.members) }
     ensures around { (other : ℕ) → OnOk result (at_class body.new.env other ≡ at_class body.old.env other) }
     ensures checks { Says result (λ done. Ok (plain_bodies done)) Err (λ v. check_members (at_class body.old.env number) (class_params (table_of body.old.env) number) class.now.members first ≡ v) }
 {
@@ -111,7 +108,6 @@ fn check_member(
     count: usize,
     number: u32,
 ) -> Result<Option<MemberBody>, Stop>
-    ensures keeps { OnOk result (MemberKeeps member.now) }
     ensures stays { (start : Env) (class : ℕ) → IsIn start class count body.old → OnOk result (IsIn start class count body.new) }
     ensures checks { (start : Env) (class : ℕ) → IsIn start class count body.old → Says result (λ made. Ok (option_map plain_body made)) Err (λ v. check_member (at_class start class) (class_params (table_of start) class) member.now number ≡ v) }
 {
@@ -126,7 +122,6 @@ fn check_member(
 
 /// Checks the body of a method or a constructor. One without a row has no formals in scope, and may have no effect.
 fn check_method(body: &mut Body, method: &Method, number: u32) -> Result<MemberBody, Stop>
-    ensures keeps { OnOk result (MethodKeeps method.now) }
     ensures home { OnOk result (home_of body.new ≡ home_of body.old) }
     ensures checks { (around : Env) → body.old.env ≡ at_method around number → Says result (λ made. Ok (plain_body made)) Err (λ v. check_method around body.old.atomic_params number method.now ≡ v) }
 {
@@ -168,7 +163,6 @@ fn summary_of<'a>(row: Option<&'a MethodRow>, nothing: &'a EffectSet) -> &'a Eff
 /// Checks the statements of a method, whose formals are in scope.
 fn check_body(body: &mut Body, method: &Method, done: &mut Found) -> Result<CheckedBlock, Stop>
     ensures completes { IfOk result (λ checked. checked.completes ≡ all_complete (plain_stmts (map plain_stmt method.now.body))) }
-    ensures keeps { OnOk result (AllKeep (method_around (has_value method.now.result)) (plain_stmts (map plain_stmt method.now.body))) }
     ensures home { OnOk result (home_of body.new ≡ home_of body.old) }
     ensures checks { Says result (λ checked. passes (map typed_stmt checked.stmts) (walk_of body.new done.new)) refused (λ v. check_block body.old.atomic_params (method_around (has_value method.now.result)) (plain_stmts (map plain_stmt method.now.body)) (walk_of body.old done.old) ≡ v) }
 {

@@ -87,7 +87,6 @@ impl Body<'_> {
     /// Types an expression, and gathers what it does.
     pub fn typed(&self, e: &Expr, out: &mut Found) -> Result<Typed, Stop>
         ensures answer { Says result (λ typed. gives (plain_typed typed) out.new) refused (Typing self.now.env (plain_expr e.now) out.old) }
-        ensures nd { OnOk result (IsTrue out.old.reaches_nd → IsTrue out.new.reaches_nd) }
     {
         expr(self.alloc, &self.env, out, e)
     }
@@ -96,8 +95,6 @@ impl Body<'_> {
     pub fn int(&self, e: &Expr, out: &mut Found, node: &mut Node) -> Result<Typed, Stop>
         ensures answer { Says result (λ typed. gives (plain_typed typed) out.new) refused (Typing self.now.env (plain_expr e.now) out.old) }
         ensures node { IfOk result (λ typed. node.new ≡ with_fault_if node.old Kind.Type (not (may_be is_int (value_type typed)))) }
-        ensures clean { OnOk result (fault_of node.new ≡ None → fault_of node.old ≡ None) }
-        ensures nd { OnOk result (IsTrue out.old.reaches_nd → IsTrue out.new.reaches_nd) }
     {
         let value = self.typed(e, out)?;
         node.note_if(Kind::Type, !value.is_int());
@@ -108,8 +105,6 @@ impl Body<'_> {
     pub fn boolean(&self, e: &Expr, out: &mut Found, node: &mut Node) -> Result<Typed, Stop>
         ensures answer { Says result (λ typed. gives (plain_typed typed) out.new) refused (Typing self.now.env (plain_expr e.now) out.old) }
         ensures node { IfOk result (λ typed. node.new ≡ with_fault_if node.old Kind.Type (not (may_be is_boolean (value_type typed)))) }
-        ensures clean { OnOk result (fault_of node.new ≡ None → fault_of node.old ≡ None) }
-        ensures nd { OnOk result (IsTrue out.old.reaches_nd → IsTrue out.new.reaches_nd) }
     {
         let value = self.typed(e, out)?;
         node.note_if(Kind::Type, !value.is_boolean());
@@ -145,7 +140,6 @@ impl Body<'_> {
     /// there is no room.
     pub fn note_declaration(&self, name: u32, place: Place, node: &mut Node)
         ensures node { node.new ≡ declaration_noted self.now.env name place node.old }
-        ensures clean { fault_of node.new ≡ None → fault_of node.old ≡ None }
         ensures room { fault_of node.new ≡ None → has_room self.now.env ≡ true }
     {
         if self.env.local(name).is_some() {
@@ -157,7 +151,6 @@ impl Body<'_> {
     /// A declaration for which there is no room is a fault.
     pub fn note_room(&self, place: Place, node: &mut Node)
         ensures node { node.new ≡ with_room self.now.env place node.old }
-        ensures clean { fault_of node.new ≡ None → fault_of node.old ≡ None }
         ensures room { fault_of node.new ≡ None → has_room self.now.env ≡ true }
     {
         if !self.has_room() {

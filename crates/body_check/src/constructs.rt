@@ -4,7 +4,7 @@ ghost use Rattle.syntax_tree.specs.Plain.{plain_expr, plain_stmt, plain_stmts};
 ghost use Rattle.syntax_tree.specs.Plain.{StmtForm as form};
 ghost use Rattle.body_check.specs.Checking.{slots_of, check_form};
 ghost use Rattle.body_check.specs.Deciding.{interference, marks_after};
-ghost use Rattle.body_check.specs.Keeping.{inside, Keeps, AllKeep, BranchesKeep};
+ghost use Rattle.body_check.specs.Around.{inside};
 ghost use Rattle.body_check.specs.Noting.{fault_of};
 ghost use Rattle.body_check.specs.Walks.{home_of, passes, refused, walk_of};
 ghost use Rattle.body_check.specs.Touching.{assigns_outer};
@@ -54,9 +54,6 @@ pub fn cobegin(
     out: &mut Found,
 ) -> Result<Checked, Stop>
     ensures completes { IfOk result (λ done. done.completes ≡ true) }
-    ensures clean { OnOk result (fault_of node ≡ None) }
-    ensures keeps { OnOk result (BranchesKeep (inside around) (plain_stmts (map plain_stmt branches.now))) }
-    ensures nd { OnOk result (IsTrue (out.old.reaches_nd || (nd || some_holds_nd (plain_stmts (map plain_stmt branches.now)))) → IsTrue out.new.reaches_nd) }
     ensures home { OnOk result (home_of body.new ≡ home_of body.old) }
     ensures checks { Says result (λ made. passes (typed_stmt made.stmt) (walk_of body.new out.new)) refused (λ v. check_form body.old.atomic_params around node (form.cobegin nd (plain_stmts (map plain_stmt branches.now))) (walk_of body.old out.old) ≡ v) }
 {
@@ -127,10 +124,6 @@ pub fn foreach(
     out: &mut Found,
 ) -> Result<Checked, Stop>
     ensures completes { IfOk result (λ done. done.completes ≡ true) }
-    ensures clean { OnOk result (fault_of node ≡ None) }
-    ensures keeps { OnOk result (Keeps (inside around) (plain_stmt iteration.now)) }
-    ensures locals { OnOk result (assigns_outer (plain_stmt iteration.now) ≡ false) }
-    ensures nd { OnOk result (IsTrue (out.old.reaches_nd || (nd || holds_nd (plain_stmt iteration.now))) → IsTrue out.new.reaches_nd) }
     ensures home { OnOk result (home_of body.new ≡ home_of body.old) }
     ensures checks { Says result (λ made. passes (typed_stmt made.stmt) (walk_of body.new out.new)) refused (λ v. check_form body.old.atomic_params around node (form.foreach nd var (plain_expr start.now) (plain_expr count.now) (plain_stmt iteration.now)) (walk_of body.old out.old) ≡ v) }
 {
@@ -177,10 +170,6 @@ pub fn atomic(
     out: &mut Found,
 ) -> Result<Checked, Stop>
     ensures completes { IfOk result (λ done. done.completes ≡ true) }
-    ensures clean { OnOk result (fault_of node ≡ None) }
-    ensures keeps { OnOk result (AllKeep (inside around) (plain_stmts (map plain_stmt stmts.now))) }
-    ensures quiet { OnOk result (some_holds_nd (plain_stmts (map plain_stmt stmts.now)) ≡ false) }
-    ensures nd { OnOk result (IsTrue (out.old.reaches_nd || some_holds_nd (plain_stmts (map plain_stmt stmts.now))) → IsTrue out.new.reaches_nd) }
     ensures home { OnOk result (home_of body.new ≡ home_of body.old) }
     ensures checks { Says result (λ made. passes (typed_stmt made.stmt) (walk_of body.new out.new)) refused (λ v. check_form body.old.atomic_params around node (form.atomic (plain_stmts (map plain_stmt stmts.now))) (walk_of body.old out.old) ≡ v) }
 {

@@ -8,7 +8,7 @@ ghost use Rattle.lang_typed.specs.Plain.{plain_source};
 ghost use Rattle.body_exprs.specs.Typed.{plain_typed};
 ghost use Rattle.body_check.specs.Checking.{check_form, cut, cut_array, outer_part, parts_declared, parts_noted, plain_whole};
 ghost use Rattle.body_check.specs.Deciding.{whole_fault};
-ghost use Rattle.body_check.specs.Keeping.{inside, Keeps};
+ghost use Rattle.body_check.specs.Around.{inside};
 ghost use Rattle.body_check.specs.Noting.{fault_of};
 ghost use Rattle.body_check.specs.Simple.{has_room};
 ghost use Rattle.body_check.specs.Touching.{assigns_outer};
@@ -53,10 +53,6 @@ pub fn foreach_parts(
     out: &mut Found,
 ) -> Result<Checked, Stop>
     ensures completes { IfOk result (λ done. done.completes ≡ true) }
-    ensures clean { OnOk result (fault_of node ≡ None) }
-    ensures keeps { OnOk result (Keeps (inside around) (plain_stmt iteration.now)) }
-    ensures locals { OnOk result (assigns_outer (plain_stmt iteration.now) ≡ false) }
-    ensures nd { OnOk result (IsTrue (out.old.reaches_nd || holds_nd (plain_stmt iteration.now)) → IsTrue out.new.reaches_nd) }
     ensures home { OnOk result (home_of body.new ≡ home_of body.old) }
     ensures checks { Says result (λ made. passes (typed_stmt made.stmt) (walk_of body.new out.new)) refused (λ v. check_form body.old.atomic_params around node (form.foreach_parts view.now var.now (plain_expr array.now) (plain_expr count.now) (plain_stmt iteration.now)) (walk_of body.old out.old) ≡ v) }
 {
@@ -92,7 +88,6 @@ pub fn foreach_parts(
 fn open(body: &mut Body, node: &mut Node, view: Named, var: Named, ty: Ty) -> Result<(), NoMemory>
     ensures noted { OnOk result (node.new ≡ parts_noted body.old.env view var ty node.old) }
     ensures whole { OnOk result (body.new ≡ with_env body.old (parts_declared body.old.env view var ty)) }
-    ensures clean { OnOk result (fault_of node.new ≡ None → fault_of node.old ≡ None) }
     ensures room { OnOk result (fault_of node.new ≡ None → has_room body.old.env ≡ true) }
     ensures home { OnOk result (home_of body.new ≡ home_of body.old) }
 {
@@ -114,7 +109,6 @@ fn outer_part(source: &PartSource) -> Option<u32>
 
 /// What the array of a `foreach_parts` is. A part in its place is no use of that part.
 fn whole_of(body: &Body, array: &Expr, out: &mut Found) -> Result<Whole, Stop>
-    ensures nd { OnOk result (IsTrue out.old.reaches_nd → IsTrue out.new.reaches_nd) }
     ensures cut { Says result (λ whole. passes (plain_whole whole) (walk_of body.now out.new)) refused (λ v. cut (plain_expr array.now) (walk_of body.now out.old) ≡ v) }
 {
     if let Some(whole) = part_of_part(body, array)? {

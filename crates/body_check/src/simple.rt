@@ -35,8 +35,6 @@ pub fn declare(
     out: &mut Found,
 ) -> Result<Checked, Stop>
     ensures completes { IfOk result (λ done. done.completes ≡ true) }
-    ensures clean { OnOk result (fault_of node ≡ None) }
-    ensures nd { OnOk result (IsTrue out.old.reaches_nd → IsTrue out.new.reaches_nd) }
     ensures home { OnOk result (home_of body.new ≡ home_of body.old) }
     ensures checks { Says result (λ made. passes (typed_stmt made.stmt) (walk_of body.new out.new)) refused (λ v. declare node is_final tree.now name (plain_expr value.now) (walk_of body.old out.old) ≡ v) }
 {
@@ -80,8 +78,6 @@ pub fn assign_local(
     out: &mut Found,
 ) -> Result<Checked, Stop>
     ensures completes { IfOk result (λ done. done.completes ≡ true) }
-    ensures clean { OnOk result (fault_of node ≡ None) }
-    ensures nd { OnOk result (IsTrue out.old.reaches_nd → IsTrue out.new.reaches_nd) }
     ensures checks { Says result (λ made. passes (typed_stmt made.stmt) (walk_of body.now out.new)) refused (λ v. assign_local node target (plain_expr value.now) (walk_of body.now out.old) ≡ v) }
 {
     let mut node = node;
@@ -116,8 +112,6 @@ pub fn assign_place(
     out: &mut Found,
 ) -> Result<Checked, Stop>
     ensures completes { IfOk result (λ done. done.completes ≡ true) }
-    ensures clean { OnOk result (fault_of node ≡ None) }
-    ensures nd { OnOk result (IsTrue out.old.reaches_nd → IsTrue out.new.reaches_nd) }
     ensures checks { Says result (λ made. passes (typed_stmt made.stmt) (walk_of body.now out.new)) refused (λ v. assign_place node (plain_expr written.now) (plain_expr value.now) (walk_of body.now out.old) ≡ v) }
 {
     let target = read_target(body.alloc, &body.env, out, written)?;
@@ -139,8 +133,6 @@ fn assign_target(
     out: &mut Found,
 ) -> Result<Checked, Stop>
     ensures completes { IfOk result (λ done. done.completes ≡ true) }
-    ensures clean { OnOk result (fault_of node ≡ None) }
-    ensures nd { OnOk result (IsTrue out.old.reaches_nd → IsTrue out.new.reaches_nd) }
     ensures checks { Says result (λ made. passes (typed_stmt made.stmt) (walk_of body.now out.new)) refused (λ v. put_in_place node place (Some (plain_target target)) (node_at value (plain_typed given)) (value_type given) (walk_of body.now out.old) ≡ v) }
 {
     let mut node = node;
@@ -157,7 +149,6 @@ fn assign_target(
 /// An assignment to what comes from a part of what is no array, where every value fits.
 fn assign_anything(node: Node, place: Place, given: Typed, value: Place) -> Result<Checked, Stop>
     ensures completes { IfOk result (λ done. done.completes ≡ true) }
-    ensures clean { OnOk result (fault_of node ≡ None) }
     ensures checks { (w : Walk) → Says result (λ made. passes (typed_stmt made.stmt) w) refused (λ v. put_in_place node place None (node_at value (plain_typed given)) (value_type given) w ≡ v) }
 {
     let mut node = node;
@@ -186,8 +177,6 @@ fn target_fault(fit: bool, may_write: bool) -> Option<Kind>
 /// A call or a creation as a statement.
 pub fn perform(body: &Body, node: Node, e: &Expr, out: &mut Found) -> Result<Checked, Stop>
     ensures completes { IfOk result (λ done. done.completes ≡ true) }
-    ensures clean { OnOk result (fault_of node ≡ None) }
-    ensures nd { OnOk result (IsTrue out.old.reaches_nd → IsTrue out.new.reaches_nd) }
     ensures checks { Says result (λ made. passes (typed_stmt made.stmt) (walk_of body.now out.new)) refused (λ v. perform node (plain_expr e.now) (walk_of body.now out.old) ≡ v) }
 {
     let place = node.place;
@@ -203,8 +192,6 @@ pub fn perform(body: &Body, node: Node, e: &Expr, out: &mut Found) -> Result<Che
 /// `return;`
 pub fn leave(body: &Body, around: Around, node: Node) -> Result<Checked, Stop>
     ensures completes { IfOk result (λ done. done.completes ≡ false) }
-    ensures placed { OnOk result (is_misplaced around false ≡ false) }
-    ensures clean { OnOk result (fault_of node ≡ None) }
     ensures checks { (found : Found) → Says result (λ made. passes (typed_stmt made.stmt) (walk_of body.now found)) refused (λ v. leave around node (walk_of body.now found) ≡ v) }
 {
     let place = node.place;
@@ -226,9 +213,6 @@ pub fn leave_with(
     out: &mut Found,
 ) -> Result<Checked, Stop>
     ensures completes { IfOk result (λ done. done.completes ≡ false) }
-    ensures placed { OnOk result (is_misplaced around true ≡ false) }
-    ensures clean { OnOk result (fault_of node ≡ None) }
-    ensures nd { OnOk result (IsTrue out.old.reaches_nd → IsTrue out.new.reaches_nd) }
     ensures checks { Says result (λ made. passes (typed_stmt made.stmt) (walk_of body.now out.new)) refused (λ v. leave_with around node (plain_expr value.now) (walk_of body.now out.old) ≡ v) }
 {
     let place = node.place;
@@ -254,8 +238,6 @@ fn is_misplaced(around: Around, valued: bool) -> bool
 /// `print(value);`
 pub fn print(body: &Body, node: Node, value: &Expr, out: &mut Found) -> Result<Checked, Stop>
     ensures completes { IfOk result (λ done. done.completes ≡ true) }
-    ensures clean { OnOk result (fault_of node ≡ None) }
-    ensures nd { OnOk result (IsTrue out.old.reaches_nd → IsTrue out.new.reaches_nd) }
     ensures checks { Says result (λ made. passes (typed_stmt made.stmt) (walk_of body.now out.new)) refused (λ v. print node (plain_expr value.now) (walk_of body.now out.old) ≡ v) }
 {
     let place = node.place;
@@ -272,7 +254,6 @@ pub fn print(body: &Body, node: Node, value: &Expr, out: &mut Found) -> Result<C
 /// `print` of a text.
 pub fn print_text(body: &Body, node: Node, text: &Bytes) -> Result<Checked, Stop>
     ensures completes { IfOk result (λ done. done.completes ≡ true) }
-    ensures clean { OnOk result (fault_of node ≡ None) }
     ensures checks { (found : Found) → Says result (λ made. passes (typed_stmt made.stmt) (walk_of body.now found)) refused (λ v. judged (fault_of node) (typed.statement node.place (typed.print_text text.now)) (walk_of body.now found) ≡ v) }
 {
     let place = node.place;
@@ -294,7 +275,6 @@ fn may_print(value: &Typed) -> bool
 /// `region name, ..;`
 pub fn declare_regions(body: &mut Body, node: Node, names: &[Named]) -> Result<Checked, Stop>
     ensures completes { IfOk result (λ done. done.completes ≡ true) }
-    ensures clean { OnOk result (fault_of node ≡ None) }
     ensures home { OnOk result (home_of body.new ≡ home_of body.old) }
     ensures checks { (found : Found) → Says result (λ made. passes (typed_stmt made.stmt) (walk_of body.new found)) refused (λ v. declare_regions node names.now (walk_of body.old found) ≡ v) }
 {
@@ -318,7 +298,6 @@ pub fn declare_regions(body: &mut Body, node: Node, names: &[Named]) -> Result<C
 /// A local region whose name a region in scope has is a fault, and so is one for which there is no room.
 fn note_region(body: &Body, named: Named, node: &mut Node)
     ensures node { node.new ≡ region_noted body.now.env named node.old }
-    ensures clean { fault_of node.new ≡ None → fault_of node.old ≡ None }
 {
     if is_region(body, named.name) {
         node.note_at(Kind::Duplicate, named.place);

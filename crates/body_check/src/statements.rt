@@ -7,7 +7,6 @@ ghost use Rattle.syntax_tree.specs.Plain.{StmtForm as form};
 ghost use Rattle.body_check.specs.Checking.{check_stmt, check_form, check_scope, check_block, check_all};
 ghost use Rattle.body_check.specs.Completes.{completes, form_completes, all_complete};
 ghost use Rattle.body_check.specs.Deciding.{is_misplaced};
-ghost use Rattle.body_check.specs.Keeping.{Keeps, FormKeeps, AllKeep};
 ghost use Rattle.body_check.specs.Noting.{fault_of};
 ghost use Rattle.body_check.specs.Walks.{home_of, passes, refused, walk_of};
 ghost use Rattle.body_exprs.specs.Answer.{Says};
@@ -64,9 +63,6 @@ pub fn statement(
     out: &mut Found,
 ) -> Result<Checked, Stop>
     ensures completes { IfOk result (λ done. done.completes ≡ completes (plain_stmt stmt.now)) }
-    ensures after { OnOk result (follows ≡ false) }
-    ensures keeps { OnOk result (Keeps around (plain_stmt stmt.now)) }
-    ensures nd { OnOk result (IsTrue (out.old.reaches_nd || holds_nd (plain_stmt stmt.now)) → IsTrue out.new.reaches_nd) }
     ensures home { OnOk result (home_of body.new ≡ home_of body.old) }
     ensures checks { Says result (λ made. passes (typed_stmt made.stmt) (walk_of body.new out.new)) refused (λ v. check_stmt body.old.atomic_params around follows (plain_stmt stmt.now) (walk_of body.old out.old) ≡ v) }
 {
@@ -122,9 +118,6 @@ fn nested(
     out: &mut Found,
 ) -> Result<Checked, Stop>
     ensures completes { IfOk result (λ done. done.completes ≡ all_complete (plain_stmts (map plain_stmt all.now))) }
-    ensures clean { OnOk result (fault_of node ≡ None) }
-    ensures keeps { OnOk result (AllKeep around (plain_stmts (map plain_stmt all.now))) }
-    ensures nd { OnOk result (IsTrue (out.old.reaches_nd || some_holds_nd (plain_stmts (map plain_stmt all.now))) → IsTrue out.new.reaches_nd) }
     ensures home { OnOk result (home_of body.new ≡ home_of body.old) }
     ensures checks { Says result (λ made. passes (typed_stmt made.stmt) (walk_of body.new out.new)) refused (λ v. check_form body.old.atomic_params around node (form.block (plain_stmts (map plain_stmt all.now))) (walk_of body.old out.old) ≡ v) }
 {
@@ -150,9 +143,6 @@ fn branching(
     out: &mut Found,
 ) -> Result<Checked, Stop>
     ensures completes { IfOk result (λ done. done.completes ≡ form_completes (if_form (plain_expr test.now) (plain_stmt then.now) (option_map plain_stmt (option_copied other.entry)))) }
-    ensures clean { OnOk result (fault_of node ≡ None) }
-    ensures keeps { OnOk result (FormKeeps around (if_form (plain_expr test.now) (plain_stmt then.now) (option_map plain_stmt (option_copied other.entry)))) }
-    ensures nd { OnOk result (IsTrue (out.old.reaches_nd || form_holds_nd (if_form (plain_expr test.now) (plain_stmt then.now) (option_map plain_stmt (option_copied other.entry)))) → IsTrue out.new.reaches_nd) }
     ensures home { OnOk result (home_of body.new ≡ home_of body.old) }
     ensures checks { Says result (λ made. passes (typed_stmt made.stmt) (walk_of body.new out.new)) refused (λ v. check_form body.old.atomic_params around node (if_form (plain_expr test.now) (plain_stmt then.now) (option_map plain_stmt (option_copied other.entry))) (walk_of body.old out.old) ≡ v) }
 {
@@ -200,9 +190,6 @@ fn repeat(
     out: &mut Found,
 ) -> Result<Checked, Stop>
     ensures completes { IfOk result (λ done. done.completes ≡ true) }
-    ensures clean { OnOk result (fault_of node ≡ None) }
-    ensures keeps { OnOk result (Keeps around (plain_stmt turn.now)) }
-    ensures nd { OnOk result (IsTrue (out.old.reaches_nd || holds_nd (plain_stmt turn.now)) → IsTrue out.new.reaches_nd) }
     ensures home { OnOk result (home_of body.new ≡ home_of body.old) }
     ensures checks { Says result (λ made. passes (typed_stmt made.stmt) (walk_of body.new out.new)) refused (λ v. check_form body.old.atomic_params around node (form.while_loop (plain_expr test.now) (plain_stmt turn.now)) (walk_of body.old out.old) ≡ v) }
 {
@@ -227,9 +214,6 @@ fn returning(
     out: &mut Found,
 ) -> Result<Checked, Stop>
     ensures completes { IfOk result (λ done. done.completes ≡ false) }
-    ensures placed { OnOk result (is_misplaced around (is_some value.entry) ≡ false) }
-    ensures clean { OnOk result (fault_of node ≡ None) }
-    ensures nd { OnOk result (IsTrue out.old.reaches_nd → IsTrue out.new.reaches_nd) }
     ensures checks { (params : List Bool) → Says result (λ made. passes (typed_stmt made.stmt) (walk_of body.now out.new)) refused (λ v. check_form params around node (return_form (option_copied value.entry)) (walk_of body.now out.old) ≡ v) }
 {
     match value {
@@ -248,8 +232,6 @@ pub fn block(
     out: &mut Found,
 ) -> Result<CheckedBlock, Stop>
     ensures completes { IfOk result (λ done. done.completes ≡ all_complete (plain_stmts (map plain_stmt stmts.now))) }
-    ensures keeps { OnOk result (AllKeep around (plain_stmts (map plain_stmt stmts.now))) }
-    ensures nd { OnOk result (IsTrue (out.old.reaches_nd || some_holds_nd (plain_stmts (map plain_stmt stmts.now))) → IsTrue out.new.reaches_nd) }
     ensures home { OnOk result (home_of body.new ≡ home_of body.old) }
     ensures checks { Says result (λ made. passes (map typed_stmt made.stmts) (walk_of body.new out.new)) refused (λ v. check_block body.old.atomic_params around (plain_stmts (map plain_stmt stmts.now)) (walk_of body.old out.old) ≡ v) }
 {
@@ -270,8 +252,6 @@ fn statements(
     out: &mut Found,
 ) -> Result<CheckedBlock, Stop>
     ensures completes { IfOk result (λ done. done.completes ≡ all_complete (plain_stmts (map plain_stmt stmts.now))) }
-    ensures keeps { OnOk result (AllKeep around (plain_stmts (map plain_stmt stmts.now))) }
-    ensures nd { OnOk result (IsTrue (out.old.reaches_nd || some_holds_nd (plain_stmts (map plain_stmt stmts.now))) → IsTrue out.new.reaches_nd) }
     ensures home { OnOk result (home_of body.new ≡ home_of body.old) }
     ensures checks { Says result (λ made. passes (map typed_stmt made.stmts) (walk_of body.new out.new)) refused (λ v. check_all body.old.atomic_params around true (plain_stmts (map plain_stmt stmts.now)) (walk_of body.old out.old) ≡ v) }
 {
@@ -292,8 +272,6 @@ fn statements(
 #[cycle(statements)]
 pub fn scoped(body: &mut Body, around: Around, stmt: &Stmt, out: &mut Found) -> Result<Part, Stop>
     ensures completes { IfOk result (λ done. done.completes ≡ completes (plain_stmt stmt.now)) }
-    ensures keeps { OnOk result (Keeps around (plain_stmt stmt.now)) }
-    ensures nd { OnOk result (IsTrue (out.old.reaches_nd || holds_nd (plain_stmt stmt.now)) → IsTrue out.new.reaches_nd) }
     ensures home { OnOk result (home_of body.new ≡ home_of body.old) }
     ensures checks { Says result (λ made. passes (typed_stmt made.stmt) (walk_of body.new out.new)) refused (λ v. check_scope body.old.atomic_params around (plain_stmt stmt.now) (walk_of body.old out.old) ≡ v) }
 {

@@ -23,7 +23,7 @@ use Rattle.body_exprs.specs.declared.env.Env.{Env}
 use Rattle.body_exprs.specs.Env.{at_class, IsFresh}
 use Rattle.body_check.specs.Checking.{check_block}
 use Rattle.body_check.specs.Deciding.{has_value}
-use Rattle.body_check.specs.Keeping.{method_around}
+use Rattle.body_check.specs.Around.{method_around}
 use Rattle.body_check.specs.Methods.{body_begun}
 use Rattle.body_check.specs.Walks.{Walk, passes}
 use Rattle.sound_lemmas.specs.Accepted.{IsAccepted}

@@ -28,7 +28,7 @@ use Rattle.body_exprs.specs.declared.env.Env.{Env}
 use Rattle.body_exprs.specs.Env.{table_of, at_class}
 use Rattle.body_check.specs.Checking.{check_block}
 use Rattle.body_check.specs.Deciding.{has_value}
-use Rattle.body_check.specs.Keeping.{method_around}
+use Rattle.body_check.specs.Around.{method_around}
 use Rattle.body_check.specs.Methods.{class_params, own_params, body_begun, after_ok, then_ok, method_judged, check_method, check_member, number_after, bodies_of, PlainBodies, after_bodies, check_members, check_classes, in_order, around_classes, BodiesChecking}
 use Rattle.body_check.specs.Walks.{Verdict}
 

@@ -37,7 +37,7 @@ use Rattle.body_check.specs.Checking.{own_scope, own_block, with_nd, gathers, cl
 use Rattle.body_check.specs.Completes.{completes}
 use Rattle.body_check.specs.Deciding.{is_misplaced, interference, local_fault, marks_after, may_return, whole_fault}
 use Rattle.body_check.specs.Gathering.{with_uses, entered, taken_in}
-use Rattle.body_check.specs.Keeping.{inside}
+use Rattle.body_check.specs.Around.{inside}
 use Rattle.body_check.specs.Leaving.{from_here}
 use Rattle.body_check.specs.Meeting.{declared_atomic, branches_interfere}
 use Rattle.body_check.specs.Noting.{node_at, with_found, with_fault_if, fault_of, settled_node, refusal_with}

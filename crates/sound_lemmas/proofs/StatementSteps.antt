@@ -27,7 +27,7 @@ use Rattle.body_check.specs.declared.node.Around.{Around}
 use Rattle.body_check.specs.declared.node.Node.{Node}
 use Rattle.body_check.specs.Checking.{Whole, cut, cut_part, cut_array, Branches, with_first, check_stmt, check_form, check_scope, check_block, check_all, check_branches}
 use Rattle.body_check.specs.Completes.{completes}
-use Rattle.body_check.specs.Keeping.{inside}
+use Rattle.body_check.specs.Around.{inside}
 use Rattle.body_check.specs.Noting.{with_fault_if}
 use Rattle.body_check.specs.Simple.{declared_type, declared_reported, code_type, node_of, declare, put_in_local, assign_local, aimed_at, target_at, put_in_place, place_of, assign_place, perform, leave_with, print}
 use Rattle.body_check.specs.Walks.{Walk, Verdict, passes, refused, judged, expr_at, given_at, found_so, apart_from, ◌>>=◌, ◌>>◌}

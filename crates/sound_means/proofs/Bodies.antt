@@ -46,7 +46,7 @@ use Rattle.body_exprs.specs.Env.{table_of, scope_of, at_class, at_members, with_
 use Rattle.body_check.specs.Checking.{check_block}
 use Rattle.body_check.specs.Completes.{all_complete}
 use Rattle.body_check.specs.Deciding.{has_value}
-use Rattle.body_check.specs.Keeping.{method_around}
+use Rattle.body_check.specs.Around.{method_around}
 use Rattle.body_check.specs.Methods.{body_begun, class_params, own_params, formals_declared, formal_types, typed_body, reported, method_reported, method_judged, summary_of}
 use Rattle.body_check.specs.Simple.{has_room}
 use Rattle.body_check.specs.Walks.{Walk, Verdict, passes, refused}

@@ -17,7 +17,7 @@ use Rattle.decl_table.specs.Table.{methods_of}
 use Rattle.body_assembly.specs.Assembled.{PlainBody, members_of, program_of}
 use Rattle.body_exprs.specs.declared.env.Env.{Env}
 use Rattle.syntax_tree.specs.Plain.{plain_stmt, plain_stmts}
-use Rattle.body_check.specs.Keeping.{method_around}
+use Rattle.body_check.specs.Around.{method_around}
 use Rattle.body_check.specs.Deciding.{has_value}
 use Rattle.body_check.specs.Methods.{typed_body, after_ok, reported, method_reported, method_judged, bodies_of, PlainBodies, after_bodies, body_begun}
 use Rattle.body_check.specs.Walks.{Verdict, passes, refused}

@@ -20,7 +20,7 @@ use Rattle.body_check.specs.Checking.{check_stmt, check_form, check_scope, check
 use Rattle.body_check.specs.Completes.{completes}
 use Rattle.body_check.specs.Deciding.{marks_after}
 use Rattle.body_check.specs.Gathering.{handed_on, taken_in}
-use Rattle.body_check.specs.Keeping.{inside, Keeps}
+use Rattle.body_check.specs.Around.{inside}
 use Rattle.body_check.specs.Noting.{fault_of}
 use Rattle.body_check.specs.Walks.{walk_of, passes}
 use Rattle.body_check.specs.Walks.{Verdict as verdict}
@@ -29,13 +29,12 @@ use Rattle.body_check.proofs.Forks.{Branch, BranchesMet, branch_made, fork_all, 
 use Rattle.body_check.proofs.Homes.{home_params, piece_in}
 use Rattle.body_check.proofs.Iterations.{Iterated, IterationsMet, iteration_reported, iterations_is}
 use Rattle.body_check.proofs.Nodes.{choice_made, foreach_made, node_made, parts_made}
-use Rattle.body_check.proofs.Orders.{map_pushed, order_refused, order_more, order_all, and_then_so, and_else_so, complete_step, keep_step, fork_keeps}
+use Rattle.body_check.proofs.Orders.{map_pushed, order_refused, order_more, order_all, and_then_so, and_else_so, complete_step}
 use Rattle.body_check.proofs.Parting.{Opened, Part, PartsMet, body_refused, part_reported, parts_is}
 use Rattle.body_check.proofs.Passing.{clean_passes, closed_is, judged_some, stopped, settle_stopped, walk_from}
-use Rattle.body_check.proofs.Reaching.{begun_nd, taken_nd, iterations_nd, parts_nd, either_nd, neither_nd, fork_nd, nd_step}
 use Rattle.body_check.proofs.Stands.{as_said, at_Block, at_Declare, at_AssignLocal, at_AssignField, at_AssignElement, at_Do, at_Print, at_PrintText, at_Region, at_Cobegin, at_Atomic, at_If, at_While, at_Foreach, at_Parts, at_Return}
 use Rattle.body_check.proofs.Touched.{AllTouched, assigned_is, clashing_is}
-use Rattle.body_check.proofs.Walking.{FirstMet, block_stops, block_closes, scope_passes, test_refused, first_refused, either_so, neither_so, either_completes, neither_completes, either_keeps, neither_keeps}
+use Rattle.body_check.proofs.Walking.{FirstMet, block_stops, block_closes, scope_passes, test_refused, first_refused, either_so, neither_so, either_completes, neither_completes}
 use Rattle.body_check.proofs.+statements.Goals as goal
 use Rattle.body_check.proofs.+statements.Goals.{statements::statements-then-completes, statements::statements-else-completes}
 
@@ -112,22 +111,6 @@ statements::statement-returns-in-If-clause-completes t c =
     (c.in-If.is ∙ ap (λ (z : Stmt). tree.If c.in-If.test z c.in-If.other) (sym c.get.ensures)
     ∙ ap (tree.If c.in-If.test c.get.result.now) (sym c.as_ref.ensures.value))))
     c.branching.ensures.completes
-
-pub statements::statement-returns-in-If-clause-keeps : goal.statements::statement-returns-in-If-clause-keeps
-statements::statement-returns-in-If-clause-keeps t c =
-    subst (λ (z : PlainStmt). OnOk c.branching.result (Keeps c.args.around z))
-    (sym (at_If c.args.stmt.now c.in-If.test c.get.result.now (option_copied c.as_ref.result)
-    (c.in-If.is ∙ ap (λ (z : Stmt). tree.If c.in-If.test z c.in-If.other) (sym c.get.ensures)
-    ∙ ap (tree.If c.in-If.test c.get.result.now) (sym c.as_ref.ensures.value))))
-    c.branching.ensures.keeps
-
-pub statements::statement-returns-in-If-clause-nd : goal.statements::statement-returns-in-If-clause-nd
-statements::statement-returns-in-If-clause-nd t c =
-    subst (λ (z : PlainStmt). OnOk c.branching.result (IsTrue (c.args.out.now.reaches_nd || holds_nd z) → IsTrue c.branching.new.out.reaches_nd))
-    (sym (at_If c.args.stmt.now c.in-If.test c.get.result.now (option_copied c.as_ref.result)
-    (c.in-If.is ∙ ap (λ (z : Stmt). tree.If c.in-If.test z c.in-If.other) (sym c.get.ensures)
-    ∙ ap (tree.If c.in-If.test c.get.result.now) (sym c.as_ref.ensures.value))))
-    c.branching.ensures.nd
 
 pub statements::statement-returns-in-If-clause-checks : goal.statements::statement-returns-in-If-clause-checks
 statements::statement-returns-in-If-clause-checks t c =
@@ -275,17 +258,6 @@ statements::branching-returns-in_ok-settle-in-Some-clause-completes t c =
     (plain_stmt c.args.then.now) (option_copied c.args.other) c.in-Some.other.now c.get.result.now (ap option_copied c.in-Some.is) c.get.ensures
     c.choose.ensures.completes c.in_ok-first.ensures.completes c.in_ok-second-in-Some.ensures.completes
 
-pub statements::branching-returns-in_ok-settle-in-Some-clause-keeps : goal.statements::branching-returns-in_ok-settle-in-Some-clause-keeps
-statements::branching-returns-in_ok-settle-in-Some-clause-keeps t c =
-    either_keeps c.args.around (plain_expr c.args.test.now) (plain_stmt c.args.then.now) (option_copied c.args.other) c.in-Some.other.now
-    c.get.result.now (ap option_copied c.in-Some.is) c.get.ensures c.in_ok-first.ensures.keeps c.in_ok-second-in-Some.ensures.keeps
-
-pub statements::branching-returns-in_ok-settle-in-Some-clause-nd : goal.statements::branching-returns-in_ok-settle-in-Some-clause-nd
-statements::branching-returns-in_ok-settle-in-Some-clause-nd t c =
-    either_nd (plain_expr c.args.test.now) (plain_stmt c.args.then.now) (option_copied c.args.other) c.in-Some.other.now c.get.result.now
-    c.args.out.now c.boolean.new.out c.scoped.new.out c.scoped-in-Some.new.out (ap option_copied c.in-Some.is) c.get.ensures c.in_ok-given.ensures.nd
-    c.in_ok-first.ensures.nd c.in_ok-second-in-Some.ensures.nd
-
 pub statements::branching-returns-in_ok-settle-in-Some-clause-checks : goal.statements::branching-returns-in_ok-settle-in-Some-clause-checks
 statements::branching-returns-in_ok-settle-in-Some-clause-checks t c =
     let met : FirstMet c.args.body.now c.scoped.new.body c.args.around c.args.node c.boolean.new.node (plain_expr c.args.test.now)
@@ -323,16 +295,6 @@ pub statements::branching-returns-in_ok-settle-in-None-clause-completes : goal.s
 statements::branching-returns-in_ok-settle-in-None-clause-completes t c =
     neither_completes c.choose-in-None.result.completes c.in_ok-first.first.completes (plain_expr c.args.test.now) (plain_stmt c.args.then.now)
     (option_copied c.args.other) (ap option_copied c.in-None.is) c.choose-in-None.ensures.completes
-
-pub statements::branching-returns-in_ok-settle-in-None-clause-keeps : goal.statements::branching-returns-in_ok-settle-in-None-clause-keeps
-statements::branching-returns-in_ok-settle-in-None-clause-keeps t c =
-    neither_keeps c.args.around (plain_expr c.args.test.now) (plain_stmt c.args.then.now) (option_copied c.args.other) (ap option_copied c.in-None.is)
-    c.in_ok-first.ensures.keeps
-
-pub statements::branching-returns-in_ok-settle-in-None-clause-nd : goal.statements::branching-returns-in_ok-settle-in-None-clause-nd
-statements::branching-returns-in_ok-settle-in-None-clause-nd t c =
-    neither_nd (plain_expr c.args.test.now) (plain_stmt c.args.then.now) (option_copied c.args.other) c.args.out.now c.boolean.new.out
-    c.scoped.new.out (ap option_copied c.in-None.is) c.in_ok-given.ensures.nd c.in_ok-first.ensures.nd
 
 pub statements::branching-returns-in_ok-settle-in-None-clause-checks : goal.statements::branching-returns-in_ok-settle-in-None-clause-checks
 statements::branching-returns-in_ok-settle-in-None-clause-checks t c =
@@ -375,14 +337,6 @@ statements::statements-loop-stmt-preserved t c =
           complete_step c.args.stmts.now c.loop-stmt.stmt-index c.stmt-item.result c.loop-stmt.completes c.in_ok-done.done.completes c.if-completes.completes
           c.loop-stmt-test.true
           c.stmt-item.is c.in_ok-done.ensures.completes next_so c.loop-stmt.invariant.completes;
-      keeps =
-          keep_step c.args.around c.args.stmts.now c.loop-stmt.stmt-index c.stmt-item.result c.loop-stmt.completes c.in_ok-done.done.completes
-          c.if-completes.completes
-          c.loop-stmt-test.true c.stmt-item.is c.in_ok-done.ensures.after c.in_ok-done.ensures.keeps c.in_ok-done.ensures.completes next_so
-          c.loop-stmt.invariant.keeps;
-      nd =
-          nd_step c.args.stmts.now c.loop-stmt.stmt-index c.stmt-item.result c.args.out.now.reaches_nd c.loop-stmt.out.reaches_nd
-          c.statement.new.out.reaches_nd c.loop-stmt-test.true c.stmt-item.is c.in_ok-done.ensures.nd c.loop-stmt.invariant.nd;
       home = c.in_ok-done.ensures.home ∙ c.loop-stmt.invariant.home;
       goes_on =
           order_more c.args.body.now.atomic_params c.loop-stmt.body.atomic_params c.args.around c.loop-stmt.completes c.in_ok-done.done.completes
@@ -450,12 +404,6 @@ constructs::atomic-returns-in_err-settle-clause-checks t c =
     (passes (map typed_stmt c.in_ok-done.done.stmts) (walk_of c.block.new.body c.block.new.out)) c.inside.ensures c.new-inner.ensures
     c.in_ok-done.ensures.checks) c.note_if.ensures.node
     ∙ judged_some _ _ _ q reported)
-
-pub constructs::atomic-returns-clause-nd : goal.constructs::atomic-returns-clause-nd
-constructs::atomic-returns-clause-nd t c =
-    taken_nd c.from_here-leaving.result c.args.out.now c.block.new.out c.take_in.new.out (some_holds_nd (plain_stmts (map plain_stmt c.args.stmts.now)))
-    c.in_ok-take_in.ensures (begun_nd c.new-inner.result c.block.new.out (some_holds_nd (plain_stmts (map plain_stmt c.args.stmts.now))) c.new-inner.ensures
-    c.in_ok-done.ensures.nd)
 
 pub constructs::atomic-returns-clause-checks : goal.constructs::atomic-returns-clause-checks
 constructs::atomic-returns-clause-checks t c =
@@ -558,12 +506,6 @@ constructs::foreach-returns-in_err-settle-2-clause-checks t c =
     (form.foreach c.args.nd c.args.var (plain_expr c.args.start.now) (plain_expr c.args.count.now) (plain_stmt c.args.iteration.now)) (walk_of c.args.body.now c.args.out.now) ≡ v)
     (fault_of c.note_if-2.new.self) c.from_residual-in_err-settle-2.result c.in_err-settle-2.field-0.0 _ c.from_residual-in_err-settle-2.ensures.1
     c.in_err-settle-2.ensures.result (λ q reported. iterations_is passed met c.in_ok-settle.ensures.clean ∙ judged_some _ _ _ q reported)
-
-pub constructs::foreach-returns-clause-nd : goal.constructs::foreach-returns-clause-nd
-constructs::foreach-returns-clause-nd t c =
-    iterations_nd c.from_here-leaving.result c.args.out.now c.int-2.new.out c.scoped.new.out c.new-inner.result c.reach_nd.new.found c.take_in.new.out
-    c.args.nd (holds_nd (plain_stmt c.args.iteration.now)) c.new-inner.ensures c.reach_nd.ensures c.in_ok-take_in.ensures
-    (λ n. c.in_ok-number.ensures.nd (c.in_ok-first.ensures.nd n)) c.in_ok-done.ensures.nd
 
 pub constructs::foreach-returns-clause-checks : goal.constructs::foreach-returns-clause-checks
 constructs::foreach-returns-clause-checks t c =
@@ -707,12 +649,6 @@ parts::foreach_parts-returns-in_err-settle-2-clause-checks t c =
     (fault_of c.note_if-2.new.self) c.from_residual-in_err-settle-2.result c.in_err-settle-2.field-0.0 _ c.from_residual-in_err-settle-2.ensures.1
     c.in_err-settle-2.ensures.result (λ q reported. parts_is part met c.in_ok-settle.ensures.clean ∙ judged_some _ _ _ q reported)
 
-pub parts::foreach_parts-returns-clause-nd : goal.parts::foreach_parts-returns-clause-nd
-parts::foreach_parts-returns-clause-nd t c =
-    parts_nd c.from_here-leaving.result c.args.out.now c.int.new.out c.scoped.new.out c.new-inner.result c.in_ok-inner.inner c.take_in.new.out
-    c.slots-part.result c.outer_part.result (holds_nd (plain_stmt c.args.iteration.now)) c.new-inner.ensures c.in_ok-inner.ensures c.in_ok-take_in.ensures
-    (λ n. c.in_ok-given.ensures.nd (c.in_ok-whole.ensures.nd n)) c.in_ok-done.ensures.nd
-
 pub parts::foreach_parts-returns-clause-checks : goal.parts::foreach_parts-returns-clause-checks
 parts::foreach_parts-returns-clause-checks t c =
     let opened : Opened c.args.body.now c.args.node c.note_found.new.self c.int.new.node c.open.new.node c.args.view.now c.args.var.now
@@ -795,16 +731,6 @@ constructs::cobegin-loop-branch-preserved t c =
           c.marks_after.ensures c.from_here-leaving.ensures c.in_ok-take_in.ensures;
     } in
     record {
-      keeps =
-          fork_keeps c.args.around c.inside.result c.args.branches.now c.loop-branch.branch-index c.branch-item.result c.loop-branch-test.true
-          c.branch-item.is
-          c.inside.ensures c.in_ok-done.ensures.keeps c.loop-branch.invariant.keeps;
-      nd =
-          fork_nd c.from_here-leaving.result c.args.branches.now c.loop-branch.branch-index c.branch-item.result
-          (c.args.out.now.reaches_nd || some_holds_nd (plain_stmts (map plain_stmt c.args.branches.now))) c.loop-branch.out c.scoped.new.out
-          c.new-inner.result
-          c.take_in.new.out c.loop-branch-test.true c.branch-item.is c.new-inner.ensures c.in_ok-take_in.ensures c.in_ok-done.ensures.nd
-          c.loop-branch.invariant.nd;
       forks =
           fork_more c.args.body.now.atomic_params (inside c.args.around) c.args.nd c.args.branches.now (walk_of c.args.body.now c.args.out.now) c.loop-branch.branch-index
           c.loop-branch.effects c.push-in-loop-branch-2.new.self (map plain_branch c.loop-branch.made)

@@ -1,12 +1,11 @@
 use Rattle.std.proofs.Common.{◌≡◌, ◌+◌, ◌*◌, ◌&&◌, ◌||◌, max, IsTrue, map, drop}
 use Rattle.std.specs.Option.{option_map_or}
-use Rattle.syntax_tree.specs.Nd.{some_holds_nd}
 use Rattle.syntax_tree.specs.declared.stmt.Stmt.{size-Stmt}
 use Rattle.syntax_tree.specs.Plain.{plain_stmt, plain_stmts}
 use Rattle.lang_typed.specs.Plain.{plain_stmt as typed_stmt}
 use Rattle.body_check.specs.Checking.{plain_branch}
 use Rattle.body_check.specs.Completes.{all_complete}
-use Rattle.body_check.specs.Keeping.{MayFollow, AllKeep, BranchesKeep, inside}
+use Rattle.body_check.specs.Around.{inside}
 use Rattle.body_check.specs.Walks.{home_of, walk_of}
 use Rattle.body_check.proofs.Forks.{ForkSoFar, TouchedSoFar}
 use Rattle.body_check.proofs.Orders.{OrderSoFar}
@@ -49,10 +48,6 @@ decreases-constructs::atomic l = 4 * goal.size-constructs::atomic l + 3
 abbrev pub invariant-statements::statements-loop-stmt : goal.invariant-statements::statements-loop-stmt
 invariant-statements::statements-loop-stmt l = record {
   completes : (l.completes && all_complete (plain_stmts (map plain_stmt (drop l.stmt-index l.stmts)))) ≡ all_complete (plain_stmts (map plain_stmt l.stmts));
-  keeps : MayFollow l.completes (plain_stmts (map plain_stmt (drop l.stmt-index l.stmts))) →
-      AllKeep l.around (plain_stmts (map plain_stmt (drop l.stmt-index l.stmts))) → AllKeep l.around (plain_stmts (map plain_stmt l.stmts));
-  nd : IsTrue (l.fn.out.reaches_nd || some_holds_nd (plain_stmts (map plain_stmt l.stmts))) →
-      IsTrue (l.out.reaches_nd || some_holds_nd (plain_stmts (map plain_stmt (drop l.stmt-index l.stmts))));
   home : home_of l.body ≡ home_of l.fn.body;
   goes_on : OrderSoFar l.fn.body.atomic_params l.around l.stmts (walk_of l.fn.body l.fn.out) l.stmt-index l.completes (map typed_stmt l.made)
       (walk_of l.body l.out);
@@ -60,10 +55,6 @@ invariant-statements::statements-loop-stmt l = record {
 
 abbrev pub invariant-constructs::cobegin-loop-branch : goal.invariant-constructs::cobegin-loop-branch
 invariant-constructs::cobegin-loop-branch l = record {
-  keeps : BranchesKeep (inside l.around) (plain_stmts (map plain_stmt (drop l.branch-index l.branches))) →
-      BranchesKeep (inside l.around) (plain_stmts (map plain_stmt l.branches));
-  nd : IsTrue (l.fn.out.reaches_nd || some_holds_nd (plain_stmts (map plain_stmt l.branches))) →
-      IsTrue (l.out.reaches_nd || some_holds_nd (plain_stmts (map plain_stmt (drop l.branch-index l.branches))));
   forks : ForkSoFar l.fn.body.atomic_params (inside l.around) l.nd l.branches (walk_of l.fn.body l.fn.out) l.branch-index l.effects
       (map plain_branch l.made) (walk_of l.body l.out);
   touched : TouchedSoFar l.branches l.branch-index l.locals;

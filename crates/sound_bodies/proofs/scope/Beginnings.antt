@@ -36,7 +36,7 @@ use Rattle.body_exprs.specs.Env.{table_of, supers_of, scope_of, at_class, at_mem
 use Rattle.body_exprs.specs.Typed.{AreTaken}
 use Rattle.body_check.specs.declared.node.Around.{Around}
 use Rattle.body_check.specs.Deciding.{has_value}
-use Rattle.body_check.specs.Keeping.{method_around}
+use Rattle.body_check.specs.Around.{method_around}
 use Rattle.body_check.specs.Methods.{atomic_of, class_params, own_params, formals_declared, body_begun}
 use Rattle.body_check.specs.Methods.{formal_types as types_of}
 use Rattle.body_check.specs.Simple.{has_room}

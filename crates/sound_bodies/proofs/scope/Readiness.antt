@@ -10,7 +10,7 @@ use Rattle.body_exprs.specs.declared.env.Env.{Env}
 use Rattle.body_exprs.specs.declared.env.LocalRow.{LocalRow}
 use Rattle.body_exprs.specs.Env.{table_of, local_of, with_row_in}
 use Rattle.body_check.specs.declared.node.Around.{Around}
-use Rattle.body_check.specs.Keeping.{inside}
+use Rattle.body_check.specs.Around.{inside}
 use Rattle.sound_lemmas.proofs.Lists.{some_same}
 use Rattle.sound_bodies.specs.Naming.{IsIndex, IsRegion, SlotNames}
 use Rattle.sound_bodies.specs.Ready.{Ready}

@@ -27,7 +27,7 @@ use Rattle.body_check.specs.declared.node.Node.{Node}
 use Rattle.body_check.specs.Checking.{parts_noted, parts_declared, part_slot, part_variable, parts_left, variable_declared, variable_noted}
 use Rattle.body_check.specs.Deciding.{is_misplaced, interference, marks_after}
 use Rattle.body_check.specs.Gathering.{with_uses}
-use Rattle.body_check.specs.Keeping.{inside}
+use Rattle.body_check.specs.Around.{inside}
 use Rattle.body_check.specs.Meeting.{declared_atomic, some_interfere, branches_interfere}
 use Rattle.body_check.specs.Touching.{assigns_outer, some_disturb}
 use Rattle.body_check.proofs.Touched.{assigns_some}

@@ -16,7 +16,7 @@ use Rattle.body_exprs.specs.declared.env.LocalRow.{LocalRow}
 use Rattle.body_exprs.specs.Env.{local_of}
 use Rattle.body_check.specs.declared.node.Around.{Around}
 use Rattle.body_check.specs.Checking.{slots_of}
-use Rattle.body_check.specs.Keeping.{inside}
+use Rattle.body_check.specs.Around.{inside}
 use Rattle.body_check.specs.Touching.{assigned}
 use Rattle.body_check.proofs.Touched.{assigned_has}
 use Rattle.sound_lemmas.proofs.Lists.{some_same}

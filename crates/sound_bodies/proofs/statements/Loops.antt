@@ -28,7 +28,7 @@ use Rattle.body_check.specs.declared.node.Around.{Around}
 use Rattle.body_check.specs.Checking.{closed, with_nd, forking_of}
 use Rattle.body_check.specs.Deciding.{marks_after}
 use Rattle.body_check.specs.Gathering.{with_uses, taken_in}
-use Rattle.body_check.specs.Keeping.{inside}
+use Rattle.body_check.specs.Around.{inside}
 use Rattle.body_check.specs.Leaving.{from_here}
 use Rattle.body_check.specs.Meeting.{declared_atomic}
 use Rattle.body_check.specs.Walks.{Walk, nothing_found, found_so}

@@ -28,7 +28,7 @@ use Rattle.body_check.specs.Checking.{check_block}
 use Rattle.body_check.specs.declared.node.Around.{Around}
 use Rattle.body_check.specs.Completes as tree_completes
 use Rattle.body_check.specs.Deciding.{has_value}
-use Rattle.body_check.specs.Keeping.{method_around}
+use Rattle.body_check.specs.Around.{method_around}
 use Rattle.body_check.specs.Methods.{own_params, class_params, summary_of, body_begun, typed_body, method_reported, reported, method_judged}
 use Rattle.body_check.specs.Simple.{has_room}
 use Rattle.body_check.specs.Walks.{Walk, Verdict, passes, refused}

@@ -37,7 +37,7 @@ use Rattle.body_check.specs.Checking.{outer_part, parts_left}
 use Rattle.body_check.specs.Deciding.{whole_fault}
 use Rattle.body_check.specs.Gathering.{taken_in}
 use Rattle.body_check.specs.Gathering.{handed_on as hand_on}
-use Rattle.body_check.specs.Keeping.{inside}
+use Rattle.body_check.specs.Around.{inside}
 use Rattle.body_check.specs.Leaving.{from_here}
 use Rattle.body_check.specs.Simple.{node_of}
 use Rattle.body_check.specs.Walks.{Walk, nothing_found}

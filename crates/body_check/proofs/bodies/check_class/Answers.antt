@@ -3,7 +3,6 @@ use Rattle.std.proofs.lemmas.List.{drop_all}
 use Rattle.body_assembly.specs.Assembled.{plain_body}
 use Rattle.body_exprs.specs.Env.{at_class, table_of}
 use Rattle.body_check.specs.Methods.{check_member, class_params, plain_bodies}
-use Rattle.body_check.specs.Keeping.{MembersKeep}
 use Rattle.body_check.proofs.Methodic.{stopped_at, class_entered, left_is, members_all, members_more, members_none, members_stop, members_in}
 use Rattle.body_check.proofs.bodies.check_class.Goals as goal
 
@@ -30,7 +29,6 @@ returns-clause-checks c =
 
 pub loop-member-init : goal.loop-member-init
 loop-member-init c = record {
-  keeps = λ kept. kept;
   stays =
       class_entered c.args.body.now.env c.args.number c.len-params.result c.enter_class.new.self c.in_ok-enter_class.ensures.env
       c.in_ok-enter_class.ensures.atomic c.len-params.ensures;
@@ -41,12 +39,6 @@ loop-member-init c = record {
 
 pub loop-member-preserved : goal.loop-member-preserved
 loop-member-preserved c = record {
-  keeps = λ rest.
-      c.loop-member.invariant.keeps
-      (subst (λ ms. MembersKeep ms)
-      (left_is c.as_slice-member-items.result.now c.as_slice-member-items.result.now c.loop-member.member-index c.member-item.result refl
-      c.loop-member-test.true c.member-item.is)
-      (c.in_ok-made.ensures.keeps, rest));
   stays = c.in_ok-made.ensures.stays c.args.body.now.env c.args.number c.loop-member.invariant.stays;
   so_far =
       members_more c.args.body.now.env c.args.number c.args.first c.loop-member.done.next c.add_body.new.done.next c.loop-member.member-index

@@ -1,11 +1,9 @@
 use Rattle.std.proofs.Common.{drop, map}
 use Rattle.body_assembly.specs.Assembled.{plain_body}
-use Rattle.body_check.specs.Keeping.{ClassesKeep}
 use Rattle.body_check.proofs.Methodic.{ClassesSoFar}
 use Rattle.body_check.proofs.bodies.check_classes.Given as goal
 
 abbrev pub invariant-loop-number : goal.invariant-loop-number
 invariant-loop-number l = record {
-  keeps : ClassesKeep (drop l.number l.classes) → ClassesKeep l.classes;
   so_far : ClassesSoFar l.fn.body.env l.body.env l.number l.methods l.classes (map plain_body l.bodies);
 }

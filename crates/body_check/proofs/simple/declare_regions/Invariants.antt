@@ -6,7 +6,6 @@ use Rattle.body_check.proofs.simple.declare_regions.Given as goal
 
 abbrev pub invariant-loop-named : goal.invariant-loop-named
 invariant-loop-named l = record {
-  clean : fault_of l.node ≡ None → fault_of l.fn.node ≡ None;
   home : home_of l.body ≡ home_of l.fn.body;
   noted : regions_noted l.body.env l.node (drop l.named-index l.names) ≡ regions_noted l.fn.body.env l.fn.node l.names;
   scope : with_regions l.body.env (drop l.named-index l.names) ≡ with_regions l.fn.body.env l.names;
