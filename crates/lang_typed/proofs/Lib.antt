@@ -1,3 +1,4 @@
+mod FirstValues
 mod Mended
 mod Refused
 pub mod Resolved
