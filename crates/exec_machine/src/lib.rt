@@ -24,6 +24,8 @@
 
 mod answers;
 mod away;
+mod begun;
+mod cell;
 mod copies;
 mod event_machine;
 mod halted;

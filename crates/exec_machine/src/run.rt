@@ -21,7 +21,7 @@ use crate::made_event::MadeEvent;
 use crate::outcome::{came_to, limited};
 use crate::places::place_of;
 use crate::schedule::Schedule;
-use crate::slot::Slot;
+use crate::cell::Cell;
 use crate::slots::Slots;
 use crate::wants::wants_at;
 use code_instrs::Code;
@@ -256,7 +256,7 @@ impl Run {
         let number = self.world.begun();
         let task = event.task;
         self.slots
-            .insert(number, Slot::start(alloc, number, start))?;
+            .insert(number, Cell::start(alloc, number, start)?)?;
         match self.record(alloc, code, limits, event) {
             Ok(Some(answer)) => {
                 self.slots.settle(task, answer);

@@ -7,6 +7,7 @@ ghost use Rattle.exec_machine.specs.Away.{CanGoAway, EachCanGo, IsTakenOut, put_
 ghost use Rattle.exec_machine.specs.Running.{Running, AllStand, AllGo, OfSlot, StandsAt, CanGo};
 
 use crate::away::{Away, advance_each};
+use crate::cell::Cell;
 use crate::slot::Slot;
 use code_instrs::Code;
 use exec_task::{Action, Answer};
@@ -23,7 +24,7 @@ const MOST_AWAY: usize = 1024;
 /// The live tasks. A contract sees a finite map from their numbers.
 #[derive(Drop)]
 pub struct Slots {
-    map: Numbered<Slot>,
+    map: Numbered<Cell>,
     alloc: Global,
 }
 
@@ -54,10 +55,10 @@ impl Slots {
     pub fn get(&self, number: u32) -> Option<&Slot>
         ensures { option_copied result ≡ get self.now number }
     {
-        self.map.get(number)
+        self.map.get(number)?.going()
     }
 
-    pub fn insert(&mut self, number: u32, slot: Slot) -> Result<(), NoMemory>
+    pub fn insert(&mut self, number: u32, slot: Cell) -> Result<(), NoMemory>
         ensures ok { OnOk result (self.new ≡ insert self.old number slot) }
         ensures err { OnErr result (self.new ≡ self.old) }
     {
@@ -80,7 +81,7 @@ impl Slots {
         let Some(slot) = self.map.get_mut(number) else {
             unreachable!()
         };
-        slot.advance(alloc, code)
+        slot.go(alloc)?.advance(alloc, code)
     }
 
     /// Keeps the answer for a task that has made its event.
@@ -88,10 +89,10 @@ impl Slots {
         requires { OfSlot (get self.old number) (λ slot. Unit {0}) }
         ensures { OfSlot (get self.old number) (λ slot. self.new ≡ insert self.old number (record { task = slot.task; pending = Some answer })) }
     {
-        let Some(slot) = self.map.get_mut(number) else {
+        let Some(Cell::Going(slot)) = self.map.get_mut(number) else {
             unreachable!()
         };
-        slot.pending = Some(answer);
+        slot.get_mut().pending = Some(answer);
     }
 
     /// Puts a slot into the place of another, which comes out.
@@ -100,10 +101,10 @@ impl Slots {
         ensures was { get self.old number ≡ Some result }
         ensures put { self.new ≡ insert self.old number slot }
     {
-        let Some(place) = self.map.get_mut(number) else {
+        let Some(Cell::Going(place)) = self.map.get_mut(number) else {
             unreachable!()
         };
-        mem::replace(place, slot)
+        mem::replace(place.get_mut(), slot)
     }
 
     /// Whether a task is in its place, and wasn't taken out.
@@ -121,6 +122,7 @@ impl Slots {
         ensures taken { IfSome result (IsTakenOut self.old number self.new) }
         ensures none { IfNone result (self.new ≡ self.old) }
     {
+        self.map.get_mut(number)?.set_going(self.alloc).ok()?;
         if !self.is_there(number) {
             return None;
         }

@@ -7,7 +7,7 @@ ghost use Rattle.exec_machine.specs.Running.{AllGo};
 use crate::outcome::limited;
 use crate::run::Run;
 use crate::schedule::Schedule;
-use crate::slot::Slot;
+use crate::cell::Cell;
 use crate::slots::Slots;
 use code_instrs::Code;
 use exec_heap::{Heap, HeapStop};
@@ -27,7 +27,7 @@ pub fn start(alloc: Global, code: &Code, limits: Limits, argument: i32) -> Resul
     let outcome = make_main(alloc, code, limits, &mut world.heap)?;
     let mut slots = Slots::new(alloc);
     let root = main_start(alloc, code, 0, argument)?;
-    slots.insert(0, Slot::start(alloc, 0, root))?;
+    slots.insert(0, Cell::start(alloc, 0, root)?)?;
     let queued = QueuedWorld::open(alloc, world)?;
     Ok(Run {
         world: queued,

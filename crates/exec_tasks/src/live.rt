@@ -132,6 +132,14 @@ impl Live {
         Ok(())
     }
 
+    /// Makes room for the end of a branch in the open scope of a task.
+    pub fn reach(&mut self, number: u32, branch: u32) -> Result<(), NoMemory> {
+        let Some(task) = self.tasks.get_mut(number) else {
+            return Ok(());
+        };
+        task.state.reach(branch)
+    }
+
     /// Notes in the open scope of a task how a branch ended.
     pub fn end(&mut self, number: u32, branch: u32, how: Closed)
         ensures { self.new ≡ changed self.old number (with_scope (λ scope. with_end scope branch how)) }

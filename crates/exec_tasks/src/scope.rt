@@ -13,8 +13,11 @@ use std::marker::Model;
 #[derive(Debug, Drop)]
 pub struct Scope {
     count: u32,
+    /// How many branches have begun.
+    begun: u32,
     /// How many branches have begun and not ended.
     left: u32,
+    /// The ends, up to the last branch that has ended.
     ends: Vec<Option<Closed>>,
 }
 
@@ -34,6 +37,7 @@ impl Scope {
     {
         Scope {
             count,
+            begun: 0,
             left: 0,
             ends: Vec::new(alloc),
         }
@@ -44,7 +48,7 @@ impl Scope {
         ensures number { result ≡ length self.now.ends }
         ensures within { length self.now.ends ≤ self.now.count }
     {
-        self.ends.len() as u32
+        self.begun
     }
 
     /// Begins the next branch.
@@ -53,8 +57,16 @@ impl Scope {
         ensures ok { OnOk result (self.new ≡ with_branch self.old) }
         ensures err { OnErr result (self.new ≡ self.old) }
     {
-        self.ends.push(None)?;
+        self.begun += 1;
         self.left += 1;
+        Ok(())
+    }
+
+    /// Makes room for the end of a branch.
+    pub fn reach(&mut self, branch: u32) -> Result<(), NoMemory> {
+        while self.ends.len() <= branch as usize {
+            self.ends.push(None)?;
+        }
         Ok(())
     }
 
@@ -74,21 +86,21 @@ impl Scope {
     pub fn can_go_on(&self) -> bool
         ensures { result ≡ can_go_on self.now }
     {
-        self.ends.len() < self.count as usize || self.left == 0
+        self.begun < self.count || self.left == 0
     }
 
     /// Whether a branch hasn't begun.
     pub fn can_begin(&self) -> bool
         ensures { IsTrue result ↔ (length self.now.ends < self.now.count) }
     {
-        self.ends.len() < self.count as usize
+        self.begun < self.count
     }
 
     /// Whether all branches have begun and ended.
     pub fn can_join(&self) -> bool
         ensures { result ≡ (all_begun self.now && all_ended self.now) }
     {
-        self.ends.len() >= self.count as usize && self.left == 0
+        self.begun >= self.count && self.left == 0
     }
 
     /// What the branches came to.

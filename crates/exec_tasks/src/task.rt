@@ -99,6 +99,14 @@ impl State {
         }
     }
 
+    /// Makes room for the end of a branch in the open scope.
+    pub fn reach(&mut self, branch: u32) -> Result<(), NoMemory> {
+        match self {
+            State::Running => Ok(()),
+            State::Forked(scope) => scope.reach(branch),
+        }
+    }
+
     /// Notes in the open scope, if there is one, how a branch ended.
     pub fn end(&mut self, branch: u32, how: Closed)
         ensures { self.new ≡ in_scope (λ scope. with_end scope branch how) self.old }

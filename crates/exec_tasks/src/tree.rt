@@ -163,6 +163,9 @@ impl TaskTree {
         ensures err { OnErr result (self.new ≡ self.old) }
     {
         let room = self.room(task, trap, slots)?;
+        if let Some(origin) = self.tasks.origin(task) {
+            self.tasks.reach(origin.parent, origin.step.branch)?;
+        }
         let Some(ended) = self.tasks.remove(task) else {
             unreachable!()
         };
