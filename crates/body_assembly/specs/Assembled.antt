@@ -7,8 +7,11 @@ use Rattle.decl_headers.specs.Inheriting.{of_each_class}
 use Rattle.decl_headers.specs.Numbers.{as_number}
 use Rattle.lang_typed.specs.Plain.{TypedStmts, stmts_of, plain_stmt, PlainParent, PlainClass, PlainMember, PlainProgram}
 use Rattle.lang_typed.specs.Plain.{PlainField as TypedField}
+use Rattle.lang_typed.specs.Plain.{plain_field as typed_field}
+use Rattle.lang_typed.specs.Plain.{class_with}
+use Rattle.lang_typed.specs.declared.program.Class.{Class}
 use Rattle.decl_table.specs.declared.rows.MethodRow.{MethodRow}
-use Rattle.decl_table.specs.Inherited.{fields_in, members_in}
+use Rattle.decl_table.specs.Inherited.{declared_fields, fields_in, members_in}
 use Rattle.decl_table.specs.Main.{main_class, main_method}
 use Rattle.decl_table.specs.Plain.{PlainField}
 use Rattle.decl_table.specs.Table.{PlainTable, headers_of, given_of, methods_of, constructor_of, parent_args_of}
@@ -44,6 +47,13 @@ class_from table number fields rows = record {
 -- the class at a position of the text: all fields by slot, and the members in all rows
 abbrev pub class_of : PlainTable → ℕ → PlainClass
 class_of table at = class_from table (as_number at) (map field_of (fields_in table at)) (members_in table at)
+
+-- a class with the fields that it declares itself alone
+abbrev pub own_class : Class → PlainClass
+own_class c = class_with (map typed_field c.fields) c
+
+abbrev pub own_class_of : PlainTable → ℕ → PlainClass
+own_class_of table at = class_from table (as_number at) (map field_of (declared_fields table at)) (members_in table at)
 
 -- a member of this signature, with its body
 abbrev pub member_of : MethodRow → PlainBody → PlainMember

@@ -7,22 +7,22 @@ ghost use Rattle.lang_typed.specs.Plain.{plain_class, plain_parent};
 ghost use Rattle.lang_typed.specs.Plain.{plain_field as typed_field};
 ghost use Rattle.decl_table.specs.Plain.{plain_field};
 ghost use Rattle.decl_table.specs.Table.{headers_of, constructor_of};
-ghost use Rattle.body_assembly.specs.Assembled.{field_of, class_of, parent_at, class_from};
+ghost use Rattle.body_assembly.specs.Assembled.{field_of, class_of, own_class, parent_at, class_from};
 ghost use Rattle.body_assembly.specs.Named.{class_named};
 
 use crate::texts::{copies, params, text};
 use decl_headers::number_at;
-use decl_table::{FieldRow, Table, all_fields, all_rows};
+use decl_table::{FieldRow, Table, all_rows, declared_fields};
 use lang_base::{Bytes, Items, NoMemory, Plain};
 use lang_typed::{Class, ClassId, Field, MemberId, Parent};
 use std::alloc::Global;
 
 /// All classes, in the order of the text.
 pub fn classes(alloc: Global, names: &[Bytes], table: &Table) -> Result<Items<Class>, NoMemory>
-    ensures made { IfOk result (λ made. map plain_class made ≡ of_each_class (headers_of table.now) (class_of table.now)) }
+    ensures made { IfOk result (λ made. map (plain_class made) made ≡ of_each_class (headers_of table.now) (class_of table.now)) }
     ensures named { IfOk result (λ made. map named_class made ≡ of_each_class (headers_of table.now) (λ at. class_named table.now names.now (as_number at))) }
 {
-    let fields = all_fields(alloc, table)?;
+    let fields = declared_fields(alloc, table)?;
     let rows = all_rows(alloc, table)?;
     let mut made = Items::new(alloc);
     for at in 0..table.headers().len() {
@@ -33,7 +33,7 @@ pub fn classes(alloc: Global, names: &[Bytes], table: &Table) -> Result<Items<Cl
     Ok(made)
 }
 
-/// A class of that number, with these fields and rows.
+/// A class of that number, with these fields of its own and these rows.
 fn class(
     alloc: Global,
     names: &[Bytes],
@@ -42,7 +42,7 @@ fn class(
     fields: Items<Field>,
     rows: Items<MemberId>,
 ) -> Result<Class, NoMemory>
-    ensures made { IfOk result (λ made. plain_class made ≡ class_from table.now number (map typed_field fields) (map (λ row. row.number) rows)) }
+    ensures made { IfOk result (λ made. own_class made ≡ class_from table.now number (map typed_field fields) (map (λ row. row.number) rows)) }
     ensures named { IfOk result (λ made. named_class made ≡ class_named table.now names.now number) }
 {
     let given = copies(alloc, table.given(number))?;
@@ -92,13 +92,13 @@ fn constructor(table: &Table, number: u32) -> Option<MemberId>
     }
 }
 
-/// The fields of the class at a position.
+/// The fields that the class at a position declares itself.
 fn typed_fields(
     alloc: Global,
     all: &Items<Items<FieldRow>>,
     at: usize,
 ) -> Result<Items<Field>, NoMemory>
-    ensures { IfOk result (λ made. map typed_field made ≡ map field_of (slice_index_or (map (map plain_field) all.now) at [])) }
+    ensures { IfOk result (λ made. map typed_field made ≡ map field_of (map plain_field (slice_index_or all.now at []))) }
 {
     match all.get(at) {
         None => Ok(Items::new(alloc)),

@@ -2,6 +2,7 @@ pub mod Same
 pub mod Places
 pub mod Finding
 pub mod Reading
+pub mod Seeking
 pub mod Alike
 pub mod Outside
 pub mod Calling

@@ -2,6 +2,7 @@ pub mod Kept
 pub mod Places
 pub mod Finding
 pub mod Doing
+pub mod Sought
 pub mod Walked
 pub mod PostFixpoint
 pub mod Asked

@@ -62,7 +62,7 @@ pub fn seen_items(
     class: &Class,
     member: &Member,
 ) -> Result<Items<Rpl>, NoMemory>
-    ensures { IfOk result (λ places. places ≡ map (λ e. substituted (seen_below (plain_program program.now) number.number (plain_class class.now) (plain_member member.now)) e.rpl) member.now.summary) }
+    ensures { IfOk result (λ places. places ≡ map (λ e. substituted (seen_below (plain_program program.now) number.number (plain_class program.now.classes class.now) (plain_member member.now)) e.rpl) member.now.summary) }
 {
     let mut own = Items::new(alloc);
     params_from(alloc, 0, class.params.len(), &mut own)?;

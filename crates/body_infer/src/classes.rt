@@ -2,21 +2,21 @@ ghost use Rattle.std.specs.Prelude.{◌≡◌, ◌+◌, ◌++◌, map, option_ma
 ghost use Rattle.std.specs.Option.{option_copied};
 ghost use Rattle.lang_base.specs.Regions.{substituted};
 ghost use Rattle.lang_base.specs.Types.{plain_type};
-ghost use Rattle.lang_typed.specs.Plain.{plain_program, plain_class, plain_member, plain_field, plain_parent, PlainMember};
-ghost use Rattle.lang_typed.specs.Scope.{class_at, member_at, field_at, row_at, constructor_of};
+ghost use Rattle.lang_typed.specs.Plain.{plain_program, plain_class, plain_member, plain_parent, PlainMember};
+ghost use Rattle.lang_typed.specs.Scope.{class_at, member_at, row_at, constructor_of};
 ghost use Rattle.lang_typed.specs.Table.{params_from};
 ghost use Rattle.body_infer.specs.Doing.{seen_as};
 ghost use Rattle.body_infer.specs.Walked.{class_parts, parent_below};
 ghost use Rattle.body_infer.specs.Passes.{IsOverride, NoOverride};
 
 use lang_base::{Elems, Head, Items, NoMemory, Plain, Rpl, Ty};
-use lang_typed::{Class, ClassId, Field, FieldSlot, Member, MemberId, Parent, Program, Row};
+use lang_typed::{Class, ClassId, Member, MemberId, Parent, Program, Row};
 use region_paths::subst;
 use std::alloc::Global;
 
 #[tactic(auto, using(crate::proofs::Reading::reading))]
 pub fn class_at(program: &Program, class: u32) -> Option<&Class>
-    ensures { option_map plain_class (option_copied result) ≡ class_at (plain_program program.now) class }
+    ensures { option_map (plain_class program.now.classes) (option_copied result) ≡ class_at (plain_program program.now) class }
 {
     program.classes.get(class as usize)
 }
@@ -26,15 +26,6 @@ pub fn member_at(program: &Program, member: MemberId) -> Option<&Member>
     ensures { option_map plain_member (option_copied result) ≡ member_at (plain_program program.now) member.number }
 {
     program.members.get(member.number as usize)
-}
-
-#[tactic(auto, using(crate::proofs::Reading::reading))]
-pub fn field_at(program: &Program, class: ClassId, field: FieldSlot) -> Option<&Field>
-    ensures { option_map plain_field (option_copied result) ≡ field_at (plain_program program.now) class.number field.number }
-{
-    class_at(program, class.number)?
-        .fields
-        .get(field.number as usize)
 }
 
 /// The member in a row of a class.
@@ -120,7 +111,7 @@ pub struct Override<'a> {
 /// What the member in a row of a class overrides, if it does.
 #[tactic(auto, using(crate::proofs::Reading::reading))]
 pub fn override_in(program: &Program, number: usize, row: usize) -> Option<Override<'_>>
-    ensures { MatchOption result (NoOverride (plain_program program.now) number row) (λ found. (over : PlainMember) × IsOverride (plain_program program.now) number row found.above.number found.over.number (plain_class found.class.now) (plain_member found.member.now) over × (found.number.number ≡ number)) }
+    ensures { MatchOption result (NoOverride (plain_program program.now) number row) (λ found. (over : PlainMember) × IsOverride (plain_program program.now) number row found.above.number found.over.number (plain_class program.now.classes found.class.now) (plain_member found.member.now) over × (found.number.number ≡ number)) }
 {
     let class = program.classes.get(number)?;
     let parent = class.parent.as_ref()?;

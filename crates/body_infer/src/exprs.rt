@@ -7,7 +7,8 @@ ghost use Rattle.body_infer.specs.Kept.{program_kept};
 ghost use Rattle.body_infer.specs.Doing.{done_by, done_by_all, of_field, of_element, of_local, of_callee, of_constructor, constructed, member_in};
 ghost use Rattle.body_infer.specs.Walked.{all_done, access_to, scope_of};
 
-use crate::classes::{args_of, field_at};
+use crate::classes::args_of;
+use crate::fields::field_at;
 use crate::own::{Own, does, uses};
 use crate::scope::Scope;
 use crate::walk::{Walk, add_call, add_construction};
@@ -184,7 +185,7 @@ pub fn add_field(
 ) -> Result<(), NoMemory>
     ensures { let P = plain_program walk.entry.program.now in OnOk result (all_done out.new ≡ all_done out.old ++ of_field P (plain_type of.now) (field_at P class.number field.number) (λ a. does (access_to access a))) }
 {
-    let Some(field) = field_at(walk.program, class, field) else {
+    let Some(field) = field_at(walk.alloc, walk.program, class, field)? else {
         return Ok(());
     };
     if let Some((_, args)) = args_of(of) {

@@ -10,6 +10,8 @@
 //! The summaries are found by asking members until none rises, each again only where one has risen that its body calls or that
 //! overrides it (`settling`); passes over all members see that no more is asked for (`inferring`).
 //!
+//! The field that an access names is looked for from the class at the top down (`fields`, `specs/Sought.antt`).
+//!
 //! `summary` writes effects as `specs/Lines.antt` says, those of a run too, and `lines` exactly the lines that `specs/Lines.antt` says of the summaries that are left, and a program has one such summary
 //! for each member (`laws::law_one_inferred`).
 #![tactic(auto)]
@@ -18,6 +20,7 @@ mod asking;
 mod callers;
 mod classes;
 mod exprs;
+mod fields;
 mod inferring;
 mod kept;
 pub mod laws;

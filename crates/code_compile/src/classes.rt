@@ -1,14 +1,12 @@
 ghost use Rattle.std.specs.Prelude.{◌≡◌, IfOk, map, option_map};
-ghost use Rattle.lang_base.specs.Types.{plain_type};
 ghost use Rattle.lang_typed.specs.Plain.{plain_class, plain_program};
 ghost use Rattle.code_instrs.specs.Plain.{plain_class as plain_class_code, plain_method};
-ghost use Rattle.code_scheme.specs.Scheme.{class_code, method_code, first_constant};
+ghost use Rattle.code_scheme.specs.Scheme.{class_code, method_code};
 ghost use Rattle.code_compile.specs.Classes.{number_from};
 
-use crate::sites::first_value;
 use code_instrs::{ClassCode, MethodCode};
-use lang_base::{Items, NoMemory, Plain, Value};
-use lang_typed::{Class, Field, MemberId, Program};
+use lang_base::{Items, NoMemory, Plain};
+use lang_typed::{Class, MemberId, Program, first_values};
 use std::alloc::Global;
 
 /// The classes at run time. `numbers` has the body of each member.
@@ -17,7 +15,7 @@ pub fn classes(
     program: &Program,
     numbers: &Items<usize>,
 ) -> Result<Items<ClassCode>, NoMemory>
-    ensures { IfOk result (λ made. map plain_class_code made ≡ map (class_code (plain_program program.now) (number_from numbers.now)) (map plain_class program.now.classes)) }
+    ensures { IfOk result (λ made. map plain_class_code made ≡ map (class_code (plain_program program.now) (number_from numbers.now)) (map (plain_class program.now.classes) program.now.classes)) }
 {
     let mut made = Items::new(alloc);
     for class in program.classes.as_slice() {
@@ -32,9 +30,9 @@ fn class_code(
     numbers: &Items<usize>,
     class: &Class,
 ) -> Result<ClassCode, NoMemory>
-    ensures { IfOk result (λ made. plain_class_code made ≡ class_code (plain_program program.now) (number_from numbers.now) (plain_class class.now)) }
+    ensures { IfOk result (λ made. plain_class_code made ≡ class_code (plain_program program.now) (number_from numbers.now) (plain_class program.now.classes class.now)) }
 {
-    let fields = first_values(alloc, &class.fields)?;
+    let fields = first_values(alloc, program, class)?;
     let methods = methods(alloc, program, numbers, &class.rows)?;
     let constructor = constructor_of(numbers, class);
     match &class.parent {
@@ -56,22 +54,12 @@ fn class_code(
 }
 
 fn constructor_of(numbers: &Items<usize>, class: &Class) -> Option<usize>
-    ensures { result ≡ option_map (number_from numbers.now) (plain_class class.now).constructor }
+    ensures { result ≡ option_map (number_from numbers.now) (option_map (λ member. member.number) class.now.constructor) }
 {
     match class.constructor {
         None => None,
         Some(member) => Some(number_of(numbers, member)),
     }
-}
-
-fn first_values(alloc: Global, fields: &Items<Field>) -> Result<Items<Value>, NoMemory>
-    ensures { IfOk result (λ made. made ≡ map (λ f. first_constant (plain_type f.ty)) fields.now) }
-{
-    let mut made = Items::new(alloc);
-    for field in fields.as_slice() {
-        made.push(first_value(&field.ty))?;
-    }
-    Ok(made)
 }
 
 fn methods(

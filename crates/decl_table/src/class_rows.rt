@@ -1,7 +1,7 @@
 ghost use Rattle.std.specs.Prelude.{◌≡◌, ℕ, ◌<◌, [], map, fold, length, replicate, slice_set, slice_index_or, unwrap_or, option_map, IfOk, OnOk};
-ghost use Rattle.decl_headers.specs.Headers.{parent_of, class_count};
+ghost use Rattle.decl_headers.specs.Headers.{parent_of, parents_of, class_count};
 ghost use Rattle.decl_headers.specs.Inheriting.{made_at, of_each_class};
-ghost use Rattle.decl_headers.specs.Way.{entered, entered_on};
+ghost use Rattle.decl_headers.specs.Way.{IsForest, entered, entered_on};
 ghost use Rattle.decl_table.specs.Inherited.{with_member, declared_methods, members_after, members_in};
 ghost use Rattle.decl_table.specs.Table.{headers_of};
 
@@ -14,7 +14,8 @@ use std::alloc::Global;
 /// Of each class the members in its rows: those of its superclass come first, and a method stands in the row of the
 /// one that it overrides.
 pub fn all_rows(alloc: Global, table: &Table) -> Result<Items<Items<u32>>, NoMemory>
-    ensures { IfOk result (λ all. all ≡ of_each_class (headers_of table.now) (members_in table.now)) }
+    ensures forest { IfOk result (λ all. IsForest (parents_of (headers_of table.now))) }
+    ensures made { IfOk result (λ all. all ≡ of_each_class (headers_of table.now) (members_in table.now)) }
 {
     let own = own_methods(alloc, table.headers().len(), table.methods())?;
     let way = table.headers().way(alloc)?;

@@ -6,8 +6,8 @@
 //!
 //! `find_overridden` finds what each method overrides, on one way through the classes that meets each after its superclass
 //! (`specs/Visible.antt`); what this means is `specs/Overridden.antt`. `number_rows` gives each method its row: that of the method which it
-//! overrides, or a new one (`specs/RowNumbers.antt`). `all_fields` and `all_rows` give of each class what it has in all
-//! (`specs/Inherited.antt`).
+//! overrides, or a new one (`specs/RowNumbers.antt`). `declared_fields` gives of each class the fields that it declares itself, and
+//! `all_rows` the members in all its rows; what a class has in all is `specs/Inherited.antt`.
 //!
 //! A contract sees a table as its rows: `specs/Table.antt` says what each look-up answers, `specs/Places.antt` which row is found,
 //! `specs/Main.antt` with what a run can begin, and `specs/Plain.antt` what a row says with plain types. That a table is that of a text is
@@ -24,7 +24,7 @@ mod rows;
 mod table;
 
 pub use beginning::{check_main, main_class, main_method};
-pub use class_fields::all_fields;
+pub use class_fields::declared_fields;
 pub use class_rows::all_rows;
 pub use overridden::find_overridden;
 pub use places::{Places, find_places};

@@ -216,14 +216,10 @@ fn first_of(ty: &Ty) -> Value
 pub fn first_values(alloc: Global, program: &Program, class: u32) -> Result<Items<Value>, NoMemory>
     ensures { IfOk result (λ vs. map plain_value vs ≡ map (λ f. first_of f.ty) (class_fields (plain_program program.now) class)) }
 {
-    let mut values = Items::new(alloc);
-    let Some(row) = program.classes.get(class as usize) else {
-        return Ok(values);
-    };
-    for field in row.fields.as_slice() {
-        values.push(first_of(&field.ty))?;
+    match program.classes.get(class as usize) {
+        None => Ok(Items::new(alloc)),
+        Some(row) => lang_typed::first_values(alloc, program, row),
     }
-    Ok(values)
 }
 
 fn appended(

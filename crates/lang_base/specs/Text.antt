@@ -44,32 +44,6 @@ kind_name kind.LocalRegion = codes "local-region"
 kind_name kind.Trace = codes "trace"
 kind_name kind.Schedule = codes "schedule"
 
--- the order in which faults of one place are reported
-abbrev pub kind_number : Kind → ℕ
-kind_number kind.TooLong = 0
-kind_number kind.Syntax = 1
-kind_number kind.Number = 2
-kind_number kind.Nest = 3
-kind_number kind.Duplicate = 4
-kind_number kind.Unknown = 5
-kind_number kind.Cycle = 6
-kind_number kind.Main = 7
-kind_number kind.«Type» = 8
-kind_number kind.RegionArgs = 9
-kind_number kind.Override = 10
-kind_number kind.Return = 11
-kind_number kind.Assign = 12
-kind_number kind.PartialWrite = 13
-kind_number kind.Constraint = 14
-kind_number kind.Summary = 15
-kind_number kind.OverrideEffect = 16
-kind_number kind.Interferes = 17
-kind_number kind.InterferesNd = 18
-kind_number kind.AtomicBody = 19
-kind_number kind.LocalRegion = 20
-kind_number kind.Trace = 21
-kind_number kind.Schedule = 22
-
 -- `line:col name`
 abbrev pub refusal_text : Refusal → List ℕ
 refusal_text refusal = place_text refusal.place ++ codes " " ++ kind_name refusal.kind

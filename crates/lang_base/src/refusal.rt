@@ -4,8 +4,9 @@ use crate::memory::NoMemory;
 use crate::place::Place;
 use std::fmt;
 
-/// Why a text is refused. `docs/REFUSALS.md` of the repository explains each to its reader.
-#[derive(Clone, Copy, Debug, PartialEq, Eq)]
+/// Why a text is refused. `docs/REFUSALS.md` of the repository explains each to its reader. Among faults of one place
+/// the one that stands first here is reported.
+#[derive(Clone, Copy, Debug, PartialEq, Eq, PartialOrd, Ord)]
 pub enum Kind {
     /// More bytes than a text may have.
     TooLong,
@@ -81,7 +82,7 @@ impl From<NoMemory> for Stop {
 }
 
 impl Kind {
-    ghost use Rattle.lang_base.specs.Text.{kind_name, kind_number};
+    ghost use Rattle.lang_base.specs.Text.{kind_name};
 
     /// The name that a report gives it.
     pub fn name(self) -> &'static str
@@ -112,13 +113,6 @@ impl Kind {
             Kind::Trace => "trace",
             Kind::Schedule => "schedule",
         }
-    }
-
-    /// Its number: among faults of one place, the lower one is reported.
-    pub fn number(self) -> u32
-        ensures { result ≡ kind_number self }
-    {
-        self as u32
     }
 }
 

@@ -1,3 +1,4 @@
+mod FirstValues
 mod Mended
 pub mod Narrow
 pub mod Parts

@@ -1,4 +1,5 @@
 pub mod Effects
+pub mod Inherited
 pub mod Laws
 pub mod Names
 pub mod Plain

@@ -1,10 +1,12 @@
 -- The typed program as plain data, over which the rules of the language are written, and the map from the code's types.
-use Rattle.std.specs.Prelude.{ℕ, ℤ, Bool, List, [], ◌∷◌, map, Option, Some, None, option_map}
+use Rattle.std.specs.Prelude.{ℕ, zero, suc, ℤ, Bool, List, [], ◌∷◌, ◌++◌, map, length, slice_get, Option, Some, None, option_map}
+use Rattle.std.specs.Option.{option_map_or}
 use Rattle.lang_base.specs.declared.effect.Constraint.{Constraint}
 use Rattle.lang_base.specs.declared.effect.Effect.{Effect}
 use Rattle.lang_base.specs.declared.place.Place.{Place}
 use Rattle.lang_base.specs.declared.region.Rpl.{Rpl}
-use Rattle.lang_base.specs.Types.{PlainType, plain_type}
+use Rattle.lang_base.specs.Regions.{substituted}
+use Rattle.lang_base.specs.Types.{PlainType, plain_type, type_with}
 use Rattle.lang_base.specs.declared.op.BinaryOp.{BinaryOp}
 use Rattle.lang_typed.specs.declared.expr.Expr.{Expr, fold-Expr}
 use Rattle.lang_typed.specs.declared.expr.ExprForm.TheOpen.{ExprForm-F, Expr-F}
@@ -231,15 +233,33 @@ plain_field f = record { ty = plain_type f.ty; region = f.region }
 abbrev pub plain_parent : Parent → PlainParent
 plain_parent p = record { class = p.class.number; args = p.args }
 
-abbrev pub plain_class : Class → PlainClass
-plain_class c = record {
+-- a field as a class sees it that gives its superclass these region arguments
+abbrev pub field_with : List Rpl → PlainField → PlainField
+field_with args f = record { ty = type_with args f.ty; region = substituted args f.region }
+
+-- the fields of a class whose superclass has those: they come first, with the region arguments put in, and then its own
+abbrev pub fields_after : (ℕ → List PlainField) → Class → List PlainField
+fields_after above c = option_map_or (λ p. map (field_with p.args) (above p.class)) (option_map plain_parent c.parent) [] ++ map plain_field c.fields
+
+-- the fields of the class of that number, of it and so many classes further up at most
+abbrev pub fields_up : List Class → ℕ → ℕ → List PlainField
+fields_up all zero at = []
+fields_up all (suc n) at = option_map_or (fields_after (fields_up all n)) (slice_get all at) []
+
+-- a class with these fields
+abbrev pub class_with : List PlainField → Class → PlainClass
+class_with fields c = record {
   params = map (λ param. param.atomic) c.params;
   given = c.given;
   parent = option_map plain_parent c.parent;
-  fields = map plain_field c.fields;
+  fields = fields;
   rows = map (λ row. row.number) c.rows;
   constructor = option_map (λ member. member.number) c.constructor;
 }
+
+-- a class among all of a program, with the fields that it inherits
+abbrev pub plain_class : List Class → Class → PlainClass
+plain_class all c = class_with (fields_after (fields_up all (length all)) c) c
 
 abbrev pub plain_member : Member → PlainMember
 plain_member m = record {
@@ -256,7 +276,7 @@ plain_member m = record {
 
 abbrev pub plain_program : Program → PlainProgram
 plain_program p = record {
-  classes = map plain_class p.classes;
+  classes = map (plain_class p.classes) p.classes;
   members = map plain_member p.members;
   region_names = map (λ name. name.atomic) p.region_names;
   main_class = p.main_class.number;

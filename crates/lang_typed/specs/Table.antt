@@ -8,6 +8,7 @@ use Rattle.lang_base.specs.Effects.{set_covers}
 use Rattle.lang_base.specs.Regions.{substituted, fully_specified}
 use Rattle.lang_base.specs.Types.{void, class, type_with, SameType}
 use Rattle.lang_typed.specs.Plain.{PlainProgram, PlainClass, PlainField, PlainMember, PlainParent}
+pub use Rattle.lang_typed.specs.Plain.{field_with}
 use Rattle.lang_typed.specs.Scope.{Scope, Local, variable, frozen, Above, IsBelow, class_at, member_at}
 use Rattle.lang_typed.specs.Effects.{Own, effect_with, as_effects}
 use Rattle.lang_typed.specs.Types.{GoodPath, GoodArgs, GoodType}
@@ -62,9 +63,6 @@ GoodConstraint P L g = GoodPath P L 0 g.left × GoodPath P L 0 g.right
 
 abbrev pub constraint_with : List Rpl → Constraint → Constraint
 constraint_with args g = record { left = substituted args g.left; right = substituted args g.right }
-
-abbrev pub field_with : List Rpl → PlainField → PlainField
-field_with args f = record { ty = type_with args f.ty; region = substituted args f.region }
 
 -- a field lies in a region that is fully specified
 pub record GoodField (P : PlainProgram) (k : PlainClass) (f : PlainField) : Type 0 where

@@ -41,7 +41,7 @@ pub struct Class {
     pub params: Items<RegionParam>,
     pub given: Items<Constraint>,
     pub parent: Option<Parent>,
-    /// All fields, inherited ones first.
+    /// The fields that it declares itself.
     pub fields: Items<Field>,
     /// The member of each row, inherited rows first; an overriding method stands in the row that it overrides.
     pub rows: Items<MemberId>,

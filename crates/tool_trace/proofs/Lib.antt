@@ -8,3 +8,4 @@ pub mod Leading
 pub mod Ending
 pub mod Once
 pub mod Whole
+pub mod Placing

@@ -56,6 +56,10 @@ value_text names things (value.Obj number) = name_of names things number
 abbrev pub own_field : List (List (List ℕ)) → ℕ → ℕ → List ℕ
 own_field fields class at = slice_index_or (slice_index_or fields class []) at []
 
+-- a slot as it is counted from behind so many; none, where it is one of these
+abbrev pub behind : ℕ → ℕ → Option ℕ
+behind many slot = cond (nat_lt slot many) None (Some (slot - many))
+
 abbrev pub superclass : PlainProgram → ℕ → ℕ
 superclass P class = option_map_or (λ p. p.class) (parent_of P class) 0
 

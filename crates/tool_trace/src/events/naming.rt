@@ -1,15 +1,15 @@
-ghost use Rattle.std.specs.Prelude.{◌≡◌, ◌++◌, [], codes, option_map, slice_index_or, OnOk};
+ghost use Rattle.std.specs.Prelude.{◌≡◌, ◌++◌, [], codes, length, option_map, slice_index_or, OnOk};
 ghost use Rattle.std.specs.Fmt.{signed_decimal};
 ghost use Rattle.lang_typed.specs.Names.{names_of};
-ghost use Rattle.lang_typed.specs.Plain.{plain_program};
+ghost use Rattle.lang_typed.specs.Plain.{plain_class, plain_program};
 ghost use Rattle.lang_typed.specs.Scope.{parent_of};
 ghost use Rattle.syntax_means.specs.Declares.{inherited_fields};
-ghost use Rattle.tool_trace.specs.events.Names.{field_at, field_name, name_of, own_field, spelling_of, spot_text, superclass, thing_name, value_text};
+ghost use Rattle.tool_trace.specs.events.Names.{behind, field_at, field_name, name_of, own_field, spelling_of, spot_text, superclass, thing_name, value_text};
 
 use crate::events::thing::Thing;
 use body_infer::class_name;
 use lang_base::{Bytes, Items, NoMemory, Value};
-use lang_typed::Program;
+use lang_typed::{Class, Program};
 use std::alloc::Global;
 
 /// Puts a value after a text: an object or an array by its name.
@@ -115,9 +115,8 @@ fn field_name<'a>(
     let mut at = class;
     let mut up = program.classes.len();
     while up > 0 {
-        let inherited = inherited_fields(program, at);
-        if slot >= inherited {
-            return own_field(fields, at, slot - inherited);
+        if let Some(position) = own_position(program, at, slot) {
+            return own_field(fields, at, position);
         }
         at = superclass(program, at);
         up -= 1;
@@ -125,17 +124,47 @@ fn field_name<'a>(
     b""
 }
 
-/// How many fields a class has from its superclass.
-fn inherited_fields(program: &Program, class: u32) -> usize
-    ensures { result ≡ inherited_fields (plain_program program.now) class }
+/// The position of the field in a slot of a class among those that it declares itself. None, where it has it from its superclass.
+fn own_position(program: &Program, class: u32, slot: usize) -> Option<usize>
+    ensures { result ≡ behind (inherited_fields (plain_program program.now) class) slot }
 {
-    match parent(program, class) {
-        Some(above) => match program.classes.get(above as usize) {
-            Some(class) => class.fields.len(),
-            None => 0,
-        },
-        None => 0,
+    let Some(above) = parent(program, class) else {
+        return Some(slot);
+    };
+    match program.classes.get(above as usize) {
+        None => Some(slot),
+        Some(above) => behind_fields(program, above, slot),
     }
+}
+
+/// A slot as it is counted from behind the fields of a class. None, where it is one of these.
+fn behind_fields(program: &Program, class: &Class, slot: usize) -> Option<usize>
+    ensures { result ≡ behind (length (plain_class program.now.classes class.now).fields) slot }
+{
+    let mut left = behind_own(class, slot)?;
+    let mut below = class;
+    for _step in 0..program.classes.len() {
+        let Some(parent) = &below.parent else {
+            return Some(left);
+        };
+        let Some(above) = program.classes.get(parent.class.number as usize) else {
+            return Some(left);
+        };
+        left = behind_own(above, left)?;
+        below = above;
+    }
+    Some(left)
+}
+
+/// The same for the fields that the class declares itself.
+fn behind_own(class: &Class, slot: usize) -> Option<usize>
+    ensures { result ≡ behind (length class.now.fields) slot }
+{
+    let own = class.fields.len();
+    if slot < own {
+        return None;
+    }
+    Some(slot - own)
 }
 
 /// The superclass of a class, 0 where it has none.

@@ -29,6 +29,6 @@ loop-row-preserved c =
 pub returns-clause-met : goal.returns-clause-met
 returns-clause-met c = λ e.
     let P = plain_program c.args.program.now in
-    let k = plain_class c.in-Some.class.now in
+    let k = plain_class c.args.program.now.classes c.in-Some.class.now in
     let all : length k.rows ≤ c.loop-row.row = omega (arith, length-map c.in-Some.class.now.rows (λ row. row.number), c.loop-row-test.false, c.len-row-end.ensures) in
-    rows_all P c.loop-row.kept c.args.number c.loop-row.row k (seen_there plain_class c.args.program.now.classes c.args.number c.in-Some.class.now c.in-Some.ensures.value) all (c.loop-row.invariant.met e)
+    rows_all P c.loop-row.kept c.args.number c.loop-row.row k (seen_there (plain_class c.args.program.now.classes) c.args.program.now.classes c.args.number c.in-Some.class.now c.in-Some.ensures.value) all (c.loop-row.invariant.met e)

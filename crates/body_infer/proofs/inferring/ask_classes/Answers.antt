@@ -28,5 +28,5 @@ loop-number-preserved c =
 pub returns-clause-met : goal.returns-clause-met
 returns-clause-met c = λ e.
     let P = plain_program c.args.program.now in
-    let all : length P.classes ≤ c.loop-number.number = omega (arith, length-map c.args.program.now.classes plain_class, c.loop-number-test.false, c.len-number-end.ensures) in
+    let all : length P.classes ≤ c.loop-number.number = omega (arith, length-map c.args.program.now.classes (plain_class c.args.program.now.classes), c.loop-number-test.false, c.len-number-end.ensures) in
     classes_all P c.loop-number.kept c.loop-number.number all (c.loop-number.invariant.met e)

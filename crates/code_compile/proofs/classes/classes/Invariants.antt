@@ -6,4 +6,4 @@ use Rattle.code_compile.specs.Classes.{number_from}
 use Rattle.code_compile.proofs.classes.classes.Given as goal
 
 abbrev pub invariant-loop-class : goal.invariant-loop-class
-invariant-loop-class l = map plain_class_code l.made ++ map (class_code (plain_program l.program) (number_from l.numbers)) (map plain_class (drop l.class-index l.class-items)) ≡ map (class_code (plain_program l.program) (number_from l.numbers)) (map plain_class l.class-items)
+invariant-loop-class l = map plain_class_code l.made ++ map (class_code (plain_program l.program) (number_from l.numbers)) (map (plain_class l.program.classes) (drop l.class-index l.class-items)) ≡ map (class_code (plain_program l.program) (number_from l.numbers)) (map (plain_class l.program.classes) l.class-items)

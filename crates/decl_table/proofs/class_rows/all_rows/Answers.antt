@@ -23,8 +23,12 @@ on_way-requires-clause-filed c =
     (c.as_slice.ensures.value ∙ c.in_ok-own.ensures ∙ ap (λ n. all_own (replicate n []) 0 c.methods.result.now) (c.len.ensures ∙ ap class_count c.headers.ensures)
     ∙ ap (all_own (replicate (class_count (headers_of c.args.table.now)) []) 0) c.methods.ensures)).1
 
-pub returns : goal.returns
-returns c =
+pub returns-clause-forest : goal.returns-clause-forest
+returns-clause-forest c =
+    IfOk-weaker c.on_way.result _ _ (λ all h. subst (λ (h : Headers). IsForest (parents_of h)) c.headers-2.ensures c.in_ok-way.ensures.forest) c.on_way.ensures
+
+pub returns-clause-made : goal.returns-clause-made
+returns-clause-made c =
     let table = c.args.table.now in
     let headers = headers_of table in
     let steps : c.as_slice-2.result.now ≡ way_of (parents_of headers) = c.as_slice-2.ensures ∙ c.in_ok-way.ensures.steps ∙ ap (λ (h : Headers). way_of (parents_of h)) c.headers-2.ensures in

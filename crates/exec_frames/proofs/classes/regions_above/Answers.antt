@@ -18,14 +18,14 @@ pub returns-in_default : goal.returns-in_default
 returns-in_default c =
     let k : ℕ = length c.args.program.now.classes - c.loop-up.up in
     sym (top_above (parent_of (plain_program c.args.program.now)) in_order c.args.above k c.loop-up.at (map plain_region c.loop-up.regions)
-    (found_in plain_class (λ k. k.parent) c.args.program.now.classes c.loop-up.at None c.in_default.ensures.value))
+    (found_in (plain_class c.args.program.now.classes) (λ k. k.parent) c.args.program.now.classes c.loop-up.at None c.in_default.ensures.value))
     ∙ c.loop-up.invariant k (omega arith)
 
 pub returns-in_default-parent : goal.returns-in_default-parent
 returns-in_default-parent c =
     let k : ℕ = length c.args.program.now.classes - c.loop-up.up in
     sym (top_above (parent_of (plain_program c.args.program.now)) in_order c.args.above k c.loop-up.at (map plain_region c.loop-up.regions)
-    (found_in plain_class (λ k. k.parent) c.args.program.now.classes c.loop-up.at (Some c.in-Some.row.now) c.in-Some.ensures.value
+    (found_in (plain_class c.args.program.now.classes) (λ k. k.parent) c.args.program.now.classes c.loop-up.at (Some c.in-Some.row.now) c.in-Some.ensures.value
     ∙ ap (option_map plain_parent) c.in_default-parent.is))
     ∙ c.loop-up.invariant k (omega arith)
 
@@ -34,7 +34,7 @@ loop-up-preserved c = λ k e.
     ap (λ rs. regions_above in_order (parent_of (plain_program c.args.program.now)) k c.in-Some-parent.parent.class.number rs c.args.above) c.in_ok-regions.ensures
     ∙ sym (up_above (parent_of (plain_program c.args.program.now)) in_order c.args.above k c.loop-up.at (map plain_region c.loop-up.regions)
     (plain_parent c.in-Some-parent.parent) c.if-at-above.false
-    (found_in plain_class (λ k. k.parent) c.args.program.now.classes c.loop-up.at (Some c.in-Some.row.now) c.in-Some.ensures.value
+    (found_in (plain_class c.args.program.now.classes) (λ k. k.parent) c.args.program.now.classes c.loop-up.at (Some c.in-Some.row.now) c.in-Some.ensures.value
     ∙ ap (option_map plain_parent) c.in-Some-parent.is))
     ∙ c.loop-up.invariant (suc k) (omega (arith, e))
 

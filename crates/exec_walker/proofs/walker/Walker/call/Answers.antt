@@ -48,7 +48,7 @@ returns c = λ L w h.
     let some : 0 < g.frame.left = omega arith in
     let short : some_long own ≡ false = sym (c.some_long.ensures ∙ ap some_long c.in_ok-own.ensures) ∙ c.if-some_long.false in
     let seen = c.class_entered-seen.ensures
-    ∙ ap (λ k. class_entered (parent_of P) k call.class (option_map plain_seen c.in_ok-seen.seen)) (sym (length-map program.classes plain_class))
+    ∙ ap (λ k. class_entered (parent_of P) k call.class (option_map plain_seen c.in_ok-seen.seen)) (sym (length-map program.classes (plain_class program.classes)))
     ∙ ap (class_entered (parent_of P) (length P.classes) call.class) (c.in_ok-seen.ensures.seen L w h) in
     let values = c.in_ok-values.ensures ∙ ap (λ v. v ∷ reverse (take call.actuals g.operands)) (object_of (plain_value c.operand-receiver.result) n c.in-Some.ensures) in
     let operands = ap (map plain_value) (c.drop_top-2.ensures ∙ ap (drop 1) c.drop_top.ensures ∙ drop_more call.actuals level.operands)

@@ -22,7 +22,7 @@ returns c = λ L w h.
     let g = plain_level c.args.self.now.level in
     let ws = map plain_waiting c.args.self.now.waiting in
     let regions = ap (map plain_region) c.in_ok-regions-2.ensures ∙ map-append plain_region c.in_ok-regions.regions c.args.own
-    ∙ ap (λ rs. rs ++ own) (c.in_ok-regions.ensures ∙ ap (λ n. regions_above in_order (parent_of P) n seen.0 seen.1 m.class.number) (sym (length-map program.classes plain_class))) in
+    ∙ ap (λ rs. rs ++ own) (c.in_ok-regions.ensures ∙ ap (λ n. regions_above in_order (parent_of P) n seen.0 seen.1 m.class.number) (sym (length-map program.classes (plain_class program.classes)))) in
     subst (λ s. ComesTo L c.wait.result c.wait.new.self s)
     (ap (λ (k : Level). At (plain_level c.replace-caller.new.dest) (for_value (plain_level k) ∷ ws) w) c.replace-caller.ensures.value
     ∙ entered_is P _ (plain_member m) _ seen (map plain_value c.args.values) own _ g (plain_level c.replace-caller.new.dest) ws w c.in-Some.ensures regions
