@@ -22,7 +22,7 @@ abbrev pub with_fault_if : Node → Kind → Bool → Node
 with_fault_if node fault is_there = cond is_there (with_fault node fault node.place) node
 
 abbrev pub without_faults : Place → Node
-without_faults place = record { place = place; faults = none_by order.Number }
+without_faults place = record { place = place; faults = none_by order.Kind }
 
 -- a statement after one that doesn't complete is a fault
 abbrev pub node_at : Place → Bool → Node

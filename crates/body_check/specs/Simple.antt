@@ -38,7 +38,7 @@ abbrev pub declared_type : Env → TypeTree → PlainType
 declared_type env tree = option_map_or (λ t. t) (type_meant (scope_of env) tree) ty.void
 
 abbrev pub declared_reported : Env → TypeTree → Option Refusal
-declared_reported env tree = parts_reported site.Body (none_by order.Number) (type_faults (scope_of env) tree)
+declared_reported env tree = parts_reported site.Body (none_by order.Kind) (type_faults (scope_of env) tree)
 
 -- there is a slot of 32 bits for a further local or part, and a number for a further local region
 abbrev pub has_room : Env → Bool

@@ -56,7 +56,7 @@ impl Node {
     {
         let mut node = Node {
             place: stmt.place,
-            faults: Faults::by_number(),
+            faults: Faults::by_kind(),
         };
         node.note_if(Kind::Return, follows);
         node

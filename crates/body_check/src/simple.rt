@@ -62,7 +62,7 @@ fn declared_type(body: &Body, tree: &TypeTree) -> Result<Ty, Stop>
     ensures unreported { OnOk result (declared_reported body.now.env tree.now ≡ None) }
     ensures reported { IfErr result (λ stop. IfRefused stop (λ refusal. declared_reported body.now.env tree.now ≡ Some refusal)) }
 {
-    let mut faults = Faults::by_number();
+    let mut faults = Faults::by_kind();
     match ty(body.alloc, &body.env.scope(), &mut faults, tree)? {
         Some(ty) => Ok(ty),
         None => Ok(Ty::Void),

@@ -44,7 +44,7 @@ given_for args params rows given seen g s p =
     subst (λ (z : List ParamRow). args_given args.written args.paths z ≡ seen) p (sym g ∙ s)
 
 pub noted_for : (args : ReadArgs) (params rows : List ParamRow) (place : Place) (none before : Faults) →
-    before ≡ all_noted none (args_faults args.local args.written params place) → none ≡ none_by order.Number → params ≡ rows → before ≡ args_noted args rows place
+    before ≡ all_noted none (args_faults args.local args.written params place) → none ≡ none_by order.Kind → params ≡ rows → before ≡ args_noted args rows place
 noted_for args params rows place none before b n p =
     subst (λ (z : List ParamRow). before ≡ args_noted args z place) p
     (subst (λ (z : Faults). before ≡ all_noted z (args_faults args.local args.written params place)) n b)

@@ -19,7 +19,7 @@ reported_there scope around faults tree = reported_at scope.site (all_noted faul
 
 -- in a body, of faults of which none was noted before
 pub reported_here : (env : Env) (scope : PlainScope) (around index : PlainIndex) (faults : Faults) (tree : RplTree) →
-    scope ≡ scope_of env → index ≡ around_own around → faults ≡ none_by order.Number →
+    scope ≡ scope_of env → index ≡ around_own around → faults ≡ none_by order.Kind →
     reported_there scope index faults tree ≡ reported_first (path_faults (scope_of env) (around_own around) full_path tree)
 reported_here env scope around index faults tree same is none =
     ap (λ (z : PlainScope). reported_there z index faults tree) same

@@ -35,7 +35,7 @@ abbrev pub front_of : Env → PlainIndex → BaseTree → ReadType
 front_of env around base = type_read (scope_of env) around base
 
 abbrev pub front_reported : Env → PlainIndex → BaseTree → Option Refusal
-front_reported env around base = parts_reported site.Body (none_by order.Number) (type_parts (scope_of env) around base)
+front_reported env around base = parts_reported site.Body (none_by order.Kind) (type_parts (scope_of env) around base)
 
 -- the region path of the elements is to be fully specified
 abbrev pub full_path : Need

@@ -13,4 +13,4 @@ refusal_at kind place = Refused (record { kind = kind; place = place })
 
 -- of the faults of one expression the one with the lowest number is reported, at one number the first in the text
 abbrev pub reported_first : List Refusal → Option Refusal
-reported_first faults = reported (all_noted (none_by order.Number) faults)
+reported_first faults = reported (all_noted (none_by order.Kind) faults)

@@ -44,7 +44,7 @@ abbrev pub args_of : Env → List RplTree → ReadArgs
 args_of env trees = args_read (scope_of env) no_index trees
 
 abbrev pub args_reported : Env → List ParamRow → List RplTree → Option Refusal
-args_reported env params trees = parts_reported site.Body (none_by order.Number) (arg_faults (scope_of env) no_index params true trees)
+args_reported env params trees = parts_reported site.Body (none_by order.Kind) (arg_faults (scope_of env) no_index params true trees)
 
 -- the receiver's class, the method of that name there, and the region arguments of the class that declares it
 abbrev pub owned_method : ℕ → MethodRow → Option (List Rpl) → Place → Result (ℕ × MethodRow × List Rpl) Refusal
@@ -79,7 +79,7 @@ use_faults partial fit hold place =
 
 -- what is noted before: the faults of the list of region arguments
 abbrev pub args_noted : ReadArgs → List ParamRow → Place → Faults
-args_noted args params place = all_noted (none_by order.Number) (args_faults args.local args.written params place)
+args_noted args params place = all_noted (none_by order.Kind) (args_faults args.local args.written params place)
 
 -- the fault that is reported of a use whose region arguments are known, or none
 abbrev pub use_reported : Env → Faults → List Rpl → List (Option PlainType) → List Ty → Bool → Bool → Place → Option Refusal

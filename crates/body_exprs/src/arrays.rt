@@ -29,7 +29,7 @@ pub fn read_array(
     ensures read { IfOk result (λ read. read ≡ front_of env.now (plain_index around.entry) base.now) }
     ensures reported { Says result (λ read. None) Some (λ t. front_reported env.now (plain_index around.entry) base.now ≡ t) }
 {
-    let mut faults = Faults::by_number();
+    let mut faults = Faults::by_kind();
     read_type(alloc, &env.scope(), &mut faults, base, around)
 }
 
@@ -67,7 +67,7 @@ fn read_path(
     ensures read { IfOk result (λ rpl. rpl ≡ path_meant (scope_of env.now) (around_own (plain_index around.entry)) tree.now) }
     ensures reported { Says result (λ rpl. None) Some (λ t. reported_first (path_faults (scope_of env.now) (around_own (plain_index around.entry)) full_path tree.now) ≡ t) }
 {
-    let mut faults = Faults::by_number();
+    let mut faults = Faults::by_kind();
     let need = Need {
         full: true,
         atomic: false,
@@ -117,7 +117,7 @@ fn array_with(
 ) -> Result<Ty, Stop>
     ensures answer { Says result (λ ty. Ok (plain_type ty)) Err (λ a. array_with env.now (plain_index around.entry) read is_length (Ok own) own_place place ≡ a) }
 {
-    let mut faults = Faults::by_number();
+    let mut faults = Faults::by_kind();
     note_if(&mut faults, !is_length, Kind::Type, place);
     let scope = env.scope();
     let made = array_made(

@@ -35,7 +35,7 @@ pub fn read_full_args(
     ensures read { IfOk result (λ args. args ≡ args_of env.now trees.now) }
     ensures reported { Says result (λ args. None) Some (λ t. args_reported env.now params.now trees.now ≡ t) }
 {
-    let mut faults = Faults::by_number();
+    let mut faults = Faults::by_kind();
     let around = IndexNames::none();
     read_args(
         alloc,
@@ -222,7 +222,7 @@ fn call_of(
     ensures answer { Says result (λ e. gives (Some (plain_node e)) found.new) refused (λ a. type_call_of env.now (plain_node of) class row.now owned.now regions (map plain_typed actuals) place found.old ≡ a) }
     ensures nd { OnOk result (IsTrue found.old.reaches_nd → IsTrue found.new.reaches_nd) }
 {
-    let mut faults = Faults::by_number();
+    let mut faults = Faults::by_kind();
     match fit_args(alloc, &mut faults, regions, row.regions.as_slice(), place)? {
         Some(regions) => {
             let args = joined(alloc, owned, regions.as_slice())?;

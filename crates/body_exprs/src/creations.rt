@@ -88,7 +88,7 @@ fn creation_of(
     ensures answer { Says result (λ e. gives (Some (plain_node e)) found.new) refused (λ a. type_creation_of env.now class regions (map plain_typed actuals) place found.old ≡ a) }
     ensures nd { OnOk result (IsTrue found.old.reaches_nd → IsTrue found.new.reaches_nd) }
 {
-    let mut faults = Faults::by_number();
+    let mut faults = Faults::by_kind();
     match fit_args(alloc, &mut faults, regions, class_params(env, class), place)? {
         Some(args) => {
             let shown = actuals.as_slice();

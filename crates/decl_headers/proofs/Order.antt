@@ -1,150 +1,83 @@
 -- Which fault is reported depends on which ones are noted, and not on their order or on how often each is noted.
-use Rattle.std.proofs.Common.{◌≡◌, ℕ, ◌<◌, Bool, true, false, ◌==◌, ◌&&◌, cond, List, [], ◌∷◌, Option, Some, None, ◌⊎◌, inl, inr, refl, sym, ap, subst, ◌∙◌, arith}
+use Rattle.std.proofs.Common.{◌≡◌, Bool, true, false, cond, List, [], ◌∷◌, Option, Some, None, ◌⊎◌, inl, inr, refl, sym, ap, subst, ◌∙◌, rules}
 use Rattle.std.specs.Bool.{Decides}
-use Rattle.std.proofs.lemmas.Bool.Decides.{Decides-ltb, Decides-eqb, Decides-and, Decides-or, Decides-like, not_from_Decides}
-use Rattle.std.proofs.lemmas.Bool.{cases_lt, cases_eq}
+use Rattle.std.specs.Cmp.{IsTotalOrder}
+use Rattle.std.specs.Ordering.{is_eq, is_lt, ordering_reverse, ordering_then}
+use Rattle.std.specs.declared.cmp.Ordering.{Ordering}
+use Rattle.std.specs.declared.cmp.Ordering.TheVariants.{Less, Equal, Greater}
+use Rattle.std.proofs.lemmas.Bool.Decides.{not_from_Decides}
+use Rattle.std.proofs.lemmas.Cmp.{on_total, then_total, tied_itself}
+use Rattle.lang_base.specs.contracts.place.PlaceOrd.TheImpl as places
+use Rattle.lang_base.specs.contracts.place.PlaceOrd.TheImpl.Laws as place_laws
+use Rattle.lang_base.specs.contracts.place.PlacePartialEq.TheImpl as place_eq
+use Rattle.lang_base.specs.contracts.refusal.KindOrd.TheImpl as kinds
+use Rattle.lang_base.specs.contracts.refusal.KindOrd.TheImpl.Laws as kind_laws
+use Rattle.lang_base.specs.contracts.refusal.KindPartialEq.TheImpl as kind_eq
+use Rattle.lang_base.specs.declared.place.Place.{Place}
 use Rattle.lang_base.specs.declared.refusal.Kind.{Kind}
-use Rattle.lang_base.specs.declared.refusal.Kind.TheVariants as kind
 use Rattle.lang_base.specs.declared.refusal.Refusal.{Refusal}
-use Rattle.lang_base.specs.Text.{kind_number}
 use Rattle.decl_headers.specs.declared.faults.Faults.{Faults}
 use Rattle.decl_headers.specs.declared.faults.Order.{Order}
 use Rattle.decl_headers.specs.declared.faults.Order.TheVariants as order
-use Rattle.decl_headers.specs.Faults.{comes_first, reported_of, noted, all_noted}
-
--- one number decides, or where it is the same the rest
-abbrev Lex : ℕ → ℕ → Type 0 → Type 0
-Lex a b R = (a < b) ⊎ ((a ≡ b) × R)
-
-lex_trans : {R S T : Type 0} (a b c : ℕ) → (R → S → T) → Lex a b R → Lex b c S → Lex a c T
-lex_trans a b c f (inl l) (inl k) = inl (omega arith)
-lex_trans a b c f (inl l) (inr k) = inl (omega (arith, k.0))
-lex_trans a b c f (inr l) (inl k) = inl (omega (arith, l.0))
-lex_trans a b c f (inr l) (inr k) = inr (l.0 ∙ k.0, f l.1 k.1)
-
-lex_self : {R : Type 0} (a : ℕ) → (R → ⊥) → Lex a a R → ⊥
-lex_self a f (inl l) = omega arith
-lex_self a f (inr l) = f l.1
-
-lex_which : {R E S : Type 0} (a b : ℕ) → R ⊎ (E ⊎ S) → Lex a b R ⊎ (((a ≡ b) × E) ⊎ Lex b a S)
-lex_which a b rest =
-    elim (cases_lt a b) [
-      | inl l ↦ inl (inl l)
-      | inr g ↦ elim (cases_eq a b) [
-        | inl e ↦ elim rest [
-          | inl r ↦ inl (inr (e, r))
-          | inr more ↦ elim more [ inl same ↦ inr (inl (e, same)) | inr s ↦ inr (inr (inr (sym e, s))) ]
-        ]
-        | inr ne ↦ inr (inr (inl (omega arith)))
-      ]
-    ]
-
-Decides-lex : {R : Type 0} (a b : ℕ) (r : Bool) → Decides r R → Decides ((a == b) && r) ((a ≡ b) × R)
-Decides-lex a b r d = Decides-and (a == b) r (Decides-eqb a b) d
+use Rattle.decl_headers.specs.Faults.{compared, comes_first, reported_of, noted, all_noted}
 
 -- the first fault is reported rather than the second
 abbrev Before : Order → Refusal → Refusal → Type 0
-Before order.Place a b = Lex a.place.line b.place.line (Lex a.place.col b.place.col (kind_number a.kind < kind_number b.kind))
-Before order.Number a b = Lex (kind_number a.kind) (kind_number b.kind) (Lex a.place.line b.place.line (a.place.col < b.place.col))
+Before by a b = compared by a b ≡ Less
 
-abbrev number_before : Refusal → Refusal → Bool
-number_before a b = comes_first order.Number a b
+total : (by : Order) → IsTotalOrder (compared by)
+total order.Place = then_total (on_total (λ fault. fault.place) place_laws.total-law) (on_total (λ fault. fault.kind) kind_laws.total-law)
+total order.Kind = then_total (on_total (λ fault. fault.kind) kind_laws.total-law) (on_total (λ fault. fault.place) place_laws.total-law)
+
+less_decides : (o : Ordering) → Decides (is_lt o) (o ≡ Less)
+less_decides Less = (λ e. refl, λ e. refl)
+less_decides Equal = (λ e. cc, λ e. cc)
+less_decides Greater = (λ e. cc, λ e. cc)
 
 decided : (by : Order) (a b : Refusal) → Decides (comes_first by a b) (Before by a b)
-decided order.Place a b =
-    let l = Decides-ltb a.place.line b.place.line in
-    let c = Decides-ltb a.place.col b.place.col in
-    let n = Decides-ltb (kind_number a.kind) (kind_number b.kind) in
-    Decides-like _
-    (λ h. elim h [
-      | inl is ↦ elim is [ inl line ↦ inl line | inr col ↦ inr (col.0, inl col.1) ]
-      | inr num ↦ inr (num.0.0, inr (num.0.1, num.1))
-    ])
-    (λ h. elim h [
-      | inl line ↦ inl (inl line)
-      | inr more ↦ elim more.1 [ inl col ↦ inl (inr (more.0, col)) | inr num ↦ inr ((more.0, num.0), num.1) ]
-    ])
-    (Decides-or _ _ (Decides-or _ _ l (Decides-lex _ _ _ c)) (Decides-and _ _ (Decides-and _ _ (Decides-eqb a.place.line b.place.line) (Decides-eqb a.place.col b.place.col)) n))
-decided order.Number a b =
-    Decides-or _ _ (Decides-ltb (kind_number a.kind) (kind_number b.kind))
-    (Decides-lex _ _ _ (Decides-or _ _ (Decides-ltb a.place.line b.place.line) (Decides-lex _ _ _ (Decides-ltb a.place.col b.place.col))))
+decided by a b = less_decides (compared by a b)
 
 before_trans : (by : Order) (a b c : Refusal) → Before by a b → Before by b c → Before by a c
-before_trans order.Place a b c h k =
-    lex_trans a.place.line b.place.line c.place.line (lex_trans a.place.col b.place.col c.place.col (λ x y. omega arith)) h k
-before_trans order.Number a b c h k =
-    lex_trans (kind_number a.kind) (kind_number b.kind) (kind_number c.kind) (lex_trans a.place.line b.place.line c.place.line (λ x y. omega arith)) h k
+before_trans by a b c = (total by).trans a b c
 
 before_self : (by : Order) (a : Refusal) → Before by a a → ⊥
-before_self order.Place a h = lex_self a.place.line (lex_self a.place.col (λ l. omega arith)) h
-before_self order.Number a h = lex_self (kind_number a.kind) (lex_self a.place.line (λ l. omega arith)) h
+before_self by a h = let tied = tied_itself (total by) a in cc
 
--- a kind of refusal by its number
-abbrev kind_at : ℕ → Kind
-kind_at n =
-    cond (n == 0) kind.TooLong (cond (n == 1) kind.Syntax (cond (n == 2) kind.Number (cond (n == 3) kind.Nest (cond (n == 4) kind.Duplicate
-    (cond (n == 5) kind.Unknown (cond (n == 6) kind.Cycle (cond (n == 7) kind.Main (cond (n == 8) kind.«Type» (cond (n == 9) kind.RegionArgs
-    (cond (n == 10) kind.Override (cond (n == 11) kind.Return (cond (n == 12) kind.Assign (cond (n == 13) kind.PartialWrite (cond (n == 14) kind.Constraint
-    (cond (n == 15) kind.Summary (cond (n == 16) kind.OverrideEffect (cond (n == 17) kind.Interferes (cond (n == 18) kind.InterferesNd (cond (n == 19) kind.AtomicBody
-    (cond (n == 20) kind.LocalRegion (cond (n == 21) kind.Trace kind.Schedule)))))))))))))))))))))
+place_decides : (a b : Place) → Decides (place_eq.eq-value.it a b) (a ≡ b)
+place_decides a b = search rules
 
-kind_again : (k : Kind) → kind_at (kind_number k) ≡ k
-kind_again kind.TooLong = refl
-kind_again kind.Syntax = refl
-kind_again kind.Number = refl
-kind_again kind.Nest = refl
-kind_again kind.Duplicate = refl
-kind_again kind.Unknown = refl
-kind_again kind.Cycle = refl
-kind_again kind.Main = refl
-kind_again kind.«Type» = refl
-kind_again kind.RegionArgs = refl
-kind_again kind.Override = refl
-kind_again kind.Return = refl
-kind_again kind.Assign = refl
-kind_again kind.PartialWrite = refl
-kind_again kind.Constraint = refl
-kind_again kind.Summary = refl
-kind_again kind.OverrideEffect = refl
-kind_again kind.Interferes = refl
-kind_again kind.InterferesNd = refl
-kind_again kind.AtomicBody = refl
-kind_again kind.LocalRegion = refl
-kind_again kind.Trace = refl
-kind_again kind.Schedule = refl
+kind_decides : (a b : Kind) → Decides (kind_eq.eq-value.it a b) (a ≡ b)
+kind_decides a b = search rules
 
-same_refusal : (a b : Refusal) → a.place.line ≡ b.place.line → a.place.col ≡ b.place.col → kind_number a.kind ≡ kind_number b.kind → a ≡ b
-same_refusal a b line col number =
-    let same : a.kind ≡ b.kind = sym (kind_again a.kind) ∙ ap kind_at number ∙ kind_again b.kind in
-    ap (λ k. record a { kind = k }) same
-    ∙ ap (λ l. record { kind = b.kind; place = record a.place { line = l } }) line
-    ∙ ap (λ c. record { kind = b.kind; place = record { line = b.place.line; col = c } }) col
+same_place : (a b : Place) → places.cmp-value.it a b ≡ Equal → a ≡ b
+same_place a b e = (place_decides a b).0 (place_laws.matches_eq-law a b ∙ ap is_eq e)
+
+same_kind : (a b : Kind) → kinds.cmp-value.it a b ≡ Equal → a ≡ b
+same_kind a b e = (kind_decides a b).0 (kind_laws.matches_eq-law a b ∙ ap is_eq e)
+
+both_tied : (o p : Ordering) → ordering_then o p ≡ Equal → (o ≡ Equal) × (p ≡ Equal)
+both_tied Less p e = cc
+both_tied Equal p e = (refl, e)
+both_tied Greater p e = cc
+
+both_same : (a b : Refusal) → a.place ≡ b.place → a.kind ≡ b.kind → a ≡ b
+both_same a b place kind = λ i. record { kind = kind i; place = place i }
+
+same_refusal : (by : Order) (a b : Refusal) → compared by a b ≡ Equal → a ≡ b
+same_refusal order.Place a b e =
+    let w = both_tied _ _ e in
+    both_same a b (same_place a.place b.place w.0) (same_kind a.kind b.kind w.1)
+same_refusal order.Kind a b e =
+    let w = both_tied _ _ e in
+    both_same a b (same_place a.place b.place w.1) (same_kind a.kind b.kind w.0)
 
 before_which : (by : Order) (a b : Refusal) → Before by a b ⊎ ((a ≡ b) ⊎ Before by b a)
-before_which order.Place a b =
-    elim (lex_which a.place.line b.place.line (lex_which a.place.col b.place.col (number_which a b))) [
-      | inl l ↦ inl l
-      | inr more ↦ elim more [ inl e ↦ inr (inl (same_refusal a b e.0 e.1.0 e.1.1)) | inr g ↦ inr (inr g) ]
-    ]
+before_which by a b = which (compared by a b) refl
   where
-    number_which : (a b : Refusal) → (kind_number a.kind < kind_number b.kind) ⊎ ((kind_number a.kind ≡ kind_number b.kind) ⊎ (kind_number b.kind < kind_number a.kind))
-    number_which a b =
-        elim (cases_lt (kind_number a.kind) (kind_number b.kind)) [
-          | inl l ↦ inl l
-          | inr g ↦ elim (cases_eq (kind_number a.kind) (kind_number b.kind)) [ inl e ↦ inr (inl e) | inr ne ↦ inr (inr (omega arith)) ]
-        ]
-before_which order.Number a b =
-    elim (lex_which (kind_number a.kind) (kind_number b.kind) (lex_which a.place.line b.place.line col_which)) [
-      | inl l ↦ inl l
-      | inr more ↦ elim more [ inl e ↦ inr (inl (same_refusal a b e.1.0 e.1.1 e.0)) | inr g ↦ inr (inr g) ]
-    ]
-  where
-    col_which : (a.place.col < b.place.col) ⊎ ((a.place.col ≡ b.place.col) ⊎ (b.place.col < a.place.col))
-    col_which =
-        elim (cases_lt a.place.col b.place.col) [
-          | inl l ↦ inl l
-          | inr g ↦ elim (cases_eq a.place.col b.place.col) [ inl e ↦ inr (inl e) | inr ne ↦ inr (inr (omega arith)) ]
-        ]
+    which : (o : Ordering) → compared by a b ≡ o → Before by a b ⊎ ((a ≡ b) ⊎ Before by b a)
+    which Less e = inl e
+    which Equal e = inr (inl (same_refusal by a b e))
+    which Greater e = inr (inr ((total by).antisymm b a ∙ ap ordering_reverse e))
 
 -- of two faults the one that is reported
 abbrev earlier : Order → Refusal → Refusal → Refusal

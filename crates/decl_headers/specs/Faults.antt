@@ -1,29 +1,25 @@
 -- The faults that a pass notes: of all of them one is reported.
-use Rattle.std.specs.Prelude.{Bool, ◌&&◌, ◌||◌, ◌==◌, nat_lt, cond, List, fold, Option, Some, None, Result, Ok, Err}
-use Rattle.lang_base.specs.declared.place.Place.{Place}
+use Rattle.std.specs.Prelude.{Bool, cond, List, fold, Option, Some, None, Result, Ok, Err}
+use Rattle.std.specs.Ordering.{is_lt, on, then_cmp}
+use Rattle.std.specs.declared.cmp.Ordering.{Ordering}
 use Rattle.lang_base.specs.declared.refusal.Refusal.{Refusal}
 use Rattle.lang_base.specs.declared.refusal.Stop.{Stop}
 use Rattle.lang_base.specs.declared.refusal.Stop.TheVariants.{Refused}
-use Rattle.lang_base.specs.Text.{kind_number}
+use Rattle.lang_base.specs.contracts.place.PlaceOrd.TheImpl as places
+use Rattle.lang_base.specs.contracts.refusal.KindOrd.TheImpl as kinds
 use Rattle.decl_headers.specs.declared.faults.Faults.{Faults}
 use Rattle.decl_headers.specs.declared.faults.Order.{Order}
 use Rattle.decl_headers.specs.declared.faults.Order.TheVariants as order
 
--- the first place stands before the second in the text
-abbrev pub is_before : Place → Place → Bool
-is_before a b = nat_lt a.line b.line || ((a.line == b.line) && nat_lt a.col b.col)
+-- how two faults stand to each other: by their places, and at one place by their kinds, in the order in which `Kind`
+-- lists these; or by their kinds first
+abbrev pub compared : Order → Refusal → Refusal → Ordering
+compared order.Place = then_cmp (on (λ fault. fault.place) places.cmp-value.it) (on (λ fault. fault.kind) kinds.cmp-value.it)
+compared order.Kind = then_cmp (on (λ fault. fault.kind) kinds.cmp-value.it) (on (λ fault. fault.place) places.cmp-value.it)
 
-abbrev pub same_place : Place → Place → Bool
-same_place a b = (a.line == b.line) && (a.col == b.col)
-
--- the first fault is reported rather than the second: by place it stands before it, or has the lower number at one
--- place; by number it has the lower one, or stands before it at one number
+-- the first fault is reported rather than the second
 abbrev pub comes_first : Order → Refusal → Refusal → Bool
-comes_first order.Place a b =
-    is_before a.place b.place || (same_place a.place b.place && nat_lt (kind_number a.kind) (kind_number b.kind))
-comes_first order.Number a b =
-    nat_lt (kind_number a.kind) (kind_number b.kind)
-    || ((kind_number a.kind == kind_number b.kind) && is_before a.place b.place)
+comes_first by a b = is_lt (compared by a b)
 
 -- the one that is reported, where one was reported so far and a further one is noted
 abbrev pub reported_of : Order → Option Refusal → Refusal → Refusal

@@ -1,15 +1,15 @@
 ghost use Rattle.std.specs.Prelude.{◌≡◌, None};
-ghost use Rattle.decl_headers.specs.Faults.{is_before, comes_first, reported, none_by, noted, forgotten, settled};
+ghost use Rattle.decl_headers.specs.Faults.{comes_first, reported, none_by, noted, forgotten, settled};
 
 use lang_base::{Kind, Place, Refusal, Stop};
 
 /// Which of two faults is reported.
 #[derive(Clone, Copy, Debug, PartialEq, Eq)]
 enum Order {
-    /// The one with the earlier place; at one place the lower number.
+    /// The one with the earlier place; at one place the kind that is listed first.
     Place,
-    /// The one with the lower number; at one number the earlier place.
-    Number,
+    /// The one whose kind is listed first; of one kind the one with the earlier place.
+    Kind,
 }
 
 /// The faults that a pass notes, of which it tells one.
@@ -19,25 +19,20 @@ pub struct Faults {
     kept: Option<Refusal>,
 }
 
-fn is_before(a: Place, b: Place) -> bool
-    ensures { result ≡ is_before a b }
-{
-    a.line < b.line || a.line == b.line && a.col < b.col
-}
-
 /// Whether the first fault is reported rather than the second.
 fn comes_first(order: Order, a: Refusal, b: Refusal) -> bool
     ensures { result ≡ comes_first order a b }
 {
-    let (number, other) = (a.kind.number(), b.kind.number());
-    match order {
-        Order::Place => is_before(a.place, b.place) || a.place == b.place && number < other,
-        Order::Number => number < other || number == other && is_before(a.place, b.place),
-    }
+    let (place, kind) = (a.place.cmp(&b.place), a.kind.cmp(&b.kind));
+    let found = match order {
+        Order::Place => place.then(kind),
+        Order::Kind => kind.then(place),
+    };
+    found.is_lt()
 }
 
 impl Faults {
-    /// No faults yet. The one with the least place is reported, at one place the one with the lower number.
+    /// No faults yet. The one with the least place is reported, at one place the one whose kind `Kind` lists first.
     pub fn by_place() -> Faults
         ensures { result ≡ none_by Order.Place }
     {
@@ -47,12 +42,12 @@ impl Faults {
         }
     }
 
-    /// No faults yet. The one with the lowest number is reported, at one number the one with the least place.
-    pub fn by_number() -> Faults
-        ensures { result ≡ none_by Order.Number }
+    /// No faults yet. The one whose kind `Kind` lists first is reported, of one kind the one with the least place.
+    pub fn by_kind() -> Faults
+        ensures { result ≡ none_by Order.Kind }
     {
         Faults {
-            order: Order::Number,
+            order: Order::Kind,
             kept: None,
         }
     }

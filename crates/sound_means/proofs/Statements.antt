@@ -89,7 +89,7 @@ kept_goes A f node w kept k (refused refusal) m h = tt
 
 declared_means : (A : Around) (env : Env) → Knows A env → (written : TypeTree) → length written.suffixes ≤ 4294967295 → declared_reported env written ≡ None → TypeMeans A written (declared_type env written)
 declared_means A env k written few unreported =
-    let w = type_known (scope_of env) written (parts_free (none_by order.Number) (type_faults (scope_of env) written) unreported) in
+    let w = type_known (scope_of env) written (parts_free (none_by order.Kind) (type_faults (scope_of env) written) unreported) in
     subst (TypeMeans A written) (sym (ap (λ o. option_map_or (λ t. t) o ty.void) w.1)) (type_here A (scope_of env) k.paths written w.0 few w.1)
 
 declaring_goes : (A : Around) {node : Node} {is_final : Bool} {written : TypeTree} {name : ℕ} {value : PlainExpr} {w : Walk} {v : Verdict TypedStmt} → Knows A w.env → length written.suffixes ≤ 4294967295 → Fitting value →

@@ -118,7 +118,7 @@ module _ (P : PlainProgram) (L : Scope) (env : Env) (may_read may_assign : ℕ �
     -- the type that a declaration names
     pub declared_good : (tree : TypeTree) → length tree.suffixes ≤ 4294967295 → declared_reported env tree ≡ None → GoodType P L 0 (declared_type env tree)
     declared_good tree few unreported =
-        let free = parts_free (none_by order.Number) (type_faults (scope_of env) tree) unreported in
+        let free = parts_free (none_by order.Kind) (type_faults (scope_of env) tree) unreported in
         let w = type_known (scope_of env) tree free in
         subst (GoodType P L 0) (sym (ap (λ o. option_map_or (λ t. t) o ty.void) w.1)) (type_good P L (scope_of env) meant classes_meant tree w.0 few free w.1)
 
@@ -135,7 +135,7 @@ module _ (P : PlainProgram) (L : Scope) (env : Env) (may_read may_assign : ℕ �
         let w = path_reported_ok (reported_first (path_faults (scope_of env) around full_path tree)) (path_meant (scope_of env) around tree) tree.place a is in
         let unfit = misfits full_path tree.elems (path_atomic (scope_of env) tree) (list_any (is_misplaced (scope_of env) around) tree.elems) in
         let f = append_none (head_faults (scope_of env) tree.head ++ flat_map (elem_faults (scope_of env) around) tree.elems) (fault_if unfit kind.RegionArgs tree.place)
-        (none_reported (none_by order.Number) (path_faults (scope_of env) around full_path tree) w.0) in
+        (none_reported (none_by order.Kind) (path_faults (scope_of env) around full_path tree) w.0) in
         let m = three_false true (list_all is_specified tree.elems) false (is_plain (path_atomic (scope_of env) tree)) (list_any (is_misplaced (scope_of env) around) tree.elems) (fault_none unfit kind.RegionArgs tree.place f.1) in
         let none = ap length (drop_all suffixes) in
         let small = own_small made in
@@ -176,11 +176,11 @@ module _ (P : PlainProgram) (L : Scope) (env : Env) (may_read may_assign : ℕ �
             let front = type_read (scope_of env) around base in
             let w = type_reported_ok (array_reported env around front (may_be is_int len) a (own_place rpl place) place) (array_meant (scope_of env) around front a) place t h in
             let f = append_none (fault_if (not (may_be is_int len)) kind.Type place) (array_faults (scope_of env) around front a (own_place rpl place) place)
-            (none_reported (none_by order.Number) (fault_if (not (may_be is_int len)) kind.Type place ++ array_faults (scope_of env) around front a (own_place rpl place) place) w.0) in
+            (none_reported (none_by order.Kind) (fault_if (not (may_be is_int len)) kind.Type place ++ array_faults (scope_of env) around front a (own_place rpl place) place) w.0) in
             let g = append_none (local_fault (local_from (scope_of env) around 0 None suffixes) false ++ own_fault (base_read (scope_of env) around base) around a (own_place rpl place)) (base_faults (scope_of env) (base_read (scope_of env) around base) place) f.1 in
             let k = append_none (local_fault (local_from (scope_of env) around 0 None suffixes) false) (own_fault (base_read (scope_of env) around base) around a (own_place rpl place)) g.0 in
             let e = map_there (λ elem. ty.array elem a (is_some made)) (judged_type (scope_of env) around front) t w.1 in
-            let j = judged_good P L (scope_of env) meant classes_meant suffixes made 1 (own_small made) few base place e.0 (parts_free (none_by order.Number) (type_parts (scope_of env) around base) unreported) g.1
+            let j = judged_good P L (scope_of env) meant classes_meant suffixes made 1 (own_small made) few base place e.0 (parts_free (none_by order.Kind) (type_parts (scope_of env) around base) unreported) g.1
             (inl (local_reported (local_from (scope_of env) around 0 None suffixes) k.0)) e.1 in
             let o = own_good suffixes made rpl a few own_is in (
               e.0,

@@ -538,8 +538,8 @@ module _ (P : PlainProgram) (L : Scope) (env : Env) (may_read may_assign : ℕ �
         all_hold (given_in env) (others ++ regions) given ≡ true →
         GoodArgs P L 0 (map (λ param. param.atomic) params) given others regions × All (λ a. IsTrue (fully_specified a)) regions
     used_args trees params place regions others given unreported noted is hold =
-        let w = args_good P L (scope_of env) means no_index 0 (omega arith) params true place trees regions others given (parts_free (none_by order.Number) (arg_faults (scope_of env) no_index params true trees) unreported)
-        (none_reported (none_by order.Number) (args_faults (args_of env trees).local (args_of env trees).written params place) noted) is hold in
+        let w = args_good P L (scope_of env) means no_index 0 (omega arith) params true place trees regions others given (parts_free (none_by order.Kind) (arg_faults (scope_of env) no_index params true trees) unreported)
+        (none_reported (none_by order.Kind) (args_faults (args_of env trees).local (args_of env trees).written params place) noted) is hold in
         (w.0, w.1 refl)
 
     -- what a callee does

@@ -11,7 +11,7 @@ pub returns-clause-reported : goal.returns-clause-reported
 returns-clause-reported c =
     let scope = plain_scope c.scope.result in
     let index = plain_index c.at_suffix-around.result in
-    let faults = c.by_number-faults.result in
+    let faults = c.by_kind-faults.result in
     subst (λ (z : Option Refusal). Says c.path.result (λ rpl. None) Some (λ t. z ≡ t))
-    (reported_here c.args.env.now scope (plain_index c.args.around) index faults c.args.tree.now c.scope.ensures c.at_suffix-around.ensures c.by_number-faults.ensures)
+    (reported_here c.args.env.now scope (plain_index c.args.around) index faults c.args.tree.now c.scope.ensures c.at_suffix-around.ensures c.by_kind-faults.ensures)
     (reported_says (reported_there scope index faults c.args.tree.now) c.path.result c.path.ensures.unreported c.path.ensures.reported)

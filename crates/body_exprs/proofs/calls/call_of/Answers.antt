@@ -22,8 +22,8 @@ returns-in_err-ty-in-Some-clause-answer c =
     (given_for c.args.regions c.as_slice.result.now row.regions c.in_ok-regions.field-0 _ c.in_ok-regions.ensures.given c.in-Some.is c.as_slice.ensures)
     (all_for c.args.owned.now c.in-Some.regions c.as_slice-in-Some.result.now c.in_ok-args-in-Some.args c.as_slice-args.result.now
     c.as_slice-args.ensures c.in_ok-args-in-Some.ensures c.as_slice-in-Some.ensures)
-    (noted_for c.args.regions c.as_slice.result.now row.regions c.args.place c.by_number-faults.result c.fit_args.new.faults
-    c.fit_args.ensures.faults c.by_number-faults.ensures c.as_slice.ensures)
+    (noted_for c.args.regions c.as_slice.result.now row.regions c.args.place c.by_kind-faults.result c.fit_args.new.faults
+    c.fit_args.ensures.faults c.by_kind-faults.ensures c.as_slice.ensures)
     c.is_partial-partial.ensures c.as_slice-in-Some-2.ensures d)
     c.in_err-ty-in-Some.ensures.reported
 
@@ -37,8 +37,8 @@ returns-in_ok-call-in-Some-clause-answer c =
     (given_for c.args.regions c.as_slice.result.now row.regions c.in_ok-regions.field-0 _ c.in_ok-regions.ensures.given c.in-Some.is c.as_slice.ensures)
     (all_for c.args.owned.now c.in-Some.regions c.as_slice-in-Some.result.now c.in_ok-args-in-Some.args c.as_slice-args.result.now
     c.as_slice-args.ensures c.in_ok-args-in-Some.ensures c.as_slice-in-Some.ensures)
-    (noted_for c.args.regions c.as_slice.result.now row.regions c.args.place c.by_number-faults.result c.fit_args.new.faults
-    c.fit_args.ensures.faults c.by_number-faults.ensures c.as_slice.ensures)
+    (noted_for c.args.regions c.as_slice.result.now row.regions c.args.place c.by_kind-faults.result c.fit_args.new.faults
+    c.fit_args.ensures.faults c.by_kind-faults.ensures c.as_slice.ensures)
     c.is_partial-partial.ensures c.as_slice-in-Some-2.ensures c.in_ok-ty-in-Some.ensures.reported c.in_ok-ty-in-Some.ensures.ty c.in_ok-ty-in-Some.ensures.found
     (c.row-number.ensures ∙ ap (λ (z : Table). row_of z row.id) c.table.ensures) c.in_ok-actuals-in-Some.ensures c.in_ok-call-in-Some.ensures
 
@@ -48,8 +48,8 @@ returns-in-None-clause-answer c =
     of_unknown c.args.env.now (plain_node c.args.of) c.args.class row c.args.owned.now c.args.regions c.args.actuals c.as_slice-in-None.result.now c.args.place c.args.found.now
     c.fit_args.new.faults c.shapes_fit-fit.result c.unknown_args.result
     (given_for c.args.regions c.as_slice.result.now row.regions c.in_ok-regions.field-0 _ c.in_ok-regions.ensures.given c.in-None.is c.as_slice.ensures)
-    (noted_for c.args.regions c.as_slice.result.now row.regions c.args.place c.by_number-faults.result c.fit_args.new.faults
-    c.fit_args.ensures.faults c.by_number-faults.ensures c.as_slice.ensures)
+    (noted_for c.args.regions c.as_slice.result.now row.regions c.args.place c.by_kind-faults.result c.fit_args.new.faults
+    c.fit_args.ensures.faults c.by_kind-faults.ensures c.as_slice.ensures)
     c.as_slice-in-None.ensures
     (fit_for c.headers.result.now _ (map value_type c.as_slice-in-None.result.now) c.as_slice-in-None-2.result.now row.params
     c.shapes_fit-fit.result c.shapes_fit-fit.ensures (c.headers.ensures ∙ ap headers_of c.table-in-None.ensures) c.as_slice-in-None-2.ensures)

@@ -19,8 +19,8 @@ returns-in_err-ty-in-Some-clause-answer c =
     c.from_residual-in_err-ty-in-Some.result c.in_err-ty-in-Some.field-0.0 c.from_residual-in_err-ty-in-Some.ensures.1
     (λ q d. of_faulty env c.args.class c.args.regions c.args.actuals shown c.args.place c.args.found.now c.in-Some.args c.fit_args.new.faults q
     (given_for c.args.regions c.class_params.result.now params c.in_ok-args.field-0 _ c.in_ok-args.ensures.given c.in-Some.is c.class_params.ensures)
-    (noted_for c.args.regions c.class_params.result.now params c.args.place c.by_number-faults.result c.fit_args.new.faults
-    c.fit_args.ensures.faults c.by_number-faults.ensures c.class_params.ensures)
+    (noted_for c.args.regions c.class_params.result.now params c.args.place c.by_kind-faults.result c.fit_args.new.faults
+    c.fit_args.ensures.faults c.by_kind-faults.ensures c.class_params.ensures)
     c.as_slice-shown.ensures d)
     c.in_err-ty-in-Some.ensures.reported
 
@@ -30,8 +30,8 @@ returns-in_ok-actuals-in-Some-clause-answer c =
     of_used c.args.env.now c.args.class c.args.regions c.args.actuals c.as_slice-shown.result.now c.args.place c.args.found.now c.creation_with.new.found
     c.in-Some.args c.fit_args.new.faults c.in_ok-ty-in-Some.ty c.in_ok-actuals-in-Some.actuals (plain_node c.create.result)
     (given_for c.args.regions c.class_params.result.now params c.in_ok-args.field-0 _ c.in_ok-args.ensures.given c.in-Some.is c.class_params.ensures)
-    (noted_for c.args.regions c.class_params.result.now params c.args.place c.by_number-faults.result c.fit_args.new.faults
-    c.fit_args.ensures.faults c.by_number-faults.ensures c.class_params.ensures)
+    (noted_for c.args.regions c.class_params.result.now params c.args.place c.by_kind-faults.result c.fit_args.new.faults
+    c.fit_args.ensures.faults c.by_kind-faults.ensures c.class_params.ensures)
     c.as_slice-shown.ensures c.in_ok-ty-in-Some.ensures.reported c.in_ok-ty-in-Some.ensures.ty c.in_ok-ty-in-Some.ensures.found c.in_ok-actuals-in-Some.ensures c.create.ensures
 
 pub returns-in-None-clause-answer : goal.returns-in-None-clause-answer
@@ -40,8 +40,8 @@ returns-in-None-clause-answer c =
     of_unknown c.args.env.now c.args.class c.args.regions c.args.actuals c.as_slice.result.now c.args.place c.args.found.now
     c.fit_args.new.faults c.shapes_fit-fit.result c.unknown_args.result
     (given_for c.args.regions c.class_params.result.now params c.in_ok-args.field-0 _ c.in_ok-args.ensures.given c.in-None.is c.class_params.ensures)
-    (noted_for c.args.regions c.class_params.result.now params c.args.place c.by_number-faults.result c.fit_args.new.faults
-    c.fit_args.ensures.faults c.by_number-faults.ensures c.class_params.ensures)
+    (noted_for c.args.regions c.class_params.result.now params c.args.place c.by_kind-faults.result c.fit_args.new.faults
+    c.fit_args.ensures.faults c.by_kind-faults.ensures c.class_params.ensures)
     c.as_slice.ensures
     (fit_for c.headers.result.now _ (map value_type c.as_slice.result.now) c.formals.result.now _
     c.shapes_fit-fit.result c.shapes_fit-fit.ensures (c.headers.ensures ∙ ap headers_of c.table.ensures) c.formals.ensures)
