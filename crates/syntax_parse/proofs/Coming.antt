@@ -1,8 +1,7 @@
 -- Whether a terminal comes next, and what is refused where it doesn't, or where it is one too many.
-use Rattle.std.proofs.Common.{◌≡◌, ◌≤◌, ◌<◌, ◌↔◌, ℕ, IsTrue, length, subst, List, [], ◌∷◌, Bool, true, false, inl, inr, refl, ap, arith}
+use Rattle.std.proofs.Common.{◌≡◌, ◌≤◌, ◌<◌, ◌↔◌, ℕ, IsTrue, length, List, [], ◌∷◌, Bool, true, false, inl, inr, refl, ap, arith}
 use Rattle.lang_base.specs.declared.place.Place.{Place}
 use Rattle.lang_base.specs.declared.refusal.Kind.TheVariants as kind
-use Rattle.lang_base.specs.declared.refusal.Refusal.{Refusal}
 use Rattle.lang_base.specs.declared.refusal.Stop.{Stop}
 use Rattle.lang_base.specs.declared.refusal.Stop.TheVariants as Stop
 use Rattle.lang_base.specs.Refused.{IfRefused}
@@ -12,9 +11,9 @@ use Rattle.syntax_tokens.specs.declared.terminal.Placed.{Placed}
 use Rattle.syntax_tokens.specs.declared.terminal.Terminal.{Terminal}
 use Rattle.syntax_tokens.specs.declared.terminal.Terminal.TheVariants as terminal
 use Rattle.syntax_parse.specs.Words.{is_name, sign, word}
-use Rattle.syntax_parse.specs.Taking.{Takes, TakesOne, Next, place_of}
+use Rattle.syntax_parse.specs.Taking.{Next, place_of}
 use Rattle.syntax_parse.specs.Expecting.{one, next_is, next_of}
-use Rattle.syntax_parse.specs.Limits.{Counts, Fits, past, Within, nothing, passes, Stops, no_terminal, too_many, Refuses}
+use Rattle.syntax_parse.specs.Limits.{Counts, Fits, past, Within, nothing, passes, no_terminal, too_many, Refuses}
 use Rattle.syntax_parse.specs.Counted.{MayCome, Halts}
 use Rattle.syntax_parse.proofs.Tested.{sign_own, word_own, sign_or_not, word_or_not}
 

@@ -1,13 +1,12 @@
 -- Reading what is expected one after another, and where that stops.
-use Rattle.std.proofs.Common.{◌≡◌, List, [], ◌∷◌, Option, Some, refl}
+use Rattle.std.proofs.Common.{◌≡◌, List, [], ◌∷◌, Some}
 use Rattle.lang_base.specs.Refused.{IfRefused}
 use Rattle.lang_base.specs.declared.place.Place.{Place}
 use Rattle.lang_base.specs.declared.refusal.Kind.{Kind}
-use Rattle.lang_base.specs.declared.refusal.Refusal.{Refusal}
 use Rattle.lang_base.specs.declared.refusal.Stop.{Stop}
 use Rattle.lang_base.specs.declared.refusal.Stop.TheVariants as Stop
 use Rattle.syntax_tokens.specs.declared.terminal.Placed.{Placed}
-use Rattle.syntax_parse.specs.Expecting.{Part, Expected, one, part, choose, next_of}
+use Rattle.syntax_parse.specs.Expecting.{Part, Expected, part, choose, next_of}
 use Rattle.syntax_parse.specs.Limits.{Counts, inside, outside, Within, nothing, begins, passes, Stops, no_part, no_terminal, too_many, in_part, after_part, after_terminal, Refuses}
 
 -- of two lists, the second after the first

@@ -1,6 +1,5 @@
 -- A text has one fault of syntax at most.
 use Rattle.std.proofs.Common.{◌≡◌, ◌∙◌, List, [], ◌∷◌, ◌++◌, ◌⊎◌, inl, inr, append_assoc, refl, sym, ap, subst}
-use Rattle.std.proofs.lemmas.List.{append-nil}
 use Rattle.syntax_tokens.specs.declared.terminal.Placed.{Placed}
 use Rattle.syntax_tree.specs.declared.class.Class.{Class}
 use Rattle.syntax_parse.specs.Classes.{DerivesProgram}

@@ -1,11 +1,11 @@
 -- A reading within the limits comes to one end: all that is expected is read, or it stops at one place.
-use Rattle.std.proofs.Common.{◌≡◌, ◌∙◌, ◌⊎◌, inl, inr, ℕ, zero, suc, ◌<◌, ◌≤◌, List, [], ◌∷◌, ◌++◌, length, Bool, true, false, Option, Some, None, nat_le, refl, sym, ap, subst, arith}
+use Rattle.std.proofs.Common.{◌≡◌, ◌⊎◌, inl, inr, ℕ, zero, suc, ◌≤◌, List, [], ◌∷◌, ◌++◌, length, Bool, true, Option, Some, refl, ap, subst, arith}
 use Rattle.std.proofs.lemmas.Bool.Decides.{leb_tells}
 use Rattle.lang_base.specs.declared.refusal.Kind.{Kind}
 use Rattle.lang_base.specs.declared.refusal.Kind.TheVariants as kind
 use Rattle.syntax_tokens.specs.declared.terminal.Placed.{Placed}
 use Rattle.syntax_tokens.specs.declared.terminal.Terminal.{Terminal}
-use Rattle.syntax_parse.specs.Expecting.{Part, Expected, one, part, choose, next_of, next_is, Steps, stay, pick, pass, IsLost}
+use Rattle.syntax_parse.specs.Expecting.{Part, Expected, one, part, choose, next_of, Steps, stay, pick, pass, IsLost}
 use Rattle.syntax_parse.specs.Limits.{Counts, Fits, past, inside, outside, Within, nothing, begins, passes, Stops, no_part, no_terminal, too_many, in_part, after_part, after_terminal}
 
 -- what a reading ends with

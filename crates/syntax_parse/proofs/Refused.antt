@@ -18,7 +18,7 @@ use Rattle.syntax_parse.specs.Expecting.{Part as p}
 use Rattle.syntax_parse.specs.Program.{IsProgram, IsGrammarFault}
 use Rattle.syntax_parse.specs.Refusing.{at_start, IsWithin, IsRefusedIn, IsSyntaxFault, CanGoOn}
 use Rattle.syntax_parse.specs.Taking.{place_of}
-use Rattle.syntax_parse.specs.Viable.{IsViable, HasSyntaxFault}
+use Rattle.syntax_parse.specs.Viable.{HasSyntaxFault}
 use Rattle.syntax_parse.proofs.expected.Expected.{alike}
 use Rattle.syntax_parse.proofs.Decided.{fault_at}
 use Rattle.syntax_parse.proofs.once.OnceText.{terminals_once}

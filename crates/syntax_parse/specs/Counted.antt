@@ -7,7 +7,7 @@ use Rattle.lang_base.specs.declared.refusal.Stop.{Stop}
 use Rattle.syntax_tokens.specs.declared.terminal.Placed.{Placed}
 use Rattle.syntax_tokens.specs.declared.terminal.Terminal.{Terminal}
 use Rattle.syntax_parse.specs.declared.cursor.Cursor.{Cursor}
-use Rattle.syntax_parse.specs.Expecting.{Part, Expected, one, part}
+use Rattle.syntax_parse.specs.Expecting.{Expected, one}
 use Rattle.syntax_parse.specs.Limits.{Counts, Fits, past, Within, Refuses}
 
 abbrev pub counts : Cursor → Counts

@@ -1,4 +1,4 @@
-ghost use Rattle.std.specs.Prelude.{◌≡◌, ◌+◌, IfOk, OnOk, IfErr, [], ◌∷◌};
+ghost use Rattle.std.specs.Prelude.{◌≡◌, IfOk, OnOk, IfErr, [], ◌∷◌};
 ghost use Rattle.syntax_parse.specs.Counted.{Reading, StopsAt};
 ghost use Rattle.syntax_parse.specs.Expecting.{Part, part};
 ghost use Rattle.syntax_parse.specs.Classes.{DerivesClass, DerivesMember, DerivesMembers, DerivesParent, DerivesProgram};

@@ -1,4 +1,4 @@
-ghost use Rattle.std.specs.Prelude.{◌≡◌, ◌+◌, ◌↔◌, IfOk, IsTrue, OnOk, IfErr, [], ◌∷◌};
+ghost use Rattle.std.specs.Prelude.{◌≡◌, ◌↔◌, IfOk, IsTrue, OnOk, IfErr, [], ◌∷◌};
 ghost use Rattle.syntax_parse.specs.Counted.{Reading, StopsAt};
 ghost use Rattle.syntax_parse.specs.Expecting.{Part, one, part};
 ghost use Rattle.syntax_parse.specs.Members.{BeginsAnswering, BeginsTyped, IsItemsPart, constructor_comes, member_begins, type_begins};

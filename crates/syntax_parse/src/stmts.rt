@@ -1,4 +1,4 @@
-ghost use Rattle.std.specs.Prelude.{◌≡◌, true, false, ◌≤◌, ◌+◌, ◌<◌, length, map, OnOk, IfOk, IfErr, [], ◌∷◌};
+ghost use Rattle.std.specs.Prelude.{◌≡◌, true, false, ◌≤◌, ◌+◌, ◌<◌, map, OnOk, IfOk, IfErr, [], ◌∷◌};
 ghost use Rattle.syntax_parse.specs.Counted.{Completed, Reading, StopsAt};
 ghost use Rattle.syntax_parse.specs.Expecting.{Part, next_is, next_of, one, part};
 ghost use Rattle.syntax_parse.specs.Targets.{IsTarget, begins_assignment, begins_declaration, holds_others, rest_of, stmt_begins};

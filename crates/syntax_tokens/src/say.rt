@@ -1,4 +1,4 @@
-ghost use Rattle.std.specs.Prelude.{◌≡◌, ◌≤◌, ◌<◌, ◌+◌, ◌^◌, length, slice_range, IfOk, OnOk};
+ghost use Rattle.std.specs.Prelude.{◌≡◌, ◌≤◌, ◌<◌, ◌+◌, length, slice_range, IfOk, OnOk};
 ghost use Rattle.syntax_tokens.specs.Cutting.{StandInOrder, Stands};
 ghost use Rattle.syntax_tokens.specs.Says.{CanSay, Means, MeanAll, distinct_names, with_token};
 

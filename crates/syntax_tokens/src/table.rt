@@ -1,4 +1,4 @@
-ghost use Rattle.std.specs.Prelude.{◌≡◌, ◌==◌, ◌≤◌, ◌<◌, ◌+◌, length, true, false, nat_eq, IsTrue, IfSome, IfNone, ◌↔◌, ◌∷◌, [], map, filter, slice_index};
+ghost use Rattle.std.specs.Prelude.{◌≡◌, ◌==◌, ◌<◌, ◌+◌, true, false, nat_eq, IsTrue, IfSome, IfNone, ◌↔◌, ◌∷◌, [], map, filter, slice_index};
 ghost use Rattle.std.specs.List.{Contains, starts_with};
 ghost use Rattle.lang_base.specs.Lexical.{keywords};
 ghost use Rattle.syntax_tokens.specs.Piece.{IsLongestSymbol};

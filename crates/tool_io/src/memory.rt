@@ -1,5 +1,5 @@
-ghost use Rattle.std.specs.Prelude.{◌≡◌, ◌<◌, ◌≤◌, ◌+◌, ◌-◌, ◌++◌, ◌⊎◌, [], ℕ, Option, List, None, Some, length, take, drop, min, max, vec_len, vec_capacity, IfOk, IfSome, OnErr, IsErr, ◌↔◌};
-ghost use Rattle.tool_io.specs.Ends.{Rose, Fills};
+ghost use Rattle.std.specs.Prelude.{◌≡◌, ◌<◌, ◌≤◌, ◌+◌, ◌-◌, ◌++◌, ◌⊎◌, [], None, Some, length, take, drop, min, max, vec_len, vec_capacity, IfOk, OnErr, IsErr, ◌↔◌};
+ghost use Rattle.tool_io.specs.Ends.{Fills};
 ghost use Rattle.tool_io.specs.Plan.{FailsNext, opening_plan};
 
 use crate::plan::Plan;

@@ -1,5 +1,5 @@
-ghost use Rattle.std.specs.Prelude.{◌≡◌, ◌<◌, ◌≤◌, ◌+◌, ◌-◌, ◌++◌, [], ℕ, Option, List, Some, length, take, drop, min, IfOk, IfSome, OnErr, IsOk, IsErr, ◌↔◌};
-ghost use Rattle.tool_io.specs.Ends.{Rose, Fills, next_count};
+ghost use Rattle.std.specs.Prelude.{◌≡◌, ◌<◌, ◌≤◌, ◌+◌, ◌-◌, ◌++◌, [], ℕ, List, Some, length, take, drop, min, IfOk, OnErr, IsOk, IsErr, ◌↔◌};
+ghost use Rattle.tool_io.specs.Ends.{Fills, next_count};
 
 use crate::memory::append_reserved;
 use crate::traits::{Failed, Sink, Source};

@@ -1,4 +1,4 @@
-ghost use Rattle.std.specs.Prelude.{◌≡◌, ◌<◌, ◌≤◌, ◌+◌, ◌++◌, ℕ, Err, Some, [], length, take, drop, vec_len, IfOk, IfSome};
+ghost use Rattle.std.specs.Prelude.{◌≡◌, ◌<◌, ◌≤◌, ◌+◌, ℕ, Err, Some, [], length, drop, vec_len, IfOk, IfSome};
 ghost use Rattle.tool_io.specs.Ends.{Rose};
 
 use crate::traits::{Failed, Source};

@@ -1,5 +1,4 @@
-ghost use Rattle.std.specs.Prelude.{◌≡◌, ◌++◌, [], IfOk, OnOk, OnErr};
-ghost use Rattle.std.specs.Fmt.{decimal, signed_decimal};
+ghost use Rattle.std.specs.Prelude.{◌≡◌, [], IfOk};
 ghost use Rattle.tool_words.specs.Reports.{report_of, status_of, ending_report, run_report, cost_report, demo_ending_report, ending_status};
 
 use crate::verdict::{Figures, Status, Verdict};

@@ -2,7 +2,7 @@ ghost use Rattle.std.specs.Prelude.{◌≡◌, ◌≢◌, ◌↔◌, ◌≤◌, 
 ghost use Rattle.std.specs.Result.{result_ok};
 ghost use Rattle.std.specs.Option.{option_map, option_to_list};
 ghost use Rattle.std.specs.String.{string_bytes};
-ghost use Rattle.tool_words.specs.Words.{value_for, values_for, number_in, arg_of, mode_of, seeded_by};
+ghost use Rattle.tool_words.specs.Words.{values_for, number_in, arg_of, mode_of, seeded_by};
 ghost use Rattle.tool_words.specs.Jobs.{one_of, argument_of, alone, own_mode, made_by};
 
 use crate::command::Command;

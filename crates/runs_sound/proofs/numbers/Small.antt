@@ -10,7 +10,7 @@ use Rattle.lang_base.specs.declared.op.UnaryOp.{UnaryOp}
 use Rattle.lang_base.specs.declared.op.UnaryOp.TheVariants.{Negate, Not}
 use Rattle.lang_base.specs.Operators.{result_of}
 use Rattle.lang_typed.specs.declared.stmt.Forking.{Forking}
-use Rattle.lang_typed.specs.Plain.{PlainProgram, PlainMember, TypedStmt, statement, TypedStmts, no_stmts, more_stmts, TypedBranches, no_branches, more_branches}
+use Rattle.lang_typed.specs.Plain.{PlainProgram, PlainMember, TypedBranches, no_branches, more_branches}
 use Rattle.lang_typed.proofs.Narrow.{width, AllNarrow}
 use Rattle.lang_typed.specs.Scope.{member_at}
 use Rattle.lang_meaning.specs.Core.{Goes_on, Returns}

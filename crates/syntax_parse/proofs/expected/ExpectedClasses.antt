@@ -1,5 +1,5 @@
 -- Members, classes and programs that are derived are read as they are expected.
-use Rattle.std.proofs.Common.{◌≡◌, List, [], ◌∷◌, ◌++◌, Bool, true, false, ◌||◌, Option, Some, None, refl, sym, subst}
+use Rattle.std.proofs.Common.{◌≡◌, List, [], ◌∷◌, ◌++◌, Bool, true, false, Option, refl, sym, subst}
 use Rattle.std.proofs.lemmas.List.{append_cancel_right}
 use Rattle.syntax_tokens.specs.declared.token.Symbol.{Symbol}
 use Rattle.syntax_tokens.specs.declared.token.Keyword.{Keyword}
@@ -27,8 +27,8 @@ use Rattle.syntax_parse.proofs.once.OnceReader.{starts, listed_first}
 use Rattle.syntax_parse.proofs.once.OncePaths.{goes_on_path, nothing_goes_on}
 use Rattle.syntax_parse.proofs.once.OnceMembers.{rpl_not, type_not, formals_start, items_start, path_ends}
 use Rattle.syntax_parse.proofs.once.OnceClasses.{block_starts, members_start, parent_no_less, result_begins}
-use Rattle.syntax_parse.specs.Words.{is_name, is_less, is_comma, is_semicolon, is_open_paren, is_close_paren, is_open_brace, is_close_brace, is_open_bracket, is_class, is_extends, is_atomic, is_in, is_reads, is_writes, is_pure, is_void}
-use Rattle.syntax_parse.specs.Expecting.{Expected, one, part, next_of, choose, Steps, pick, stay, Passes, IsLost}
+use Rattle.syntax_parse.specs.Words.{is_less, is_comma, is_open_paren, is_close_paren, is_close_brace, is_extends, is_atomic, is_in, is_reads, is_writes, is_pure, is_void}
+use Rattle.syntax_parse.specs.Expecting.{Expected, one, part, next_of, Steps, stay, Passes, IsLost}
 use Rattle.syntax_parse.proofs.expected.Expected.{nothing, rule, on_next, took, link, two, is_next, lost_not_read, alike, lost_alike}
 use Rattle.syntax_parse.specs.Expecting.{Part as p}
 use Rattle.syntax_parse.proofs.expected.ExpectedPaths.{unless, where_next, listed_passes, path_passes, args_pass, kind_passes, params_pass, type_passes, class_after}

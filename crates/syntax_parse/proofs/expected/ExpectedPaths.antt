@@ -1,5 +1,5 @@
 -- Region paths, region parameters and types that are derived are read as they are expected.
-use Rattle.std.proofs.Common.{◌≡◌, List, [], ◌∷◌, ◌⊎◌, inl, inr, Bool, true, false, cond, ◌||◌, Option, Some, refl}
+use Rattle.std.proofs.Common.{◌≡◌, List, [], ◌∷◌, Bool, true, false, cond, Option, Some, refl}
 use Rattle.syntax_tokens.specs.declared.token.Symbol.{Symbol}
 use Rattle.syntax_tokens.specs.declared.terminal.Placed.{Placed}
 use Rattle.syntax_tokens.specs.declared.terminal.Terminal.{Terminal}
@@ -16,14 +16,13 @@ use Rattle.syntax_tree.specs.declared.region.RplTree.{RplTree}
 use Rattle.syntax_tree.specs.declared.region.Suffix.{Suffix}
 use Rattle.syntax_tree.specs.declared.region.TypeTree.{TypeTree}
 use Rattle.lang_base.specs.declared.place.Place.{Place}
-use Rattle.syntax_parse.specs.Taking.{Takes, TakesSymbol, TakesName, Listed, last, more, Many, none, some}
+use Rattle.syntax_parse.specs.Taking.{TakesSymbol, TakesName, Listed, last, more, Many, none, some}
 use Rattle.syntax_parse.specs.Paths.{DerivesRName, one_name, two_names, DerivesHead, DerivesWithin, DerivesElem, star, within, DerivesNext, next, DerivesRpl, path, DerivesArgs, no_args, args}
 use Rattle.syntax_parse.specs.Types.{DerivesBase, DerivesRegion, no_region, region, DerivesIndex, no_index, index, DerivesAfter, following, DerivesSuffix, suffix, DerivesType, type_of}
 use Rattle.syntax_parse.specs.Classes.{DerivesAtomic, DerivesKind, DerivesParam, DerivesKindOr, DerivesParamsAfter, DerivesDeclared, DerivesConstr, DerivesGiven, DerivesParams}
 use Rattle.syntax_parse.proofs.once.OnceReader.{starts, or_left, or_right, not_next, many_first}
 use Rattle.syntax_parse.proofs.once.OncePaths.{name_starts, goes_on_path, less_or_not, hash_or_not}
-use Rattle.syntax_parse.proofs.once.OnceMembers.{rpl_not}
-use Rattle.syntax_parse.specs.Words.{is_name, is_number, is_dot, is_colon, is_star, is_open_bracket, is_close_bracket, is_less, is_greater, is_hash, is_question, is_bar, is_comma, is_region, is_atomic, is_root, is_int, is_boolean}
+use Rattle.syntax_parse.specs.Words.{is_name, is_dot, is_colon, is_star, is_open_bracket, is_less, is_hash, is_bar, is_comma, is_atomic, is_root}
 use Rattle.syntax_parse.specs.Expecting.{Part, Expected, one, part, next_of, choose, Passes, next_is}
 use Rattle.syntax_parse.proofs.expected.Expected.{nothing, rule, on_next, took, link, two, is_next}
 use Rattle.syntax_parse.specs.Expecting.{Part as p}

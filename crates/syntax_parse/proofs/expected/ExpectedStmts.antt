@@ -1,5 +1,5 @@
 -- Statements that are derived are read as they are expected.
-use Rattle.std.proofs.Common.{◌≡◌, List, [], ◌∷◌, ◌⊎◌, inl, inr, Bool, true, false, Option, Some, refl, arith}
+use Rattle.std.proofs.Common.{◌≡◌, List, [], ◌∷◌, ◌⊎◌, inl, inr, Bool, true, false, Some, refl}
 use Rattle.lang_base.specs.declared.place.Place.{Place}
 use Rattle.syntax_tokens.specs.declared.token.Symbol.{Symbol}
 use Rattle.syntax_tokens.specs.declared.terminal.Placed.{Placed}
@@ -10,21 +10,21 @@ use Rattle.syntax_tree.specs.declared.region.RplTree.{RplTree}
 use Rattle.syntax_tree.specs.declared.region.Suffix.{Suffix}
 use Rattle.syntax_tree.specs.declared.region.TypeTree.{TypeTree}
 use Rattle.syntax_tree.specs.Plain.{PlainExpr, PlainStmt, StmtForm, PlainStmts}
-use Rattle.syntax_parse.specs.Taking.{Takes, TakesSymbol, TakesName, Listed, last, more, Many}
+use Rattle.syntax_parse.specs.Taking.{TakesSymbol, TakesName, Listed, last, more, Many}
 use Rattle.syntax_parse.specs.Paths.{DerivesArgs, no_args, args}
 use Rattle.syntax_parse.specs.Types.{DerivesBase, DerivesSuffix, suffix, DerivesType, type_of}
-use Rattle.syntax_parse.specs.Expressions.{Ending, as_value, as_name, as_field, as_element, as_call, as_creation, DerivesPostfix, primary, after_dot, called, indexed, DerivesPrimary, number, yes, no, receiver, parenthesised, creation}
+use Rattle.syntax_parse.specs.Expressions.{Ending, as_value, as_field, as_element, as_call, as_creation, DerivesPostfix, primary, after_dot, called, indexed, DerivesPrimary, number, yes, no, receiver, parenthesised, creation}
 use Rattle.syntax_parse.specs.Statements.{IsPerformed, DerivesFinal, not_final, final, DerivesCondition, condition, DerivesValue, value, DerivesRange, range, DerivesBlock, braces, DerivesStmts, DerivesStmt, at_first, declaration, local_assignment, field_assignment, element_assignment, performed, DerivesForm, blocked, if_alone, if_else, turning, bare_return, return_with, printed, printed_text, branching, spreading, parting, in_one, new_regions}
 use Rattle.syntax_parse.proofs.once.OnceReader.{starts, not_next}
 use Rattle.syntax_parse.proofs.once.OnceExprs.{ends_at}
-use Rattle.syntax_parse.proofs.once.OnceLevels.{level_begins, expr_begins_not, no_close_bracket, actuals_start, top_of}
+use Rattle.syntax_parse.proofs.once.OnceLevels.{level_begins, expr_begins_not, no_close_bracket, actuals_start}
 use Rattle.syntax_parse.proofs.once.OnceStmts.{expr_no_text, value_no_semicolon, else_or_not, stmt_not_brace, primary_no_target}
-use Rattle.syntax_parse.specs.Words.{is_name, is_text, is_dot, is_open_bracket, is_close_bracket, is_less, is_comma, is_semicolon, is_assign, is_open_paren, is_close_paren, is_close_brace, is_else}
-use Rattle.syntax_parse.specs.Expecting.{Part, Expected, one, part, next_of, choose, Steps, pick, pass, Passes}
+use Rattle.syntax_parse.specs.Words.{is_name, is_text, is_dot, is_close_bracket, is_less, is_comma, is_semicolon, is_assign, is_open_paren, is_close_brace, is_else}
+use Rattle.syntax_parse.specs.Expecting.{Part, Expected, one, part, choose, Steps, pick, pass, Passes}
 use Rattle.syntax_parse.proofs.expected.Expected.{picked, step_next, taken, nothing, rule, on_next, took, link, two, is_next}
 use Rattle.syntax_parse.specs.Expecting.{Part as p}
 use Rattle.syntax_parse.proofs.expected.ExpectedPaths.{unless, where_next, class_after, type_passes, suffixes_pass, after_passes, args_pass}
-use Rattle.syntax_parse.proofs.expected.ExpectedExprs.{args_alone, stops, level_steps, actuals_pass, expr_passes}
+use Rattle.syntax_parse.proofs.expected.ExpectedExprs.{args_alone, actuals_pass, expr_passes}
 
 -- what stands in more than one statement
 condition_passes : {before after : List Placed} {test : PlainExpr} → DerivesCondition before after test → Passes (part p.condition ∷ []) before after

@@ -18,7 +18,7 @@ use Rattle.syntax_parse.specs.Limits.{Counts, Fits, past, more, Within, passes, 
 use Rattle.syntax_parse.specs.Counted.{Halts}
 use Rattle.syntax_parse.specs.Onward.{Onward}
 use Rattle.syntax_parse.proofs.Onwards.{over, step, enter, ends, refused_on}
-use Rattle.syntax_parse.proofs.Composed.{seq, read_part, refused_first, refused_part}
+use Rattle.syntax_parse.proofs.Composed.{seq, read_part, refused_part}
 use Rattle.syntax_parse.proofs.Coming.{read_any, next_comes, symbol_comes_not}
 
 spelled_parts : {t : Terminal} {form : ExprForm} → Spells t form → literal_parts t ≡ Some (one is_any ∷ [])

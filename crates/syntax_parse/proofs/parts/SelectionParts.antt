@@ -1,5 +1,5 @@
 -- Fields, calls and elements after an expression.
-use Rattle.std.proofs.Common.{◌≡◌, ◌↔◌, ◌⊎◌, ◌∙◌, List, [], ◌∷◌, Bool, true, false, cond, ◌||◌, IsTrue, Option, Some, None, inl, inr, refl, sym, ap, subst}
+use Rattle.std.proofs.Common.{◌≡◌, ◌↔◌, ◌∙◌, List, [], ◌∷◌, Bool, true, false, cond, ◌||◌, IsTrue, refl, sym, subst}
 use Rattle.lang_base.specs.Refused.{IfRefused}
 use Rattle.lang_base.specs.declared.place.Place.{Place}
 use Rattle.lang_base.specs.declared.refusal.Kind.{Kind}
@@ -8,15 +8,15 @@ use Rattle.syntax_tokens.specs.declared.token.Symbol.{Symbol}
 use Rattle.syntax_tokens.specs.declared.terminal.Placed.{Placed}
 use Rattle.syntax_tokens.specs.declared.terminal.Terminal.{Terminal}
 use Rattle.syntax_tokens.specs.declared.terminal.Terminal.TheVariants as terminal
-use Rattle.syntax_parse.specs.Words.{is_dot, is_less, is_name, is_open_bracket, is_open_paren}
+use Rattle.syntax_parse.specs.Words.{is_dot, is_less, is_name, is_open_bracket}
 use Rattle.syntax_parse.specs.Taking.{Next, TakesNext}
-use Rattle.syntax_parse.specs.Expecting.{Part, Expected, one, part, choose, next_is, next_of}
-use Rattle.syntax_parse.specs.Limits.{Counts, Fits, more, more_if, Within, Stops, in_part, nothing, Refuses}
+use Rattle.syntax_parse.specs.Expecting.{Part, Expected, one, part, next_is, next_of}
+use Rattle.syntax_parse.specs.Limits.{Counts, Fits, more, more_if, Within, Stops, in_part, Refuses}
 use Rattle.syntax_parse.specs.Counted.{Halts}
 use Rattle.syntax_parse.specs.Onward.{Onward}
-use Rattle.syntax_parse.proofs.Composed.{seq, stops_first, on_refused}
+use Rattle.syntax_parse.proofs.Composed.{stops_first, on_refused}
 use Rattle.syntax_parse.proofs.Coming.{next_comes, symbol_comes_not, halted_symbol}
-use Rattle.syntax_parse.proofs.Onwards.{stay, over, step, steps, enter, ends, refused_on, part_inside, part_stops, skip}
+use Rattle.syntax_parse.proofs.Onwards.{stay, over, step, enter, ends, refused_on, part_inside, part_stops, skip}
 use Rattle.syntax_parse.proofs.parts.OperatorParts.{joined_reads}
 
 pub dot_selects : {here : List Placed} → Next (terminal.Symbol Symbol.Dot) here → true ≡ (next_is is_dot (next_of here) || next_is is_open_bracket (next_of here))

@@ -15,7 +15,7 @@ use Rattle.syntax_tree.specs.declared.region.Named.{Named}
 use Rattle.syntax_tree.specs.declared.region.RplHead.{RplHead}
 use Rattle.syntax_tree.specs.declared.region.TypeTree.{TypeTree}
 use Rattle.syntax_tree.specs.Plain.{PlainExpr, PlainExprs, PlainStmt, PlainStmts, assign_element, assign_field, block, call, choice, choice_else, cobegin, declare, element, foreach, foreach_parts, local, more_stmts, no_stmts, plain_stmt, plain_stmts, print, unary, while_loop}
-use Rattle.lang_typed.specs.Plain.{PlainProgram, PlainMember, Source, TypedExpr, TypedExprs, TypedStmt, TypedStmts, typed}
+use Rattle.lang_typed.specs.Plain.{PlainProgram, PlainMember, TypedExpr, TypedExprs, TypedStmt, TypedStmts, typed}
 use Rattle.lang_typed.specs.Plain as made
 use Rattle.lang_typed.specs.Scope.{parent_of, row_at}
 use Rattle.syntax_means.specs.Bodies.{AllMean, ExprMeans, PartMeans, StmtMeans, with_local}

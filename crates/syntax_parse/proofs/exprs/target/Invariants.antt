@@ -1,6 +1,5 @@
 use Rattle.std.proofs.Common.{◌≤◌, [], ◌∷◌, length}
 use Rattle.syntax_tree.specs.Plain.{plain_expr}
-use Rattle.syntax_parse.specs.Counted.{counts}
 use Rattle.syntax_parse.specs.Expecting.{Part, part}
 use Rattle.syntax_parse.specs.Expressions.{DerivesPostfix}
 use Rattle.syntax_parse.specs.Onward.{ReadsOn}
