@@ -1,5 +1,5 @@
 -- Statements one after the other: what is said of each step of the loop over them.
-use Rattle.std.proofs.Common.{◌≡◌, ◌∙◌, ℕ, suc, ◌+◌, ◌<◌, ◌&&◌, IsTrue, Bool, true, false, not, List, [], ◌∷◌, ◌++◌, map, length, append_assoc, append-nil, get_or, drop, drop-cons, add-one, refl, sym, ap, subst}
+use Rattle.std.proofs.Common.{◌≡◌, ◌∙◌, ℕ, suc, ◌+◌, ◌<◌, ◌&&◌, Bool, true, false, not, List, [], ◌∷◌, ◌++◌, map, length, append_assoc, append-nil, get_or, drop, drop-cons, add-one, refl, sym, ap, subst}
 use Rattle.lang_base.specs.declared.refusal.Refusal.{Refusal}
 use Rattle.syntax_tree.specs.declared.stmt.Stmt.{Stmt}
 use Rattle.syntax_tree.specs.Plain.{PlainStmts, plain_stmt, plain_stmts}

@@ -30,7 +30,7 @@ impl<'a> Body<'a> {
 }
 
 impl Body<'_> {
-    ghost use Rattle.std.specs.Prelude.{◌≡◌, ◌++◌, None, true, not, take, IsTrue, IfOk, OnOk};
+    ghost use Rattle.std.specs.Prelude.{◌≡◌, ◌++◌, None, true, not, take, IfOk, OnOk};
     ghost use Rattle.lang_base.specs.Types.{plain_type};
     ghost use Rattle.syntax_tree.specs.Plain.{plain_expr};
     ghost use Rattle.decl_table.specs.Table.{numbered};

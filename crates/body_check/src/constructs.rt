@@ -1,11 +1,9 @@
-ghost use Rattle.std.specs.Prelude.{◌≡◌, ◌||◌, ◌++◌, ◌∷◌, [], None, false, true, map, IsTrue, IfOk, OnOk};
-ghost use Rattle.syntax_tree.specs.Nd.{holds_nd, some_holds_nd};
+ghost use Rattle.std.specs.Prelude.{◌≡◌, ◌++◌, ◌∷◌, [], None, true, map, IfOk, OnOk};
 ghost use Rattle.syntax_tree.specs.Plain.{plain_expr, plain_stmt, plain_stmts};
 ghost use Rattle.syntax_tree.specs.Plain.{StmtForm as form};
 ghost use Rattle.body_check.specs.Checking.{slots_of, check_form};
 ghost use Rattle.body_check.specs.Deciding.{interference, marks_after};
 ghost use Rattle.body_check.specs.Around.{inside};
-ghost use Rattle.body_check.specs.Noting.{fault_of};
 ghost use Rattle.body_check.specs.Walks.{home_of, passes, refused, walk_of};
 ghost use Rattle.body_check.specs.Touching.{assigns_outer};
 ghost use Rattle.body_exprs.specs.Answer.{Says};

@@ -1,6 +1,5 @@
-ghost use Rattle.std.specs.Prelude.{◌≡◌, ◌||◌, None, option_map, true, false, IsTrue, IfOk, OnOk};
+ghost use Rattle.std.specs.Prelude.{◌≡◌, None, option_map, true, false, IfOk, OnOk};
 ghost use Rattle.lang_base.specs.Types.{plain_type};
-ghost use Rattle.syntax_tree.specs.Nd.{holds_nd};
 ghost use Rattle.syntax_tree.specs.Plain.{plain_expr, plain_stmt};
 ghost use Rattle.syntax_tree.specs.Plain.{StmtForm as form};
 ghost use Rattle.body_exprs.specs.Env.{part_of};

@@ -1,16 +1,16 @@
-ghost use Rattle.std.specs.Prelude.{◌≡◌, ◌||◌, None, Some, false, true, not, IsTrue, IfErr, IfOk, OnOk};
+ghost use Rattle.std.specs.Prelude.{◌≡◌, ◌||◌, None, Some, false, true, IfErr, IfOk, OnOk};
 ghost use Rattle.lang_base.specs.Refused.{IfRefused};
 ghost use Rattle.lang_base.specs.Types.{plain_type};
 ghost use Rattle.body_exprs.specs.declared.found.Found.{Found};
 ghost use Rattle.syntax_tree.specs.Plain.{plain_expr};
 ghost use Rattle.body_check.specs.Deciding.{is_misplaced, local_fault};
-ghost use Rattle.body_check.specs.Noting.{fault_of, with_fault_if};
+ghost use Rattle.body_check.specs.Noting.{fault_of};
 ghost use Rattle.body_check.specs.Simple.{declared_type, declared_reported, is_region_name, may_print, region_noted, target_fault, assign_local, assign_place, declare, declare_regions, leave, leave_with, perform, print, put_in_place};
 ghost use Rattle.body_check.specs.Walks.{home_of, judged, passes, refused, walk_of, Walk};
 ghost use Rattle.body_exprs.specs.Answer.{Says};
 ghost use Rattle.lang_typed.specs.Plain as typed;
 ghost use Rattle.body_exprs.specs.Targeting.{plain_target};
-ghost use Rattle.body_exprs.specs.Typed.{is_value, may_be, node_at, plain_typed, value_type};
+ghost use Rattle.body_exprs.specs.Typed.{is_value, node_at, plain_typed, value_type};
 ghost use Rattle.lang_typed.specs.Plain.{plain_stmt as typed_stmt};
 
 use crate::body::Body;

@@ -1,13 +1,10 @@
-ghost use Rattle.std.specs.Prelude.{◌≡◌, ◌||◌, Bool, List, None, false, true, is_some, map, option_map, IsTrue, IfOk, OnOk};
+ghost use Rattle.std.specs.Prelude.{◌≡◌, ◌||◌, Bool, List, None, false, true, map, option_map, IfOk, OnOk};
 ghost use Rattle.std.specs.Option.{option_copied, option_map_or};
-ghost use Rattle.syntax_tree.specs.Nd.{holds_nd, form_holds_nd, some_holds_nd};
 ghost use Rattle.syntax_tree.specs.Plain.{plain_expr, plain_stmt, plain_stmts, return_form};
 ghost use Rattle.syntax_tree.specs.Plain.{choice_form as if_form};
 ghost use Rattle.syntax_tree.specs.Plain.{StmtForm as form};
 ghost use Rattle.body_check.specs.Checking.{check_stmt, check_form, check_scope, check_block, check_all};
 ghost use Rattle.body_check.specs.Completes.{completes, form_completes, all_complete};
-ghost use Rattle.body_check.specs.Deciding.{is_misplaced};
-ghost use Rattle.body_check.specs.Noting.{fault_of};
 ghost use Rattle.body_check.specs.Walks.{home_of, passes, refused, walk_of};
 ghost use Rattle.body_exprs.specs.Answer.{Says};
 ghost use Rattle.lang_typed.specs.Plain.{statement, choice_form};

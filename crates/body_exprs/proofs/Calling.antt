@@ -1,5 +1,5 @@
 -- Calls whose parts are read: of what is reported of a use with region arguments, what is so of the call.
-use Rattle.std.proofs.Common.{◌≡◌, ◌∙◌, ℕ, List, ◌++◌, Bool, true, false, Option, Some, None, cond, Result, Ok, map, sym, subst, ap}
+use Rattle.std.proofs.Common.{◌≡◌, ◌∙◌, ℕ, List, ◌++◌, Bool, Option, Some, None, cond, Result, Ok, map, sym, subst, ap}
 use Rattle.std.specs.List.{list_all}
 use Rattle.lang_base.specs.declared.place.Place.{Place}
 use Rattle.lang_base.specs.declared.refusal.Kind.TheVariants as kind
@@ -31,7 +31,6 @@ use Rattle.body_exprs.specs.Partial.{is_partial_call}
 use Rattle.body_exprs.specs.Shapes.{shapes_fit}
 use Rattle.body_exprs.specs.declared.typed.Typed.{Typed}
 use Rattle.body_exprs.specs.declared.typed.Typed.TheVariants.{Known, Any}
-use Rattle.body_exprs.specs.Refusing.{refusal_at}
 use Rattle.body_exprs.specs.Typed.{plain_node, plain_typed, type_in, value_type, nodes_at, may_be, is_value}
 use Rattle.body_exprs.specs.Uses.{args_noted, use_reported, unknown_reported, method_through, called, type_call_of, type_call_on, type_call}
 use Rattle.body_exprs.proofs.Built.{types_in}

@@ -8,7 +8,7 @@ use Rattle.lang_base.specs.declared.region.Rpl.{Rpl}
 use Rattle.lang_base.specs.declared.ty.Super.{Super}
 use Rattle.lang_base.specs.declared.ty.Ty.{Ty}
 use Rattle.lang_base.specs.Regions.{within}
-use Rattle.lang_base.specs.Types.{PlainType, plain_type, type_with, SameType, Subtype}
+use Rattle.lang_base.specs.Types.{PlainType, plain_type, type_with, Subtype}
 use Rattle.lang_base.specs.Types.PlainType.{int, boolean, void, null, class, array}
 use Rattle.region_types.specs.Same.{same_type}
 use Rattle.region_types.proofs.Equal.{same_type-is, same_type-from}

@@ -1,6 +1,6 @@
 -- What expressions are: the typed expression that one gives where it stands, with its effects, or its first fault. Its parts are
 -- evaluated in order, and a fault of a part is the fault of the whole.
-use Rattle.std.specs.Prelude.{◌≡◌, List, [], ◌∷◌, Option, Some, None, Result, Ok, Err}
+use Rattle.std.specs.Prelude.{◌≡◌, List, [], ◌∷◌, Option, Some, Result, Ok, Err}
 use Rattle.lang_base.specs.declared.place.Place.{Place}
 use Rattle.lang_base.specs.declared.refusal.Refusal.{Refusal}
 use Rattle.lang_base.specs.Types.{PlainType}

@@ -1,5 +1,4 @@
-ghost use Rattle.std.specs.Prelude.{◌≡◌, ◌↔◌, ◌++◌, None, Some, not, map, length, IsTrue, IfOk};
-ghost use Rattle.std.specs.Option.{option_map_or};
+ghost use Rattle.std.specs.Prelude.{◌≡◌, ◌↔◌, None, Some, map, IsTrue, IfOk};
 ghost use Rattle.lang_base.specs.Types.{plain_type, type_with};
 ghost use Rattle.decl_headers.specs.Faults.{reported, all_noted, settled};
 ghost use Rattle.decl_headers.specs.Passes.{fault_if};

@@ -1,6 +1,5 @@
 ghost use Rattle.std.specs.Prelude.{◌≡◌, false, Ok, Err, option_map, OnOk, IsTrue};
 ghost use Rattle.lang_base.specs.Refused.{IfRefused};
-ghost use Rattle.lang_base.specs.Types.{plain_type};
 ghost use Rattle.syntax_tree.specs.Plain.{expression, plain_expr};
 ghost use Rattle.syntax_tree.specs.Plain.{ExprForm as form};
 ghost use Rattle.body_exprs.specs.declared.env.Env.{Env};

@@ -2,12 +2,11 @@ ghost use Rattle.std.specs.Prelude.{◌≡◌, ◌++◌, false, true, None, Some
 ghost use Rattle.std.specs.List.{list_all};
 ghost use Rattle.lang_base.specs.Types.{plain_type, type_with};
 ghost use Rattle.decl_resolve.specs.Constraints.{all_hold};
-ghost use Rattle.decl_table.specs.Table.{headers_of};
 ghost use Rattle.body_exprs.specs.Answer.{gives, refused, with_call, Says};
 ghost use Rattle.body_exprs.specs.Env.{table_of, given_in};
 ghost use Rattle.body_exprs.specs.Partial.{some_mention_partial, is_partial_call};
 ghost use Rattle.body_exprs.specs.Typed.{plain_node, plain_typed, value_type, may_be, is_value};
-ghost use Rattle.body_exprs.specs.Uses.{args_of, args_reported, args_noted, callee_params, use_reported, method_through, type_call_of, type_call_on, type_call};
+ghost use Rattle.body_exprs.specs.Uses.{args_of, args_reported, callee_params, use_reported, method_through, type_call_of, type_call_on, type_call};
 
 use crate::actuals::{check_use, unknown_args};
 use crate::env::Env;

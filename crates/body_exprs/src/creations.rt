@@ -7,7 +7,7 @@ ghost use Rattle.decl_table.specs.Table.{headers_of, constructor_of, given_of};
 ghost use Rattle.body_exprs.specs.Answer.{gives, refused, Says};
 ghost use Rattle.body_exprs.specs.Env.{table_of, given_in};
 ghost use Rattle.body_exprs.specs.Typed.{plain_node, plain_typed, value_type};
-ghost use Rattle.body_exprs.specs.Uses.{args_of, args_reported, args_noted, created_params, formals_of, use_reported, with_constructor, type_creation_of, type_creation};
+ghost use Rattle.body_exprs.specs.Uses.{args_of, args_reported, created_params, formals_of, use_reported, with_constructor, type_creation_of, type_creation};
 
 use crate::actuals::{check_use, unknown_args};
 use crate::calls::read_full_args;

@@ -1,4 +1,4 @@
-ghost use Rattle.std.specs.Prelude.{◌≡◌, true, not, Ok, Err, option_map, IfOk, OnOk, IsTrue};
+ghost use Rattle.std.specs.Prelude.{◌≡◌, Ok, Err, option_map, IfOk, OnOk, IsTrue};
 ghost use Rattle.region_types.specs.Access.{plain_element};
 ghost use Rattle.lang_base.specs.Types.{plain_type};
 ghost use Rattle.syntax_tree.specs.Plain.{plain_expr};

@@ -1,4 +1,4 @@
-ghost use Rattle.std.specs.Prelude.{◌↔◌, ◌<◌, ℕ, length, IsTrue, Contains};
+ghost use Rattle.std.specs.Prelude.{◌↔◌, ◌<◌, length, IsTrue, Contains};
 ghost use Rattle.lang_base.specs.Pairs.{FirstPair, FirstAfter};
 ghost use Rattle.body_locals.specs.Clash.{Uses, Disturbs, Clash};
 

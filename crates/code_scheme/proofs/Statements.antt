@@ -19,14 +19,14 @@ use Rattle.lang_meaning.specs.Statements.{with_value, with_values, makes, joined
 use Rattle.code_instrs.specs.declared.instr.Instr.{Instr}
 use Rattle.code_instrs.specs.declared.instr.Instr.TheVariants as i
 use Rattle.code_instrs.specs.Plain.{PlainCode, body_at, Site, fork_site, spread_site}
-use Rattle.code_instrs.specs.Machine.{State, Level, Start, Stand, Goes, Waits, Turns, Off, On, Rested, spot, exec, step, trapped, or_trap, deeper, returned, left_with, all_copied, forked, spread, started, each_started, below, waiting, joins, joins_site, joins_fork, joins_spread, site_of, line_before, enters_block, rested_line}
+use Rattle.code_instrs.specs.Machine.{State, Level, Goes, Waits, Rested, spot, exec, step, all_copied, forked, spread, started, each_started, below, waiting, joins, joins_site, site_of, enters_block, rested_line}
 use Rattle.code_instrs.specs.Machine as machine
 use Rattle.code_scheme.specs.Scheme.{after_expr, after_stmt, after_stmts, after_regions, copy_lists}
 use Rattle.code_scheme.specs.Stands.{LineAt, SitedAt, ExprAt, PoppedAt, RegionsAt, first_place, BeginsAt, BranchEnds, SpreadAt, ForkAt, PartsAt, StmtAt, StmtsAt, BranchesAt, LaidOut}
 use Rattle.code_scheme.specs.Compiled.{Compiled, AllCompiled}
 use Rattle.code_scheme.proofs.Sim.{Sim, sim_here, sim_step, sim_last, sim_value, sim_return, sim_off, sim_then, sim_act, sim_make, sim_loop, sim_split}
 use Rattle.code_scheme.proofs.Right as right
-use Rattle.code_scheme.proofs.Right.{lvl, kept, gone, sim_or, sim_test, sim_deepest, deep_enough, sim_read, sim_write}
+use Rattle.code_scheme.proofs.Right.{lvl, gone, sim_or, sim_test, sim_deepest, deep_enough, sim_write}
 
 copies_are : (bs : TypedBranches) → all_copied (copy_lists bs) ≡ all_copies bs
 copies_are no_branches = refl

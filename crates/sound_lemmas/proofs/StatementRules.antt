@@ -1,17 +1,15 @@
 -- The steps that a statement that is accepted takes by the rules, as inversions of their function; of what is refused nothing is
 -- said.
-use Rattle.std.proofs.Common.{◌≡◌, ◌∙◌, ◌↔◌, ℕ, ◌+◌, Bool, true, false, not, ◌&&◌, ◌||◌, cond, IsTrue, List, [], ◌∷◌, map, length, Option, Some, None, refl, sym, ap, subst}
+use Rattle.std.proofs.Common.{◌≡◌, ℕ, Bool, true, false, not, ◌&&◌, List, [], ◌∷◌, Option, Some, None}
 use Rattle.lang_base.specs.declared.effect.Effect.{Effect}
 use Rattle.lang_base.specs.declared.place.Place.{Place}
 use Rattle.lang_base.specs.declared.refusal.Kind.{Kind}
 use Rattle.lang_base.specs.declared.refusal.Kind.TheVariants as kind
 use Rattle.lang_base.specs.declared.refusal.Refusal.{Refusal}
-use Rattle.lang_base.specs.declared.ty.Super.{Super}
 use Rattle.lang_base.specs.declared.ty.Ty.{Ty}
 use Rattle.lang_base.specs.Branches.{iterations_clash}
 use Rattle.lang_base.specs.Types.{PlainType, plain_type}
 use Rattle.lang_base.specs.Types.{PlainType as ty}
-use Rattle.decl_table.specs.declared.rows.MethodRow.{MethodRow}
 use Rattle.decl_table.specs.Table.{numbered}
 use Rattle.syntax_tree.specs.declared.region.Named.{Named}
 use Rattle.syntax_tree.specs.declared.region.TypeTree.{TypeTree}
@@ -24,26 +22,25 @@ use Rattle.body_exprs.specs.declared.env.Env.{Env}
 use Rattle.body_exprs.specs.declared.env.LocalRow.{LocalRow}
 use Rattle.body_exprs.specs.declared.found.Found.{Found}
 use Rattle.body_exprs.specs.Answer.{gives}
-use Rattle.body_exprs.specs.Answer.{Answer as answer}
 use Rattle.body_exprs.specs.Env.{table_of, supers_of, given_in, local_of, slots_in, part_of}
 use Rattle.body_exprs.specs.Fits.{fits_as}
-use Rattle.body_exprs.specs.Targeting.{PlainTarget, TargetAnswer, aims, misses, type_target, Targeting, with_write}
-use Rattle.body_exprs.specs.Typed.{may_be, is_int, is_boolean, is_value, type_in, FitsAs}
-use Rattle.body_exprs.specs.Typing.{type_expr, Typing}
+use Rattle.body_exprs.specs.Targeting.{PlainTarget, aims, Targeting, with_write}
+use Rattle.body_exprs.specs.Typed.{may_be, is_int, is_boolean, is_value, type_in}
+use Rattle.body_exprs.specs.Typing.{Typing}
 use Rattle.body_check.specs.declared.leaving.Marks.TheVariants as marks
 use Rattle.body_check.specs.declared.node.Around.{Around}
 use Rattle.body_check.specs.declared.node.Node.{Node}
-use Rattle.body_check.specs.Checking.{own_scope, own_block, with_nd, gathers, closed, branch_of, forking_of, variable_declared, variable_noted, iteration_begun, Whole, cut_part, cut_array, outer_part, parts_noted, parts_declared, part_slot, part_variable, opened_node, parts_left, meeting, Branches, with_first, check_stmt, check_form, check_scope, check_block, check_all, check_branches}
+use Rattle.body_check.specs.Checking.{own_scope, own_block, with_nd, gathers, closed, branch_of, forking_of, variable_noted, iteration_begun, parts_noted, parts_declared, part_slot, part_variable, parts_left}
 use Rattle.body_check.specs.Completes.{completes}
 use Rattle.body_check.specs.Deciding.{is_misplaced, interference, local_fault, marks_after, may_return, whole_fault}
 use Rattle.body_check.specs.Gathering.{with_uses, entered, taken_in}
 use Rattle.body_check.specs.Around.{inside}
 use Rattle.body_check.specs.Leaving.{from_here}
 use Rattle.body_check.specs.Meeting.{declared_atomic, branches_interfere}
-use Rattle.body_check.specs.Noting.{node_at, with_found, with_fault_if, fault_of, settled_node, refusal_with}
-use Rattle.body_check.specs.Simple.{declared_type, declared_reported, code_type, local_declared, declaration_noted, place_of, node_of, stored, target_fault, may_print, printed_form, declare, put_in_local, assign_local, put_in_place, assign_place, perform, leave, leave_with, print, declare_regions}
+use Rattle.body_check.specs.Noting.{node_at, with_found, with_fault_if, fault_of, settled_node}
+use Rattle.body_check.specs.Simple.{declared_type, declared_reported, local_declared, declaration_noted, place_of, node_of, stored, target_fault, may_print, printed_form, declare, assign_local, perform, print, declare_regions}
 use Rattle.body_check.specs.Touching.{assigns_outer, some_disturb}
-use Rattle.body_check.specs.Walks.{Walk, Verdict, passes, refused, judged, expr_at, given_at, found_so, scope_so, apart_from, scope_left, ◌>>=◌}
+use Rattle.body_check.specs.Walks.{Walk, Verdict, passes, refused, judged, found_so, scope_so, apart_from, ◌>>=◌}
 
 -- a value of the type may stand where the other is declared, or not
 abbrev pub FitIs : Env → Option PlainType → PlainType → Bool → Type 0

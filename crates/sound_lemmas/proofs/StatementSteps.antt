@@ -1,10 +1,10 @@
 -- Each answer of the rules of statements is one that these steps lead to.
-use Rattle.std.proofs.Common.{◌≡◌, ◌∙◌, ℕ, Bool, true, false, not, ◌&&◌, List, [], ◌∷◌, Option, Some, None, refl, sym, ap, subst}
+use Rattle.std.proofs.Common.{◌≡◌, ◌∙◌, ℕ, Bool, true, false, not, ◌&&◌, List, Option, Some, None, refl, sym, ap, subst}
 use Rattle.lang_base.specs.declared.effect.Effect.{Effect}
 use Rattle.lang_base.specs.declared.refusal.Kind.{Kind}
 use Rattle.lang_base.specs.declared.refusal.Kind.TheVariants as kind
 use Rattle.lang_base.specs.declared.refusal.Refusal.{Refusal}
-use Rattle.lang_base.specs.declared.ty.Ty.{Ty, fold-roll-Ty}
+use Rattle.lang_base.specs.declared.ty.Ty.{fold-roll-Ty}
 use Rattle.lang_base.specs.declared.ty.Ty.TheOpen.{Ty-F}
 use Rattle.lang_base.specs.declared.ty.Ty.TheVariants.{rolls-Int, rolls-Bool, rolls-Void, rolls-Null, rolls-Class, rolls-Array}
 use Rattle.lang_base.specs.Types.{PlainType, type_step, plain_type}

@@ -8,7 +8,7 @@ use Rattle.syntax_tree.specs.declared.region.TypeTree.{TypeTree}
 use Rattle.syntax_tree.specs.Plain.{PlainExpr, PlainStmt, PlainStmts}
 use Rattle.syntax_tree.specs.Plain as tree
 use Rattle.syntax_tree.specs.Size.{stmt_size, stmt_form_size, stmts_size}
-use Rattle.lang_typed.specs.Plain.{TypedExpr, type_of, TypedStmt, statement, TypedBranch, stmts_of, branches_of, choice_form}
+use Rattle.lang_typed.specs.Plain.{TypedExpr, type_of, TypedStmt, statement, stmts_of, branches_of, choice_form}
 use Rattle.lang_typed.specs.Plain as typed
 use Rattle.body_exprs.specs.declared.env.Env.{Env}
 use Rattle.body_exprs.specs.Targeting.{PlainSpot, to_field, to_element, to_part}

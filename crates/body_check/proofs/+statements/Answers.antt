@@ -1,7 +1,6 @@
-use Rattle.std.proofs.Common.{◌≡◌, ◌∙◌, ◌&&◌, ◌||◌, true, false, not, map, option_map, Some, None, IfOk, OnOk, IsTrue, refl, sym, ap, subst}
+use Rattle.std.proofs.Common.{◌≡◌, ◌∙◌, ◌&&◌, true, false, not, map, option_map, Some, None, IfOk, refl, sym, ap, subst}
 use Rattle.std.proofs.lemmas.List.{drop_all}
 use Rattle.std.specs.Option.{option_copied}
-use Rattle.syntax_tree.specs.Nd.{holds_nd, some_holds_nd}
 use Rattle.syntax_tree.specs.Plain.{PlainStmt, choice_form, plain_expr, plain_stmt, plain_stmts, return_form}
 use Rattle.syntax_tree.specs.Plain.{StmtForm as form}
 use Rattle.syntax_tree.specs.declared.stmt.Stmt.{Stmt}

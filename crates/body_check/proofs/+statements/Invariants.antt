@@ -1,4 +1,4 @@
-use Rattle.std.proofs.Common.{◌≡◌, ◌+◌, ◌*◌, ◌&&◌, ◌||◌, max, IsTrue, map, drop}
+use Rattle.std.proofs.Common.{◌≡◌, ◌+◌, ◌*◌, ◌&&◌, max, map, drop}
 use Rattle.std.specs.Option.{option_map_or}
 use Rattle.syntax_tree.specs.declared.stmt.Stmt.{size-Stmt}
 use Rattle.syntax_tree.specs.Plain.{plain_stmt, plain_stmts}

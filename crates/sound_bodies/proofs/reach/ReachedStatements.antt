@@ -13,7 +13,7 @@ use Rattle.syntax_tree.specs.declared.region.TypeTree.{TypeTree}
 use Rattle.syntax_tree.specs.Nd.{holds_nd, some_holds_nd}
 use Rattle.syntax_tree.specs.Plain.{PlainExpr, PlainStmt, PlainStmts}
 use Rattle.syntax_tree.specs.Plain as tree
-use Rattle.lang_typed.specs.Plain.{TypedExpr, type_of, Source, TypedStmt, TypedBranch, stmts_of}
+use Rattle.lang_typed.specs.Plain.{TypedExpr, Source, TypedStmt, stmts_of}
 use Rattle.lang_typed.specs.Plain as typed
 use Rattle.decl_resolve.specs.Names.{Names}
 use Rattle.decl_resolve.specs.Scoped.{with_name}

@@ -12,7 +12,7 @@ use Rattle.decl_resolve.specs.Names.{last_from}
 use Rattle.decl_resolve.specs.Scoped.{value_in}
 use Rattle.syntax_tree.specs.declared.region.Named.{Named}
 use Rattle.syntax_tree.specs.Plain as tree
-use Rattle.lang_typed.specs.Plain.{PlainProgram, TypedStmts, statement}
+use Rattle.lang_typed.specs.Plain.{PlainProgram, statement}
 use Rattle.lang_typed.specs.Plain as typed
 use Rattle.lang_typed.specs.Scope.{Scope, part}
 use Rattle.lang_typed.specs.Scope.{with_regions as with_these}

@@ -34,7 +34,6 @@ use Rattle.body_check.specs.Simple.{has_room}
 use Rattle.body_check.specs.Walks.{Walk, Verdict, passes, refused}
 use Rattle.sound_lemmas.proofs.StatementSteps.{in_block_of}
 use Rattle.sound_lemmas.proofs.BodyRules.{MethodChecking, start_in, fresh_start}
-use Rattle.sound_lemmas.proofs.StatementRules.{InBlock}
 use Rattle.sound_lemmas.specs.Accepted.{IsAccepted}
 use Rattle.sound_lemmas.proofs.Lists.{ok_same, map_there}
 use Rattle.syntax_laws.specs.Written.{IsWritten}

@@ -10,7 +10,7 @@ use Rattle.body_locals.specs.Touches.{stmt_assigns, stmt_form_assigns, stmts_ass
 use Rattle.syntax_tree.specs.declared.region.Named.{Named}
 use Rattle.syntax_tree.specs.Plain.{PlainExpr, PlainStmt, PlainStmts}
 use Rattle.syntax_tree.specs.Plain as tree
-use Rattle.lang_typed.specs.Plain.{TypedExpr, type_of, Source, TypedStmt, statement, TypedStmts, TypedBranch, stmts_of, branches_of, choice_form}
+use Rattle.lang_typed.specs.Plain.{TypedExpr, type_of, TypedStmt, statement, stmts_of, choice_form}
 use Rattle.lang_typed.specs.Plain as typed
 use Rattle.lang_typed.specs.Statements.{completes, all_complete}
 use Rattle.body_exprs.specs.declared.env.Env.{Env}

@@ -1,9 +1,9 @@
-use Rattle.std.proofs.Common.{◌≡◌, Ok, Err, map, option_map, ap, refl, subst}
+use Rattle.std.proofs.Common.{◌≡◌, Ok, Err, map, option_map, ap, subst}
 use Rattle.std.proofs.lemmas.List.{drop_all}
 use Rattle.body_assembly.specs.Assembled.{plain_body}
 use Rattle.body_exprs.specs.Env.{at_class, table_of}
 use Rattle.body_check.specs.Methods.{check_member, class_params, plain_bodies}
-use Rattle.body_check.proofs.Methodic.{stopped_at, class_entered, left_is, members_all, members_more, members_none, members_stop, members_in}
+use Rattle.body_check.proofs.Methodic.{stopped_at, class_entered, members_all, members_more, members_none, members_stop, members_in}
 use Rattle.body_check.proofs.bodies.check_class.Goals as goal
 
 pub returns-in_err-made-clause-checks : goal.returns-in_err-made-clause-checks

@@ -1,8 +1,8 @@
-use Rattle.std.proofs.Common.{◌≡◌, Err, map, refl, ap, subst}
+use Rattle.std.proofs.Common.{◌≡◌, Err, map, ap}
 use Rattle.std.proofs.lemmas.List.{drop_all}
 use Rattle.body_assembly.specs.Assembled.{plain_body}
 use Rattle.body_check.specs.Methods.{check_classes}
-use Rattle.body_check.proofs.Methodic.{classes_all, classes_begin, classes_go_on, classes_stop, map_both, stopped_at, left_is, members_in}
+use Rattle.body_check.proofs.Methodic.{classes_all, classes_begin, classes_go_on, classes_stop, map_both, stopped_at, members_in}
 use Rattle.body_check.proofs.bodies.check_classes.Goals as goal
 
 pub returns-in_err-done : goal.returns-in_err-done

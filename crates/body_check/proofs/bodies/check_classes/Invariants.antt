@@ -1,4 +1,4 @@
-use Rattle.std.proofs.Common.{drop, map}
+use Rattle.std.proofs.Common.{map}
 use Rattle.body_assembly.specs.Assembled.{plain_body}
 use Rattle.body_check.proofs.Methodic.{ClassesSoFar}
 use Rattle.body_check.proofs.bodies.check_classes.Given as goal

@@ -1,5 +1,4 @@
-use Rattle.std.proofs.Common.{◌≡◌, ◌++◌, None, drop, map}
-use Rattle.body_check.specs.Noting.{fault_of}
+use Rattle.std.proofs.Common.{◌≡◌, ◌++◌, drop, map}
 use Rattle.body_check.specs.Simple.{regions_made, regions_noted, with_regions}
 use Rattle.body_check.specs.Walks.{home_of}
 use Rattle.body_check.proofs.simple.declare_regions.Given as goal
