@@ -171,16 +171,6 @@ pub data IsPath (tasks : Tasks) : ℕ → List PathStep → Type 0 where
   step : (n : ℕ) (origin : Origin) (steps : List PathStep) → origin_of (get tasks n) ≡ Some origin → IsPath tasks origin.parent steps
       → IsPath tasks n (steps ++ origin.step ∷ [])
 
--- the greatest number below a bound of a task that can go on
-pub record IsGreatestReady (tasks : Tasks) (bound n : ℕ) : Type 0 where
-  pub goes_on : IsTrue (ready (get tasks n))
-  pub below : n < bound
-  pub greatest : (q : ℕ) → n < q → q < bound → ready (get tasks q) ≡ false
-
--- no task with a number below the bound can go on
-abbrev pub NoneReady : Tasks → ℕ → Type 0
-NoneReady tasks bound = (q : ℕ) → q < bound → ready (get tasks q) ≡ false
-
 -- a fact of a task where there is one
 abbrev pub OfEach : Option Task → (Task → Type 0) → Type 0
 OfEach None P = Unit {0}

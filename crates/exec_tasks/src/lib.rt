@@ -8,10 +8,8 @@
 //! Tasks are numbered in the order in which they begin, from 0 for the root. A task that has ended is forgotten, and
 //! its end stays with its parent's scope until that is joined, so memory grows with the live tasks, and by a bit for each
 //! number. `Numbered` finds a task by the place of its number, in pages of 64 numbers. So a call takes constant time, but
-//! for one in 64 or so, which opens or closes a page and takes the logarithm of the pages, as `ready_below` does. Besides:
-//! `join` takes the length of what it puts together, `path` the depth of the task, and `ready_below` the tasks that it
-//! passes over, which stand in front of their joins while branches of theirs run. The greatest live task is never one of
-//! these.
+//! for one in 64 or so, which opens or closes a page and takes the logarithm of the pages. Besides: `join` takes the length of
+//! what it puts together, and `path` the depth of the task.
 #![tactic(auto)]
 
 mod closed;

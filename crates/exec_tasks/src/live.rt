@@ -1,10 +1,9 @@
-ghost use Rattle.std.specs.Prelude.{◌≡◌, ◌<◌, IsTrue, IfOk, OnOk, OnErr, IfSome, IfNone, MatchOption, Some, None, ℕ};
+ghost use Rattle.std.specs.Prelude.{◌≡◌, IfOk, OnOk, OnErr};
 ghost use Rattle.std.specs.Option.{option_copied};
 ghost use Rattle.std.specs.FinMap.{empty, get, insert, remove};
 ghost use Rattle.exec_tasks.specs.Join.{JoinsTo};
-ghost use Rattle.exec_tasks.specs.Numbered.{IsLastBelow};
 ghost use Rattle.exec_tasks.specs.Scope.{with_branch, with_end};
-ghost use Rattle.exec_tasks.specs.Tree.{CanBegin, CanJoin, origin_of, printed_task, ready, IsGreatestReady, NoneReady, changed, forked_task, with_scope, joined_task, ends_in};
+ghost use Rattle.exec_tasks.specs.Tree.{CanBegin, CanJoin, origin_of, printed_task, changed, forked_task, with_scope, joined_task, ends_in};
 
 use crate::closed::Closed;
 use crate::end::Joined;
@@ -59,39 +58,6 @@ impl Live {
             None => None,
             Some(task) => task.origin,
         }
-    }
-
-    fn is_ready(&self, number: u32) -> bool
-        ensures { result ≡ ready (get self.now number) }
-    {
-        match self.get(number) {
-            None => false,
-            Some(task) => task.state.is_ready(),
-        }
-    }
-
-    /// The greatest number below a bound of a task, and whether that can go on.
-    fn last_below(&self, bound: u32) -> Option<(u32, bool)>
-        ensures last { IfSome result (λ found. IsLastBelow self.now bound found.0) }
-        ensures ready { IfSome result (λ found. found.1 ≡ ready (get self.now found.0)) }
-        ensures absent { IfNone result ((q : ℕ) → q < bound → get self.now q ≡ None) }
-    {
-        let number = self.tasks.last_below(bound)?;
-        Some((number, self.is_ready(number)))
-    }
-
-    /// The greatest number below a bound of a task that can go on.
-    pub fn ready_below(&self, bound: u32) -> Option<u32>
-        ensures { MatchOption result (NoneReady self.now bound) (IsGreatestReady self.now bound) }
-    {
-        let mut rest = bound;
-        while let Some((number, is_ready)) = self.last_below(rest) {
-            if is_ready {
-                return Some(number);
-            }
-            rest = number;
-        }
-        None
     }
 
     pub fn insert(&mut self, number: u32, task: Task) -> Result<(), NoMemory>

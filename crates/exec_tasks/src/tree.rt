@@ -1,4 +1,4 @@
-ghost use Rattle.std.specs.Prelude.{◌≡◌, ◌↔◌, ◌<◌, ◌≤◌, [], IsTrue, IfOk, OnOk, OnErr, MatchOption, None, ℕ};
+ghost use Rattle.std.specs.Prelude.{◌≡◌, ◌↔◌, ◌<◌, ◌≤◌, [], IsTrue, IfOk, OnOk, OnErr, None, ℕ};
 ghost use Rattle.std.specs.Option.{option_copied};
 ghost use Rattle.exec_tasks.specs.Tree.{fresh, next_origin};
 
@@ -36,7 +36,7 @@ impl Model for TaskTree {
 
 impl TaskTree {
     ghost use Rattle.exec_tasks.specs.Join.{JoinsTo, closed_as};
-    ghost use Rattle.exec_tasks.specs.Tree.{only_root, task_at, Runs, CanBegin, CanJoin, is_ready, forked, with_task, without_task, joined, printed, ends_in, out_of, end_of, IsPath, IsGreatestReady, NoneReady};
+    ghost use Rattle.exec_tasks.specs.Tree.{only_root, task_at, Runs, CanBegin, CanJoin, is_ready, forked, with_task, without_task, joined, printed, ends_in, out_of, end_of, IsPath};
 
     /// The root alone, which has begun.
     pub fn open(alloc: Global) -> Result<TaskTree, NoMemory>
@@ -84,14 +84,6 @@ impl TaskTree {
             None => false,
             Some(found) => found.state.is_ready(),
         }
-    }
-
-    /// The greatest number below a bound of a task that can go on. With `begun` for a bound that is the task that the
-    /// order of the elision has next, and a caller for whom a task has to wait takes the next below it.
-    pub fn ready_below(&self, bound: u32) -> Option<u32>
-        ensures { MatchOption result (NoneReady self.now.tasks bound) (IsGreatestReady self.now.tasks bound) }
-    {
-        self.tasks.ready_below(bound)
     }
 
     /// Whether a task has begun and not ended, and has no open scope.
