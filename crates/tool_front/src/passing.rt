@@ -40,19 +40,8 @@ impl Passed {
         ensures typed { IfOk result (λ made. plain_program made ≡ typed_of self) }
         ensures named { IfOk result (λ made. names_of made ≡ names_of_passed self) }
     {
-        let Passed {
-            names,
-            table,
-            checked,
-            ..
-        } = self;
-        program(
-            alloc,
-            names.as_slice(),
-            &table,
-            checked.uses_nd,
-            checked.bodies,
-        )
+        let (typed, _fields) = self.spelled(alloc)?;
+        Ok(typed)
     }
 
     /// The typed program, with the names of the fields that each class declares itself.
