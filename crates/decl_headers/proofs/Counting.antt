@@ -8,8 +8,7 @@ use Rattle.decl_headers.specs.Gathered.{field_count, fields_together, object_fie
 use Rattle.decl_headers.specs.Headers.{chain}
 use Rattle.decl_headers.specs.Numbering.{counted_at, counted_way}
 use Rattle.decl_headers.specs.Numbers.{as_number}
-use Rattle.decl_headers.specs.Rounds.{entry_of}
-use Rattle.decl_headers.specs.Second.{superclasses}
+use Rattle.decl_headers.specs.Rounds.{entry_of, superclasses}
 use Rattle.decl_headers.specs.Way.{IsForest, way_of}
 use Rattle.decl_headers.proofs.Settled.{settled}
 use Rattle.decl_headers.proofs.Walks.{superclasses_step}

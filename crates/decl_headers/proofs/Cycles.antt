@@ -1,10 +1,16 @@
 -- What is above some class over more steps than there are classes is its own superclass.
-use Rattle.std.proofs.Common.{◌≡◌, ℕ, zero, suc, ◌+◌, ◌*◌, ◌-◌, ◌<◌, ◌≤◌, Bool, true, false, List, [], ◌∷◌, length, get_or, set, map, replicate, ◌⊎◌, inl, inr, Option, Some, None, refl, sym, ap, ◌∙◌, subst, arith, length-set, get_or-set_same, get_or-set_other}
-use Rattle.std.specs.Option.{option_and_then}
-use Rattle.std.proofs.lemmas.Bool.{false≢true, cases_eq}
+use Rattle.std.proofs.Common.{◌≡◌, ℕ, zero, suc, ◌+◌, ◌*◌, ◌-◌, ◌<◌, ◌≤◌, ◌==◌, ◌||◌, Bool, true, false, List, [], ◌∷◌, length, get_or, set, map, replicate, ◌⊎◌, inl, inr, Option, Some, None, refl, sym, ap, ◌∙◌, subst, arith, length-set, get_or-set_same, get_or-set_other}
+use Rattle.std.specs.List.{list_any}
+use Rattle.std.specs.Option.{option_and_then, option_map_or}
+use Rattle.std.proofs.lemmas.Bool.{false≢true, cases_eq, or_cases, or_left, or_right, eqb-true, eq-eqb}
 use Rattle.std.proofs.lemmas.List.{length-replicate}
 use Rattle.std.proofs.lemmas.Option.{none-some}
-use Rattle.decl_headers.specs.Rounds.{entry_of, up, IsRound, TellRounds, all_rounds}
+use Rattle.decl_headers.specs.Headers.{chain}
+use Rattle.decl_headers.specs.Rounds.{entry_of, superclasses, up, is_round, all_rounds}
+
+-- one step up or more, the class itself stands
+abbrev pub IsRound : List (Option ℕ) → ℕ → Type 0
+IsRound parents at = (n : ℕ) × (up parents (suc n) at ≡ Some at)
 
 -- so many steps and so many more
 pub up-add : (parents : List (Option ℕ)) (m n at : ℕ) → up parents (m + n) at ≡ option_and_then (up parents m) (up parents n at)
@@ -135,12 +141,16 @@ value_of (Some one) = one
 abbrev above : List (Option ℕ) → ℕ → ℕ → ℕ
 above parents below n = value_of (up parents n below)
 
+-- within as many steps as there are classes
+abbrev IsNear : List (Option ℕ) → ℕ → Type 0
+IsNear parents at = (n : ℕ) × (n < length parents) × (up parents (suc n) at ≡ Some at)
+
 -- more steps than there are classes lead to a class that is its own superclass
-pub far_round : (parents : List (Option ℕ)) (at steps below : ℕ) → length parents < steps → up parents steps below ≡ Some at → IsRound parents at
-far_round parents at steps below many h =
-    elim (meets_or_apart (above parents below) steps) [
+far_near : (parents : List (Option ℕ)) (at steps below : ℕ) → length parents < steps → up parents steps below ≡ Some at → IsNear parents at
+far_near parents at steps below many h =
+    elim (meets_or_apart (above parents below) (suc (length parents))) [
       | inl m ↦ round m.0 m.1 m.2 m.3 m.4
-      | inr apart ↦ absurd (omega (arith, few_apart steps (length parents) (above parents below) into apart))
+      | inr apart ↦ absurd (omega (arith, few_apart (suc (length parents)) (length parents) (above parents below) (λ i l. into i (omega arith)) apart))
     ]
   where
     reach : (i : ℕ) → i < steps → (one : ℕ) × (up parents i below ≡ Some one) × (up parents (steps - i) one ≡ Some at)
@@ -158,15 +168,63 @@ far_round parents at steps below many h =
         let w = up_within parents (steps - i - 1) r.0 at (ap (λ n. up parents n r.0) (sym e) ∙ r.2) in
         omega (arith, w, above_is i r.0 r.1)
 
-    round : (i j : ℕ) → i < j → j < steps → above parents below i ≡ above parents below j → IsRound parents at
+    round : (i j : ℕ) → i < j → j < suc (length parents) → above parents below i ≡ above parents below j → IsNear parents at
     round i j l b same =
         let r = reach i (omega arith) in
-        let s = reach j b in
+        let s = reach j (omega arith) in
         let one : s.0 ≡ r.0 = sym (above_is j s.0 s.1) ∙ sym same ∙ above_is i r.0 r.1 in
         let back : up parents (steps - j) r.0 ≡ Some at = ap (up parents (steps - j)) (sym one) ∙ s.2 in
         let e : steps - i ≡ (j - i) + (steps - j) = omega arith in
         let k : j - i ≡ suc (j - i - 1) = omega arith in
-        (j - i - 1, ap (λ n. up parents n at) (sym k) ∙ sym (up-then parents (j - i) (steps - j) r.0 at back) ∙ ap (λ n. up parents n r.0) (sym e) ∙ r.2)
+        (j - i - 1, omega arith, ap (λ n. up parents n at) (sym k) ∙ sym (up-then parents (j - i) (steps - j) r.0 at back) ∙ ap (λ n. up parents n r.0) (sym e) ∙ r.2)
+
+pub far_round : (parents : List (Option ℕ)) (at steps below : ℕ) → length parents < steps → up parents steps below ≡ Some at → IsRound parents at
+far_round parents at steps below many h = let near = far_near parents at steps below many h in (near.0, near.2)
+
+-- the classes of a chain are those so many steps up
+up_chained : (parents : List (Option ℕ)) (n m class at : ℕ) → m < n → up parents m class ≡ Some at → list_any (λ one. one == at) (chain (entry_of parents) n class) ≡ true
+up_chained parents zero m class at l h = absurd (omega arith)
+up_chained parents (suc n) zero class at l h = let same : class ≡ at = cc in or_left (class == at) _ (eq-eqb class at same)
+up_chained parents (suc n) (suc m) class at l h =
+    let e : suc m ≡ m + 1 = omega arith in
+    let f = up-first parents m 1 class at (ap (λ k. up parents k class) (sym e) ∙ h) in
+    or_right (class == at) _
+    (subst (λ o. list_any (λ one. one == at) (option_map_or (λ above. chain (entry_of parents) n above) o []) ≡ true) (sym f.1) (up_chained parents n m f.0 at (omega arith) f.2))
+
+chained_up : (parents : List (Option ℕ)) (n class at : ℕ) → list_any (λ one. one == at) (chain (entry_of parents) n class) ≡ true → (m : ℕ) × (up parents m class ≡ Some at)
+chained_up parents zero class at h = absurd (false≢true h)
+chained_up parents (suc n) class at h =
+    elim (or_cases (class == at) _ h) [
+      | inl e ↦ (0, ap (λ k. Some k) (eqb-true class at e))
+      | inr more ↦ by (entry_of parents class) refl more (λ above. chained_up parents n above at)
+    ]
+  where
+    by : (o : Option ℕ) → entry_of parents class ≡ o → list_any (λ one. one == at) (option_map_or (λ above. chain (entry_of parents) n above) o []) ≡ true →
+        ((above : ℕ) → list_any (λ one. one == at) (chain (entry_of parents) n above) ≡ true → (m : ℕ) × (up parents m above ≡ Some at)) → (m : ℕ) × (up parents m class ≡ Some at)
+    by None e k more = absurd (false≢true k)
+    by (Some above) e k more = let w = more above k in (w.0 + 1, up-then parents w.0 1 class above e ∙ w.1)
+
+-- a class that comes back to itself is one of its own superclasses, and no other is
+round_told : (parents : List (Option ℕ)) (at : ℕ) → IsRound parents at → is_round parents at ≡ true
+round_told parents at h =
+    let f = round_far parents at (suc (length parents)) h in
+    let near = far_near parents at (suc (length parents)) f.0 (omega arith) f.1 in
+    let e : suc near.0 ≡ near.0 + 1 = omega arith in
+    let g = up-first parents near.0 1 at at (ap (λ k. up parents k at) (sym e) ∙ near.2) in
+    subst (λ o. list_any (λ one. one == at) (option_map_or (λ above. chain (entry_of parents) (length parents) above) o []) ≡ true) (sym g.1) (up_chained parents (length parents) near.0 g.0 at near.1 g.2)
+
+pub told_round : (parents : List (Option ℕ)) (at : ℕ) → is_round parents at ≡ true → IsRound parents at
+told_round parents at h = by (entry_of parents at) refl h
+  where
+    by : (o : Option ℕ) → entry_of parents at ≡ o → list_any (λ one. one == at) (option_map_or (λ above. chain (entry_of parents) (length parents) above) o []) ≡ true → IsRound parents at
+    by None e k = absurd (false≢true k)
+    by (Some above) e k =
+        let w = chained_up parents (length parents) above at k in
+        let on : suc w.0 ≡ w.0 + 1 = omega arith in
+        (w.0, ap (λ n. up parents n at) on ∙ up-then parents w.0 1 at above e ∙ w.1)
+
+pub not_round : (parents : List (Option ℕ)) (at : ℕ) → is_round parents at ≡ false → IsRound parents at → ⊥
+not_round parents at none h = false≢true (sym none ∙ round_told parents at h)
 
 -- twice as far up
 entry_along : (f : ℕ → Option ℕ) (entries : List (Option ℕ)) (at : ℕ) → entry_of (map (λ entry. option_and_then f entry) entries) at ≡ option_and_then f (entry_of entries at)
@@ -228,8 +286,13 @@ none_yet zero at h = false≢true h
 none_yet (suc n) zero h = false≢true h
 none_yet (suc n) (suc at) h = none_yet n at h
 
-pub rounds_tell : (parents jumps : List (Option ℕ)) (steps : ℕ) → length parents < steps → ((at : ℕ) → entry_of jumps at ≡ up parents steps at) → TellRounds parents (all_rounds (replicate (length parents) false) jumps)
-rounds_tell parents jumps steps many h at = (there, back)
+same_truth : (a b : Bool) → (a ≡ true → b ≡ true) → (b ≡ true → a ≡ true) → a ≡ b
+same_truth true b f g = sym (f refl)
+same_truth false true f g = g refl
+same_truth false false f g = refl
+
+pub rounds_tell : (parents jumps : List (Option ℕ)) (steps : ℕ) → length parents < steps → ((at : ℕ) → entry_of jumps at ≡ up parents steps at) → (at : ℕ) → get_or (all_rounds (replicate (length parents) false) jumps) at false ≡ is_round parents at
+rounds_tell parents jumps steps many h at = same_truth _ _ (λ m. round_told parents at (there m)) (λ r. back (told_round parents at r))
   where
     there : get_or (all_rounds (replicate (length parents) false) jumps) at false ≡ true → IsRound parents at
     there m = elim (round_from (replicate (length parents) false) jumps at m) [

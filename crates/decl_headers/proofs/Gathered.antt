@@ -1,24 +1,29 @@
 -- What is gathered are the headers of the program.
-use Rattle.std.proofs.Common.{◌≡◌, ℕ, zero, suc, ◌+◌, ◌<◌, ◌≤◌, ◌==◌, true, false, Bool, cond, List, [], ◌∷◌, length, replicate, slice_index_or, map, inl, inr, Option, None, Some, Result, Ok, Err, IfOk, codes, refl, ap, ◌∙◌, arith}
+use Rattle.std.proofs.Common.{◌≡◌, ℕ, zero, suc, ◌+◌, ◌<◌, ◌≤◌, ◌==◌, true, false, Bool, cond, List, [], ◌∷◌, length, replicate, slice_index_or, map, inl, inr, Option, None, Some, Result, Ok, Err, IfOk, IfErr, OnOk, codes, refl, sym, ap, ◌∙◌, arith}
 use Rattle.std.proofs.lemmas.Bool.Decides.{eqb_tells}
 use Rattle.std.specs.List.{position_from}
 use Rattle.std.specs.Option.{option_and_then, option_map, option_map_or}
 use Rattle.std.specs.Prelude.{slice_get}
+use Rattle.lang_base.specs.declared.refusal.Refusal.{Refusal}
 use Rattle.lang_base.specs.declared.refusal.Stop.{Stop}
+use Rattle.lang_base.specs.declared.refusal.Stop.TheVariants as stop
+use Rattle.lang_base.specs.Refused.{IfRefused}
 use Rattle.syntax_tree.specs.declared.class.Class.{Class}
 use Rattle.syntax_tree.specs.declared.class.Program.{Program}
 use Rattle.decl_headers.specs.declared.forest.Step.{Step}
 use Rattle.decl_headers.specs.declared.header.Header.{Header}
-use Rattle.decl_headers.specs.First.{class_named, parents_in, IsReportedFirst}
-use Rattle.decl_headers.specs.Gathered.{header_row, header_rows, object_fields, all_regions, name_number, headers_in}
+use Rattle.decl_headers.specs.Around.{reported_on_way}
+use Rattle.decl_headers.specs.First.{class_named, parents_in, first_faults}
+use Rattle.decl_headers.specs.Gathered.{header_row, header_rows, object_fields, all_regions, name_number, headers_in, check_headers}
 use Rattle.decl_headers.specs.Headers.{PlainHeaders, class_in, param_in}
 use Rattle.decl_headers.specs.Numbering.{with_all_params, counted_way, counted_rows}
 use Rattle.decl_headers.specs.Numbers.{as_number, last_place}
-use Rattle.decl_headers.specs.Passes.{first_named}
+use Rattle.decl_headers.specs.Passes.{first_named, first_of, refused_or}
 use Rattle.decl_headers.specs.Rounds.{entry_of}
+use Rattle.decl_headers.specs.Second.{AreCounted, second_faults}
 use Rattle.decl_headers.specs.Way.{IsCounted, way_of}
 use Rattle.decl_headers.proofs.Counting.{fields_counted}
-use Rattle.decl_headers.proofs.Second.{sound_from, length_parents}
+use Rattle.decl_headers.proofs.Second.{sound_from, length_parents, reported_way}
 
 -- a class that isn't there yet gets no parameters
 params_other : (at : ℕ) (rows : List Header) (owner name : ℕ) (found : Option ℕ) → owner < at → at + length rows ≤ 4294967295 → with_all_params at rows owner name found ≡ found
@@ -76,7 +81,7 @@ rows_same parents f g at (class ∷ classes) same =
     ap (λ count. record (header_row parents f at class) { fields = count } ∷ header_rows parents f (at + 1) classes) (same at (omega arith))
     ∙ ap (λ rows. header_row parents g at class ∷ rows) (rows_same parents f g (at + 1) classes (λ one l. same one (omega arith)))
 
-pub rows_gathered : (classes : List Class) → IsCounted classes → IsReportedFirst classes None → counted_rows classes (parents_in classes) (way_of (parents_in classes)) ≡ header_rows (parents_in classes) (object_fields classes (parents_in classes)) 0 classes
+pub rows_gathered : (classes : List Class) → IsCounted classes → first_of (first_faults classes) ≡ None → counted_rows classes (parents_in classes) (way_of (parents_in classes)) ≡ header_rows (parents_in classes) (object_fields classes (parents_in classes)) 0 classes
 rows_gathered classes counted first =
     rows_same (parents_in classes) _ (object_fields classes (parents_in classes)) 0 classes
     (λ one l. fields_counted classes (parents_in classes) one (sound_from classes counted first) (length_parents classes) (omega arith))
@@ -99,12 +104,42 @@ parents_gathered classes rows fields are =
     ap (map (λ row. row.parent)) are
     ∙ parents_rows (parents_in classes) fields 0 classes (parents_in classes) (λ j. let here : 0 + j ≡ j = omega arith in ap (entry_of (parents_in classes)) here) (length_parents classes)
 
--- what is made of the classes, once the first pass found nothing, are the headers
-pub made_in : (result : Result PlainHeaders Stop) (program : Program) → IsCounted program.classes → IsReportedFirst program.classes None →
-    IfOk result (λ headers. headers ≡ record { rows = counted_rows program.classes (parents_in program.classes) (way_of (parents_in program.classes)); regions = all_regions 0 program.classes; main = name_number program.names (codes "Main") }) →
-    IfOk result (λ headers. headers ≡ headers_in program)
-made_in (Err found) program counted first h = tt
-made_in (Ok headers) program counted first h = h ∙ ap (λ rows. record (headers_in program) { rows = rows }) (rows_gathered program.classes counted first)
+-- what is made of the classes, once the first pass found nothing, are the headers, and what is told of their members is
+-- the fault
+abbrev IsMade : Program → PlainHeaders → Type 0
+IsMade program headers =
+    headers ≡ record { rows = counted_rows program.classes (parents_in program.classes) (way_of (parents_in program.classes)); regions = all_regions 0 program.classes; main = name_number program.names (codes "Main") }
+
+abbrev told_of : Program → Option Refusal
+told_of program = reported_on_way (length program.names) program.classes (way_of (parents_in program.classes))
+
+checked_further : (program : Program) (told : Option Refusal) → AreCounted (length program.names) program.classes → first_of (first_faults program.classes) ≡ None → told_of program ≡ told → check_headers program ≡ refused_or told (Ok (headers_in program))
+checked_further program told counted first is =
+    ap (λ found. refused_or found (refused_or (first_of (second_faults program.classes (parents_in program.classes))) (Ok (headers_in program)))) first
+    ∙ ap (λ found. refused_or found (Ok (headers_in program))) (sym (reported_way (length program.names) program.classes counted first) ∙ is)
+
+pub made_checked : (result : Result PlainHeaders Stop) (program : Program) → AreCounted (length program.names) program.classes → first_of (first_faults program.classes) ≡ None → OnOk result (told_of program ≡ None) → IfOk result (IsMade program) →
+    IfOk result (λ headers. check_headers program ≡ Ok headers)
+made_checked (Err found) program counted first told h = tt
+made_checked (Ok headers) program counted first told h =
+    checked_further program None counted first told
+    ∙ ap Ok (sym (h ∙ ap (λ rows. record (headers_in program) { rows = rows }) (rows_gathered program.classes counted.0 first)))
+
+pub refused_checked : (result : Result PlainHeaders Stop) (program : Program) → AreCounted (length program.names) program.classes → first_of (first_faults program.classes) ≡ None → IfErr result (λ found. IfRefused found (λ fault. told_of program ≡ Some fault)) →
+    IfErr result (λ found. IfRefused found (λ fault. check_headers program ≡ Err fault))
+refused_checked (Ok headers) program counted first h = tt
+refused_checked (Err stop.NoMemory) program counted first h = tt
+refused_checked (Err (stop.Refused fault)) program counted first h = checked_further program (Some fault) counted first h
+
+pub refused_first : (program : Program) (found : Stop) → IfRefused found (λ fault. first_of (first_faults program.classes) ≡ Some fault) → IfRefused found (λ fault. check_headers program ≡ Err fault)
+refused_first program (stop.Refused fault) h =
+    ap (λ found. refused_or found (refused_or (first_of (second_faults program.classes (parents_in program.classes))) (Ok (headers_in program)))) h
+refused_first program stop.NoMemory h = h
+
+-- what is refused, and what goes on
+pub went_on : {T : Type 0} (found : Option Refusal) (next : Result T Refusal) (made : T) → refused_or found next ≡ Ok made → (found ≡ None) × (next ≡ Ok made)
+went_on None next made h = (refl, h)
+went_on (Some fault) next made h = cc
 
 -- the class of a name, among them
 pub counted_found : (classes : List Class) (parents : List (Option ℕ)) (steps : List Step) (name : ℕ) → class_named classes name ≡ class_in (counted_rows classes parents steps) name

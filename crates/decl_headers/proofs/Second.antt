@@ -1,6 +1,6 @@
 -- Where the first pass finds nothing, the way through the classes tells what is wrong in their members.
-use Rattle.std.proofs.Common.{◌≡◌, ℕ, zero, suc, ◌+◌, ◌<◌, Bool, true, false, ◌&&◌, ◌==◌, cond, ltb, List, [], ◌∷◌, ◌++◌, length, get_or, map, inl, inr, Option, Some, None, Result, Ok, Err, OnOk, IfErr, refl, sym, ap, subst, ◌∙◌, arith}
-use Rattle.std.proofs.lemmas.Bool.{false≢true}
+use Rattle.std.proofs.Common.{◌≡◌, ℕ, zero, suc, ◌+◌, ◌<◌, Bool, true, false, ◌&&◌, ◌==◌, cond, ltb, List, [], ◌∷◌, ◌++◌, length, map, inl, inr, Option, Some, None, refl, sym, ap, subst, ◌∙◌, arith}
+use Rattle.std.proofs.lemmas.Bool.{false≢true, cases_Bool}
 use Rattle.std.proofs.lemmas.Bool.Decides.{Decides-ltb}
 use Rattle.std.proofs.lemmas.List.{length-map}
 use Rattle.std.proofs.lemmas.Option.{none-some}
@@ -11,9 +11,6 @@ use Rattle.lang_base.specs.declared.place.Place.{Place}
 use Rattle.lang_base.specs.declared.refusal.Kind.{Kind}
 use Rattle.lang_base.specs.declared.refusal.Kind.TheVariants as kind
 use Rattle.lang_base.specs.declared.refusal.Refusal.{Refusal}
-use Rattle.lang_base.specs.declared.refusal.Stop.{Stop}
-use Rattle.lang_base.specs.declared.refusal.Stop.TheVariants as stop
-use Rattle.lang_base.specs.Refused.{IfRefused}
 use Rattle.syntax_tree.specs.declared.class.Class.{Class}
 use Rattle.syntax_tree.specs.declared.class.Method.{Method}
 use Rattle.syntax_tree.specs.declared.class.Parent.{Parent}
@@ -22,14 +19,14 @@ use Rattle.decl_headers.specs.declared.faults.Faults.{Faults}
 use Rattle.decl_headers.specs.declared.faults.Order.TheVariants as order
 use Rattle.decl_headers.specs.Around.{reported_on_way}
 use Rattle.decl_headers.specs.Faults.{noted, all_noted, reported, none_by}
-use Rattle.decl_headers.specs.First.{class_named, parents_in, first_faults, IsReportedFirst}
+use Rattle.decl_headers.specs.First.{class_named, parents_in, first_faults}
 use Rattle.decl_headers.specs.Members.{param_names, formal_names}
 use Rattle.decl_headers.specs.Numbers.{as_number}
-use Rattle.decl_headers.specs.Passes.{fault_if, first_named, second_classes, named_parent, unknown_parents, extends_place, cycles, is_constructor_result}
-use Rattle.decl_headers.specs.Rounds.{entry_of, IsRound}
-use Rattle.decl_headers.specs.Second.{own_params, own_regions, own_fields, own_methods, method_name, method_names, constructor_names, are_below, declared_in_method, declared_in, AreNamed, AreCounted, reported_second, IsReportedOf}
+use Rattle.decl_headers.specs.Passes.{fault_if, first_of, first_named, second_classes, named_parent, unknown_parents, extends_place, cycles, is_constructor_result}
+use Rattle.decl_headers.specs.Rounds.{entry_of, is_round}
+use Rattle.decl_headers.specs.Second.{own_params, own_regions, own_fields, own_methods, method_name, method_names, constructor_names, are_below, declared_in_method, declared_in, AreNamed, AreCounted, second_faults}
 use Rattle.decl_headers.specs.Way.{IsForest, IsCounted, way_of}
-use Rattle.decl_headers.proofs.Cycles.{up_within}
+use Rattle.decl_headers.proofs.Cycles.{up_within, told_round}
 use Rattle.decl_headers.proofs.Inside.{InnerBelow, Below}
 use Rattle.decl_headers.proofs.Marks.{AllBelow}
 use Rattle.decl_headers.proofs.Walks.{way_second}
@@ -55,28 +52,36 @@ fault_none : (b : Bool) (reason : Kind) (place : Place) → fault_if b reason pl
 fault_none true reason place h = cc
 fault_none false reason place h = refl
 
-no_cycle : (rounds : List Bool) (at j : ℕ) (classes : List Class) → cycles rounds at classes ≡ [] → j < length classes → get_or rounds (at + j) false ≡ false
-no_cycle rounds at j [] h l = absurd (omega arith)
-no_cycle rounds at zero (class ∷ classes) h l =
+no_cycle : (is_own : ℕ → Bool) (at j : ℕ) (classes : List Class) → cycles is_own at classes ≡ [] → j < length classes → is_own (at + j) ≡ false
+no_cycle is_own at j [] h l = absurd (omega arith)
+no_cycle is_own at zero (class ∷ classes) h l =
     let none : at + 0 ≡ at = omega arith in
-    ap (λ k. get_or rounds k false) none ∙ fault_none (get_or rounds at false) kind.Cycle (extends_place class) (append_none (fault_if (get_or rounds at false) kind.Cycle (extends_place class)) _ h).0
-no_cycle rounds at (suc j) (class ∷ classes) h l =
+    ap is_own none ∙ fault_none (is_own at) kind.Cycle (extends_place class) (append_none (fault_if (is_own at) kind.Cycle (extends_place class)) _ h).0
+no_cycle is_own at (suc j) (class ∷ classes) h l =
     let next : at + suc j ≡ at + 1 + j = omega arith in
-    ap (λ k. get_or rounds k false) next ∙ no_cycle rounds (at + 1) j classes (append_none (fault_if (get_or rounds at false) kind.Cycle (extends_place class)) _ h).1 (omega arith)
+    ap is_own next ∙ no_cycle is_own (at + 1) j classes (append_none (fault_if (is_own at) kind.Cycle (extends_place class)) _ h).1 (omega arith)
 
 pub length_parents : (classes : List Class) → length (parents_in classes) ≡ length classes
 length_parents classes = length-map classes (named_parent (class_named classes))
 
 -- where the first pass finds nothing no class is its own superclass
-straight_from : (classes : List Class) → IsReportedFirst classes None → (at : ℕ) → IsRound (parents_in classes) at → ⊥
-straight_from classes h at round =
-    let rounds = h.1.0 in
-    let none = none_reported (none_by order.Place) (first_faults classes rounds) (sym (ap reported h.1.2) ∙ h.2) in
-    let cycling = (append_none (cycles rounds 0 classes) _ (append_none (unknown_parents (class_named classes) classes) _ (append_none (second_classes [] classes) _ none).1).1).0 in
-    let below = up_within (parents_in classes) round.0 at at round.1 in
-    let zero_on : 0 + at ≡ at = omega arith in
-    let here : get_or rounds at false ≡ false = ap (λ k. get_or rounds k false) (sym zero_on) ∙ no_cycle rounds 0 at classes cycling (omega (arith, length_parents classes)) in
-    false≢true (sym here ∙ (h.1.1 at).1 round)
+straight_from : (classes : List Class) → first_of (first_faults classes) ≡ None → (at : ℕ) → is_round (parents_in classes) at ≡ false
+straight_from classes h at =
+    elim (cases_Bool (is_round parents at)) [
+      | inl own ↦ let round = told_round parents at own in here (omega (arith, up_within parents round.0 at at round.1, length_parents classes))
+      | inr none ↦ none
+    ]
+  where
+    parents : List (Option ℕ)
+    parents = parents_in classes
+
+    cycling : cycles (is_round parents) 0 classes ≡ []
+    cycling =
+        let none = none_reported (none_by order.Place) (first_faults classes) h in
+        (append_none (cycles (is_round parents) 0 classes) _ (append_none (unknown_parents (class_named classes) classes) _ (append_none (second_classes [] classes) _ none).1).1).0
+
+    here : at < length classes → is_round parents at ≡ false
+    here l = let zero_on : at ≡ 0 + at = omega arith in ap (is_round parents) zero_on ∙ no_cycle (is_round parents) 0 at classes cycling l
 
 -- a superclass is one of the classes
 named_within : (name at above : ℕ) (classes : List Class) → first_named name at classes ≡ Some above → above < at + length classes
@@ -96,7 +101,7 @@ parent_within named n (class ∷ classes) zero above within h = by class.parent 
     by (Some parent) k = within parent.name.name above k
 parent_within named n (class ∷ classes) (suc at) above within h = parent_within named n classes at above within h
 
-pub sound_from : (classes : List Class) → IsCounted classes → IsReportedFirst classes None → IsForest (parents_in classes)
+pub sound_from : (classes : List Class) → IsCounted classes → first_of (first_faults classes) ≡ None → IsForest (parents_in classes)
 sound_from classes counted h = record {
   counted = omega (arith, length_parents classes);
   straight = straight_from classes h;
@@ -169,29 +174,10 @@ classes_below count (one ∷ classes) h zero class is =
 classes_below count (one ∷ classes) h (suc at) class is = classes_below count classes (and_true (are_below count (declared_in one)) _ h).1 at class is
 
 -- what the way tells is what is reported of the members
-reported_way : (count : ℕ) (classes : List Class) → AreCounted count classes → IsReportedFirst classes None → reported_on_way count classes (way_of (parents_in classes)) ≡ reported_second classes
+pub reported_way : (count : ℕ) (classes : List Class) → AreCounted count classes → first_of (first_faults classes) ≡ None → reported_on_way count classes (way_of (parents_in classes)) ≡ first_of (second_faults classes (parents_in classes))
 reported_way count classes fits first =
     ap reported ((way_second count classes (parents_in classes) (sound_from classes fits.0 first) (length_parents classes) (classes_below count classes fits.1)).noted (none_by order.Place))
 
 -- as many superclasses as classes
 pub parents_counted : (classes : List Class) → IsCounted classes → IsCounted (parents_in classes)
 parents_counted classes fits = omega (arith, fits, length_parents classes)
-
-pub accepted_second : {T : Type 0} (result : Result T Stop) (count : ℕ) (classes : List Class) → AreCounted count classes → IsReportedFirst classes None →
-    OnOk result (reported_on_way count classes (way_of (parents_in classes)) ≡ None) → OnOk result (reported_second classes ≡ None)
-accepted_second (Ok value) count classes fits first h = sym (reported_way count classes fits first) ∙ h
-accepted_second (Err found) count classes fits first h = tt
-
-pub refused_second : {T : Type 0} (result : Result T Stop) (count : ℕ) (classes : List Class) → AreCounted count classes → IsReportedFirst classes None →
-    IfErr result (λ found. IfRefused found (λ fault. reported_on_way count classes (way_of (parents_in classes)) ≡ Some fault)) → IfErr result (λ found. IfRefused found (IsReportedOf classes))
-refused_second (Ok value) count classes fits first h = tt
-refused_second (Err stop.NoMemory) count classes fits first h = tt
-refused_second (Err (stop.Refused fault)) count classes fits first h = inr (first, sym (reported_way count classes fits first) ∙ h)
-
-pub refused_first : (classes : List Class) (found : Stop) → IfRefused found (λ fault. IsReportedFirst classes (Some fault)) → IfRefused found (IsReportedOf classes)
-refused_first classes (stop.Refused fault) h = inl h
-refused_first classes stop.NoMemory h = h
-
-pub ok_later : {T : Type 0} (result : Result T Stop) (P : Type 0) → P → OnOk result P
-ok_later (Ok value) P h = h
-ok_later (Err found) P h = tt

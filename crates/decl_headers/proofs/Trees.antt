@@ -6,10 +6,10 @@ use Rattle.std.proofs.lemmas.Option.{none-some}
 use Rattle.std.specs.Option.{option_and_then}
 use Rattle.decl_headers.specs.declared.forest.Step.{Step}
 use Rattle.decl_headers.specs.Numbers.{as_number}
-use Rattle.decl_headers.specs.Rounds.{entry_of, up, IsRound}
+use Rattle.decl_headers.specs.Rounds.{entry_of, up}
 use Rattle.decl_headers.specs.Way.{IsCounted, with_filed, filed, extensions, extending, roots, walks, way_of, Each, IsEnded, deep}
 use Rattle.decl_headers.proofs.Among.{among_left, among_right, among_either, each_among}
-use Rattle.decl_headers.proofs.Cycles.{up-first, entry_within, far_round}
+use Rattle.decl_headers.proofs.Cycles.{IsRound, up-first, entry_within, far_round}
 use Rattle.decl_headers.proofs.Order.{Among}
 
 -- a further class stands under its superclass, and nothing else changes

@@ -14,11 +14,11 @@ use Rattle.decl_headers.specs.declared.forest.Step.TheVariants as step
 use Rattle.decl_headers.specs.Around.{Around, none_around, class_entered, class_faults, class_left, after_step, step_faults, way_faults}
 use Rattle.decl_headers.specs.Headers.{chain}
 use Rattle.decl_headers.specs.Members.{mark_of, all_entered}
-use Rattle.decl_headers.specs.Rounds.{entry_of, up}
-use Rattle.decl_headers.specs.Second.{own_regions, own_fields, names_of, names_in, superclasses, wrong_in_class, wrong_at, second_faults}
+use Rattle.decl_headers.specs.Rounds.{entry_of, superclasses, up}
+use Rattle.decl_headers.specs.Second.{own_regions, own_fields, names_of, names_in, wrong_in_class, wrong_at, second_faults}
 use Rattle.decl_headers.specs.Way.{IsForest, extensions, extending, roots, last_first, walk, walks, way_of, deep}
 use Rattle.decl_headers.proofs.Among.{among_flat, from_flat, among_last, from_last, among_range, range_below}
-use Rattle.decl_headers.proofs.Cycles.{up-first, up-then, entry_within, far_round}
+use Rattle.decl_headers.proofs.Cycles.{up-first, up-then, entry_within, far_round, not_round}
 use Rattle.decl_headers.proofs.Inside.{Clean, Below, class_declared, class_passed, class_second}
 use Rattle.decl_headers.proofs.Marks.{IsNoOwner, Says, says_all_entered, mark_all_entered, none_said}
 use Rattle.decl_headers.proofs.Order.{Among, same_noted}
@@ -31,7 +31,7 @@ top_none parents n at sound far = by (up parents n at) refl
   where
     by : (o : Option ℕ) → up parents n at ≡ o → o ≡ None
     by None e = refl
-    by (Some top) e = absurd (sound.straight top (far_round parents top n at far e))
+    by (Some top) e = absurd (not_round parents top (sound.straight top) (far_round parents top n at far e))
 
 -- a longer chain is the same where nothing is so high
 chain_longer : (parents : List (Option ℕ)) (n at : ℕ) → up parents n at ≡ None → chain (entry_of parents) n at ≡ chain (entry_of parents) (suc n) at
@@ -79,7 +79,7 @@ not_own parents owners class sound below own x =
         | inr w ↦
             let counted = sound.counted in
             let same : w.0 ≡ class = omega (arith, p.1, w.3, counted, below) in
-            absurd (sound.straight class (w.1, w.2 ∙ ap (λ k. Some k) same))
+            absurd (not_round parents class (sound.straight class) (w.1, w.2 ∙ ap (λ k. Some k) same))
       ]
     ]
 

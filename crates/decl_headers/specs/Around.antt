@@ -11,11 +11,9 @@ use Rattle.syntax_tree.specs.declared.class.Method.{Method}
 use Rattle.syntax_tree.specs.declared.region.Named.{Named}
 use Rattle.decl_headers.specs.declared.forest.Step.{Step}
 use Rattle.decl_headers.specs.declared.forest.Step.TheVariants as step
-use Rattle.decl_headers.specs.declared.faults.Order.TheVariants as order
 use Rattle.decl_headers.specs.declared.members.Visible.{Visible}
-use Rattle.decl_headers.specs.Faults.{all_noted, reported, none_by}
 use Rattle.decl_headers.specs.Members.{marks, is_free, entered, left, all_entered, all_left, second_names, param_names, formal_names, misnamed}
-use Rattle.decl_headers.specs.Passes.{fault_if, is_constructor_result}
+use Rattle.decl_headers.specs.Passes.{fault_if, first_of, is_constructor_result}
 
 -- the marks of each kind of name
 pub record Around : Type 0 where
@@ -146,4 +144,4 @@ way_faults classes seen (s ∷ more) = step_faults classes seen s ++ way_faults 
 
 -- the fault that is reported of these, if there is one
 abbrev pub reported_on_way : ℕ → List Class → List Step → Option Refusal
-reported_on_way names classes steps = reported (all_noted (none_by order.Place) (way_faults classes (none_around names) steps))
+reported_on_way names classes steps = first_of (way_faults classes (none_around names) steps)

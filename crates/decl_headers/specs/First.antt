@@ -1,12 +1,9 @@
 -- What is wrong in the classes of a program by themselves: the first pass.
-use Rattle.std.specs.Prelude.{◌≡◌, ℕ, Bool, List, [], ◌++◌, map, Option}
+use Rattle.std.specs.Prelude.{ℕ, List, [], ◌++◌, map, Option}
 use Rattle.lang_base.specs.declared.refusal.Refusal.{Refusal}
 use Rattle.syntax_tree.specs.declared.class.Class.{Class}
-use Rattle.decl_headers.specs.declared.faults.Faults.{Faults}
-use Rattle.decl_headers.specs.declared.faults.Order.TheVariants as order
-use Rattle.decl_headers.specs.Faults.{all_noted, reported, none_by}
 use Rattle.decl_headers.specs.Passes.{first_named, second_classes, named_parent, unknown_parents, has_constructor, cycles, closed_parents}
-use Rattle.decl_headers.specs.Rounds.{TellRounds}
+use Rattle.decl_headers.specs.Rounds.{is_round}
 
 -- the class that a name means: the first of that name
 abbrev pub class_named : List Class → ℕ → Option ℕ
@@ -18,16 +15,7 @@ parents_in classes = map (named_parent (class_named classes)) classes
 
 -- two classes of one name, a superclass that isn't there, a class that is its own superclass, and one that extends a
 -- class with a constructor
-abbrev pub first_faults : List Class → List Bool → List Refusal
-first_faults classes rounds =
+abbrev pub first_faults : List Class → List Refusal
+first_faults classes =
     second_classes [] classes ++ (unknown_parents (class_named classes) classes
-    ++ (cycles rounds 0 classes ++ closed_parents (map has_constructor classes) classes (parents_in classes)))
-
--- these faults are noted
-abbrev pub IsNotedFirst : List Class → Faults → Faults → Type 0
-IsNotedFirst classes old new =
-    (rounds : List Bool) × TellRounds (parents_in classes) rounds × (new ≡ all_noted old (first_faults classes rounds))
-
--- the fault that is reported of them, if there is one: that with the least place
-abbrev pub IsReportedFirst : List Class → Option Refusal → Type 0
-IsReportedFirst classes fault = (faults : Faults) × IsNotedFirst classes (none_by order.Place) faults × (reported faults ≡ fault)
+    ++ (cycles (is_round (parents_in classes)) 0 classes ++ closed_parents (map has_constructor classes) classes (parents_in classes)))

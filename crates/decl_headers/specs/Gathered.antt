@@ -1,8 +1,9 @@
--- What the headers of a program are.
-use Rattle.std.specs.Prelude.{ℕ, ◌+◌, Bool, true, false, List, [], ◌∷◌, ◌++◌, map, count_by, codes, slice_get, Option}
+-- What the headers of a program are, and which fault is refused where it has none.
+use Rattle.std.specs.Prelude.{ℕ, ◌+◌, Bool, true, false, List, [], ◌∷◌, ◌++◌, map, count_by, codes, slice_get, Option, Result, Ok}
 use Rattle.std.specs.List.{flat_map, position_from}
 use Rattle.std.specs.Option.{option_map, option_map_or}
 use Rattle.std.specs.Str.{bytes_eq}
+use Rattle.lang_base.specs.declared.refusal.Refusal.{Refusal}
 use Rattle.syntax_tree.specs.declared.class.Class.{Class}
 use Rattle.syntax_tree.specs.declared.class.Member.{Member}
 use Rattle.syntax_tree.specs.declared.class.Member.TheVariants as member
@@ -12,11 +13,12 @@ use Rattle.syntax_tree.specs.declared.region.ParamTree.{ParamTree}
 use Rattle.decl_headers.specs.declared.header.Header.{Header}
 use Rattle.decl_headers.specs.declared.header.ParamRow.{ParamRow}
 use Rattle.decl_headers.specs.declared.header.RegionRow.{RegionRow}
-use Rattle.decl_headers.specs.First.{parents_in}
+use Rattle.decl_headers.specs.First.{parents_in, first_faults}
 use Rattle.decl_headers.specs.Headers.{PlainHeaders}
 use Rattle.decl_headers.specs.Numbers.{as_number}
-use Rattle.decl_headers.specs.Rounds.{entry_of}
-use Rattle.decl_headers.specs.Second.{superclasses}
+use Rattle.decl_headers.specs.Passes.{first_of, refused_or}
+use Rattle.decl_headers.specs.Rounds.{entry_of, superclasses}
+use Rattle.decl_headers.specs.Second.{second_faults}
 
 abbrev pub param_row : ParamTree → ParamRow
 param_row param = record { name = param.name; atomic = param.atomic }
@@ -78,3 +80,10 @@ headers_in program = record {
   regions = all_regions 0 program.classes;
   main = name_number program.names (codes "Main");
 }
+
+-- of the faults of the classes by themselves the first is refused, or else of those of their members
+abbrev pub check_headers : Program → Result PlainHeaders Refusal
+check_headers program =
+    refused_or (first_of (first_faults program.classes)) (
+    refused_or (first_of (second_faults program.classes (parents_in program.classes))) (
+    Ok (headers_in program)))

@@ -1,5 +1,5 @@
 -- What is wrong in the classes of a program by names alone: the faults of each pass, in the order of the text.
-use Rattle.std.specs.Prelude.{ℕ, ◌+◌, Bool, true, false, ◌==◌, cond, List, [], ◌∷◌, ◌++◌, slice_index_or, is_some, is_none, Option, Some, None, option_and_then}
+use Rattle.std.specs.Prelude.{ℕ, ◌+◌, Bool, true, false, ◌==◌, cond, List, [], ◌∷◌, ◌++◌, slice_index_or, is_some, is_none, Option, Some, None, option_and_then, Result, Err}
 use Rattle.std.specs.List.{list_any}
 use Rattle.std.specs.Option.{option_map_or}
 use Rattle.lang_base.specs.declared.place.Place.{Place}
@@ -11,6 +11,8 @@ use Rattle.syntax_tree.specs.declared.class.Member.{Member}
 use Rattle.syntax_tree.specs.declared.class.Member.TheVariants as member
 use Rattle.syntax_tree.specs.declared.class.MethodResult.{MethodResult}
 use Rattle.syntax_tree.specs.declared.class.MethodResult.TheVariants as outcome
+use Rattle.decl_headers.specs.declared.faults.Order.TheVariants as order
+use Rattle.decl_headers.specs.Faults.{all_noted, reported, none_by}
 use Rattle.decl_headers.specs.Numbers.{as_number}
 
 abbrev pub fault : Kind → Place → Refusal
@@ -19,6 +21,15 @@ fault reason place = record { kind = reason; place = place }
 -- one fault where something is so, and none else
 abbrev pub fault_if : Bool → Kind → Place → List Refusal
 fault_if is_so reason place = cond is_so (fault reason place ∷ []) []
+
+-- the fault that is reported of these: that with the least place
+abbrev pub first_of : List Refusal → Option Refusal
+first_of found = reported (all_noted (none_by order.Place) found)
+
+-- a fault is refused, and where there is none it goes on
+abbrev pub refused_or : {T : Type 0} → Option Refusal → Result T Refusal → Result T Refusal
+refused_or None next = next
+refused_or (Some found) next = Err found
 
 -- the first of the classes, counted on from a number, that has the name
 abbrev pub first_named : ℕ → ℕ → List Class → Option ℕ
@@ -61,11 +72,10 @@ has_constructor class = list_any is_constructor class.members
 abbrev pub extends_place : Class → Place
 extends_place class = option_map_or (λ parent. parent.name.place) class.parent class.place
 
--- each class that is its own superclass, as a list tells of the classes from a number on
-abbrev pub cycles : List Bool → ℕ → List Class → List Refusal
-cycles rounds at [] = []
-cycles rounds at (class ∷ classes) =
-    fault_if (slice_index_or rounds at false) kind.Cycle (extends_place class) ++ cycles rounds (at + 1) classes
+-- each class that is its own superclass, counted on from a number
+abbrev pub cycles : (ℕ → Bool) → ℕ → List Class → List Refusal
+cycles is_own at [] = []
+cycles is_own at (class ∷ classes) = fault_if (is_own at) kind.Cycle (extends_place class) ++ cycles is_own (at + 1) classes
 
 -- the superclass is one of these
 abbrev pub is_among : List Bool → Option ℕ → Bool

@@ -1,22 +1,25 @@
 -- The superclasses of a class one above the other, and which classes are their own superclasses.
-use Rattle.std.specs.Prelude.{◌≡◌, ◌↔◌, ℕ, zero, suc, Bool, true, false, List, [], ◌∷◌, slice_get, slice_set, slice_index_or, Option, None, Some, option_and_then}
+use Rattle.std.specs.Prelude.{ℕ, zero, suc, ◌==◌, Bool, true, List, [], ◌∷◌, length, slice_get, slice_set, Option, None, Some, option_and_then}
+use Rattle.std.specs.List.{list_any}
+use Rattle.std.specs.Option.{option_map_or}
+use Rattle.decl_headers.specs.Headers.{chain}
 
 -- what a list has at a place, where it has something there
 abbrev pub entry_of : List (Option ℕ) → ℕ → Option ℕ
 entry_of entries at = option_and_then (λ entry. entry) (slice_get entries at)
 
+-- the superclasses of a class, the nearest first
+abbrev pub superclasses : List (Option ℕ) → ℕ → List ℕ
+superclasses parents at = option_map_or (λ above. chain (entry_of parents) (length parents) above) (entry_of parents at) []
+
+-- the class is one of its own superclasses
+abbrev pub is_round : List (Option ℕ) → ℕ → Bool
+is_round parents at = list_any (λ above. above == at) (superclasses parents at)
+
 -- the superclass of a class so many steps up
 abbrev pub up : List (Option ℕ) → ℕ → ℕ → Option ℕ
 up parents zero at = Some at
 up parents (suc n) at = option_and_then (entry_of parents) (up parents n at)
-
--- one step up or more, the class itself stands
-abbrev pub IsRound : List (Option ℕ) → ℕ → Type 0
-IsRound parents at = (n : ℕ) × (up parents (suc n) at ≡ Some at)
-
--- of each class it is told whether it is its own superclass
-abbrev pub TellRounds : List (Option ℕ) → List Bool → Type 0
-TellRounds parents rounds = (at : ℕ) → (slice_index_or rounds at false ≡ true) ↔ IsRound parents at
 
 -- a further class is reported
 abbrev pub with_round : List Bool → Option ℕ → List Bool

@@ -1,7 +1,7 @@
 -- What is wrong in the members of a program's classes: the second pass. A second name of one kind where the first one
 -- is visible, and a constructor that isn't named as its class. What a class inherits are the region names and the
 -- fields of its superclasses; of two of one name, one inherited, the subclass's is the second.
-use Rattle.std.specs.Prelude.{ℕ, ◌≡◌, ◌==◌, nat_lt, Bool, true, cond, List, [], ◌∷◌, ◌++◌, map, length, slice_get, Option, None, Some, ◌⊎◌}
+use Rattle.std.specs.Prelude.{ℕ, ◌≡◌, ◌==◌, nat_lt, Bool, true, cond, List, [], ◌∷◌, ◌++◌, map, length, slice_get, Option}
 use Rattle.std.specs.List.{list_any, list_all, flat_map, range_with_len}
 use Rattle.std.specs.Option.{option_map_or}
 use Rattle.lang_base.specs.declared.refusal.Kind.TheVariants as kind
@@ -12,13 +12,9 @@ use Rattle.syntax_tree.specs.declared.class.Member.{Member}
 use Rattle.syntax_tree.specs.declared.class.Member.TheVariants as member
 use Rattle.syntax_tree.specs.declared.class.Method.{Method}
 use Rattle.syntax_tree.specs.declared.region.Named.{Named}
-use Rattle.decl_headers.specs.declared.faults.Order.TheVariants as order
-use Rattle.decl_headers.specs.Faults.{all_noted, reported, none_by}
-use Rattle.decl_headers.specs.First.{parents_in, IsReportedFirst}
-use Rattle.decl_headers.specs.Headers.{chain}
 use Rattle.decl_headers.specs.Members.{param_names, formal_names, misnamed}
 use Rattle.decl_headers.specs.Passes.{fault_if, is_constructor_result}
-use Rattle.decl_headers.specs.Rounds.{entry_of}
+use Rattle.decl_headers.specs.Rounds.{superclasses}
 use Rattle.decl_headers.specs.Way.{IsCounted}
 
 -- what a member declares of each kind, its names where they stand
@@ -85,10 +81,6 @@ wrong_in_class regions fields class =
     ++ (second_of [] (method_names (own_methods class)) ++ (second_of [] (constructor_names (own_methods class))
     ++ flat_map (wrong_in_method class) (own_methods class)))))
 
--- the superclasses of a class, the nearest first
-abbrev pub superclasses : List (Option ℕ) → ℕ → List ℕ
-superclasses parents at = option_map_or (λ above. chain (entry_of parents) (length parents) above) (entry_of parents at) []
-
 -- the names of a kind that some classes declare
 abbrev pub names_in : (Class → List Named) → List Class → List ℕ → List ℕ
 names_in own classes numbers = flat_map (λ at. option_map_or (λ class. names_of (own class)) (slice_get classes at) []) numbers
@@ -119,11 +111,3 @@ AreNamed count classes = list_all (λ class. are_below count (declared_in class)
 -- there are fewer classes than numbers, and every name that they declare is one of so many
 abbrev pub AreCounted : ℕ → List Class → Type 0
 AreCounted count classes = IsCounted classes × AreNamed count classes
-
--- the fault that is reported of what is wrong in the members, if there is one: that with the least place
-abbrev pub reported_second : List Class → Option Refusal
-reported_second classes = reported (all_noted (none_by order.Place) (second_faults classes (parents_in classes)))
-
--- a refusal is that of the first pass, or where there is none that of the second
-abbrev pub IsReportedOf : List Class → Refusal → Type 0
-IsReportedOf classes fault = IsReportedFirst classes (Some fault) ⊎ (IsReportedFirst classes None × (reported_second classes ≡ Some fault))

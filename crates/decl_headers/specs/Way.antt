@@ -1,9 +1,9 @@
 -- The way through all classes: a class is entered after its superclass, and left after all that extends it.
-use Rattle.std.specs.Prelude.{◌≡◌, ℕ, zero, suc, ◌+◌, ◌<◌, List, [], ◌∷◌, ◌++◌, map, length, replicate, slice_set, slice_index_or, Option, None, Some}
+use Rattle.std.specs.Prelude.{◌≡◌, ℕ, zero, suc, ◌+◌, ◌<◌, false, List, [], ◌∷◌, ◌++◌, map, length, replicate, slice_set, slice_index_or, Option, None, Some}
 use Rattle.decl_headers.specs.declared.forest.Step.{Step}
 use Rattle.decl_headers.specs.declared.forest.Step.TheVariants as step
 use Rattle.decl_headers.specs.Numbers.{as_number}
-use Rattle.decl_headers.specs.Rounds.{entry_of, IsRound}
+use Rattle.decl_headers.specs.Rounds.{entry_of, is_round}
 
 -- a further class stands under its superclass
 abbrev pub with_filed : List (List ℕ) → ℕ → ℕ → List (List ℕ)
@@ -75,7 +75,7 @@ following lists (step.Leave class) = []
 -- the superclasses of classes: there are fewer classes than numbers, each superclass is there, and no class is its own
 pub record IsForest (parents : List (Option ℕ)) : Type 0 where
   pub counted : IsCounted parents
-  pub straight : (at : ℕ) → IsRound parents at → ⊥
+  pub straight : (at : ℕ) → is_round parents at ≡ false
   pub within : (at above : ℕ) → entry_of parents at ≡ Some above → above < length parents
 
 -- what each class has, where it is made on entering the class from what other classes have

@@ -1,11 +1,13 @@
-ghost use Rattle.std.specs.Prelude.{◌≡◌, ℕ, map, codes, length, slice_index_or, None, Some, IfOk, IfErr, OnOk};
+ghost use Rattle.std.specs.Prelude.{◌≡◌, ℕ, map, codes, length, slice_index_or, None, Some, Ok, Err, IfOk, IfErr, OnOk};
 ghost use Rattle.lang_base.specs.Refused.{IfRefused};
 ghost use Rattle.decl_headers.specs.Around.{reported_on_way};
-ghost use Rattle.decl_headers.specs.First.{IsReportedFirst, IsNotedFirst, parents_in, class_named};
-ghost use Rattle.decl_headers.specs.Gathered.{param_row, header_row, header_rows, name_number, all_regions, headers_in};
+ghost use Rattle.decl_headers.specs.Faults.{all_noted};
+ghost use Rattle.decl_headers.specs.First.{first_faults, parents_in, class_named};
+ghost use Rattle.decl_headers.specs.Gathered.{param_row, header_row, header_rows, name_number, all_regions, check_headers};
 ghost use Rattle.decl_headers.specs.Numbering.{counted_rows};
 ghost use Rattle.decl_headers.specs.Numbers.{number_of};
-ghost use Rattle.decl_headers.specs.Second.{AreCounted, reported_second, IsReportedOf};
+ghost use Rattle.decl_headers.specs.Passes.{first_of};
+ghost use Rattle.decl_headers.specs.Second.{AreCounted};
 ghost use Rattle.decl_headers.specs.Way.{IsCounted, way_of};
 
 use crate::faults::Faults;
@@ -26,10 +28,8 @@ use syntax_tree::{Class, ParamTree, Program};
 /// its class. Of these two groups the first comes first, and in a group the fault with the least place.
 pub fn headers(alloc: Global, program: &Program) -> Result<Headers, Stop>
     requires { AreCounted (length program.now.names) program.now.classes }
-    ensures first { OnOk result (IsReportedFirst program.now.classes None) }
-    ensures second { OnOk result (reported_second program.now.classes ≡ None) }
-    ensures made { IfOk result (λ headers. headers ≡ headers_in program.now) }
-    ensures refused { IfErr result (λ stop. IfRefused stop (IsReportedOf program.now.classes)) }
+    ensures made { IfOk result (λ headers. check_headers program.now ≡ Ok headers) }
+    ensures refused { IfErr result (λ stop. IfRefused stop (λ fault. check_headers program.now ≡ Err fault)) }
 {
     let linked = link_classes(alloc, program.classes.as_slice())?;
     of_linked(alloc, program, linked)
@@ -44,10 +44,10 @@ struct Linked {
 
 /// Looks at the classes alone, or tells the first fault there.
 fn link_classes(alloc: Global, classes: &[Class]) -> Result<Linked, Stop>
-    ensures accepted { IfOk result (λ linked. IsReportedFirst classes.now None) }
+    ensures accepted { IfOk result (λ linked. first_of (first_faults classes.now) ≡ None) }
     ensures named { IfOk result (λ linked. (name : ℕ) → number_of linked.numbers name ≡ class_named classes.now name) }
     ensures parents { IfOk result (λ linked. linked.parents ≡ parents_in classes.now) }
-    ensures fault { IfErr result (λ stop. IfRefused stop (λ fault. IsReportedFirst classes.now (Some fault))) }
+    ensures fault { IfErr result (λ stop. IfRefused stop (λ fault. first_of (first_faults classes.now) ≡ Some fault)) }
 {
     let mut faults = Faults::by_place();
     let linked = look_at_classes(alloc, classes, &mut faults)?;
@@ -61,7 +61,7 @@ fn look_at_classes(
     classes: &[Class],
     faults: &mut Faults,
 ) -> Result<Linked, NoMemory>
-    ensures noted { OnOk result (IsNotedFirst classes.now faults.old faults.new) }
+    ensures noted { OnOk result (faults.new ≡ all_noted faults.old (first_faults classes.now)) }
     ensures named { IfOk result (λ linked. (name : ℕ) → number_of linked.numbers name ≡ class_named classes.now name) }
     ensures parents { IfOk result (λ linked. linked.parents ≡ parents_in classes.now) }
 {
@@ -90,7 +90,7 @@ fn look_at_members(
 /// The headers, or the first fault of members.
 fn of_linked(alloc: Global, program: &Program, linked: Linked) -> Result<Headers, Stop>
     requires counted { IsCounted program.now.classes }
-    requires first { IsReportedFirst program.now.classes None }
+    requires first { first_of (first_faults program.now.classes) ≡ None }
     requires parents { linked.parents ≡ parents_in program.now.classes }
     requires named { (name : ℕ) → number_of linked.numbers name ≡ class_named program.now.classes name }
     ensures made { IfOk result (λ headers. headers ≡ record { rows = counted_rows program.now.classes (parents_in program.now.classes) (way_of (parents_in program.now.classes)); regions = all_regions 0 program.now.classes; main = name_number program.now.names (codes "Main") }) }

@@ -1,6 +1,6 @@
-ghost use Rattle.std.specs.Prelude.{◌≡◌, ◌<◌, ℕ, true, map, length, slice_set, IfOk};
+ghost use Rattle.std.specs.Prelude.{◌≡◌, ◌<◌, ℕ, true, false, map, length, slice_set, slice_index_or, IfOk};
 ghost use Rattle.std.specs.Option.{option_and_then};
-ghost use Rattle.decl_headers.specs.Rounds.{entry_of, up, TellRounds, with_round};
+ghost use Rattle.decl_headers.specs.Rounds.{entry_of, up, is_round, with_round};
 
 use lang_base::{Items, NoMemory};
 use std::alloc::Global;
@@ -8,7 +8,7 @@ use std::alloc::Global;
 /// Of each class, whether it is its own superclass. Such classes, and no others, are above some class over more steps
 /// than there are classes.
 pub fn going_round(alloc: Global, parents: &[Option<u32>]) -> Result<Items<bool>, NoMemory>
-    ensures { IfOk result (λ rounds. TellRounds parents.now rounds) }
+    ensures { IfOk result (λ rounds. (at : ℕ) → slice_index_or rounds at false ≡ is_round parents.now at) }
 {
     let jumps = far_up(alloc, parents)?;
     let mut rounds = vec![in alloc; false; parents.len()]?;

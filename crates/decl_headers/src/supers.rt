@@ -1,8 +1,8 @@
-ghost use Rattle.std.specs.Prelude.{◌≡◌, ℕ, Bool, false, List, [], map, slice_index_or, OnOk, IfOk};
+ghost use Rattle.std.specs.Prelude.{◌≡◌, ℕ, false, [], map, slice_index_or, OnOk, IfOk};
 ghost use Rattle.decl_headers.specs.Faults.{noted, all_noted};
 ghost use Rattle.decl_headers.specs.Numbers.{number_of};
 ghost use Rattle.decl_headers.specs.Passes.{first_named, second_classes, named_parent, unknown_parent, unknown_parents, is_constructor, has_constructor, extends_place, is_among, cycles, closed_parents};
-ghost use Rattle.decl_headers.specs.Rounds.{TellRounds};
+ghost use Rattle.decl_headers.specs.Rounds.{is_round};
 
 use crate::faults::Faults;
 use crate::numbers::{NameNumbers, number_at};
@@ -141,7 +141,7 @@ pub fn check_cycles(
     parents: &[Option<u32>],
     faults: &mut Faults,
 ) -> Result<(), NoMemory>
-    ensures { OnOk result ((rounds : List Bool) × TellRounds parents.now rounds × (faults.new ≡ all_noted faults.old (cycles rounds 0 classes.now))) }
+    ensures { OnOk result (faults.new ≡ all_noted faults.old (cycles (is_round parents.now) 0 classes.now)) }
 {
     let found = going_round(alloc, parents)?;
     let rounds = found.as_slice();
