@@ -1,9 +1,7 @@
 pub mod Back
 pub mod Counted
-pub mod Once
 pub mod Overrides
 pub mod Params
 pub mod Parts
 pub mod Rising
 pub mod Tables
-pub mod Whole

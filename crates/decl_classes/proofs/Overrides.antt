@@ -15,10 +15,11 @@ use Rattle.decl_headers.specs.declared.header.Header.{Header}
 use Rattle.decl_headers.specs.declared.header.Headers.{Headers}
 use Rattle.decl_headers.specs.declared.forest.Step.{Step}
 use Rattle.decl_headers.specs.declared.forest.Step.TheVariants as step
-use Rattle.decl_headers.specs.First.{IsReportedFirst, parents_in}
+use Rattle.decl_headers.specs.First.{first_faults, parents_in}
 use Rattle.decl_headers.specs.Gathered.{headers_in}
 use Rattle.decl_headers.specs.Headers.{chain, nearest, parent_of, parents_of, class_count}
 use Rattle.decl_headers.specs.Numbers.{as_number}
+use Rattle.decl_headers.specs.Passes.{first_of}
 use Rattle.decl_headers.specs.Rounds.{entry_of}
 use Rattle.decl_headers.specs.Second.{own_params, own_regions, own_fields, own_methods, method_in, are_below, declared_in_method, declared_in, AreNamed, AreCounted}
 use Rattle.decl_headers.specs.Way.{IsForest, way_of}
@@ -31,14 +32,15 @@ use Rattle.decl_table.specs.declared.overridden.Own.{Own}
 use Rattle.decl_table.specs.declared.rows.MethodRow.{MethodRow}
 use Rattle.decl_table.specs.declared.table.Table.{Table}
 use Rattle.decl_classes.specs.Around.{class_scope}
-use Rattle.decl_classes.specs.Build.{IsReadOf}
 use Rattle.decl_table.specs.Overridden.{overridden_in}
 use Rattle.decl_table.specs.Places.{entry_at, method_number}
 use Rattle.decl_table.specs.Plain.{PlainMethod, plain_method}
-use Rattle.decl_classes.specs.Rows.{methods_from, methods_meant}
-use Rattle.decl_table.specs.Table.{headers_of, all_given, methods_of}
+use Rattle.decl_classes.specs.Rows.{all_constraints, methods_from, methods_meant}
+use Rattle.decl_classes.specs.Tables.{signed_table}
+use Rattle.decl_table.specs.Table.{headers_of, methods_of}
 use Rattle.decl_table.specs.Visible.{all_own, all_overriding, Seen, none_seen, after_step, after_way, overridden_on_way}
 use Rattle.decl_table.proofs.Visible.{AreRows, overriding, overridden_found}
+use Rattle.decl_classes.proofs.Back.{methods_there}
 
 -- the names of a class's methods are counted, and the class is theirs
 from_counted : (names : ℕ) (scope : PlainScope) (count : ℕ) (members : List Member) (row : PlainMethod) → are_below names (flat_map declared_in_method (flat_map method_in members)) ≡ true → Among row (methods_from scope count members) → (row.name < names) × (row.owner ≡ scope.class)
@@ -128,8 +130,8 @@ overriding_said table row =
         ∙ ap (nearest meant) (chain_same (entry_of parents) (parent_of headers) (λ at. sym (parent_is headers.rows at)) (class_count headers) above)
 
 -- the superclasses in the headers of a program are those of its classes
-parents_same : (program : Program) (headers : Headers) → headers ≡ headers_in program → parents_of headers ≡ parents_in program.classes
-parents_same program headers are = ap parents_of are ∙ parents_gathered program.classes (headers_in program).rows _ refl
+parents_same : (program : Program) → parents_of (headers_in program) ≡ parents_in program.classes
+parents_same program = parents_gathered program.classes (headers_in program).rows _ refl
 
 -- each row is counted
 pub row_counted : (program : Program) (headers : Headers) (all : List (List Constraint)) (rows : List MethodRow) → AreCounted (length program.names) program.classes → map plain_method rows ≡ methods_meant headers all 0 0 program.classes
@@ -142,20 +144,22 @@ pub row_owned : (program : Program) (headers : Headers) (all : List (List Constr
     → (at : ℕ) (row : MethodRow) → at < length rows → (get_or rows at row).owner < length program.classes
 row_owned program headers all rows counted read at row below = (row_counted program headers all rows counted read at (get_or rows at row) (slice_get-get_or rows at row below)).1
 
--- the rows of a table are counted
-rows_counted : (program : Program) (table : Table) → AreCounted (length program.names) program.classes → IsReportedFirst program.classes None → headers_of table ≡ headers_in program → IsReadOf program.classes table →
-    AreRows (length program.names) (methods_of table) (parents_of (headers_of table))
-rows_counted program table counted first are read = record {
-  sound = subst IsForest (sym same) (sound_from program.classes counted.0 first);
-  named = λ at row is. (row_counted program (headers_of table) (all_given table) (methods_of table) counted read.methods at row is).0;
-  owned = λ at row is. let l = (row_counted program (headers_of table) (all_given table) (methods_of table) counted read.methods at row is).1 in omega (arith, as_many);
+-- the rows of a program are counted
+rows_counted : (program : Program) → AreCounted (length program.names) program.classes → first_of (first_faults program.classes) ≡ None → AreRows (length program.names) (methods_of (signed_table program)) (parents_of (headers_in program))
+rows_counted program counted first = record {
+  sound = subst IsForest (sym (parents_same program)) (sound_from program.classes counted.0 first);
+  named = λ at row is. (known at row is).0;
+  owned = λ at row is. let l = (known at row is).1 in omega (arith, as_many);
 }
   where
-    same : parents_of (headers_of table) ≡ parents_in program.classes
-    same = parents_same program (headers_of table) are
+    given : List (List Constraint)
+    given = all_constraints (headers_in program) 0 program.classes
 
-    as_many : length (parents_of (headers_of table)) ≡ length program.classes
-    as_many = ap length same ∙ length_parents program.classes
+    known : (at : ℕ) (row : MethodRow) → slice_get (methods_of (signed_table program)) at ≡ Some row → (row.name < length program.names) × (row.owner < length program.classes)
+    known = row_counted program (headers_in program) given (methods_of (signed_table program)) counted (methods_there (methods_meant (headers_in program) given 0 0 program.classes))
+
+    as_many : length (parents_of (headers_in program)) ≡ length program.classes
+    as_many = ap length (parents_same program) ∙ length_parents program.classes
 
 -- as many entries as rows, on the whole way
 overriding_length : (visible overridden : List (Option ℕ)) (own : List Own) → length (all_overriding visible overridden own) ≡ length overridden
@@ -178,17 +182,25 @@ entries_are (entry ∷ entries) (row ∷ rows) f same each =
     ap (λ one. one ∷ entries) (each 0) ∙ ap (λ more. f row ∷ more) (entries_are entries rows f (omega (arith, same)) (λ at. each (suc at)))
 
 -- it is found on the way through the classes
-pub finds_overridden : (program : Program) (table : Table) → AreCounted (length program.names) program.classes → IsReportedFirst program.classes None → headers_of table ≡ headers_in program → IsReadOf program.classes table →
-    table.overrides ≡ overridden_on_way (parents_of (headers_of table)) (methods_of table) (length program.names) → table.overrides ≡ map (overridden_in table) (methods_of table)
-finds_overridden program table counted first are read found =
-    let rows = methods_of table in
-    let parents = parents_of (headers_of table) in
-    let names = length program.names in
-    found
-    ∙ entries_are (overridden_on_way parents rows names) rows (overridden_in table)
+pub finds_overridden : (program : Program) → AreCounted (length program.names) program.classes → first_of (first_faults program.classes) ≡ None →
+    overridden_on_way (parents_of (headers_in program)) (methods_of (signed_table program)) (length program.names) ≡ map (overridden_in (signed_table program)) (methods_of (signed_table program))
+finds_overridden program counted first =
+    entries_are (overridden_on_way parents rows names) rows (overridden_in table)
     (way_length (all_own (replicate (length parents) []) 0 rows) (none_seen names (length rows)) (way_of parents) ∙ length-replicate {A = Option ℕ} (length rows) None)
-    (λ id. overridden_found names rows parents id (rows_counted program table counted first are read) ∙ by (slice_get rows id))
+    (λ id. overridden_found names rows parents id (rows_counted program counted first) ∙ by (slice_get rows id))
   where
+    table : Table
+    table = signed_table program
+
+    rows : List MethodRow
+    rows = methods_of (signed_table program)
+
+    parents : List (Option ℕ)
+    parents = parents_of (headers_in program)
+
+    names : ℕ
+    names = length program.names
+
     by : (o : Option MethodRow) → option_and_then (overriding (methods_of table) (parents_of (headers_of table))) o ≡ option_and_then (overridden_in table) o
     by None = refl
     by (Some row) = overriding_said table row

@@ -1,13 +1,26 @@
 -- The rows of superclasses stand in the order of classes.
-use Rattle.std.proofs.Common.{◌≡◌, ℕ, zero, suc, ◌+◌, ◌<◌, ◌≤◌, ◌&&◌, true, false, cond, is_some, List, [], ◌∷◌, ◌++◌, length, get_or, sym, subst, arith}
-use Rattle.std.proofs.lemmas.List.{get_or-map, length-map}
+use Rattle.std.proofs.Common.{◌≡◌, ◌∙◌, ℕ, zero, suc, ◌+◌, ◌<◌, ◌≤◌, ◌&&◌, true, false, cond, is_some, List, [], ◌∷◌, ◌++◌, length, get_or, map, Option, None, Some, refl, ap, sym, subst, arith}
+use Rattle.std.proofs.lemmas.List.{get_or-map, length-map, map-append}
+use Rattle.std.specs.Option.{option_map_or}
+use Rattle.lang_base.specs.declared.effect.Constraint.{Constraint}
 use Rattle.lang_base.specs.declared.ty.Super.{Super}
 use Rattle.lang_base.specs.Types.{Ordered}
 use Rattle.syntax_tree.specs.declared.class.Class.{Class}
+use Rattle.syntax_tree.specs.declared.class.Parent.{Parent}
+use Rattle.syntax_tree.specs.declared.class.Program.{Program}
 use Rattle.decl_headers.specs.declared.header.Headers.{Headers}
+use Rattle.decl_headers.specs.Gathered.{headers_in}
 use Rattle.decl_headers.specs.Headers.{parent_of}
 use Rattle.decl_headers.specs.Numbers.{as_number}
-use Rattle.decl_classes.specs.Supers.{classes_in, all_extending}
+use Rattle.decl_headers.specs.Way.{IsCounted}
+use Rattle.decl_resolve.specs.Scopes.{PlainScope}
+use Rattle.decl_table.specs.Plain.{PlainSuper}
+use Rattle.decl_table.specs.Table.{supers_of}
+use Rattle.decl_classes.specs.Around.{class_scope}
+use Rattle.decl_classes.specs.Rows.{all_constraints, super_rows, supers_meant}
+use Rattle.decl_classes.specs.Signatures.{parent_meant}
+use Rattle.decl_classes.specs.Supers.{classes_in, extending, all_extending}
+use Rattle.decl_classes.specs.Tables.{super_of, table_of}
 
 cons_rises : (n : ℕ) (more : List ℕ) → ((k d : ℕ) → k < length more → n < get_or more k d) → ((i j d : ℕ) → i < j → j < length more → get_or more i d < get_or more j d) → (i j d : ℕ) → i < j → j < length (n ∷ more) → get_or (n ∷ more) i d < get_or (n ∷ more) j d
 cons_rises n more above rise i zero d lt below = absurd (omega arith)
@@ -72,3 +85,32 @@ extending_ordered headers classes supers e few i j d lt below =
     let left : get_or (classes_in supers) i d.class ≡ (get_or supers i d).class = get_or-map (λ row. row.class) supers i d d.class (omega arith) in
     let right : get_or (classes_in supers) j d.class ≡ (get_or supers j d).class = get_or-map (λ row. row.class) supers j d d.class below in
     omega (arith, rise, left, right)
+
+abbrev super_row : PlainScope → Parent → ℕ → PlainSuper
+super_row scope tree above = record { class = scope.class; parent = parent_meant scope tree above }
+
+-- a class has a row of its superclass exactly where it extends one that is there
+row_extends : (scope : PlainScope) (class : Class) → classes_in (map super_of (super_rows scope class)) ≡ extending scope.headers scope.class class
+row_extends scope class = by class.parent (parent_of scope.headers scope.class)
+  where
+    by : (tree : Option Parent) (above : Option ℕ) → classes_in (map super_of (option_map_or (λ t. option_map_or (λ one. super_row scope t one ∷ []) above []) tree [])) ≡ cond (is_some tree && is_some above) (scope.class ∷ []) []
+    by None above = refl
+    by (Some tree) None = refl
+    by (Some tree) (Some one) = refl
+
+pub rows_extend : (headers : Headers) (all : List (List Constraint)) (at : ℕ) (classes : List Class) → classes_in (map super_of (supers_meant headers all at classes)) ≡ all_extending headers at classes
+rows_extend headers all at [] = refl
+rows_extend headers all at (class ∷ classes) =
+    let scope = class_scope headers all (as_number at) in
+    let own = super_rows scope class in
+    let more = supers_meant headers all (at + 1) classes in
+    ap classes_in (map-append super_of own more)
+    ∙ map-append (λ row. row.class) (map super_of own) (map super_of more)
+    ∙ ap (λ here. here ++ classes_in (map super_of more)) (row_extends scope class)
+    ∙ ap (λ following. extending headers (as_number at) class ++ following) (rows_extend headers all (at + 1) classes)
+
+pub ordered_table : (program : Program) → IsCounted program.classes → Ordered (supers_of (table_of program))
+ordered_table program counted =
+    let headers = headers_in program in
+    let few : length program.classes ≤ 4294967296 = omega (arith, counted) in
+    extending_ordered headers program.classes (map super_of (supers_meant headers (all_constraints headers 0 program.classes) 0 program.classes)) (rows_extend headers (all_constraints headers 0 program.classes) 0 program.classes) few

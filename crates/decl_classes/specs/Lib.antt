@@ -1,9 +1,9 @@
 pub mod Around
 pub mod Build
-pub mod Once
 pub mod Overriding
 pub mod Reading
 pub mod Rows
 pub mod Signatures
 pub mod Summary
 pub mod Supers
+pub mod Tables

@@ -1,16 +1,16 @@
-ghost use Rattle.std.specs.Prelude.{◌≡◌, [], None, Some, map, length, IfOk, IfErr, OnOk};
+ghost use Rattle.std.specs.Prelude.{◌≡◌, None, Some, map, length, Ok, Err, IfOk, IfErr, OnOk};
 ghost use Rattle.lang_base.specs.Refused.{IfRefused};
 ghost use Rattle.lang_base.specs.Types.{Ordered};
 ghost use Rattle.decl_headers.specs.Gathered.{headers_in};
-ghost use Rattle.decl_headers.specs.Headers.{parents_of};
+ghost use Rattle.decl_headers.specs.First.{first_faults};
+ghost use Rattle.decl_headers.specs.Passes.{first_of};
 ghost use Rattle.decl_headers.specs.Second.{AreCounted};
-ghost use Rattle.decl_classes.specs.Build.{first_of, text_faults, table_faults, IsReadOf, AreWellNamed, IsTable, IsReported};
-ghost use Rattle.decl_table.specs.RowNumbers.{rows_on_way};
+ghost use Rattle.decl_classes.specs.Build.{text_faults, table_faults, check_table};
+ghost use Rattle.decl_classes.specs.Tables.{numbered_table};
 ghost use Rattle.decl_table.specs.Plain.{plain_super, plain_field, plain_method};
 ghost use Rattle.decl_classes.specs.Rows.{all_constraints, supers_meant, fields_meant, methods_meant};
 ghost use Rattle.decl_classes.specs.Supers.{classes_in, all_extending};
-ghost use Rattle.decl_table.specs.Table.{headers_of, methods_of, supers_of};
-ghost use Rattle.decl_table.specs.Visible.{overridden_on_way};
+ghost use Rattle.decl_table.specs.Table.{supers_of};
 
 use crate::overriding::check_overriding;
 use crate::signatures::{class_constraints, read_signatures};
@@ -26,10 +26,8 @@ use syntax_tree::{Class, Program};
 /// without its `Main`. Of these groups the first comes first, and in a group the fault with the least place.
 pub fn build(alloc: Global, program: &Program) -> Result<Table, Stop>
     requires { AreCounted (length program.now.names) program.now.classes }
-    ensures named { OnOk result (AreWellNamed program.now.classes) }
-    ensures table { IfOk result (IsTable program.now) }
-    ensures judged { IfOk result (λ table. first_of (table_faults table program.now.names) ≡ None) }
-    ensures refused { IfErr result (λ stop. IfRefused stop (IsReported program.now)) }
+    ensures made { IfOk result (λ table. check_table program.now ≡ Ok table) }
+    ensures refused { IfErr result (λ stop. IfRefused stop (λ fault. check_table program.now ≡ Err fault)) }
     ensures ordered { IfOk result (λ table. Ordered (supers_of table)) }
 {
     let headers = headers(alloc, program)?;
@@ -44,13 +42,10 @@ pub fn build(alloc: Global, program: &Program) -> Result<Table, Stop>
 fn of_signatures(alloc: Global, headers: Headers, program: &Program) -> Result<Table, Stop>
     requires counted { AreCounted (length program.now.names) program.now.classes }
     requires headers { headers ≡ headers_in program.now }
-    ensures read { IfOk result (IsReadOf program.now.classes) }
-    ensures headers { IfOk result (λ table. headers_of table ≡ headers) }
-    ensures overrides { IfOk result (λ table. table.overrides ≡ overridden_on_way (parents_of headers) (methods_of table) (length program.now.names)) }
-    ensures rows { IfOk result (λ table. table.rows ≡ rows_on_way headers (methods_of table) table.overrides) }
+    requires first { first_of (first_faults program.now.classes) ≡ None }
+    ensures free { OnOk result (first_of (text_faults headers program.now.classes) ≡ None) }
+    ensures made { IfOk result (λ table. table ≡ numbered_table program.now) }
     ensures refused { IfErr result (λ stop. IfRefused stop (λ fault. first_of (text_faults headers program.now.classes) ≡ Some fault)) }
-    ensures forks { IfOk result (λ table. table.forks ≡ []) }
-    ensures extending { IfOk result (λ table. classes_in (supers_of table) ≡ all_extending (headers_of table) 0 program.now.classes) }
 {
     let classes = program.classes.as_slice();
     let Read { given, made } = read_all(alloc, &headers, classes)?;

@@ -32,6 +32,7 @@ use Rattle.decl_classes.specs.Rows.{methods_from, methods_meant, own_methods}
 use Rattle.decl_table.specs.Table.{headers_of, methods_of}
 use Rattle.decl_classes.proofs.Overrides.{row_counted}
 use Rattle.decl_laws.specs.Rows.{is_own, HasRows}
+use Rattle.decl_laws.proofs.Granted.{granted}
 
 -- an element of two lists one after the other
 pub got_either : {A : Type 0} (xs ys : List A) (i : ℕ) (x : A) → slice_get (xs ++ ys) i ≡ Some x → (slice_get xs i ≡ Some x) ⊎ ((j : ℕ) × (i ≡ length xs + j) × (slice_get ys j ≡ Some x))
@@ -90,21 +91,21 @@ pub record Facts (table : Table) : Type 0 where
 
 pub facts_of : (program : Program) (table : Table) → HasRows program table → Facts table
 facts_of program table has = record {
-  forest = subst IsForest (sym same) (sound_from program.classes has.counted.0 has.named.first);
+  forest = subst IsForest (sym same) (sound_from program.classes has.counted.0 (granted has).first);
   numbered = λ i row e.
       let within = slice_get_within (methods_of table) i row e in
-      let is = meant_numbered (headers_of table) table.given 0 0 program.classes i (plain_method row) (sym (ap (λ rows. slice_get rows i) has.is_table.read.methods) ∙ slice_get-map plain_method (methods_of table) i ∙ ap (option_map plain_method) e) in
+      let is = meant_numbered (headers_of table) table.given 0 0 program.classes i (plain_method row) (sym (ap (λ rows. slice_get rows i) (granted has).read.methods) ∙ slice_get-map plain_method (methods_of table) i ∙ ap (option_map plain_method) e) in
       omega (arith, is, within, has.few);
   owned = λ i row e.
-      let l = (row_counted program (headers_of table) table.given (methods_of table) has.counted has.is_table.read.methods i row e).1 in
+      let l = (row_counted program (headers_of table) table.given (methods_of table) has.counted (granted has).read.methods i row e).1 in
       omega (arith, l, as_many);
   overrides = λ i row e.
-      ap (λ os. entry_at os i) has.is_table.overridden
+      ap (λ os. entry_at os i) (granted has).overridden
       ∙ ap (option_and_then (λ o. o)) (slice_get-map (overridden_in table) (methods_of table) i ∙ ap (option_map (overridden_in table)) e);
 }
   where
     same : parents_of (headers_of table) ≡ parents_in program.classes
-    same = ap parents_of has.is_table.headers ∙ parents_gathered program.classes (headers_in program).rows _ refl
+    same = ap parents_of (granted has).headers ∙ parents_gathered program.classes (headers_in program).rows _ refl
 
     as_many : length (parents_of (headers_of table)) ≡ length program.classes
     as_many = ap length same ∙ length_parents program.classes

@@ -7,7 +7,7 @@ use Rattle.std.specs.Option.{option_and_then, option_map, option_map_or}
 use Rattle.std.specs.Prelude.{slice_get, unwrap_or}
 use Rattle.decl_headers.specs.Headers.{parent_of, parents_of, class_count}
 use Rattle.decl_headers.specs.Rounds.{entry_of, up}
-use Rattle.decl_headers.proofs.Cycles.{up-then}
+use Rattle.decl_headers.proofs.Cycles.{not_round, up-then}
 use Rattle.decl_headers.proofs.Inheriting.{made_step}
 use Rattle.decl_headers.proofs.Walks.{top_none}
 use Rattle.decl_table.specs.declared.rows.MethodRow.{MethodRow}
@@ -173,7 +173,7 @@ tallied table facts (suc n) class e = by (parent_of (headers_of table) class) re
             or_not true k =
                 let u = w.above class k in
                 let on : u.0 + 1 ≡ suc u.0 = omega arith in
-                absurd (facts.forest.straight class (u.0, ap (λ k. up parents k class) (sym on) ∙ up-then parents u.0 1 class parent (sym (parent_is table class) ∙ is) ∙ u.1))
+                absurd (not_round (parents_of (headers_of table)) class (facts.forest.straight class) (u.0, ap (λ k. up parents k class) (sym on) ∙ up-then parents u.0 1 class parent (sym (parent_is table class) ∙ is) ∙ u.1))
 
 pub members_few : (table : Table) → Facts table → (class : ℕ) → length (members_in table class) ≤ length (methods_of table)
 members_few table facts class =

@@ -12,7 +12,7 @@ use Rattle.decl_headers.specs.declared.forest.Step.TheVariants as step
 use Rattle.decl_headers.specs.Headers.{parent_of, parents_of, class_count}
 use Rattle.decl_headers.specs.Rounds.{entry_of, up}
 use Rattle.decl_headers.specs.Way.{way_of}
-use Rattle.decl_headers.proofs.Cycles.{up-then}
+use Rattle.decl_headers.proofs.Cycles.{not_round, up-then}
 use Rattle.decl_headers.proofs.Inheriting.{made_step}
 use Rattle.decl_table.specs.declared.overridden.Own.{Own}
 use Rattle.decl_table.specs.declared.rows.MethodRow.{MethodRow}
@@ -26,6 +26,7 @@ use Rattle.decl_table.proofs.Visible.{own_from, own_listed}
 use Rattle.decl_laws.specs.Rows.{is_own, one_new, new_in, RowIs, inherited, HasRows}
 use Rattle.decl_laws.proofs.Facts.{Facts, facts_of, parent_is, IsMethod, named_is, over_is}
 use Rattle.decl_laws.proofs.Few.{sized, members_few}
+use Rattle.decl_laws.proofs.Granted.{granted}
 use Rattle.decl_laws.proofs.Numbers.{owner_of, method_own, Starts, Numbered, numbered}
 use Rattle.decl_laws.proofs.Way.{after, Above, Enters, settled}
 
@@ -107,7 +108,7 @@ module _ (table : Table) (facts : Facts table) (few : length (methods_of table) 
         straight : (above owner n : ℕ) → parent_of (headers_of table) class ≡ Some above → up parents n above ≡ Some owner → owner ≡ class → ⊥
         straight above owner n e u same =
             let on : n + 1 ≡ suc n = omega arith in
-            facts.forest.straight class (n, ap (λ k. up parents k class) (sym on) ∙ up-then parents n 1 class above (sym (parent_is table class) ∙ e) ∙ u ∙ ap Some same)
+            not_round (parents_of (headers_of table)) class (facts.forest.straight class) (n, ap (λ k. up parents k class) (sym on) ∙ up-then parents n 1 class above (sym (parent_is table class) ∙ e) ∙ u ∙ ap Some same)
 
     done : (s : Counts) (class : ℕ) → Fine s → Above enter parents Fine Done s class → Numbered table.overrides (methods_of table) (inherited table) class 0 (methods_of table) (first_seen s class) (seen_in s class)
     done s class fine holds = numbered table.overrides (methods_of table) (inherited table) class 0 [] (methods_of table) (first_seen s class) (starts s class fine holds)
@@ -156,4 +157,4 @@ module _ (table : Table) (facts : Facts table) (few : length (methods_of table) 
 
 pub rows_given : (program : Program) (table : Table) → HasRows program table → (id : ℕ) (method : MethodRow) → slice_get (methods_of table) id ≡ Some method → method.is_constructor ≡ false →
     RowIs table.overrides (methods_of table) (inherited table) id (row_of table id)
-rows_given program table has id method there plain = all_given table (facts_of program table has) has.few id method there plain has.is_table.rows
+rows_given program table has id method there plain = all_given table (facts_of program table has) has.few id method there plain (granted has).rows

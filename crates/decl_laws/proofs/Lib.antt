@@ -2,9 +2,6 @@ pub mod Facts
 pub mod Few
 pub mod Given
 pub mod Numbers
+pub mod Granted
 pub mod Stand
 pub mod Way
-pub mod Rounds
-pub mod Marks
-pub mod Rows
-pub mod Tables

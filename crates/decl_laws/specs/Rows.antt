@@ -1,12 +1,12 @@
 -- The rows of methods, and that the class table gives them so.
-use Rattle.std.specs.Prelude.{◌≡◌, ◌⊎◌, ◌≤◌, ℕ, ◌+◌, Bool, true, false, not, ◌&&◌, ◌==◌, cond, is_none, List, [], ◌∷◌, length, take, slice_get, Option, None, Some}
+use Rattle.std.specs.Prelude.{◌≡◌, ◌⊎◌, ◌≤◌, ℕ, ◌+◌, Bool, true, false, not, ◌&&◌, ◌==◌, cond, is_none, List, [], ◌∷◌, length, take, slice_get, Option, None, Some, Ok}
 use Rattle.std.specs.Option.{option_map_or}
 use Rattle.syntax_tree.specs.declared.class.Program.{Program}
 use Rattle.decl_headers.specs.Headers.{parent_of}
 use Rattle.decl_headers.specs.Second.{AreCounted}
 use Rattle.decl_table.specs.declared.rows.MethodRow.{MethodRow}
 use Rattle.decl_table.specs.declared.table.Table.{Table}
-use Rattle.decl_classes.specs.Build.{AreWellNamed, IsTable}
+use Rattle.decl_classes.specs.Build.{check_table}
 use Rattle.decl_table.specs.Inherited.{members_in}
 use Rattle.decl_table.specs.Places.{entry_at}
 use Rattle.decl_table.specs.Table.{headers_of, methods_of, method_of, overridden_by, row_of}
@@ -34,12 +34,11 @@ pub data RowIs (overrides : List (Option ℕ)) (methods : List MethodRow) (base 
 abbrev pub inherited : Table → ℕ → ℕ
 inherited table class = option_map_or (λ above. length (members_in table above)) (parent_of (headers_of table) class) 0
 
--- names and signatures of the program are counted and free of faults, there are no more methods than numbers, and this is its table
+-- the program is given this table, its names are counted, and there are no more methods than numbers
 pub record HasRows (program : Program) (table : Table) : Type 0 where
   pub counted : AreCounted (length program.names) program.classes
   pub few : length (methods_of table) ≤ 4294967295
-  pub named : AreWellNamed program.classes
-  pub is_table : IsTable program table
+  pub has_table : check_table program ≡ Ok table
 
 -- the table gives each method its row
 abbrev pub RowsAreGiven : Type 0

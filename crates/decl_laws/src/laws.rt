@@ -1,7 +1,6 @@
 //! The laws of class tables, each the clause of a function that does nothing.
 
 ghost use Rattle.decl_laws.specs.Rows.{RowsAreGiven, MethodsStand, RowsAreKept};
-ghost use Rattle.decl_laws.specs.Laws.{EachTable};
 
 /// The table gives each method its row; the method stands there in each class in which its name means it; and a class keeps
 /// the rows of its superclass.
@@ -9,9 +8,4 @@ pub fn law_rows()
     ensures given { RowsAreGiven }
     ensures stand { MethodsStand }
     ensures kept { RowsAreKept }
-{}
-
-/// Each program has a class table, or a first fault of names and signatures.
-pub fn law_each_table()
-    ensures some { EachTable }
 {}

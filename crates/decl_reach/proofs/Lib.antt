@@ -1,3 +1,4 @@
 pub mod Joined
 pub mod Locals
 pub mod Marking
+pub mod Reaching

@@ -6,8 +6,10 @@ use Rattle.std.proofs.lemmas.List.{get_or_default, get_or_past, length_push, nil
 use Rattle.std.proofs.lemmas.List.Folds.{list_any-append}
 use Rattle.std.proofs.lemmas.List.Sums.{sum_by-set, sum_by-cons, count_by-le-length}
 use Rattle.decl_reach.specs.declared.reach.Edge.{Edge}
-use Rattle.decl_reach.specs.Reach.{is_marked, leads, IsAfter, itself, before}
+use Rattle.decl_reach.specs.Reach.{is_marked, reaching}
 use Rattle.decl_reach.specs.Marking.{sources, with_source, places_from, all_marked, all_added}
+use Rattle.decl_reach.proofs.Reaching.{leads, IsAfter, marked_within, reaching_is}
+use Rattle.decl_reach.proofs.Reaching.IsAfter.{itself, before}
 
 abbrev pub among : List ℕ → ℕ → Bool
 among xs at = list_any (λ x. x == at) xs
@@ -62,12 +64,6 @@ among_cases xs x at h =
       | inl m ↦ inl m
       | inr l ↦ elim (or_cases (x == at) false l) [ inl e ↦ inr (eqb-true x at e) | inr f ↦ absurd (false≢true f) ]
     ]
-
--- what is marked stands within the marks
-pub marked_within : (marks : List Bool) (at : ℕ) → is_marked marks at ≡ true → at < length marks
-marked_within [] at m = absurd (false≢true m)
-marked_within (mark ∷ marks) zero m = omega arith
-marked_within (mark ∷ marks) (suc at) m = let h = marked_within marks at m in omega arith
 
 set_here : (marks : List Bool) (at : ℕ) → at < length marks → is_marked (set marks at true) at ≡ true
 set_here marks at below = get_or-set_same marks at true false below
@@ -237,8 +233,8 @@ turn_within {marks = marks} pending to h =
     omega (arith, h.same_length, marked_within marks to (h.noted to (among_last pending to to refl)))
 
 -- nothing is left: what is marked is what reaches something that was marked first
-pub done : {first : List Bool} {edges : List Edge} {marks : List Bool} {taken : ℕ} → Marking first edges marks [] taken 0 [] → (at : ℕ) → (is_marked marks at ≡ true) ↔ IsAfter first edges at
-done {first = first} {edges = edges} {marks = marks} h at = (h.sound at, reached)
+pub done : {first : List Bool} {edges : List Edge} {marks : List Bool} {taken : ℕ} → Marking first edges marks [] taken 0 [] → marks ≡ reaching edges first
+done {first = first} {edges = edges} {marks = marks} h = reaching_is edges first marks h.same_length (λ at. (h.sound at, reached))
   where
     reached : {one : ℕ} → IsAfter first edges one → is_marked marks one ≡ true
     reached (itself one m) = h.kept one m

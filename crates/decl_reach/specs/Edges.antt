@@ -1,13 +1,17 @@
--- From which methods and constructors to which others calls and creations lead.
-use Rattle.std.specs.Prelude.{ℕ, ◌+◌, List, [], ◌∷◌, ◌++◌, map, length}
+-- From which methods and constructors to which others calls, creations and overriding lead, and which of them reach an
+-- nd construct.
+use Rattle.std.specs.Prelude.{ℕ, ◌+◌, Bool, List, [], ◌∷◌, ◌++◌, map, length}
+use Rattle.std.specs.List.{flat_map}
 use Rattle.syntax_tree.specs.declared.class.Class.{Class}
 use Rattle.syntax_tree.specs.declared.class.Member.{Member}
 use Rattle.syntax_tree.specs.declared.class.Member.TheVariants as member
 use Rattle.decl_headers.specs.Numbers.{as_number}
 use Rattle.decl_reach.specs.declared.reach.Edge.{Edge}
 use Rattle.decl_table.specs.declared.table.Table.{Table}
-use Rattle.decl_reach.specs.Bodies.{own_marks, class_marks}
+use Rattle.decl_table.specs.Table.{methods_of}
+use Rattle.decl_reach.specs.Bodies.{own_marks, class_marks, override_edges}
 use Rattle.decl_reach.specs.Calls.{body_calls}
+use Rattle.decl_reach.specs.Reach.{reaching}
 
 abbrev pub edges_from : ℕ → List ℕ → List Edge
 edges_from from called = map (λ to. record { from = from; to = to }) called
@@ -32,3 +36,12 @@ call_edges table at count (class ∷ classes) =
 -- the table before it says what forks, in which calls are looked up
 abbrev pub without_forks : Table → Table
 without_forks table = record table { forks = [] }
+
+-- of all classes, and from each method to those that override it
+abbrev pub edges_in : Table → List Class → List Edge
+edges_in table classes = call_edges table 0 0 classes ++ override_edges table (methods_of table)
+
+-- of each method and constructor, whether an nd construct is reached through it: one is in its body, or a call, a creation
+-- or an overriding method leads from it to one of which that is so
+abbrev pub forks_in : Table → List Class → List Bool
+forks_in table classes = reaching (edges_in table classes) (flat_map class_marks classes)

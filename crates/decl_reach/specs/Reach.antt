@@ -1,16 +1,24 @@
 -- What reaches something that is marked, by any chain of edges.
-use Rattle.std.specs.Prelude.{◌≡◌, ℕ, ◌<◌, Bool, true, false, ◌&&◌, ◌==◌, List, length, slice_index_or}
-use Rattle.std.specs.List.{list_any}
+use Rattle.std.specs.Prelude.{ℕ, zero, suc, Bool, false, ◌&&◌, ◌||◌, ◌==◌, List, map, length, slice_index_or}
+use Rattle.std.specs.List.{list_any, range_with_len}
 use Rattle.decl_reach.specs.declared.reach.Edge.{Edge}
 
 abbrev pub is_marked : List Bool → ℕ → Bool
 is_marked marks at = slice_index_or marks at false
 
--- an edge leads from the first to the second
-abbrev pub leads : List Edge → ℕ → ℕ → Bool
-leads edges from to = list_any (λ edge. (edge.from == from) && (edge.to == to)) edges
+-- an edge leads from it to one that is marked
+abbrev pub leads_on : List Edge → List Bool → ℕ → Bool
+leads_on edges marks at = list_any (λ edge. (edge.from == at) && is_marked marks edge.to) edges
 
--- it is marked itself, or an edge leads from it to one that is so
-pub data IsAfter (marks : List Bool) (edges : List Edge) : ℕ → Type 0 where
-  itself : (at : ℕ) → is_marked marks at ≡ true → IsAfter marks edges at
-  before : (at next : ℕ) → at < length marks → leads edges at next ≡ true → IsAfter marks edges next → IsAfter marks edges at
+-- what is marked, and what an edge leads from to one that is
+abbrev pub spread : List Edge → List Bool → List Bool
+spread edges marks = map (λ at. is_marked marks at || leads_on edges marks at) (range_with_len 0 (length marks))
+
+-- the same so many times
+abbrev pub spread_by : ℕ → List Edge → List Bool → List Bool
+spread_by zero edges marks = marks
+spread_by (suc n) edges marks = spread edges (spread_by n edges marks)
+
+-- what is marked, and what any chain of edges leads from to one that is: no chain needs more edges than there are marks
+abbrev pub reaching : List Edge → List Bool → List Bool
+reaching edges marks = spread_by (length marks) edges marks

@@ -1,8 +1,6 @@
-ghost use Rattle.std.specs.Prelude.{◌≡◌, ◌↔◌, ◌++◌, ℕ, true, length, IfOk, OnOk};
-ghost use Rattle.std.specs.List.{flat_map};
+ghost use Rattle.std.specs.Prelude.{◌≡◌, ◌++◌, length, IfOk, OnOk};
 ghost use Rattle.decl_reach.specs.Bodies.{own_marks, class_marks, override_edge, override_edges};
-ghost use Rattle.decl_reach.specs.Edges.{edges_from, member_edges, class_edges, call_edges};
-ghost use Rattle.decl_reach.specs.Reach.{is_marked, IsAfter};
+ghost use Rattle.decl_reach.specs.Edges.{edges_from, member_edges, class_edges, forks_in};
 ghost use Rattle.decl_table.specs.Table.{methods_of};
 
 use crate::calls::reached_by;
@@ -15,8 +13,7 @@ use syntax_tree::{Class, Member};
 
 /// Of each method and constructor, whether an nd construct is reached through it.
 pub fn find_forks(alloc: Global, table: &Table, classes: &[Class]) -> Result<Items<bool>, NoMemory>
-    ensures as_many { IfOk result (λ forks. length forks ≡ length (flat_map class_marks classes.now)) }
-    ensures each { IfOk result (λ forks. (at : ℕ) → (is_marked forks at ≡ true) ↔ IsAfter (flat_map class_marks classes.now) (call_edges table.now 0 0 classes.now ++ override_edges table.now (methods_of table.now)) at) }
+    ensures { IfOk result (λ forks. forks ≡ forks_in table.now classes.now) }
 {
     let mut edges = Items::new(alloc);
     let mut marks = Vec::new(alloc);

@@ -1,5 +1,5 @@
-ghost use Rattle.std.specs.Prelude.{◌≡◌, ℕ, ◌<◌, ◌↔◌, true, [], replicate, slice_index_or, OnOk, IfOk};
-ghost use Rattle.decl_reach.specs.Reach.{is_marked, IsAfter};
+ghost use Rattle.std.specs.Prelude.{◌≡◌, ℕ, ◌<◌, [], replicate, slice_index_or, OnOk, IfOk};
+ghost use Rattle.decl_reach.specs.Reach.{reaching};
 ghost use Rattle.decl_reach.specs.Marking.{sources, with_source, places_from, marked, added, all_marked, all_added};
 
 use lang_base::{Items, NoMemory};
@@ -14,7 +14,7 @@ pub struct Edge {
 
 /// Marks whatever reaches something that is marked, by any chain of edges.
 pub fn mark_reaching(alloc: Global, marks: &mut [bool], edges: &[Edge]) -> Result<(), NoMemory>
-    ensures { OnOk result ((at : ℕ) → (is_marked marks.new at ≡ true) ↔ IsAfter marks.old edges.now at) }
+    ensures { OnOk result (marks.new ≡ reaching edges.now marks.old) }
 {
     let sources = sources(alloc, marks.len(), edges)?;
     let mut pending = marked_places(alloc, marks)?;

@@ -9,8 +9,7 @@ use Rattle.std.specs.Prelude.{slice_get, slice_index_or}
 use Rattle.decl_headers.specs.declared.forest.Step.{Step}
 use Rattle.decl_headers.specs.declared.forest.Step.TheVariants as step
 use Rattle.decl_headers.specs.Headers.{chain, nearest}
-use Rattle.decl_headers.specs.Rounds.{entry_of}
-use Rattle.decl_headers.specs.Second.{superclasses}
+use Rattle.decl_headers.specs.Rounds.{entry_of, superclasses}
 use Rattle.decl_headers.specs.Way.{IsForest, extensions, extending, roots, last_first, walk, walks, way_of, deep}
 use Rattle.decl_headers.proofs.Among.{among_either}
 use Rattle.decl_headers.proofs.Cycles.{entry_within}

@@ -14,6 +14,7 @@ use Rattle.decl_table.specs.declared.table.Table.{Table}
 use Rattle.decl_table.specs.Table.{headers_of, methods_of}
 use Rattle.body_assembly.specs.Assembled.{PlainBody, member_of, members_of, program_of}
 use Rattle.decl_laws.proofs.Facts.{Facts, facts_of}
+use Rattle.decl_laws.proofs.Granted.{granted}
 use Rattle.sound_lemmas.proofs.BodyRules.{checks_in}
 use Rattle.sound_lemmas.specs.Accepted.{IsAccepted}
 use Rattle.sound_lemmas.proofs.Lists.{some_same, there}
@@ -51,7 +52,7 @@ module _ (program : Program) (table : Table) (bodies : List PlainBody) (accepted
     facts = facts_of program table accepted.rows
 
     as_many : length bodies ≡ length (methods_of table)
-    as_many = bodies_made (checks_in program table accepted.checked) ∙ sym (rows_many program table accepted.rows.is_table.read)
+    as_many = bodies_made (checks_in program table accepted.checked) ∙ sym (rows_many program table (granted accepted.rows).read)
 
     classes_many : length (parents_of (headers_of table)) ≡ class_count (headers_of table)
     classes_many = length-map (headers_of table).rows (λ (row : Header). row.parent)

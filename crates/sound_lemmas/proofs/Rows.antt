@@ -6,6 +6,7 @@ use Rattle.syntax_tree.specs.declared.class.Class.{Class}
 use Rattle.syntax_tree.specs.declared.class.Member.{Member}
 use Rattle.syntax_tree.specs.declared.class.Member.TheVariants as member
 use Rattle.syntax_tree.specs.Size.{class_size, member_size}
+use Rattle.decl_laws.proofs.Granted.{granted_of}
 use Rattle.sound_lemmas.specs.Accepted.{SmallHasRows}
 use Rattle.sound_lemmas.proofs.Signatures.{methods_in, own_in, all_methods, rows_many}
 
@@ -25,9 +26,8 @@ all_small (class ∷ classes) =
     omega (arith, methods_small class.members, all_small classes, length-append (methods_in class.members) (all_methods classes), sum_by-cons class_size class classes)
 
 pub small_has_rows : SmallHasRows
-small_has_rows program table counted named is_table small = record {
+small_has_rows program table counted has_table small = record {
   counted = counted;
-  few = (let many = rows_many program table is_table.read in let le = all_small program.classes in omega (arith, many, le, small));
-  named = named;
-  is_table = is_table;
+  few = (let many = rows_many program table (granted_of program table has_table).read in let le = all_small program.classes in omega (arith, many, le, small));
+  has_table = has_table;
 }

@@ -12,10 +12,10 @@ use Rattle.syntax_tree.specs.declared.class.Method.{Method}
 use Rattle.syntax_tree.specs.declared.class.Program.{Program}
 use Rattle.decl_table.specs.declared.table.Table.{Table}
 use Rattle.decl_classes.specs.Around.{class_scope}
-use Rattle.decl_classes.specs.Build.{IsReadOf}
 use Rattle.decl_table.specs.Plain.{plain_method}
 use Rattle.decl_classes.specs.Rows.{methods_from, methods_meant}
 use Rattle.decl_table.specs.Table.{headers_of, methods_of}
+use Rattle.decl_laws.proofs.Granted.{IsReadOf}
 
 -- the methods and constructors of members, and of classes, in the order of the text
 abbrev pub own_in : Member → List Method

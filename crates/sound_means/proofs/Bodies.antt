@@ -40,6 +40,7 @@ use Rattle.decl_table.specs.declared.rows.MethodRow.{MethodRow}
 use Rattle.decl_table.specs.declared.table.Table.{Table}
 use Rattle.decl_table.specs.Plain.{PlainMethod}
 use Rattle.decl_table.specs.Table.{headers_of, field_of, method_of, numbered}
+use Rattle.decl_laws.proofs.Granted.{granted}
 use Rattle.body_assembly.specs.Assembled.{PlainBody}
 use Rattle.body_exprs.specs.declared.env.Env.{Env}
 use Rattle.body_exprs.specs.Env.{table_of, scope_of, at_class, at_members, with_row, params_named}
@@ -149,7 +150,7 @@ module _ (program : Program) (table : Table) (bodies : List PlainBody) (named : 
 
     headers_are : params_in (headers_of (table_of start)) k.number ≡ map param_row text.params.list
     headers_are =
-        ap (λ (t : Table). params_in (headers_of t) k.number) table_is ∙ ap (λ headers. params_in headers k.number) accepted.rows.is_table.headers
+        ap (λ (t : Table). params_in (headers_of t) k.number) table_is ∙ ap (λ headers. params_in headers k.number) (granted accepted.rows).headers
         ∙ ap (λ o. option_map_or (λ (header : Header). header.params) o []) (class_header _ _ 0 program.classes k.number text there)
 
     regions_are : k.row.regions ≡ map param_row k.method.params.list

@@ -23,7 +23,6 @@ use Rattle.syntax_means.specs.Declares.{inherited_fields as inherited_many}
 use Rattle.syntax_means.specs.Means.{ClassMeans, ConstructorMeans, ConstraintMeans, ParentMeans, in_class, rows_above, with_methods}
 use Rattle.syntax_means.specs.Means.ParentMeans.{no_parent, a_parent}
 use Rattle.syntax_means.specs.Paths.{ArgsMean}
-use Rattle.decl_headers.specs.declared.faults.Faults.{Faults}
 use Rattle.decl_headers.specs.declared.faults.Order.TheVariants as order
 use Rattle.decl_headers.specs.declared.header.Headers.{Headers}
 use Rattle.decl_headers.specs.declared.header.ParamRow.{ParamRow}
@@ -47,10 +46,11 @@ use Rattle.decl_table.specs.Places.{by_place, is_super_of, super_place}
 use Rattle.decl_table.specs.Plain.{PlainField, PlainSuper, plain_super}
 use Rattle.decl_table.specs.Table.{headers_of, supers_of, constructor_of, parent_args_of, parent_type_of, class_paths}
 use Rattle.decl_classes.specs.Around.{class_scope}
-use Rattle.decl_classes.specs.Build.{IsReadOf, text_faults}
+use Rattle.decl_classes.specs.Build.{text_faults}
 use Rattle.decl_classes.specs.Rows.{all_constraint_faults, class_faults, fields_from, fields_meant, first_slot, member_faults, super_faults}
 use Rattle.decl_classes.specs.Signatures.{constraints_meant, constraints_faults, parent_args, parent_arg_faults, parent_faults, fit_faults}
 use Rattle.decl_laws.proofs.Facts.{parent_is}
+use Rattle.decl_laws.proofs.Granted.{IsReadOf, granted}
 use Rattle.lang_typed.specs.Plain.{PlainProgram, PlainClass, PlainParent}
 use Rattle.lang_typed.specs.Scope.{class_at}
 use Rattle.body_assembly.specs.Assembled.{PlainBody, class_of, field_of, parent_at}
@@ -112,7 +112,7 @@ module _ (program : Program) (table : Table) (bodies : List PlainBody) (written 
     headers = headers_of table
 
     read : IsReadOf program.classes table
-    read = accepted.rows.is_table.read
+    read = (granted accepted.rows).read
 
     -- the superclass that is written, with its region arguments
     record Extends (c above : ℕ) : Type 0 where
@@ -224,13 +224,12 @@ module _ (program : Program) (table : Table) (bodies : List PlainBody) (written 
         -- the superclass
         entry : parent_of headers c ≡ named_parent (class_named program.classes) class
         entry =
-            parent_is table c ∙ ap (λ ps. entry_of ps c) (ap parents_of accepted.rows.is_table.headers ∙ parents_gathered program.classes (headers_in program).rows _ refl)
+            parent_is table c ∙ ap (λ ps. entry_of ps c) (ap parents_of (granted accepted.rows).headers ∙ parents_gathered program.classes (headers_in program).rows _ refl)
             ∙ ap (option_and_then (λ (o : Option ℕ). o)) (got_mapped (named_parent (class_named program.classes)) program.classes c class stands)
 
         none_above : parent_of headers c ≡ None → class.parent ≡ None
         none_above none =
-            let first = accepted.rows.named.first in
-            let all = none_reported (none_by order.Place) (first_faults program.classes first.1.0) (ap (λ (z : Faults). z.kept) (sym first.1.2) ∙ first.2) in
+            let all = none_reported (none_by order.Place) (first_faults program.classes) (granted accepted.rows).first in
             let rest = append_none (second_classes [] program.classes) _ all in
             let unknown = append_none (unknown_parents (class_named program.classes) program.classes) _ rest.1 in
             none_extends (class_named program.classes) class (parent_known (class_named program.classes) program.classes c class stands unknown.0) (sym entry ∙ none)

@@ -42,6 +42,7 @@ use Rattle.decl_table.specs.Table.{headers_of, fields_of, own_field, field_of, m
 use Rattle.decl_classes.specs.Around.{class_scope}
 use Rattle.decl_classes.specs.Rows.{fields_from, fields_meant, first_slot}
 use Rattle.decl_laws.proofs.Facts.{Facts, facts_of, nearest_in, own_is}
+use Rattle.decl_laws.proofs.Granted.{granted}
 use Rattle.body_assembly.specs.Assembled.{PlainBody}
 use Rattle.body_assembly.specs.Assembled.{class_of as typed_class, field_of as typed_field}
 use Rattle.lang_typed.specs.Plain.{PlainProgram, PlainClass, PlainParent}
@@ -281,7 +282,7 @@ module _ (program : Program) (table : Table) (bodies : List PlainBody) (written 
 
     pub as_many : class_count (headers_of table) ≡ length program.classes
     as_many =
-        ap (λ (h : Headers). length h.rows) accepted.rows.is_table.headers
+        ap (λ (h : Headers). length h.rows) (granted accepted.rows).headers
         ∙ length_rows (parents_in program.classes) (object_fields program.classes (parents_in program.classes)) 0 program.classes
 
     abbrev pub header_at : ℕ → Class → Header
@@ -290,7 +291,7 @@ module _ (program : Program) (table : Table) (bodies : List PlainBody) (written 
     -- the header of a class
     pub header_there : (c : ℕ) (class : Class) → slice_get program.classes c ≡ Some class → header_of (headers_of table) c ≡ Some (header_at (0 + c) class)
     header_there c class is =
-        ap (λ (h : Headers). header_of h c) accepted.rows.is_table.headers
+        ap (λ (h : Headers). header_of h c) (granted accepted.rows).headers
         ∙ class_header (parents_in program.classes) (object_fields program.classes (parents_in program.classes)) 0 program.classes c class is
 
     class_means : (name at : ℕ) → class_of (headers_of table) name ≡ Some at → ClassNamed program name at
@@ -327,7 +328,7 @@ module _ (program : Program) (table : Table) (bodies : List PlainBody) (written 
 
     -- the rows of region names are those that the text declares
     pub region_list : (headers_of table).regions ≡ map row_of (all_regions program)
-    region_list = let few = classes_few in ap (λ (h : Headers). h.regions) accepted.rows.is_table.headers ∙ all_rows 0 program.classes (omega (arith, few))
+    region_list = let few = classes_few in ap (λ (h : Headers). h.regions) (granted accepted.rows).headers ∙ all_rows 0 program.classes (omega (arith, few))
 
     abbrev is_region : ℕ → ℕ → RegionRow → Bool
     is_region c name row = (row.owner == c) && (row.name == name)
@@ -410,7 +411,7 @@ module _ (program : Program) (table : Table) (bodies : List PlainBody) (written 
     meant = fields_meant (headers_of table) table.given 0 program.classes
 
     fields_said : map plain_field (fields_of table) ≡ meant
-    fields_said = accepted.rows.is_table.read.fields
+    fields_said = (granted accepted.rows).read.fields
 
     field_declared : (name c place : ℕ) (row : FieldRow) → slice_get (fields_of table) place ≡ Some row → own_field table c name ≡ Some place → DeclaresField program P name c row.slot
     field_declared name c place row at is =

@@ -20,7 +20,8 @@ use Rattle.decl_headers.specs.Faults.{none_by}
 use Rattle.decl_headers.specs.First.{parents_in}
 use Rattle.decl_headers.specs.Numbers.{as_number}
 use Rattle.decl_headers.specs.Passes.{fault_if, is_constructor_result}
-use Rattle.decl_headers.specs.Second.{method_in, method_names, own_methods, own_params, own_regions, own_fields, names_in, superclasses, is_known, second_of, second_faults, wrong_at, wrong_in_class}
+use Rattle.decl_headers.specs.Rounds.{superclasses}
+use Rattle.decl_headers.specs.Second.{method_in, method_names, own_methods, own_params, own_regions, own_fields, names_in, is_known, second_of, second_faults, wrong_at, wrong_in_class}
 use Rattle.decl_table.specs.declared.rows.MethodRow.{MethodRow}
 use Rattle.decl_table.specs.declared.table.Table.{Table}
 use Rattle.decl_table.specs.Plain.{PlainMethod, plain_method}
@@ -30,6 +31,7 @@ use Rattle.decl_classes.specs.Rows.{method_row, methods_meant}
 use Rattle.decl_classes.specs.Rows.{methods_from as rows_from}
 use Rattle.decl_laws.specs.Rows.{HasRows}
 use Rattle.decl_laws.proofs.Facts.{got_either}
+use Rattle.decl_laws.proofs.Granted.{granted}
 use Rattle.sound_lemmas.proofs.Free.{append_none, fault_none, none_reported, or_false}
 use Rattle.sound_lemmas.proofs.Lists.{some_same, got_mapped, there}
 use Rattle.sound_decls.proofs.table.Text.{flat_free}
@@ -246,7 +248,7 @@ module _ (program : Program) (table : Table) (has : HasRows program table)
   where
     free : AreFree program.classes
     free j class e =
-        let all = none_reported (none_by order.Place) (second_faults program.classes (parents_in program.classes)) has.named.second in
+        let all = none_reported (none_by order.Place) (second_faults program.classes (parents_in program.classes)) (granted has).second in
         let l = slice_get_within program.classes j class e in
         let one = flat_free (wrong_at program.classes (parents_in program.classes)) (range_with_len 0 (length program.classes)) j j all (range_there (length program.classes) j l) in
         let above = superclasses (parents_in program.classes) j in
@@ -259,7 +261,7 @@ module _ (program : Program) (table : Table) (has : HasRows program table)
     one_name i j a b e d owner first second names = apart_in 0 program.classes free i j a b e d owner (first, second, names)
 
     rows_are : map plain_method (methods_of table) ≡ rows_of (headers_of table) table.given 0 (all_methods program)
-    rows_are = has.is_table.read.methods ∙ all_rows (headers_of table) table.given 0 0 program.classes
+    rows_are = (granted has).read.methods ∙ all_rows (headers_of table) table.given 0 0 program.classes
 
     -- as many rows as methods and constructors
     pub rows_many : length (methods_of table) ≡ length (all_methods program)

@@ -14,7 +14,7 @@ use Rattle.syntax_means.specs.Means.{in_row, row_named, rows_above, with_method,
 use Rattle.decl_headers.specs.Headers.{chain, nearest, parent_of, parents_of, class_count}
 use Rattle.decl_headers.specs.Passes.{is_constructor_result}
 use Rattle.decl_headers.specs.Rounds.{up}
-use Rattle.decl_headers.proofs.Cycles.{up-then}
+use Rattle.decl_headers.proofs.Cycles.{not_round, up-then}
 use Rattle.decl_headers.proofs.Inheriting.{made_step}
 use Rattle.decl_headers.proofs.Walks.{top_none}
 use Rattle.decl_table.specs.declared.rows.MethodRow.{MethodRow}
@@ -300,7 +300,7 @@ module _ (program : Program) (table : Table) (has : HasRows program table)
         let w = named_owner name n parent h in
         let same : w.3.row ≡ row = some_same (sym w.3.there ∙ e) in
         let top : w.1 ≡ class = sym (owner_of w.1 w.3.row w.3.own) ∙ ap (λ (r : MethodRow). r.owner) same ∙ owner in
-        facts.forest.straight class (w.0, step_up w.0 class parent is ∙ w.2 ∙ ap Some top)
+        not_round (parents_of (headers_of table)) class (facts.forest.straight class) (w.0, step_up w.0 class parent is ∙ w.2 ∙ ap Some top)
 
     given : (id : ℕ) (method : MethodRow) → slice_get (methods_of table) id ≡ Some method → method.is_constructor ≡ false → RowIs table.overrides (methods_of table) (inherited_rows table) id (row_of table id)
     given = rows_given program table has

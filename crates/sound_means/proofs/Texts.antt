@@ -23,7 +23,7 @@ use Rattle.syntax_parse.proofs.Promised.{named_in, sized_in}
 use Rattle.syntax_laws.specs.Laws.{TextsAreWritten}
 use Rattle.decl_headers.proofs.Shaped.{counted_when_named}
 use Rattle.decl_table.specs.declared.table.Table.{Table}
-use Rattle.decl_classes.specs.Build.{HasTable}
+use Rattle.decl_classes.specs.Build.{check_table}
 use Rattle.body_assembly.specs.Assembled.{PlainBody}
 use Rattle.body_check.specs.Methods.{BodiesChecking}
 use Rattle.lang_typed.specs.WellTyped.{WellTyped}
@@ -33,7 +33,8 @@ use Rattle.syntax_means.specs.Means.{Means}
 use Rattle.sound_lemmas.specs.Accepted.{IsAccepted, SmallHasRows}
 use Rattle.sound_bodies.specs.Laws.{AcceptedIsWellTyped}
 use Rattle.sound_means.specs.Laws.{AcceptedMeans, FieldNamesMean, PassedMeans, NamesMean}
-use Rattle.tool_front.specs.Judging.{field_names_in}
+use Rattle.tool_front.specs.Judging.{Judged, field_names_in}
+use Rattle.tool_front.proofs.Judged.{parts}
 use Rattle.sound_means.proofs.Names.{names_alike}
 use Rattle.sound_means.proofs.Unambiguous.{unambiguous}
 
@@ -68,20 +69,19 @@ few_names text tokens end program short cut d =
 
 -- what passes is accepted
 passes : SmallHasRows → (text : List ℕ) (tokens : List Token) (end : Place) (program : Program) (table : Table) (bodies : List PlainBody) → length text ≤ 1048576 → Cuts text tokens end →
-    IsProgram text tokens program → HasTable program table → BodiesChecking program table (Ok bodies) → IsAccepted program table bodies
+    IsProgram text tokens program → check_table program ≡ Ok table → BodiesChecking program table (Ok bodies) → IsAccepted program table bodies
 passes has_rows text tokens end program table bodies short cut derived has_table checked =
     let sized : program_size program ≤ length text = sized_in (cuts-stand text tokens end cut) derived in
     let few : length program.classes < 4294967295 = omega (arith, sized, short, classes_counted program) in
     record {
-      rows = has_rows program table (counted_when_named program few (named_in derived)) has_table.named has_table.is_table (omega (arith, sized, short));
-      whole = has_table.whole;
+      rows = has_rows program table (counted_when_named program few (named_in derived)) has_table (omega (arith, sized, short));
       checked = checked;
     }
 
 pub passed_means : AcceptedMeans → AcceptedIsWellTyped → TextsAreWritten → SmallHasRows → PassedMeans
 passed_means means well_typed written has_rows text place typed short passed =
     let program = passed.has_program.program in
-    let accepted = passed.has_program.accepted in
+    let accepted = parts (λ (j : Judged). j.typed) program typed passed.has_program.accepted in
     let derived = passed.has_program.derived in
     let as_texts = written text passed.tokens passed.end program short passed.cut derived in
     let is : IsAccepted program accepted.table accepted.bodies =
@@ -89,9 +89,9 @@ passed_means means well_typed written has_rows text place typed short passed =
       program,
       record {
         has_tree = has_tree text passed.tokens passed.end program passed.cut derived;
-        means = subst (Means program) (sym accepted.typed_so)
+        means = subst (Means program) (sym accepted.so)
             (means program accepted.table accepted.bodies (few_names text passed.tokens passed.end program short passed.cut derived) as_texts is);
-        well_typed = subst WellTyped (sym accepted.typed_so) (well_typed program accepted.table accepted.bodies as_texts is);
+        well_typed = subst WellTyped (sym accepted.so) (well_typed program accepted.table accepted.bodies as_texts is);
         unambiguous = unambiguous program accepted.table is.rows typed;
       },
     )
@@ -108,14 +108,14 @@ tree_once bytes tokens tree program list names said_so said derived d same_names
 pub names_mean : OneCutting → TextsAreWritten → SmallHasRows → NamesMean
 names_mean cutting written has_rows text names tree short are tree_of =
     let program = are.has_named.program in
-    let has = are.has_named.has_names in
+    let has = parts (λ (j : Judged). j.names) program names are.has_named.has_names in
     let derived = are.has_named.derived in
     let same = (cutting.tokens text tree_of.tokens are.tokens tree_of.end are.end tree_of.cut are.cut).0 in
     let one : tree ≡ program =
     tree_once text are.tokens tree program tree_of.list tree.names refl (subst (λ ts. MeanAll tree.names text ts tree_of.list) same tree_of.said) tree_of.derived derived
     (tree_of.names ∙ ap (names_with text []) same ∙ sym derived.names) in
     let is : IsAccepted program has.table has.bodies = passes has_rows text are.tokens are.end program has.table has.bodies short are.cut derived has.has_table has.checked in
-    has.named_so ∙ names_alike program has.table has.bodies (written text are.tokens are.end program short are.cut derived) is ∙ ap names_in (sym one)
+    has.so ∙ names_alike program has.table has.bodies (written text are.tokens are.end program short are.cut derived) is ∙ ap names_in (sym one)
 
 pub field_names_mean : OneCutting → FieldNamesMean
 field_names_mean cutting text fields tree are tree_of =

@@ -19,15 +19,17 @@ use Rattle.syntax_tree.specs.declared.class.Program.{Program}
 use Rattle.syntax_tree.specs.declared.region.Named.{Named}
 use Rattle.syntax_tree.specs.declared.region.ParamTree.{ParamTree}
 use Rattle.decl_headers.specs.declared.faults.Order.TheVariants as order
-use Rattle.decl_headers.specs.Faults.{none_by, reported}
+use Rattle.decl_headers.specs.Faults.{none_by}
 use Rattle.decl_headers.specs.First.{first_faults, parents_in}
 use Rattle.decl_headers.specs.Members.{param_names, misnamed}
 use Rattle.decl_headers.specs.Numbers.{as_number}
 use Rattle.decl_headers.specs.Passes.{fault_if, first_named, second_classes, is_constructor_result}
-use Rattle.decl_headers.specs.Second.{constructor_names, fields_in, is_known, method_in, method_names, names_in, names_of, own_fields, own_methods, own_params, own_regions, regions_in, second_faults, second_of, superclasses, wrong_at, wrong_in_class, wrong_in_method}
+use Rattle.decl_headers.specs.Rounds.{superclasses}
+use Rattle.decl_headers.specs.Second.{constructor_names, fields_in, is_known, method_in, method_names, names_in, names_of, own_fields, own_methods, own_params, own_regions, regions_in, second_faults, second_of, wrong_at, wrong_in_class, wrong_in_method}
 use Rattle.decl_table.specs.declared.table.Table.{Table}
 use Rattle.decl_laws.specs.Rows.{HasRows}
 use Rattle.decl_laws.proofs.Facts.{got_either}
+use Rattle.decl_laws.proofs.Granted.{granted}
 use Rattle.lang_typed.specs.Plain.{PlainProgram}
 use Rattle.syntax_means.specs.Bodies.{with_local}
 use Rattle.syntax_means.specs.Declares.{ClassNamed, DeclaresConstructor, DeclaresField, DeclaresMethod, DeclaresRegion, OwnMethod, OwnRegion, all_methods, all_regions, inherited_fields, member_fields, member_methods, member_regions, methods_from, regions_from}
@@ -385,7 +387,7 @@ module _ (program : Program) (table : Table) (has : HasRows program table)
 
     free : (c : ℕ) (class : Class) → slice_get classes c ≡ Some class → ClassFree class
     free c class e =
-        let all = none_reported (none_by order.Place) (second_faults classes (parents_in classes)) has.named.second in
+        let all = none_reported (none_by order.Place) (second_faults classes (parents_in classes)) (granted has).second in
         let l = slice_get_within classes c class e in
         let one = flat_free (wrong_at classes (parents_in classes)) (range_with_len 0 (length classes)) c c all (range_there (length classes) c l) in
         let above = superclasses (parents_in classes) c in
@@ -394,8 +396,7 @@ module _ (program : Program) (table : Table) (has : HasRows program table)
 
     one_class : (name c d : ℕ) → ClassNamed program name c → ClassNamed program name d → c ≡ d
     one_class name c d u w =
-        let noted = has.named.first.1 in
-        let none = none_reported (none_by order.Place) (first_faults classes noted.0) (sym (ap reported noted.2) ∙ has.named.first.2) in
+        let none = none_reported (none_by order.Place) (first_faults classes) (granted has).first in
         classes_once [] classes c d u.0 w.0 (append_none (second_classes [] classes) _ none).0 u.1 w.1 (u.2 ∙ sym w.2)
 
     one_region : (name c m n : ℕ) → DeclaresRegion program name c m → DeclaresRegion program name c n → m ≡ n

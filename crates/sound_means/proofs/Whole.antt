@@ -38,6 +38,7 @@ use Rattle.decl_table.specs.Plain.{PlainMethod}
 use Rattle.decl_table.specs.Table.{headers_of, methods_of, constructor_of}
 use Rattle.decl_classes.specs.Build.{table_faults}
 use Rattle.decl_classes.specs.Overriding.{override_faults}
+use Rattle.decl_laws.proofs.Granted.{granted}
 use Rattle.lang_typed.specs.Plain.{PlainProgram}
 use Rattle.body_assembly.specs.Assembled.{PlainBody, members_of}
 use Rattle.body_assembly.specs.Assembled.{class_of as made_class}
@@ -122,15 +123,15 @@ module _ (program : Program) (table : Table) (bodies : List PlainBody) (named : 
     classes_many : length P.classes ≡ length program.classes
     classes_many =
         length-map (range_with_len 0 (class_count headers)) (made_class table) ∙ length-range_with_len 0 (class_count headers)
-        ∙ ap class_count accepted.rows.is_table.headers ∙ length_rows (parents_in program.classes) (object_fields program.classes (parents_in program.classes)) 0 program.classes
+        ∙ ap class_count (granted accepted.rows).headers ∙ length_rows (parents_in program.classes) (object_fields program.classes (parents_in program.classes)) 0 program.classes
 
     all_members : length P.members ≡ length (all_methods program)
     all_members =
-        members_many (methods_of table) bodies (bodies_made (checks_in program table accepted.checked) ∙ sym (methods_many program table accepted.rows.is_table.read))
+        members_many (methods_of table) bodies (bodies_made (checks_in program table accepted.checked) ∙ sym (methods_many program table (granted accepted.rows).read))
         ∙ rows_many program table accepted.rows
 
     region_names : P.region_names ≡ map (λ (region : OwnRegion). region.is_atomic) (all_regions program)
-    region_names = ap (λ (h : Headers). map (λ (row : RegionRow). row.is_atomic) h.regions) accepted.rows.is_table.headers ∙ regions_atomic 0 program.classes
+    region_names = ap (λ (h : Headers). map (λ (row : RegionRow). row.is_atomic) h.regions) (granted accepted.rows).headers ∙ regions_atomic 0 program.classes
 
     -- where a run begins
     record Begins : Type 0 where
@@ -172,7 +173,7 @@ module _ (program : Program) (table : Table) (bodies : List PlainBody) (named : 
         record {
           main_name = main_there.0;
           class_named = subst (ClassNamed program main_there.0) (sym here) ((headers_tell program table bodies written accepted).classes main_there.0 at main_there.2);
-          main_spelled = name_spelled program (codes "Main") main_there.0 named (ap main_of (sym accepted.rows.is_table.headers) ∙ main_there.1);
+          main_spelled = name_spelled program (codes "Main") main_there.0 named (ap main_of (sym (granted accepted.rows).headers) ∙ main_there.1);
           entry_name = row.name;
           member_named =
               ap (method_name program) member_is ∙ ap (option_map (λ (own : OwnMethod). own.method.name)) w.1.own_there ∙ ap Some (sym (ap (λ (r : PlainMethod). r.name) w.1.is));
@@ -182,7 +183,7 @@ module _ (program : Program) (table : Table) (bodies : List PlainBody) (named : 
     free : main_faults table program.names ≡ []
     free =
         (append_none (override_faults table (methods_of table)) (main_faults table program.names)
-        (none_reported (none_by order.Place) (table_faults table program.names) accepted.whole)).1
+        (none_reported (none_by order.Place) (table_faults table program.names) (granted accepted.rows).whole)).1
 
     abbrev faults_of : Option ℕ → List Refusal
     faults_of o =

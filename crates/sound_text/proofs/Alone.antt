@@ -1,5 +1,5 @@
 -- A text passes as one program, or it has one fault.
-use Rattle.std.proofs.Common.{◌≡◌, ◌≤◌, ◌∙◌, ℕ, List, length, inl, inr, ap, sym, subst}
+use Rattle.std.proofs.Common.{◌≡◌, ◌≤◌, ◌∙◌, ℕ, List, length, Result, Ok, Err, inl, inr, ap, sym, subst}
 use Rattle.lang_base.specs.declared.place.Place.{Place}
 use Rattle.lang_base.specs.declared.refusal.Refusal.{Refusal}
 use Rattle.syntax_tokens.specs.declared.token.Token.{Token}
@@ -9,25 +9,37 @@ use Rattle.syntax_parse.specs.OneRefusal.{OneRefusal}
 use Rattle.syntax_parse.specs.Program.{IsProgram}
 use Rattle.lang_typed.specs.Plain.{PlainProgram}
 use Rattle.tool_front.specs.Front.{first_place, IsFault, IsPassed, IsTokenFault, of_grammar, of_program}
-use Rattle.tool_front.specs.Judging.{HasNames, IsAccepted, IsFaulty, OneJudgement}
+use Rattle.body_check.specs.Methods.{after_ok}
+use Rattle.tool_front.specs.Judging.{Judged, HasNames, IsAccepted, IsFaulty, judge}
 use Rattle.sound_text.specs.Laws.{HasVerdict, OneNaming, OneVerdict, OnePassing}
 
-pub one_passing : OneCutting → OneProgram → OneJudgement → OnePassing
-one_passing cutting programs judgement text place other one another p q =
+-- what is made or refused is one
+made_once : {T U : Type 0} (r : Result T U) (x y : T) → r ≡ Ok x → r ≡ Ok y → x ≡ y
+made_once r x y h k = cc
+
+refused_once : {T U : Type 0} (r : Result T U) (x y : U) → r ≡ Err x → r ≡ Err y → x ≡ y
+refused_once r x y h k = cc
+
+made_or_refused : {T V : Type 0} (part : T → V) (r : Result T Refusal) (x : V) (y : Refusal) → after_ok part r ≡ Ok x → r ≡ Err y → ⊥
+made_or_refused part (Ok made) x y h k = cc
+made_or_refused part (Err refusal) x y h k = cc
+
+pub one_passing : OneCutting → OneProgram → OnePassing
+one_passing cutting programs text place other one another p q =
     let same = (cutting.tokens text q.tokens p.tokens q.end p.end q.cut p.cut).0 in
     let derived = subst (λ ts. IsProgram text ts q.has_program.program) same q.has_program.derived in
     let tree : q.has_program.program ≡ p.has_program.program = programs text p.tokens q.has_program.program p.has_program.program derived p.has_program.derived in
-    judgement.one_program p.has_program.program one another p.has_program.accepted (subst (λ t. IsAccepted t another) tree q.has_program.accepted)
+    made_once (after_ok (λ (j : Judged). j.typed) (judge p.has_program.program)) one another p.has_program.accepted (subst (λ t. IsAccepted t another) tree q.has_program.accepted)
 
-pub one_naming : OneCutting → OneProgram → OneJudgement → OneNaming
-one_naming cutting programs judgement text first second p q =
+pub one_naming : OneCutting → OneProgram → OneNaming
+one_naming cutting programs text first second p q =
     let same = (cutting.tokens text q.tokens p.tokens q.end p.end q.cut p.cut).0 in
     let derived = subst (λ ts. IsProgram text ts q.has_named.program) same q.has_named.derived in
     let tree : q.has_named.program ≡ p.has_named.program = programs text p.tokens q.has_named.program p.has_named.program derived p.has_named.derived in
-    judgement.one_naming p.has_named.program first second p.has_named.has_names (subst (λ t. HasNames t second) tree q.has_named.has_names)
+    made_once (after_ok (λ (j : Judged). j.names) (judge p.has_named.program)) first second p.has_named.has_names (subst (λ t. HasNames t second) tree q.has_named.has_names)
 
-pub one_verdict : ((text : List ℕ) → length text ≤ 1048576 → HasVerdict text) → OneCutting → OneProgram → OneRefusal → OneJudgement → OneVerdict
-one_verdict some cutting programs refusals judgement = record { some = some; one_fault = one_fault; not_both = not_both; one_place = one_place }
+pub one_verdict : ((text : List ℕ) → length text ≤ 1048576 → HasVerdict text) → OneCutting → OneProgram → OneRefusal → OneVerdict
+one_verdict some cutting programs refusals = record { some = some; one_fault = one_fault; not_both = not_both; one_place = one_place }
   where
     one_place : (text : List ℕ) (place other : Place) (one another : PlainProgram) → IsPassed text place one → IsPassed text other another → place ≡ other
     one_place text place other one another p q =
@@ -41,7 +53,7 @@ one_verdict some cutting programs refusals judgement = record { some = some; one
     later text tokens end first second (of_program program d faulty) (of_grammar g) = absurd (refusals.no_program text tokens end second program g d)
     later text tokens end first second (of_program program d faulty) (of_program other e broken) =
         let tree : other ≡ program = programs text tokens other program e d in
-        judgement.one_fault program first second faulty (subst (λ t. IsFaulty t second) tree broken)
+        refused_once (judge program) first second faulty (subst (λ t. IsFaulty t second) tree broken)
 
     one_fault : (text : List ℕ) (first second : Refusal) → IsFault text first → IsFault text second → first ≡ second
     one_fault text first second (inl f) (inl g) = cutting.faults text first second f g
@@ -55,7 +67,7 @@ one_verdict some cutting programs refusals judgement = record { some = some; one
     faultless text place typed refusal p end (of_grammar f) = refusals.no_program text p.tokens end refusal p.has_program.program f p.has_program.derived
     faultless text place typed refusal p end (of_program program derived faulty) =
         let tree : program ≡ p.has_program.program = programs text p.tokens program p.has_program.program derived p.has_program.derived in
-        judgement.not_both p.has_program.program typed refusal p.has_program.accepted (subst (λ t. IsFaulty t refusal) tree faulty)
+        made_or_refused (λ (j : Judged). j.typed) (judge p.has_program.program) typed refusal p.has_program.accepted (subst (λ t. IsFaulty t refusal) tree faulty)
 
     not_both : (text : List ℕ) (place : Place) (typed : PlainProgram) (refusal : Refusal) → IsPassed text place typed → IsFault text refusal → ⊥
     not_both text place typed refusal p (inl at) = cutting.either text p.tokens p.end refusal p.cut at

@@ -2,14 +2,12 @@
 
 ghost use Rattle.sound_text.specs.Laws.{AcceptedIsWidthBounded, PassedKeeps, OneNaming, OnePassing, OneVerdict};
 
-use decl_laws::laws::law_each_table;
 use lang_typed::laws::law_resolved;
 use sound_bodies::laws::law_well_typed;
 use sound_lemmas::laws::law_has_rows;
 use syntax_laws::laws::{law_each_reading, law_each_text, law_written};
 use syntax_parse::{one_program, one_refusal};
 use syntax_tokens::one_cutting;
-use tool_front::one_judgement;
 
 /// No fork in the code of an accepted program has more branches than a value counts.
 pub fn law_width()
@@ -35,9 +33,7 @@ pub fn law_one_passing()
 {
     law_each_text();
     law_each_reading();
-    law_each_table();
     one_cutting();
     one_program();
     one_refusal();
-    one_judgement();
 }

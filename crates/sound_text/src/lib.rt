@@ -4,8 +4,8 @@
 //! (`syntax_laws`); so it is what the compiler asks for, and no fork of its code has more branches than a value counts: a fork has a branch
 //! for each statement of a `cobegin`, and a machine is opened only on code whose forks have fewer than 2^31 (`IsWidthBounded` of `exec_task`).
 //!
-//! And a text has one verdict: it passes as one typed program, or it has one fault. That it has one at all is joined of what each part
-//! answers: tokens and grammar (`syntax_laws`), the class table (`decl_laws`), and bodies, whose rules are a function (`body_check`). All is in
+//! And a text has one verdict: it passes as one typed program, or it has one fault. That it has one at all is joined of what tokens and
+//! grammar answer (`syntax_laws`), and of what a program is judged as, which is a function of it (`tool_front`). All is in
 //! `specs/Laws.antt`.
 #![tactic(auto)]
 

@@ -1,3 +1,3 @@
 pub mod Reported
-pub mod Judgements
+pub mod Judged
 pub mod Spelling

@@ -6,7 +6,8 @@ use Rattle.lang_base.specs.declared.refusal.Kind.TheVariants.{TooLong}
 use Rattle.body_assembly.specs.Named.{names_in}
 use Rattle.code_compile.specs.Titles.{titles_of}
 use Rattle.tool_front.specs.Front.{AreFieldNames, AreNames, IsPassed}
-use Rattle.tool_front.specs.Judging.{field_names_in}
+use Rattle.tool_front.specs.Judging.{Judged, field_names_in}
+use Rattle.tool_front.proofs.Judged.{names_there, parts}
 use Rattle.code_scheme.specs.Whole.{compiled}
 use Rattle.exec_progress.specs.Progress.{CodeMakesProgress}
 use Rattle.body_infer.specs.Kept.{program_kept}
@@ -34,7 +35,7 @@ use Rattle.lang_meaning.specs.Reported.{reported}
 named : (text : List ℕ) (place : Place) (typed : PlainProgram) → IsPassed text place typed → (names : ProgramNames) × AreNames text names
 named text place typed passed =
     let h = passed.has_program in
-    let a = h.accepted in (
+    let a = parts (λ (j : Judged). j.typed) h.program typed h.accepted in (
       names_in a.table h.program.names a.bodies,
       record {
         tokens = passed.tokens;
@@ -43,7 +44,7 @@ named text place typed passed =
         has_named = record {
           program = h.program;
           derived = h.derived;
-          has_names = record { table = a.table; has_table = a.has_table; bodies = a.bodies; checked = a.checked; named_so = refl };
+          has_names = names_there h.program a;
         };
       },
     )

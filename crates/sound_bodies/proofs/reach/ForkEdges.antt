@@ -15,7 +15,8 @@ use Rattle.decl_table.specs.declared.table.Table.{Table}
 use Rattle.decl_reach.specs.Bodies.{own_marks, class_marks}
 use Rattle.decl_reach.specs.Calls.{body_calls}
 use Rattle.decl_reach.specs.Edges.{edges_from, member_edges, class_edges, call_edges}
-use Rattle.decl_reach.specs.Reach.{is_marked, leads}
+use Rattle.decl_reach.specs.Reach.{is_marked}
+use Rattle.decl_reach.proofs.Reaching.{leads}
 use Rattle.decl_table.specs.Table.{is_forking}
 use Rattle.sound_lemmas.proofs.Lists.{got_first, got_later}
 use Rattle.sound_bodies.specs.Whole.{StandsIn, StandsAmong}

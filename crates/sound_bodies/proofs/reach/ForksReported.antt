@@ -25,11 +25,12 @@ use Rattle.decl_classes.specs.Around.{class_scope}
 use Rattle.decl_reach.specs.Bodies.{class_marks, override_edges}
 use Rattle.decl_reach.specs.Calls.{body_calls, formal_shapes}
 use Rattle.decl_reach.specs.Edges.{call_edges, without_forks}
-use Rattle.decl_reach.specs.Reach.{IsAfter}
+use Rattle.decl_reach.proofs.Reaching.{IsAfter}
 use Rattle.decl_classes.specs.Rows.{said_scope}
 use Rattle.decl_reach.specs.Shapes.{tree_shape}
 use Rattle.decl_classes.specs.Signatures.{known_type}
 use Rattle.decl_table.specs.Table.{headers_of, methods_of, numbered}
+use Rattle.decl_laws.proofs.Granted.{granted}
 use Rattle.body_exprs.specs.declared.env.Env.{Env}
 use Rattle.body_exprs.specs.Env.{table_of, at_class, at_members, with_row, with_local}
 use Rattle.body_check.specs.Deciding.{has_value}
@@ -101,8 +102,8 @@ begun_shaped table start class number method same has few = by (numbered (table_
 
 pub forks_reported : ForksAreReported
 forks_reported program table bodies written accepted start fresh method number class stands params made u d reached =
-    (accepted.rows.is_table.reached.each number).1
-    (by ((block_reaches table class (rows_shallow program.classes table accepted.rows.is_table.read written.small) (formal_shapes (headers_of table) method.formals) (begun_shaped table start class number method fresh.table_is has few) (in_block_of {params = params} {around = method_around (has_value method.result)} {all = plain_stmts (map plain_stmt method.body)} {w = body_begun (at_class start class) number method} d)).adds reached))
+    ((granted accepted.rows).reached.each number).1
+    (by ((block_reaches table class (rows_shallow program.classes table (granted accepted.rows).read written.small) (formal_shapes (headers_of table) method.formals) (begun_shaped table start class number method fresh.table_is has few) (in_block_of {params = params} {around = method_around (has_value method.result)} {all = plain_stmts (map plain_stmt method.body)} {w = body_begun (at_class start class) number method} d)).adds reached))
   where
     marks : List Bool
     marks = flat_map class_marks program.classes
@@ -111,7 +112,7 @@ forks_reported program table bodies written accepted start fresh method number c
     calls = without_forks table
 
     has : HasRow table number class method
-    has = row_there program.classes table method number class accepted.rows.is_table.read stands
+    has = row_there program.classes table method number class (granted accepted.rows).read stands
 
     few : length method.formals + 5 < 4294967295
     few = let all = method_few method in let one = class_few stands in let small = written.small in omega (arith, all, one, small)
@@ -124,4 +125,4 @@ forks_reported program table bodies written accepted start fresh method number c
     by (inr (inl h)) = IsAfter.itself number ((mark_there stands).1 ∙ h)
     by (inr (inr h)) =
         let e = edge_there table calls within accepted.rows.counted.0 stands h in
-        IsAfter.before number e.0 (mark_there stands).0 (leads_first (call_edges calls 0 0 program.classes) (override_edges table (methods_of table)) number e.0 e.2) ((accepted.rows.is_table.reached.each e.0).0 e.1)
+        IsAfter.before number e.0 (mark_there stands).0 (leads_first (call_edges calls 0 0 program.classes) (override_edges table (methods_of table)) number e.0 e.2) (((granted accepted.rows).reached.each e.0).0 e.1)

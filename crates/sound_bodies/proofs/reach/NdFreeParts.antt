@@ -16,17 +16,17 @@ use Rattle.decl_reach.specs.declared.reach.Edge.{Edge}
 use Rattle.decl_table.specs.declared.rows.MethodRow.{MethodRow}
 use Rattle.decl_table.specs.declared.table.Table.{Table}
 use Rattle.decl_reach.specs.Bodies.{own_marks, class_marks, override_edge, override_edges}
-use Rattle.decl_classes.specs.Build.{TellsForking}
 use Rattle.decl_reach.specs.Edges.{call_edges, without_forks}
 use Rattle.decl_table.specs.Inherited.{members_in}
 use Rattle.decl_table.specs.Overridden.{overridden_in}
-use Rattle.decl_reach.specs.Reach.{leads, IsAfter}
+use Rattle.decl_reach.proofs.Reaching.{leads, IsAfter}
 use Rattle.decl_table.specs.Table.{headers_of, methods_of, overridden_by, is_forking}
 use Rattle.lang_typed.specs.Plain.{PlainClass}
 use Rattle.lang_typed.specs.Scope.{IsBelow, class_at, row_at}
 use Rattle.body_assembly.specs.Assembled.{PlainBody}
 use Rattle.decl_laws.proofs.Facts.{Facts, facts_of, named_is, over_is}
 use Rattle.decl_laws.proofs.Stand.{rows_kept}
+use Rattle.decl_laws.proofs.Granted.{TellsForking, granted}
 use Rattle.sound_lemmas.specs.Accepted.{IsAccepted}
 use Rattle.sound_lemmas.proofs.Lists.{some_same, and_then_there, map_there}
 use Rattle.sound_lemmas.proofs.Signatures.{own_in, methods_in, all_methods, rows_many}
@@ -88,7 +88,7 @@ module _ (program : Program) (table : Table) (bodies : List PlainBody) (accepted
     overriding : (other id : ℕ) → overridden_by table other ≡ Some id → (row : MethodRow) × (slice_get (methods_of table) other ≡ Some row)
     overriding other id over =
         let w = and_then_there (λ entry. entry) (slice_get table.overrides other) id over in
-        let got = sym (slice_get-map (overridden_in table) (methods_of table) other) ∙ ap (λ os. slice_get os other) (sym accepted.rows.is_table.overridden) ∙ w.1 in
+        let got = sym (slice_get-map (overridden_in table) (methods_of table) other) ∙ ap (λ os. slice_get os other) (sym (granted accepted.rows).overridden) ∙ w.1 in
         let r = map_there (overridden_in table) (slice_get (methods_of table) other) w.0 got in
         (r.0, r.1)
 
@@ -97,7 +97,7 @@ module _ (program : Program) (table : Table) (bodies : List PlainBody) (accepted
     fork_up other id over forks = (reached.each id).1 (IsAfter.before id other within edge ((reached.each other).0 forks))
       where
         reached : TellsForking program.classes table
-        reached = accepted.rows.is_table.reached
+        reached = (granted accepted.rows).reached
 
         row : (row : MethodRow) × (slice_get (methods_of table) other ≡ Some row)
         row = overriding other id over
@@ -110,7 +110,7 @@ module _ (program : Program) (table : Table) (bodies : List PlainBody) (accepted
             let o = over_is table facts other id row.0 row.1 over in
             let m = named_is table facts o.0 row.0.name id o.2 in
             let l = slice_get_within (methods_of table) id m.3.row m.3.there in
-            omega (arith, l, marks_many program.classes, rows_many program table accepted.rows.is_table.read)
+            omega (arith, l, marks_many program.classes, rows_many program table (granted accepted.rows).read)
 
         edge : leads (call_edges (without_forks table) 0 0 program.classes ++ override_edges table (methods_of table)) id other ≡ true
         edge =

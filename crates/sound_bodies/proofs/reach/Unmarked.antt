@@ -12,8 +12,10 @@ use Rattle.decl_reach.specs.declared.reach.Edge.{Edge}
 use Rattle.decl_table.specs.declared.table.Table.{Table}
 use Rattle.decl_reach.specs.Bodies.{own_marks, class_marks, override_edges}
 use Rattle.decl_reach.specs.Edges.{call_edges, without_forks}
-use Rattle.decl_reach.specs.Reach.{is_marked, IsAfter}
+use Rattle.decl_reach.specs.Reach.{is_marked}
+use Rattle.decl_reach.proofs.Reaching.{IsAfter}
 use Rattle.decl_table.specs.Table.{methods_of, is_forking}
+use Rattle.decl_laws.proofs.Granted.{granted}
 use Rattle.sound_lemmas.specs.Accepted.{IsAccepted}
 use Rattle.sound_bodies.specs.Whole.{never_forks}
 
@@ -48,7 +50,7 @@ none_after none (IsAfter.itself at is) = false≢true (sym (none at) ∙ is)
 none_after none (IsAfter.before at next within leads more) = none_after none more
 
 pub none_forks : (program : Program) (table : Table) (bodies : List PlainBody) → IsAccepted program table bodies → program_uses_nd program ≡ false → (n : ℕ) → IsTrue (never_forks table n)
-none_forks program table bodies accepted none n = by (is_forking table n) (accepted.rows.is_table.reached.each n).0
+none_forks program table bodies accepted none n = by (is_forking table n) ((granted accepted.rows).reached.each n).0
   where
     by : (b : Bool) → (IsTrue b → IsAfter (flat_map class_marks program.classes) (call_edges (without_forks table) 0 0 program.classes ++ override_edges table (methods_of table)) n) → IsTrue (not b)
     by true following = absurd (none_after (classes_unmarked program.classes none) (following refl))

@@ -23,6 +23,7 @@ use Rattle.lang_typed.specs.Scope.{parent_of as parent_in}
 use Rattle.body_assembly.specs.Assembled.{PlainBody, field_of}
 use Rattle.decl_laws.specs.Rows.{HasRows}
 use Rattle.decl_laws.proofs.Facts.{got_either, parent_is}
+use Rattle.decl_laws.proofs.Granted.{granted}
 use Rattle.sound_lemmas.specs.Accepted.{IsAccepted}
 use Rattle.sound_lemmas.proofs.Assembled.{is_member}
 use Rattle.sound_lemmas.proofs.Lists.{and_then_there, map_there}
@@ -68,7 +69,7 @@ module _ (program : Program) (table : Table) (has : HasRows program table)
           | inr later ↦
               let w = filter_there (λ (row : PlainField). row.owner == class) (all_fields program table has) later.0 f later.2 in
               let counted = has.counted.0 in
-              let s = field_said (headers_of table) table.given program.classes w.0 f w.1 (omega (arith, counted)) (signatures_free program table has.is_table.read) in
+              let s = field_said (headers_of table) table.given program.classes w.0 f w.1 (omega (arith, counted)) (signatures_free program table (granted has).read) in
               field_names (length (params_in (headers_of table) f.owner)) f s.over
         ]
       where
@@ -106,7 +107,7 @@ module _ (program : Program) (table : Table) (bodies : List PlainBody) (accepted
     members_signed : (n : ℕ) (m : PlainMember) → member_at (P program table bodies accepted) n ≡ Some m → TypeNames Nothing Nothing m.result × EffectsName Nothing Nothing m.summary
     members_signed n m e =
         let w = is_member program table bodies accepted program.names (program_uses_nd program) n m e in
-        let s = row_said program table accepted.rows.is_table.read n w.row w.row_there in
+        let s = row_said program table (granted accepted.rows).read n w.row w.row_there in
         subst (λ (z : PlainMember). TypeNames Nothing Nothing z.result × EffectsName Nothing Nothing z.summary) w.is (result_named s.count (plain_type w.row.result) s.result, s.summary)
 
     pub all_signed : Signed (P program table bodies accepted)

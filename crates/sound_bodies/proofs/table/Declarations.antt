@@ -33,12 +33,13 @@ use Rattle.decl_resolve.specs.Written.{type_faults}
 use Rattle.decl_table.specs.declared.rows.MethodRow.{MethodRow}
 use Rattle.decl_table.specs.declared.table.Table.{Table}
 use Rattle.decl_classes.specs.Around.{class_scope}
-use Rattle.decl_classes.specs.Build.{IsReadOf, text_faults}
+use Rattle.decl_classes.specs.Build.{text_faults}
 use Rattle.decl_table.specs.Plain.{PlainMethod, plain_method}
 use Rattle.decl_classes.specs.Rows.{method_row, said_scope, said_faults, method_scope, method_faults, member_faults, methods_from, methods_meant, super_faults, class_faults, all_constraint_faults, signature_faults}
 use Rattle.decl_classes.specs.Signatures.{known_type, known_type_faults, effects_meant, formal_types, formal_faults, result_type, result_faults, summary_meant, summary_faults, constraints_faults}
 use Rattle.decl_table.specs.Table.{headers_of, methods_of}
 use Rattle.decl_laws.proofs.Facts.{got_either}
+use Rattle.decl_laws.proofs.Granted.{IsReadOf}
 use Rattle.sound_lemmas.proofs.Free.{none_reported, append_none, joined_free}
 use Rattle.sound_lemmas.proofs.Known.{type_known}
 use Rattle.sound_lemmas.proofs.Lists.{some_same, and_then_there, got_mapped, got_last}

@@ -33,6 +33,7 @@ use Rattle.decl_classes.specs.Signatures.{parent_meant, parent_arg_faults, fit_f
 use Rattle.decl_table.specs.Table.{headers_of, supers_of, parent_type_of, parent_args_of, class_paths}
 use Rattle.decl_laws.specs.Rows.{HasRows}
 use Rattle.decl_laws.proofs.Facts.{got_either}
+use Rattle.decl_laws.proofs.Granted.{granted}
 use Rattle.sound_lemmas.proofs.Free.{append_none, fault_none, joined_free}
 use Rattle.sound_lemmas.proofs.Known.{args_known, given_known}
 use Rattle.sound_lemmas.proofs.Lists.{some_same, and_then_there, map_there, got_mapped}
@@ -206,7 +207,7 @@ module _ (program : Program) (table : Table) (has : HasRows program table)
     row_in i row e =
         let counted = has.counted.0 in
         super_in (headers_of table) table.given 0 program.classes i (plain_super row)
-        (ap (λ rows. slice_get rows i) (sym has.is_table.read.supers) ∙ got_mapped plain_super (supers_of table) i row e) (omega (arith, counted))
+        (ap (λ rows. slice_get rows i) (sym (granted has).read.supers) ∙ got_mapped plain_super (supers_of table) i row e) (omega (arith, counted))
 
     record RowSaid (row : Super) : Type 0 where
       parent : ℕ
@@ -238,7 +239,7 @@ module _ (program : Program) (table : Table) (has : HasRows program table)
         faults : super_faults scope w.one ≡ []
         faults =
             let f = subst (λ k. class_faults (class_scope (headers_of table) table.given k) w.one ≡ []) number
-            (class_free (headers_of table) table.given 0 program.classes w.place w.one (signatures_free program table has.is_table.read) w.is) in
+            (class_free (headers_of table) table.given 0 program.classes w.place w.one (signatures_free program table (granted has).read) w.is) in
             (append_none (super_faults scope w.one) _ f).0
 
         a : ArgsSaid (headers_of table) table.given (0 + w.place) w.said.tree w.said.parent
@@ -265,7 +266,7 @@ module _ (program : Program) (table : Table) (has : HasRows program table)
     supers_few : length (supers_of table) < 4294967295
     supers_few =
         let few = few_supers (headers_of table) table.given 0 program.classes in
-        let same = sym (length-map (supers_of table) plain_super) ∙ ap length has.is_table.read.supers in
+        let same = sym (length-map (supers_of table) plain_super) ∙ ap length (granted has).read.supers in
         let counted = has.counted.0 in
         omega (arith, few, same, counted)
 

@@ -26,6 +26,7 @@ use Rattle.decl_classes.specs.Build.{text_faults}
 use Rattle.decl_table.specs.Plain.{PlainMethod, plain_method}
 use Rattle.decl_classes.specs.Rows.{method_row, method_faults, all_constraint_faults, methods_meant, signature_faults}
 use Rattle.decl_table.specs.Table.{headers_of, given_of, methods_of, numbered}
+use Rattle.decl_laws.proofs.Granted.{granted}
 use Rattle.body_exprs.specs.declared.env.Env.{Env}
 use Rattle.body_exprs.specs.Env.{table_of, at_class}
 use Rattle.body_check.specs.Methods.{own_params, class_params}
@@ -73,7 +74,7 @@ module _ (program : Program) (table : Table) (bodies : List PlainBody) (written 
 
     signatures_free : signature_faults (headers_of table) table.given 0 program.classes ≡ []
     signatures_free =
-        let read = accepted.rows.is_table.read in
+        let read = (granted accepted.rows).read in
         let all = none_reported (none_by order.Place) (text_faults (headers_of table) program.classes) read.free in
         let w = append_none (all_constraint_faults (headers_of table) 0 program.classes) _ all in
         subst (λ given. signature_faults (headers_of table) given 0 program.classes ≡ []) (sym read.given) w.1
@@ -81,7 +82,7 @@ module _ (program : Program) (table : Table) (bodies : List PlainBody) (written 
     params_few : (number : ℕ) (text : Class) → slice_get program.classes number ≡ Some text → length (params_in (headers_of table) number) ≡ length text.params.list
     params_few number text e =
         let w = header_params _ _ 0 program.classes number text e in
-        ap (λ headers. length (params_in headers number)) accepted.rows.is_table.headers
+        ap (λ headers. length (params_in headers number)) (granted accepted.rows).headers
         ∙ ap (λ o. length (option_map_or (λ (header : Header). header.params) o [])) w.1 ∙ ap length w.2 ∙ length-map text.params.list param_row
 
     of_row : (n : ℕ) (row : MethodRow) (body : PlainBody) (class : PlainClass) → slice_get (methods_of table) n ≡ Some row → slice_get bodies n ≡ Some body →
@@ -123,7 +124,7 @@ module _ (program : Program) (table : Table) (bodies : List PlainBody) (written 
         row_is =
             let at = s.place_at in
             let same : s.place ≡ n = omega (arith, at) in
-            some_same (sym (got_mapped plain_method (methods_of table) n row there) ∙ ap (λ rows. slice_get rows n) accepted.rows.is_table.read.methods
+            some_same (sym (got_mapped plain_method (methods_of table) n row there) ∙ ap (λ rows. slice_get rows n) (granted accepted.rows).read.methods
             ∙ subst (λ k. slice_get (methods_meant (headers_of table) table.given 0 0 program.classes) k ≡ Some (method_row (class_scope (headers_of table) table.given (as_number s.class)) (as_number n) s.method)) same s.row)
             ∙ ap (λ k. method_row (class_scope (headers_of table) table.given k) (as_number n) s.method) class_so
             ∙ ap (λ k. method_row (class_scope (headers_of table) table.given s.class) k s.method) number_so

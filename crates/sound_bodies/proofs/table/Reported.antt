@@ -24,6 +24,7 @@ use Rattle.body_assembly.specs.Assembled.{PlainBody, member_of}
 use Rattle.body_assembly.specs.Assembled.{class_of as typed_class}
 use Rattle.decl_laws.proofs.Facts.{Facts, facts_of, nearest_in}
 use Rattle.decl_laws.proofs.Stand.{methods_stand}
+use Rattle.decl_laws.proofs.Granted.{granted}
 use Rattle.sound_lemmas.specs.Accepted.{IsAccepted}
 use Rattle.sound_lemmas.proofs.Assembled.{has_member}
 use Rattle.sound_lemmas.proofs.Lists.{some_same, and_then_there, map_there}
@@ -67,7 +68,7 @@ module _ (program : Program) (table : Table) (bodies : List PlainBody) (written 
     facts = facts_of program table accepted.rows
 
     said : (n : ℕ) (row : MethodRow) → slice_get (methods_of table) n ≡ Some row → MethodSaid (plain_method row)
-    said n row e = row_said program table accepted.rows.is_table.read n row e
+    said n row e = row_said program table (granted accepted.rows).read n row e
 
     member_seen : (n : ℕ) (row : MethodRow) → slice_get (methods_of table) n ≡ Some row → MemberSeen (P program table bodies accepted) row
     member_seen n row e =

@@ -22,12 +22,12 @@ use Rattle.decl_table.specs.declared.rows.MethodRow.{MethodRow}
 use Rattle.decl_table.specs.declared.table.Table.{Table}
 use Rattle.decl_classes.specs.Around.{class_scope}
 use Rattle.decl_reach.specs.Bodies.{class_marks}
-use Rattle.decl_classes.specs.Build.{IsReadOf}
 use Rattle.decl_table.specs.Plain.{PlainField, plain_field, PlainMethod, plain_method}
 use Rattle.decl_classes.specs.Rows.{method_row, said_scope, fields_from, fields_meant, first_slot, methods_from, methods_meant}
 use Rattle.decl_classes.specs.Signatures.{known_type, result_type}
 use Rattle.decl_table.specs.Table.{headers_of, own_field, own_method, numbered}
 use Rattle.decl_laws.proofs.Facts.{got_either}
+use Rattle.decl_laws.proofs.Granted.{IsReadOf}
 use Rattle.sound_lemmas.proofs.Lists.{some_same, and_then_there, map_there, got_first, got_later, got_mapped}
 use Rattle.sound_bodies.specs.Whole.{StandsIn, StandsAmong}
 use Rattle.sound_bodies.proofs.reach.ReachedExpressions.{AreShallow}

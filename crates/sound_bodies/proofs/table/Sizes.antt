@@ -9,9 +9,8 @@ use Rattle.decl_headers.specs.declared.header.Header.{Header}
 use Rattle.decl_headers.specs.First.{parents_in}
 use Rattle.decl_headers.specs.Gathered.{field_count, fields_together, object_fields, header_rows, headers_in}
 use Rattle.decl_headers.specs.Headers.{chain, parent_of, parents_of, header_of}
-use Rattle.decl_headers.specs.Rounds.{entry_of, up}
-use Rattle.decl_headers.specs.Second.{superclasses}
-use Rattle.decl_headers.proofs.Cycles.{up-then}
+use Rattle.decl_headers.specs.Rounds.{entry_of, superclasses, up}
+use Rattle.decl_headers.proofs.Cycles.{not_round, up-then}
 use Rattle.decl_headers.proofs.Gathered.{parents_gathered}
 use Rattle.decl_headers.proofs.Inheriting.{made_step}
 use Rattle.decl_headers.proofs.Second.{length_parents}
@@ -28,6 +27,7 @@ use Rattle.decl_classes.specs.Rows.{fields_meant, first_slot}
 use Rattle.decl_table.specs.Table.{headers_of, fields_of, parent_args_of}
 use Rattle.decl_laws.specs.Rows.{HasRows}
 use Rattle.decl_laws.proofs.Facts.{Facts, facts_of, parent_is}
+use Rattle.decl_laws.proofs.Granted.{granted}
 use Rattle.sound_lemmas.proofs.Lists.{some_same, there}
 use Rattle.sound_bodies.proofs.table.Slots.{from_many, meant_small, own_fields}
 
@@ -105,7 +105,7 @@ module _ (program : Program) (table : Table) (has : HasRows program table)
 
     -- the fields of a class: those of its superclass, and its own
     pub declared_are : (class : ℕ) → declared_fields table class ≡ filter (λ (row : PlainField). row.owner == class) all_fields
-    declared_are class = filter_mapped class (fields_of table) ∙ ap (filter (λ (row : PlainField). row.owner == class)) has.is_table.read.fields
+    declared_are class = filter_mapped class (fields_of table) ∙ ap (filter (λ (row : PlainField). row.owner == class)) (granted has).read.fields
 
     abbrev pub inherited_fields : ℕ → List PlainField
     inherited_fields class = option_map_or (map (field_with (parent_args_of table class))) (option_map (fields_in table) (parent_of (headers_of table) class)) []
@@ -181,7 +181,7 @@ module _ (program : Program) (table : Table) (has : HasRows program table)
             free w false k = refl
             free w true k =
                 let u = w.above class k in
-                absurd (facts.forest.straight class (u.0, higher_up u.0 class parent class is u.1))
+                absurd (not_round parents class (facts.forest.straight class) (u.0, higher_up u.0 class parent class is u.1))
 
     pub none_higher : (class : ℕ) → up parents (suc (length parents)) class ≡ None
     none_higher class = top_none parents (suc (length parents)) class facts.forest (omega arith)
@@ -194,7 +194,7 @@ module _ (program : Program) (table : Table) (has : HasRows program table)
         omega (arith, size, most)
 
     same_parents : parents ≡ parents_in program.classes
-    same_parents = ap parents_of has.is_table.headers ∙ parents_gathered program.classes (headers_in program).rows _ refl
+    same_parents = ap parents_of (granted has).headers ∙ parents_gathered program.classes (headers_in program).rows _ refl
 
     as_many : length parents ≡ length program.classes
     as_many = ap length same_parents ∙ length_parents program.classes
@@ -253,7 +253,7 @@ module _ (program : Program) (table : Table) (has : HasRows program table)
                 let l = facts.forest.within class parent entry in
                 let many = length-map (headers_of table).rows (λ (row : Header). row.parent) in
                 let h = there (headers_of table).rows parent (omega (arith, l, many)) in
-                let said = row_fields (parents_in program.classes) (object_fields program.classes (parents_in program.classes)) 0 program.classes parent h.0 (ap (λ hs. header_of hs parent) (sym has.is_table.headers) ∙ h.1) in
+                let said = row_fields (parents_in program.classes) (object_fields program.classes (parents_in program.classes)) 0 program.classes parent h.0 (ap (λ hs. header_of hs parent) (sym (granted has).headers) ∙ h.1) in
                 let counted = together (suc (length parents)) parent (none_higher parent) l in
                 let same = ap (λ ps. fields_together program.classes (parent ∷ superclasses ps parent)) same_parents in
                 let small_one = few parent in

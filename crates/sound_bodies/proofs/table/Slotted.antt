@@ -23,6 +23,7 @@ use Rattle.decl_table.specs.declared.table.Table.{Table}
 use Rattle.decl_table.specs.Inherited.{field_with, fields_in}
 use Rattle.decl_table.specs.Plain.{PlainField, plain_field}
 use Rattle.decl_table.specs.Table.{headers_of, fields_of, parent_args_of, args_above, args_at}
+use Rattle.decl_laws.proofs.Granted.{granted}
 use Rattle.lang_typed.specs.Plain.{PlainClass}
 use Rattle.lang_typed.specs.Types.{Known, Readable}
 use Rattle.body_assembly.specs.Assembled.{PlainBody, field_of}
@@ -100,14 +101,14 @@ module _ (program : Program) (table : Table) (bodies : List PlainBody) (accepted
     field_row_said i row e =
         let counted = accepted.rows.counted.0 in
         field_said (headers_of table) table.given program.classes i (plain_field row)
-        (ap (λ rows. slice_get rows i) (sym accepted.rows.is_table.read.fields) ∙ got_mapped plain_field (fields_of table) i row e)
-        (omega (arith, counted)) (signatures_free program table accepted.rows.is_table.read)
+        (ap (λ rows. slice_get rows i) (sym (granted accepted.rows).read.fields) ∙ got_mapped plain_field (fields_of table) i row e)
+        (omega (arith, counted)) (signatures_free program table (granted accepted.rows).read)
 
     owner_within : (i : ℕ) (row : FieldRow) → slice_get (fields_of table) i ≡ Some row → row.owner < class_count (headers_of table)
     owner_within i row e =
         let s = field_row_said i row e in
         let l = s.within in
-        let many = ap (λ (h : Headers). length h.rows) accepted.rows.is_table.headers ∙ length_rows (parents_in program.classes) (object_fields program.classes (parents_in program.classes)) 0 program.classes in
+        let many = ap (λ (h : Headers). length h.rows) (granted accepted.rows).headers ∙ length_rows (parents_in program.classes) (object_fields program.classes (parents_in program.classes)) 0 program.classes in
         omega (arith, l, many)
 
     module _ (small : program_size program ≤ 4294967295)

@@ -28,6 +28,7 @@ use Rattle.decl_classes.specs.Build.{table_faults}
 use Rattle.decl_classes.specs.Overriding.{override_faults}
 use Rattle.decl_table.specs.Main.{begins_runs, is_int, is_main, is_spelled, main_class, main_faults, main_method, start, takes_int}
 use Rattle.decl_table.specs.Table.{headers_of, methods_of, constructor_of}
+use Rattle.decl_laws.proofs.Granted.{granted}
 use Rattle.sound_lemmas.specs.Accepted.{IsAccepted}
 use Rattle.sound_lemmas.proofs.Assembled.{facts, has_member, number_is}
 use Rattle.sound_lemmas.proofs.Free.{append_none, fault_none, none_reported, not_false, and_split}
@@ -133,7 +134,7 @@ module _ (program : Program) (table : Table) (bodies : List PlainBody) (written 
     free : main_faults table program.names ≡ []
     free =
         (append_none (override_faults table (methods_of table)) (main_faults table program.names)
-        (none_reported (none_by order.Place) (table_faults table program.names) accepted.whole)).1
+        (none_reported (none_by order.Place) (table_faults table program.names) (granted accepted.rows).whole)).1
 
     abbrev faults_of : Option ℕ → List Refusal
     faults_of o =

@@ -43,7 +43,7 @@ use Rattle.decl_resolve.specs.Classes.{params_in, constraints_in}
 use Rattle.decl_resolve.specs.Scopes.{PlainScope}
 use Rattle.decl_table.specs.declared.rows.FieldRow.{FieldRow}
 use Rattle.decl_table.specs.declared.table.Table.{Table}
-use Rattle.decl_classes.specs.Build.{IsReadOf, text_faults}
+use Rattle.decl_classes.specs.Build.{text_faults}
 use Rattle.decl_table.specs.Inherited.{declared_fields, fields_after, fields_in, members_in}
 use Rattle.decl_table.specs.Inherited.{field_with as plain_with}
 use Rattle.decl_table.specs.Plain.{PlainField, plain_field, plain_super, PlainSuper}
@@ -58,6 +58,7 @@ use Rattle.lang_typed.specs.Types.{GoodElem, GoodHead, GoodPath, GoodArgs}
 use Rattle.body_assembly.specs.Assembled.{PlainBody, field_of, class_from, class_of, program_of}
 use Rattle.syntax_laws.specs.Written.{IsWritten}
 use Rattle.decl_laws.proofs.Facts.{Facts, parent_is}
+use Rattle.decl_laws.proofs.Granted.{IsReadOf, granted}
 use Rattle.sound_lemmas.specs.Accepted.{IsAccepted}
 use Rattle.sound_lemmas.proofs.Assembled.{facts, number_is}
 use Rattle.sound_lemmas.proofs.Free.{append_none, none_reported}
@@ -115,10 +116,10 @@ module _ (program : Program) (table : Table) (bodies : List PlainBody) (written 
     known = facts program table bodies accepted program.names uses_nd
 
     read : IsReadOf program.classes table
-    read = accepted.rows.is_table.read
+    read = (granted accepted.rows).read
 
     headers_are : headers ≡ headers_in program
-    headers_are = accepted.rows.is_table.headers
+    headers_are = (granted accepted.rows).headers
 
     -- no signature has a fault
     found : (all_constraint_faults headers 0 program.classes ≡ []) × (signature_faults headers table.given 0 program.classes ≡ [])

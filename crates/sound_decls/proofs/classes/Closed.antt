@@ -7,11 +7,11 @@ use Rattle.std.specs.Option.{option_map}
 use Rattle.std.specs.Prelude.{slice_get, slice_index_or}
 use Rattle.lang_base.specs.declared.refusal.Kind.TheVariants as kind
 use Rattle.decl_headers.specs.declared.faults.Order.TheVariants as order
-use Rattle.decl_headers.specs.Faults.{none_by, reported}
+use Rattle.decl_headers.specs.Faults.{none_by}
 use Rattle.decl_headers.specs.First.{class_named, first_faults, parents_in}
 use Rattle.decl_headers.specs.Headers.{parent_of}
 use Rattle.decl_headers.specs.Passes.{closed_parents, cycles, extends_place, fault_if, has_constructor, is_among, is_constructor, second_classes, unknown_parents}
-use Rattle.decl_headers.specs.Rounds.{entry_of}
+use Rattle.decl_headers.specs.Rounds.{entry_of, is_round}
 use Rattle.decl_headers.proofs.Second.{length_parents}
 use Rattle.syntax_tree.specs.declared.class.Class.{Class}
 use Rattle.syntax_tree.specs.declared.class.Member.TheVariants as member
@@ -23,6 +23,7 @@ use Rattle.decl_table.specs.declared.table.Table.{Table}
 use Rattle.decl_table.specs.Places.{by_id, constructor_number, is_constructor_of}
 use Rattle.decl_table.specs.Plain.{PlainMethod}
 use Rattle.decl_table.specs.Table.{headers_of, methods_of, numbered, constructor_of}
+use Rattle.decl_laws.proofs.Granted.{granted}
 use Rattle.body_assembly.specs.Assembled.{PlainBody, member_of}
 use Rattle.sound_lemmas.specs.Accepted.{IsAccepted}
 use Rattle.sound_lemmas.proofs.Assembled.{facts, has_member}
@@ -81,13 +82,11 @@ module _ (program : Program) (table : Table) (bodies : List PlainBody) (written 
 
     closed_free : closed_parents (map has_constructor program.classes) program.classes (parents_in program.classes) ≡ []
     closed_free =
-        let first = accepted.rows.named.first in
-        let rounds = first.1.0 in
         let classes = program.classes in
-        let none = none_reported (none_by order.Place) (first_faults classes rounds) (ap reported (sym first.1.2) ∙ first.2) in
+        let none = none_reported (none_by order.Place) (first_faults classes) (granted accepted.rows).first in
         let a = append_none (second_classes [] classes) _ none in
         let b = append_none (unknown_parents (class_named classes) classes) _ a.1 in
-        (append_none (cycles rounds 0 classes) _ b.1).1
+        (append_none (cycles (is_round (parents_in classes)) 0 classes) _ b.1).1
 
     -- the constructor of a class is declared in its text
     declared_there : (at : ℕ) (row : MethodRow) → constructor_of table at ≡ Some row → slice_index_or (map has_constructor program.classes) at false ≡ true

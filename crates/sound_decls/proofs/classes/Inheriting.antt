@@ -37,6 +37,7 @@ use Rattle.sound_lemmas.proofs.Lists.{some_same, map_there, there, made_is}
 use Rattle.decl_laws.proofs.Facts.{Facts, over_is, named_is, parent_is}
 use Rattle.decl_laws.proofs.Numbers.{owner_of}
 use Rattle.decl_laws.proofs.Stand.{rows_kept}
+use Rattle.decl_laws.proofs.Granted.{granted}
 use Rattle.syntax_laws.specs.Written.{IsWritten}
 use Rattle.sound_decls.specs.Laws.{KeepsSuper, AcceptedInherits}
 use Rattle.sound_decls.proofs.table.Above.{P, number, class_there, lower_there, upper_there, args_found}
@@ -84,7 +85,7 @@ module _ (program : Program) (table : Table) (bodies : List PlainBody) (written 
         ∙ fields_with (parent_args_of table c) (fields_in table above) (declared_fields table c)
 
     faults_free : override_faults table (methods_of table) ≡ []
-    faults_free = (append_none (override_faults table (methods_of table)) (main_faults table program.names) (none_reported (none_by order.Place) (table_faults table program.names) accepted.whole)).0
+    faults_free = (append_none (override_faults table (methods_of table)) (main_faults table program.names) (none_reported (none_by order.Place) (table_faults table program.names) (granted accepted.rows).whole)).0
 
     -- a method that overrides one fits it
     fits_there : (m n : ℕ) (row over : MethodRow) → slice_get (methods_of table) m ≡ Some row → slice_get (methods_of table) n ≡ Some over → overridden_by table m ≡ Some n → Fits (args_in table row over.owner) row over

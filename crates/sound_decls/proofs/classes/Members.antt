@@ -28,6 +28,7 @@ use Rattle.decl_table.specs.Plain.{PlainMethod, plain_method}
 use Rattle.decl_classes.specs.Rows.{method_scope, method_given, said_scope, said_faults}
 use Rattle.decl_classes.specs.Signatures.{constraints_faults, formal_faults, result_faults, summary_faults}
 use Rattle.decl_table.specs.Table.{headers_of, methods_of}
+use Rattle.decl_laws.proofs.Granted.{granted}
 use Rattle.lang_typed.specs.Plain.{PlainClass, PlainMember}
 use Rattle.lang_typed.specs.Scope.{class_at, member_at}
 use Rattle.lang_typed.specs.Table.{GoodConstraint, member_scope}
@@ -151,7 +152,7 @@ module _ (program : Program) (table : Table) (bodies : List PlainBody) (written 
     members_good n m e =
         let one = is_member program table bodies accepted program.names uses_nd n m e in
         let w = method_text headers table.given 0 0 program.classes n (plain_method one.row)
-        (ap (λ z. slice_get z n) (sym accepted.rows.is_table.read.methods) ∙ got_mapped plain_method (methods_of table) n one.row one.row_there) in
+        (ap (λ z. slice_get z n) (sym (granted accepted.rows).read.methods) ∙ got_mapped plain_method (methods_of table) n one.row one.row_there) in
         let number = plain_number program table bodies written accepted uses_nd w.number (slice_get_within program.classes w.number w.class w.stands) in
         subst (GoodSignature (program_of table program.names uses_nd bodies)) one.is
         (row_signed w.number w.class w.stands one.row one.body (subst (λ z. MethodRead w.class.members (text_scope headers table.given z) (plain_method one.row)) number w.read))

@@ -23,6 +23,7 @@ use Rattle.decl_table.specs.Plain.{PlainMethod, plain_method}
 use Rattle.decl_classes.specs.Rows.{said_scope, method_scope, all_constraints}
 use Rattle.decl_classes.specs.Signatures.{constraints_meant, result_type}
 use Rattle.decl_table.specs.Table.{headers_of, methods_of, given_of, all_given}
+use Rattle.decl_laws.proofs.Granted.{granted}
 use Rattle.body_assembly.specs.Assembled.{PlainBody}
 use Rattle.sound_lemmas.specs.Accepted.{IsAccepted}
 use Rattle.sound_lemmas.proofs.Lists.{some_same, got_mapped}
@@ -81,7 +82,7 @@ module _ (program : Program) (table : Table) (bodies : List PlainBody) (written 
     pub of_header : (at : ℕ) (header : Header) → header_of (headers_of table) at ≡ Some header → OfClass program at header
     of_header at header e =
         let parents = parents_in program.classes in
-        let w = header_comes parents (object_fields program.classes parents) 0 program.classes at header (ap (λ (h : Headers). slice_get h.rows at) (sym accepted.rows.is_table.headers) ∙ e) in
+        let w = header_comes parents (object_fields program.classes parents) 0 program.classes at header (ap (λ (h : Headers). slice_get h.rows at) (sym (granted accepted.rows).headers) ∙ e) in
         record { class = w.0; stands = w.1; params = ap (λ (h : Header). h.params) w.2; is_written = all_at ClassIsWritten program.classes at w.0 written.classes w.1 }
 
     -- a class without region parameters has no constraints
@@ -91,14 +92,14 @@ module _ (program : Program) (table : Table) (bodies : List PlainBody) (written 
         let list = map_none param_row w.class.params.list (sym w.params ∙ none) in
         let given = w.is_written.params list in
         let scope = class_scope (headers_of table) [] (as_number (0 + at)) in
-        ap (λ all. option_map_or (λ given. given) (slice_get all at) []) accepted.rows.is_table.read.given
+        ap (λ all. option_map_or (λ given. given) (slice_get all at) []) (granted accepted.rows).read.given
         ∙ ap (λ o. option_map_or (λ given. given) o []) (given_comes (headers_of table) 0 program.classes at w.class w.stands)
         ∙ ap (constraints_meant scope) given
 
     pub comes : (i : ℕ) (row : MethodRow) → slice_get (methods_of table) i ≡ Some row → Comes program.classes 0 (plain_method row)
     comes i row e =
         row_comes (headers_of table) (all_given table) 0 0 program.classes i (plain_method row)
-        (ap (λ rows. slice_get rows i) (sym accepted.rows.is_table.read.methods) ∙ got_mapped plain_method (methods_of table) i row e)
+        (ap (λ rows. slice_get rows i) (sym (granted accepted.rows).read.methods) ∙ got_mapped plain_method (methods_of table) i row e)
 
     row_written : (i : ℕ) (row : MethodRow) (e : slice_get (methods_of table) i ≡ Some row) → MethodIsWritten (comes i row e).method
     row_written i row e =

@@ -34,6 +34,7 @@ use Rattle.body_assembly.specs.Assembled.{PlainBody}
 use Rattle.sound_lemmas.specs.Accepted.{IsAccepted}
 use Rattle.sound_lemmas.proofs.Lists.{some_same, and_then_there, map_there, got_later, got_mapped}
 use Rattle.decl_laws.proofs.Facts.{got_either, parent_is}
+use Rattle.decl_laws.proofs.Granted.{granted}
 
 -- the last of the rows that is meant is one of them
 pub last_there : {A : Type 0} (test : A → Bool) (number : ℕ → A → ℕ) (at : ℕ) (found : Option ℕ) (rows : List A) (n : ℕ) → last_from test number at found rows ≡ Some n →
@@ -137,13 +138,13 @@ module _ (program : Program) (table : Table) (bodies : List PlainBody) (accepted
   where
     -- the superclasses in the headers are those in the text
     pub parents_same : parents_of (headers_of table) ≡ parents_in program.classes
-    parents_same = ap parents_of accepted.rows.is_table.headers ∙ parents_gathered program.classes (headers_in program).rows _ refl
+    parents_same = ap parents_of (granted accepted.rows).headers ∙ parents_gathered program.classes (headers_in program).rows _ refl
 
     pub parent_entry : (at : ℕ) → parent_of (headers_of table) at ≡ entry_of (parents_in program.classes) at
     parent_entry at = parent_is table at ∙ ap (λ ps. entry_of ps at) parents_same
 
     supers_said : map plain_super (supers_of table) ≡ supers_meant (headers_of table) (all_given table) 0 program.classes
-    supers_said = accepted.rows.is_table.read.supers
+    supers_said = (granted accepted.rows).read.supers
 
     few : length (supers_of table) < 4294967295
     few =

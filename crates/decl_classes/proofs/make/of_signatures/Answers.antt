@@ -6,7 +6,8 @@ use Rattle.syntax_tree.specs.declared.class.Class.{Class}
 use Rattle.syntax_tree.specs.declared.class.Program.{Program}
 use Rattle.decl_headers.specs.declared.header.Headers.{Headers}
 use Rattle.decl_resolve.proofs.Reported.{passed_on}
-use Rattle.decl_classes.specs.Build.{first_of, text_faults}
+use Rattle.decl_headers.specs.Passes.{first_of}
+use Rattle.decl_classes.specs.Build.{text_faults}
 use Rattle.decl_classes.specs.Rows.{all_constraints, methods_meant}
 use Rattle.decl_classes.proofs.Overrides.{row_owned}
 use Rattle.decl_classes.proofs.Rising.{extending_within}
@@ -38,3 +39,6 @@ returns-in_err-overrides-clause-refused c =
 pub returns-in_err-rows-clause-refused : goal.returns-in_err-rows-clause-refused
 returns-in_err-rows-clause-refused c =
     passed_on c.from_residual-in_err-rows.result stop.NoMemory (Refuses c.args.headers c.args.program.now) c.from_residual-in_err-rows.ensures.1 tt
+
+pub returns-clause-made : goal.returns-clause-made
+returns-clause-made c = ?

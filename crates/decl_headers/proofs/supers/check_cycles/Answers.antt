@@ -1,4 +1,4 @@
-use Rattle.std.proofs.Common.{false, drop, get_or, sym, ap, ◌∙◌}
+use Rattle.std.proofs.Common.{false, get_or, sym, ap, ◌∙◌}
 use mathlib.Core.Path.{fun_ext}
 use Rattle.std.proofs.lemmas.List.{drop_all}
 use Rattle.decl_headers.specs.Faults.{all_noted}

@@ -4,9 +4,9 @@ use Rattle.sound_text.proofs.laws.law_one_passing.Goals as goal
 
 pub returns : goal.returns
 returns c = record {
-  one = one_passing c.one_cutting.ensures c.one_program.ensures c.one_judgement.ensures;
-  naming = one_naming c.one_cutting.ensures c.one_program.ensures c.one_judgement.ensures;
+  one = one_passing c.one_cutting.ensures c.one_program.ensures;
+  naming = one_naming c.one_cutting.ensures c.one_program.ensures;
   verdict = one_verdict
-      (some_verdict c.law_each_text.ensures.some c.law_each_reading.ensures.some c.law_each_table.ensures.some)
-      c.one_cutting.ensures c.one_program.ensures c.one_refusal.ensures c.one_judgement.ensures;
+      (some_verdict c.law_each_text.ensures.some c.law_each_reading.ensures.some)
+      c.one_cutting.ensures c.one_program.ensures c.one_refusal.ensures;
 }
