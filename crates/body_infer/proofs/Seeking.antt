@@ -1,5 +1,5 @@
 -- A field that is looked for from the class at the top down is found where all fields of the class have it.
-use Rattle.std.proofs.Common.{◌≡◌, ◌∙◌, ℕ, zero, suc, ◌+◌, ◌-◌, List, [], ◌∷◌, ◌++◌, map, length, refl, sym, ap, arith, Option, Some, None, option_map, slice_get}
+use Rattle.std.proofs.Common.{◌≡◌, ◌∙◌, ℕ, zero, suc, ◌-◌, List, [], ◌∷◌, ◌++◌, map, length, refl, sym, ap, arith, Option, Some, None, option_map, slice_get}
 use Rattle.std.specs.Option.{option_map_or}
 use Rattle.std.proofs.lemmas.List.{length-map, length-append}
 use Rattle.std.proofs.lemmas.Option.{slice_get-map}
@@ -28,11 +28,14 @@ along_none all s = refl
 abbrev pub known_among : List PlainField → ℕ → PlainSought
 known_among fs slot = record { found = slice_get fs slot; further = slot - length fs }
 
-found_further : (f : PlainField → PlainField) (fs own : List PlainField) (c : Class) (slot : ℕ) → map plain_field c.fields ≡ own → ((g : PlainField) → found_in c (slot - length fs) (Some g) ≡ Some (f g))
-    → found_in c (slot - length fs) (slice_get fs slot) ≡ slice_get (map f fs ++ own) slot
-found_further f [] own c slot is put = sym (slice_get-map plain_field c.fields slot) ∙ ap (λ gs. slice_get gs slot) is
-found_further f (g ∷ fs) own c zero is put = put g
-found_further f (g ∷ fs) own c (suc slot) is put = found_further f fs own c slot is put
+own_found : (c : Class) (slot at : ℕ) → at ≡ slot → option_map plain_field (slice_get c.fields at) ≡ slice_get (map plain_field c.fields) slot
+own_found c slot at same = ap (λ n. option_map plain_field (slice_get c.fields n)) same ∙ sym (slice_get-map plain_field c.fields slot)
+
+found_further : (f : PlainField → PlainField) (fs : List PlainField) (c : Class) (slot at : ℕ) → at ≡ slot - length fs → ((g : PlainField) → found_in c at (Some g) ≡ Some (f g))
+    → found_in c at (slice_get fs slot) ≡ slice_get (map f fs ++ map plain_field c.fields) slot
+found_further f [] c slot at is put = own_found c slot at (omega (arith, is))
+found_further f (g ∷ fs) c zero at is put = put g
+found_further f (g ∷ fs) c (suc slot) at is put = found_further f fs c slot at (omega (arith, is)) put
 
 abbrev above_fields : List Class → ℕ → Option Parent → List PlainField
 above_fields all n parent = option_map_or (λ p. fields_up all n p.class) (option_map plain_parent parent) []
@@ -42,11 +45,11 @@ known_in all n c slot = by c.parent refl
   where
     by : (o : Option Parent) → c.parent ≡ o → sought_in c (known_among (above_fields all n o) slot) ≡ known_among (option_map_or (λ p. map (field_with p.args) (fields_up all n p.class)) (option_map plain_parent o) [] ++ map plain_field c.fields) slot
     by None e = λ i. record {
-      found = sym (slice_get-map plain_field c.fields slot) i;
+      found = own_found c slot (slot - 0) (omega arith) i;
       further = (let same : slot - 0 - length c.fields ≡ slot - length (map plain_field c.fields) = omega (arith, length-map c.fields plain_field) in same) i;
     }
     by (Some p) e = λ i. record {
-      found = found_further (field_with p.args) (fields_up all n p.class.number) (map plain_field c.fields) c slot refl (λ g. ap (λ o. option_map (λ q. field_with q.args g) (option_map plain_parent o)) e) i;
+      found = found_further (field_with p.args) (fields_up all n p.class.number) c slot (slot - length (fields_up all n p.class.number)) refl (λ g. ap (λ o. option_map (λ q. field_with q.args g) (option_map plain_parent o)) e) i;
       further = (let same : slot - length (fields_up all n p.class.number) - length c.fields ≡ slot - length (map (field_with p.args) (fields_up all n p.class.number) ++ map plain_field c.fields) =
           omega (arith, length-map c.fields plain_field, length-map (fields_up all n p.class.number) (field_with p.args), length-append (map (field_with p.args) (fields_up all n p.class.number)) (map plain_field c.fields)) in same) i;
     }
@@ -62,7 +65,7 @@ along_up all (suc n) (Some p) slot = by (slice_get all p.class.number) refl (λ 
         sought_along all (option_map_or (λ (c : Class). p.class.number ∷ superclasses all n c.parent) o []) (known_among [] slot) ≡ known_among (option_map_or (fields_after (fields_up all n)) o []) slot
     by None e more = refl
     by (Some c) e more =
-        ap (λ o. option_map_or (λ (c : Class). sought_in c (sought_along all (superclasses all n c.parent) (known_among [] slot))) o (sought_along all (superclasses all n c.parent) (known_among [] slot))) e
+        ap (λ o. option_map_or (λ (k : Class). sought_in k (sought_along all (superclasses all n c.parent) (known_among [] slot))) o (sought_along all (superclasses all n c.parent) (known_among [] slot))) e
         ∙ ap (sought_in c) (more c.parent) ∙ known_in all n c slot
 
 -- in the class itself all is known of it

@@ -7,7 +7,7 @@ pub loop-at-preserved : goal.loop-at-preserved
 loop-at-preserved c =
     let classes = c.args.program.now.classes in
     let before = plain_sought c.loop-at.sought in
-    ap (sought_along classes c.pop.new.self) c.in_ok-sought-2.ensures
+    ap (sought_along classes c.pop.new.self) c.in_ok-sought.ensures
     ∙ sym (along_last classes c.pop.new.self c.in-Some.at before)
     ∙ ap (λ l. sought_along classes l before) (sym c.in-Some.ensures) ∙ c.loop-at.invariant
 
