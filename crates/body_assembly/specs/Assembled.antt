@@ -1,5 +1,5 @@
 -- The typed program that a class table and the bodies of its members are put together to.
-use Rattle.std.specs.Prelude.{ℕ, Bool, List, [], ◌∷◌, map, Option, Some, None, option_map, unwrap_or}
+use Rattle.std.specs.Prelude.{ℕ, Bool, List, [], ◌∷◌, map, Option, option_map, unwrap_or}
 use Rattle.std.specs.Option.{option_map_or}
 use Rattle.lang_base.specs.Types.{plain_type}
 use Rattle.decl_headers.specs.Headers.{header_of, parent_of, regions_of}

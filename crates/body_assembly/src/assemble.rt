@@ -1,5 +1,4 @@
 ghost use Rattle.std.specs.Prelude.{◌≡◌, map, IfOk};
-ghost use Rattle.decl_headers.specs.Headers.{regions_of};
 ghost use Rattle.lang_typed.specs.Names.{named_region, names_of};
 ghost use Rattle.lang_typed.specs.Plain.{plain_program};
 ghost use Rattle.body_assembly.specs.Assembled.{plain_body, program_of};

@@ -1,5 +1,4 @@
-ghost use Rattle.std.specs.Prelude.{◌≡◌, ◌<◌, ℕ, map, length, option_map, slice_index_or, [], IfOk};
-ghost use Rattle.decl_headers.specs.Headers.{class_count};
+ghost use Rattle.std.specs.Prelude.{◌≡◌, ◌<◌, map, option_map, slice_index_or, [], IfOk};
 ghost use Rattle.decl_headers.specs.Inheriting.{of_each_class};
 ghost use Rattle.decl_headers.specs.Numbers.{as_number};
 ghost use Rattle.lang_typed.specs.Names.{named_class};

@@ -1,7 +1,7 @@
 ghost use Rattle.std.specs.Prelude.{◌≡◌, map, IfOk};
 ghost use Rattle.lang_typed.specs.Names.{named_member};
 ghost use Rattle.lang_typed.specs.Plain.{plain_member};
-ghost use Rattle.body_assembly.specs.Assembled.{PlainBody, plain_body, member_of, members_of};
+ghost use Rattle.body_assembly.specs.Assembled.{plain_body, member_of, members_of};
 ghost use Rattle.body_assembly.specs.Named.{member_named, members_named};
 
 use crate::body::MemberBody;

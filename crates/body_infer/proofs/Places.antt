@@ -1,5 +1,5 @@
 -- Where the slots of a scope stand, as entries come and go.
-use Rattle.std.proofs.Common.{◌≡◌, ◌∙◌, ℕ, ◌+◌, ◌-◌, arith, nat_eq, Bool, true, false, cond, if◌then◌else◌, ◌==◌, List, [], ◌∷◌, ◌++◌, map, take, length, Option, None, Some, Result, Ok, Err, OnOk, OnErr, slice_get, refl, ap, sym, subst, append_assoc, length-append}
+use Rattle.std.proofs.Common.{◌≡◌, ◌∙◌, ℕ, ◌+◌, ◌-◌, arith, nat_eq, Bool, true, false, cond, if◌then◌else◌, ◌==◌, List, [], ◌∷◌, ◌++◌, take, length, Option, None, Some, Result, Ok, Err, OnOk, OnErr, slice_get, refl, ap, sym, subst, append_assoc, length-append}
 use Rattle.std.specs.Map.{lookup}
 use Rattle.std.specs.Option.{option_flatten, option_map}
 use Rattle.std.proofs.lemmas.Cmp.{nat_eq_equiv}

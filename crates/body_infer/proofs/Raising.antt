@@ -1,5 +1,5 @@
 -- What becomes of what is kept, where the items of one member are raised.
-use Rattle.std.proofs.Common.{◌≡◌, ◌∙◌, ℕ, zero, suc, List, [], ◌∷◌, ◌++◌, length, Option, Some, None, refl, ap, sym, slice_get, slice_set, append_assoc}
+use Rattle.std.proofs.Common.{◌≡◌, ◌∙◌, ℕ, zero, suc, List, [], ◌∷◌, Option, Some, None, refl, ap, slice_get, slice_set, append_assoc}
 use Rattle.std.proofs.lemmas.List.{append-nil}
 use Rattle.lang_base.specs.declared.effect.Effect.{Effect}
 use Rattle.lang_typed.specs.declared.ids.Slot.{Slot}

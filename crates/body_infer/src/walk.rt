@@ -1,6 +1,6 @@
-ghost use Rattle.std.specs.Prelude.{◌≡◌, ◌++◌, option_map, IfOk, OnOk};
+ghost use Rattle.std.specs.Prelude.{◌≡◌, ◌++◌, IfOk, OnOk};
 ghost use Rattle.lang_base.specs.Types.{plain_type};
-ghost use Rattle.lang_typed.specs.Plain.{plain_program, plain_member};
+ghost use Rattle.lang_typed.specs.Plain.{plain_program};
 ghost use Rattle.lang_typed.specs.Scope.{member_at, row_at, constructor_of};
 ghost use Rattle.lang_typed.specs.Effects.{summary_with};
 ghost use Rattle.body_infer.specs.Kept.{item_kept, summary_kept, program_kept};

@@ -1,4 +1,4 @@
-ghost use Rattle.std.specs.Prelude.{◌≡◌, ℕ, OnOk, map};
+ghost use Rattle.std.specs.Prelude.{ℕ, OnOk, map};
 ghost use Rattle.lang_base.specs.Types.{PlainType, plain_type};
 ghost use Rattle.lang_typed.specs.Plain.{typed, plain_expr, exprs_of};
 ghost use Rattle.lang_typed.specs.Plain.{ExprForm as form};

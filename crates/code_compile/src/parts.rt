@@ -1,4 +1,4 @@
-ghost use Rattle.std.specs.Prelude.{◌≡◌, ◌+◌, OnOk, Some};
+ghost use Rattle.std.specs.Prelude.{◌+◌, OnOk, Some};
 ghost use Rattle.lang_base.specs.declared.place.Place.{Place};
 ghost use Rattle.lang_typed.specs.Plain.{plain_expr, plain_source, plain_stmt, statement};
 ghost use Rattle.lang_typed.specs.Plain.{of_array as array_cut, of_part as part_cut};

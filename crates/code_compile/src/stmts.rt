@@ -1,4 +1,4 @@
-ghost use Rattle.std.specs.Prelude.{◌≡◌, ℕ, Bool, OnOk, map, option_map};
+ghost use Rattle.std.specs.Prelude.{ℕ, Bool, OnOk, map, option_map};
 ghost use Rattle.std.specs.Option.{option_copied};
 ghost use Rattle.lang_base.specs.Types.{PlainType};
 ghost use Rattle.lang_typed.specs.Plain.{plain_expr, statement, choice_form, return_form, plain_stmt, stmts_of};

@@ -1,5 +1,5 @@
 -- The table that is made is that of the program.
-use Rattle.std.proofs.Common.{◌≡◌, ◌∙◌, ℕ, Bool, List, [], ◌++◌, map, length, Option, None, Some, Result, Ok, Err, refl, sym, ap}
+use Rattle.std.proofs.Common.{◌≡◌, ◌∙◌, ℕ, List, [], map, length, Option, None, Some, Result, Ok, Err, sym, ap}
 use Rattle.lang_base.specs.declared.effect.Constraint.{Constraint}
 use Rattle.lang_base.specs.declared.refusal.Refusal.{Refusal}
 use Rattle.lang_base.specs.declared.ty.Super.{Super}

@@ -7,7 +7,7 @@ ghost use Rattle.decl_headers.specs.Passes.{is_constructor_result};
 ghost use Rattle.decl_resolve.specs.Classes.{constraints_in};
 ghost use Rattle.decl_classes.specs.Around.{with_names, class_scope};
 ghost use Rattle.decl_table.specs.Plain.{plain_super, plain_field, plain_method};
-ghost use Rattle.decl_classes.specs.Rows.{field_row, field_faults, said_faults, said_scope, method_row, method_faults, own_fields, next_slot, own_methods, member_faults, fields_from, methods_from, first_slot, super_rows, super_faults, class_faults, supers_meant, fields_meant, methods_meant, signature_faults, all_constraints, all_constraint_faults};
+ghost use Rattle.decl_classes.specs.Rows.{field_row, field_faults, said_faults, method_row, method_faults, own_fields, next_slot, own_methods, member_faults, fields_from, methods_from, first_slot, super_rows, super_faults, class_faults, supers_meant, fields_meant, methods_meant, signature_faults, all_constraints, all_constraint_faults};
 ghost use Rattle.decl_classes.specs.Signatures.{constraints_meant, constraints_faults, formal_types, result_type, summary_meant, parent_meant, parent_faults};
 ghost use Rattle.decl_classes.specs.Supers.{classes_in, extending, all_extending};
 

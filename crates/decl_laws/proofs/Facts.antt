@@ -1,5 +1,5 @@
 -- What is known of the methods of a program's table: their numbers and classes, what a name means in a class, and what each overrides.
-use Rattle.std.proofs.Common.{◌≡◌, ◌∙◌, ℕ, zero, suc, ◌+◌, ◌<◌, ◌≤◌, ◌==◌, ◌&&◌, not, Bool, true, false, cond, List, [], ◌∷◌, ◌++◌, length, map, ◌⊎◌, inl, inr, Option, None, Some, refl, ap, sym, subst, arith}
+use Rattle.std.proofs.Common.{◌≡◌, ◌∙◌, ℕ, zero, suc, ◌+◌, ◌<◌, ◌==◌, ◌&&◌, not, Bool, true, false, cond, List, [], ◌∷◌, ◌++◌, length, map, ◌⊎◌, inl, inr, Option, None, Some, refl, ap, sym, subst, arith}
 use Rattle.std.proofs.lemmas.Bool.Decides.{eqb_tells}
 use Rattle.std.proofs.lemmas.Option.{none-some, slice_get-map, slice_get_within}
 use Rattle.std.specs.Option.{option_and_then, option_map, option_map_or}
@@ -28,7 +28,7 @@ use Rattle.decl_classes.specs.Around.{class_scope}
 use Rattle.decl_table.specs.Overridden.{method_named, overridden_in}
 use Rattle.decl_table.specs.Places.{entry_at, last_from, by_id, is_method_of, method_number}
 use Rattle.decl_table.specs.Plain.{PlainMethod, plain_method}
-use Rattle.decl_classes.specs.Rows.{methods_from, methods_meant, own_methods}
+use Rattle.decl_classes.specs.Rows.{methods_from, methods_meant}
 use Rattle.decl_table.specs.Table.{headers_of, methods_of}
 use Rattle.decl_classes.proofs.Overrides.{row_counted}
 use Rattle.decl_laws.specs.Rows.{is_own, HasRows}

@@ -1,12 +1,12 @@
 -- A class has no more members than there are methods.
-use Rattle.std.proofs.Common.{◌≡◌, ◌≢◌, ◌⊎◌, ◌∙◌, ℕ, zero, suc, ◌+◌, ◌<◌, ◌≤◌, ◌==◌, ◌&&◌, ◌||◌, not, is_some, is_none, Bool, true, false, cond, List, [], ◌∷◌, ◌++◌, length, length-set, map, fold, slice_set, inl, inr, Option, None, Some, refl, ap, sym, subst, arith}
+use Rattle.std.proofs.Common.{◌≡◌, ◌≢◌, ◌⊎◌, ◌∙◌, ℕ, zero, suc, ◌+◌, ◌≤◌, ◌==◌, ◌&&◌, ◌||◌, not, is_some, is_none, Bool, true, false, cond, List, [], ◌∷◌, ◌++◌, length, length-set, map, fold, slice_set, inl, inr, Option, None, Some, refl, ap, sym, arith}
 use Rattle.std.proofs.lemmas.Bool.Decides.{eqb_tells}
-use Rattle.std.proofs.lemmas.List.{length-append, length-map}
+use Rattle.std.proofs.lemmas.List.{length-append}
 use Rattle.std.specs.List.{filter}
-use Rattle.std.specs.Option.{option_and_then, option_map, option_map_or}
+use Rattle.std.specs.Option.{option_map, option_map_or}
 use Rattle.std.specs.Prelude.{slice_get, unwrap_or}
-use Rattle.decl_headers.specs.Headers.{parent_of, parents_of, class_count}
-use Rattle.decl_headers.specs.Rounds.{entry_of, up}
+use Rattle.decl_headers.specs.Headers.{parent_of, parents_of}
+use Rattle.decl_headers.specs.Rounds.{up}
 use Rattle.decl_headers.proofs.Cycles.{not_round, up-then}
 use Rattle.decl_headers.proofs.Inheriting.{made_step}
 use Rattle.decl_headers.proofs.Walks.{top_none}
@@ -17,7 +17,6 @@ use Rattle.decl_table.specs.Places.{entry_at}
 use Rattle.decl_table.specs.Table.{headers_of, methods_of, row_of}
 use Rattle.decl_laws.specs.Rows.{is_own, one_new, new_in, inherited}
 use Rattle.decl_laws.proofs.Facts.{Facts, parent_is}
-use Rattle.decl_laws.proofs.Numbers.{owner_of}
 
 module _ (table : Table) (facts : Facts table)
   where

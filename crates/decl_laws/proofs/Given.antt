@@ -1,30 +1,26 @@
 -- The table gives each method its row.
-use Rattle.std.proofs.Common.{◌≡◌, ◌≢◌, ◌∙◌, ℕ, zero, suc, ◌+◌, ◌<◌, ◌≤◌, ◌==◌, ◌&&◌, not, is_some, is_none, Bool, true, false, cond, List, [], ◌∷◌, ◌++◌, length, length-set, map, fold, get_or, get_or-set_same, get_or-set_other, slice_set, replicate, inl, inr, Option, None, Some, refl, ap, sym, subst, arith}
-use Rattle.std.proofs.lemmas.Bool.Decides.{eqb_tells}
-use Rattle.std.proofs.lemmas.List.{length-append, length-map, length-replicate}
-use Rattle.std.proofs.lemmas.Option.{slice_get_within}
-use Rattle.std.specs.List.{filter}
-use Rattle.std.specs.Option.{option_map, option_map_or}
-use Rattle.std.specs.Prelude.{slice_get, unwrap_or}
+use Rattle.std.proofs.Common.{◌≡◌, ◌≢◌, ◌∙◌, ℕ, suc, ◌+◌, ◌<◌, ◌≤◌, true, false, List, [], ◌∷◌, length, length-set, get_or, get_or-set_same, get_or-set_other, slice_set, replicate, Option, None, Some, refl, ap, sym, subst, arith}
+use Rattle.std.proofs.lemmas.List.{length-map, length-replicate}
+use Rattle.std.specs.Option.{option_map_or}
+use Rattle.std.specs.Prelude.{slice_get}
 use Rattle.syntax_tree.specs.declared.class.Program.{Program}
 use Rattle.decl_headers.specs.declared.forest.Step.{Step}
 use Rattle.decl_headers.specs.declared.forest.Step.TheVariants as step
 use Rattle.decl_headers.specs.Headers.{parent_of, parents_of, class_count}
-use Rattle.decl_headers.specs.Rounds.{entry_of, up}
+use Rattle.decl_headers.specs.Rounds.{up}
 use Rattle.decl_headers.specs.Way.{way_of}
 use Rattle.decl_headers.proofs.Cycles.{not_round, up-then}
-use Rattle.decl_headers.proofs.Inheriting.{made_step}
 use Rattle.decl_table.specs.declared.overridden.Own.{Own}
 use Rattle.decl_table.specs.declared.rows.MethodRow.{MethodRow}
 use Rattle.decl_table.specs.declared.table.Table.{Table}
-use Rattle.decl_table.specs.Inherited.{with_member, members_after, members_in, declared_methods}
+use Rattle.decl_table.specs.Inherited.{members_in}
 use Rattle.decl_table.specs.Places.{entry_at}
 use Rattle.decl_table.specs.RowNumbers.{Numbering, with_all_rows, Counts, counted_after, all_counted, no_counts, inherited_rows}
-use Rattle.decl_table.specs.Table.{headers_of, methods_of, row_of, overridden_by}
+use Rattle.decl_table.specs.Table.{headers_of, methods_of, row_of}
 use Rattle.decl_table.specs.Visible.{all_own}
 use Rattle.decl_table.proofs.Visible.{own_from, own_listed}
-use Rattle.decl_laws.specs.Rows.{is_own, one_new, new_in, RowIs, inherited, HasRows}
-use Rattle.decl_laws.proofs.Facts.{Facts, facts_of, parent_is, IsMethod, named_is, over_is}
+use Rattle.decl_laws.specs.Rows.{is_own, new_in, RowIs, inherited, HasRows}
+use Rattle.decl_laws.proofs.Facts.{Facts, facts_of, parent_is, named_is, over_is}
 use Rattle.decl_laws.proofs.Few.{sized, members_few}
 use Rattle.decl_laws.proofs.Granted.{granted}
 use Rattle.decl_laws.proofs.Numbers.{owner_of, method_own, Starts, Numbered, numbered}

@@ -3,14 +3,12 @@ use Rattle.std.proofs.Common.{◌≡◌, ◌≢◌, ◌∙◌, ℕ, zero, suc, �
 use Rattle.std.proofs.Math.Seq.{take-append_seam}
 use Rattle.std.proofs.lemmas.Bool.Decides.{eqb_tells}
 use Rattle.std.proofs.lemmas.List.{length-append}
-use Rattle.std.proofs.lemmas.Option.{none-some}
 use Rattle.std.specs.Option.{option_map_or}
 use Rattle.std.specs.Prelude.{slice_get}
 use Rattle.decl_headers.specs.Numbers.{as_number}
-use Rattle.decl_table.specs.declared.overridden.Own.{Own}
 use Rattle.decl_table.specs.declared.rows.MethodRow.{MethodRow}
 use Rattle.decl_table.specs.Places.{entry_at}
-use Rattle.decl_table.specs.RowNumbers.{Numbering, with_row, with_all_rows}
+use Rattle.decl_table.specs.RowNumbers.{Numbering, with_all_rows}
 use Rattle.decl_table.specs.Visible.{own_row}
 use Rattle.decl_headers.proofs.Second.{and_true}
 use Rattle.decl_table.proofs.Visible.{own_from}

@@ -1,5 +1,5 @@
 -- A method stands in its row in each class in which its name means it, and a class keeps the rows of its superclass.
-use Rattle.std.proofs.Common.{◌≡◌, ◌≢◌, ◌⊎◌, ◌∙◌, ℕ, zero, suc, ◌+◌, ◌<◌, ◌≤◌, ◌==◌, ◌&&◌, not, is_some, is_none, Bool, true, false, cond, List, [], ◌∷◌, ◌++◌, length, length-set, map, fold, take, slice_set, inl, inr, Option, None, Some, refl, ap, sym, subst, append_assoc, arith}
+use Rattle.std.proofs.Common.{◌≡◌, ◌≢◌, ◌⊎◌, ◌∙◌, ℕ, zero, suc, ◌+◌, ◌<◌, ◌==◌, ◌&&◌, not, is_some, is_none, Bool, true, false, cond, List, [], ◌∷◌, ◌++◌, length, length-set, map, fold, take, slice_set, inl, inr, Option, None, Some, refl, ap, sym, subst, append_assoc, arith}
 use Rattle.std.proofs.Math.Seq.{take-append_seam}
 use Rattle.std.proofs.lemmas.Bool.{cases_eq}
 use Rattle.std.proofs.lemmas.Bool.Decides.{eqb_tells}

@@ -1,5 +1,5 @@
 -- The rows of methods, and that the class table gives them so.
-use Rattle.std.specs.Prelude.{◌≡◌, ◌⊎◌, ◌≤◌, ℕ, ◌+◌, Bool, true, false, not, ◌&&◌, ◌==◌, cond, is_none, List, [], ◌∷◌, length, take, slice_get, Option, None, Some, Ok}
+use Rattle.std.specs.Prelude.{◌≡◌, ◌⊎◌, ◌≤◌, ℕ, ◌+◌, Bool, false, not, ◌&&◌, ◌==◌, cond, is_none, List, [], ◌∷◌, length, take, slice_get, Option, None, Some, Ok}
 use Rattle.std.specs.Option.{option_map_or}
 use Rattle.syntax_tree.specs.declared.class.Program.{Program}
 use Rattle.decl_headers.specs.Headers.{parent_of}

@@ -1,6 +1,6 @@
 -- Locals that come into scope and leave it again.
-use Rattle.std.proofs.Common.{◌≡◌, ◌∙◌, ℕ, ◌+◌, ◌≤◌, List, [], ◌∷◌, ◌++◌, length, take, Option, None, Some, refl, ap, sym, append_assoc, arith}
-use Rattle.std.proofs.lemmas.List.{length-append, take-append-le, take_all}
+use Rattle.std.proofs.Common.{◌≡◌, ℕ, ◌≤◌, [], ◌∷◌, length, append_assoc, arith}
+use Rattle.std.proofs.lemmas.List.{length-append}
 use Rattle.decl_resolve.specs.Names.{Names}
 use Rattle.decl_resolve.specs.Scoped.{with_name, names_left, values_in}
 use Rattle.decl_reach.specs.declared.shape.Shape.{Shape}

@@ -1,4 +1,4 @@
-ghost use Rattle.std.specs.Prelude.{◌≡◌, ℕ, ◌<◌, [], map, fold, length, replicate, slice_set, slice_index_or, unwrap_or, option_map, IfOk, OnOk};
+ghost use Rattle.std.specs.Prelude.{◌≡◌, ℕ, ◌<◌, [], map, fold, length, replicate, slice_index_or, unwrap_or, option_map, IfOk, OnOk};
 ghost use Rattle.decl_headers.specs.Headers.{parent_of, parents_of, class_count};
 ghost use Rattle.decl_headers.specs.Inheriting.{made_at, of_each_class};
 ghost use Rattle.decl_headers.specs.Way.{IsForest, entered, entered_on};

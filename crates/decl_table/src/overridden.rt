@@ -1,4 +1,4 @@
-ghost use Rattle.std.specs.Prelude.{◌≡◌, [], length, replicate, slice_set, slice_index_or, IfOk, OnOk};
+ghost use Rattle.std.specs.Prelude.{◌≡◌, [], replicate, slice_set, slice_index_or, IfOk, OnOk};
 ghost use Rattle.decl_headers.specs.Headers.{parents_of};
 ghost use Rattle.decl_table.specs.Places.{entry_at};
 ghost use Rattle.decl_table.specs.Visible.{with_own, all_own, all_overriding, all_in_front, all_after, none_seen, after_step, after_way, overridden_on_way};

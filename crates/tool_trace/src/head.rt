@@ -1,5 +1,5 @@
-ghost use Rattle.std.specs.Prelude.{◌≡◌, ◌↔◌, [], IsTrue, MatchResult};
-ghost use Rattle.tool_trace.specs.Reading.{Leads, IsMisfit, listing};
+ghost use Rattle.std.specs.Prelude.{◌≡◌, ◌↔◌, IsTrue, MatchResult};
+ghost use Rattle.tool_trace.specs.Reading.{IsMisfit};
 ghost use Rattle.tool_trace.specs.Listing.{IsHead};
 
 use crate::pieces::cut;

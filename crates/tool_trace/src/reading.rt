@@ -1,4 +1,4 @@
-ghost use Rattle.std.specs.Prelude.{◌≡◌, ◌↔◌, ◌≤◌, IsTrue, IfOk, IfErr, length, codes};
+ghost use Rattle.std.specs.Prelude.{◌≡◌, ◌↔◌, IsTrue, IfOk, IfErr, codes};
 ghost use Rattle.tool_trace.specs.Listing.{IsHead};
 ghost use Rattle.tool_trace.specs.Reading.{IsTrace, WhyUnread};
 

@@ -1,5 +1,4 @@
-ghost use Rattle.std.specs.Prelude.{◌≡◌, ◌≤◌, ◌+◌, ◌*◌, ◌++◌, ℕ, ℤ, codes, MatchOption};
-ghost use Rattle.std.specs.Fmt.{decimal};
+ghost use Rattle.std.specs.Prelude.{◌≡◌, ◌≤◌, ℕ, ℤ, MatchOption};
 ghost use Rattle.lang_base.specs.declared.outcome.Limits.{Limits as IsLimits};
 ghost use Rattle.tool_trace.specs.Reading.{IsSettings, IsEvents, AreLimits};
 ghost use Rattle.tool_trace.specs.Text.{limits_text};

@@ -6,7 +6,7 @@ use Rattle.lang_base.specs.Types.{Ordered}
 use Rattle.syntax_tree.specs.declared.class.Class.{Class}
 use Rattle.syntax_tree.specs.declared.class.Program.{Program}
 use Rattle.decl_headers.specs.declared.header.Headers.{Headers}
-use Rattle.decl_headers.specs.Gathered.{headers_in, check_headers}
+use Rattle.decl_headers.specs.Gathered.{headers_in}
 use Rattle.decl_headers.specs.Passes.{first_of}
 use Rattle.decl_resolve.proofs.Reported.{passed_on, refused_map}
 use Rattle.decl_table.specs.declared.table.Table.{Table}
