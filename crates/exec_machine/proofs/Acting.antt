@@ -14,6 +14,7 @@ use Rattle.exec_task.specs.Answers.{IsCounted}
 use Rattle.exec_task.specs.Halts.{Tells}
 use Rattle.exec_task.specs.declared.action.Action.{Action}
 use Rattle.exec_task.specs.declared.action.Action.TheVariants as action
+use Rattle.exec_task.specs.declared.action.Own.TheVariants as own
 use Rattle.exec_task.specs.declared.action.Answer.{Answer}
 use Rattle.exec_task.specs.declared.action.Answer.TheVariants as answer
 use Rattle.exec_task.specs.declared.action.Ending.{Ending}
@@ -34,31 +35,13 @@ pub record IsOrdinary (a : Action) : Type 0 where
   pub no_end : (e : Ending) → a ≡ action.End e → ⊥
 
 pub ordinary : (a : Action) → ((b : ℕ) → a ≡ action.Begin b → ⊥) → ((e : Ending) → a ≡ action.End e → ⊥) → IsOrdinary a
-ordinary action.Rest b e = record { branch = λ C z n tasks. refl; on = λ h x. refl; out = λ v w k. refl; start = λ C z. tt; no_end = e }
-ordinary (action.Read n j) b e = record { branch = λ C z n tasks. refl; on = λ h x. refl; out = λ v w k. refl; start = λ C z. tt; no_end = e }
-ordinary (action.Write n j v) b e = record { branch = λ C z n tasks. refl; on = λ h x. refl; out = λ v w k. refl; start = λ C z. tt; no_end = e }
-ordinary (action.Look n) b e = record { branch = λ C z n tasks. refl; on = λ h x. refl; out = λ v w k. refl; start = λ C z. tt; no_end = e }
-ordinary (action.NewObject c rs constructor) b e = record { branch = λ C z n tasks. refl; on = λ h x. refl; out = λ v w k. refl; start = λ C z. tt; no_end = e }
-ordinary (action.NewArray region len first) b e = record { branch = λ C z n tasks. refl; on = λ h x. refl; out = λ v w k. refl; start = λ C z. tt; no_end = e }
-ordinary (action.Print bytes) b e = record { branch = λ C z n tasks. refl; on = λ h x. refl; out = λ v w k. refl; start = λ C z. tt; no_end = e }
-ordinary (action.Enter effects) b e = record { branch = λ C z n tasks. refl; on = λ h x. refl; out = λ v w k. refl; start = λ C z. tt; no_end = e }
-ordinary action.Exit b e = record { branch = λ C z n tasks. refl; on = λ h x. refl; out = λ v w k. refl; start = λ C z. tt; no_end = e }
-ordinary (action.Fork forking many) b e = record { branch = λ C z n tasks. refl; on = λ h x. refl; out = λ v w k. refl; start = λ C z. tt; no_end = e }
 ordinary (action.Begin n) b e = absurd (b n refl)
-ordinary action.Join b e = record { branch = λ C z n tasks. refl; on = λ h x. refl; out = λ v w k. refl; start = λ C z. tt; no_end = e }
 ordinary (action.End x) b e = absurd (e x refl)
+ordinary a b e = record { branch = λ C z n tasks. refl; on = λ h x. refl; out = λ v w k. refl; start = λ C z. tt; no_end = e }
 
 -- a task that makes an action which isn't its end stands where it is answered
 not_finished : (C : PlainCode) (a : Action) (turns : ℕ) (x : meaning.Ending ℕ) → ((e : Ending) → a ≡ action.End e → ⊥) → Tells C a (Finished turns x) → ⊥
-not_finished C action.Rest turns x n t = cc
-not_finished C (action.Read m j) turns x n t = cc
-not_finished C (action.Write m j v) turns x n t = cc
-not_finished C (action.Look m) turns x n t = cc
-not_finished C (action.NewObject c rs constructor) turns x n t = cc
-not_finished C (action.NewArray region len first) turns x n t = cc
-not_finished C (action.Print bytes) turns x n t = cc
-not_finished C (action.Enter effects) turns x n t = cc
-not_finished C action.Exit turns x n t = cc
+not_finished C (action.Do o) turns x n t = cc
 not_finished C (action.Fork forking many) turns x n t = let e = t.1 in cc
 not_finished C (action.Begin b) turns x n t = cc
 not_finished C action.Join turns x n t = cc
@@ -92,33 +75,14 @@ counted_join (Some trap) slots = tt
 
 -- an answer counts no more than a value holds
 pub counted : (w : World) (k : ℕ) (wants : Option (List Effect)) (a : Action) → FitsAt w k wants a → IsCounted (answer_at w k a)
-counted w k wants action.Rest f = tt
-counted w k wants (action.Read n j) f = counted_read (object_at w.heap n) j
-counted w k wants (action.Write n j v) f = counted_write (has_index (object_at w.heap n) j)
-counted w k wants (action.Look n) f = counted_seen (object_at w.heap n) f.1
-counted w k wants (action.NewObject c rs constructor) f = tt
-counted w k wants (action.NewArray region len first) f = tt
-counted w k wants (action.Print bytes) f = tt
-counted w k wants (action.Enter effects) f = tt
-counted w k wants action.Exit f = tt
-counted w k wants (action.Fork forking many) f = tt
-counted w k wants (action.Begin b) f = tt
+counted w k wants (action.Do (own.Read n j)) f = counted_read (object_at w.heap n) j
+counted w k wants (action.Do (own.Write n j v)) f = counted_write (has_index (object_at w.heap n) j)
+counted w k wants (action.Do (own.Look n)) f = counted_seen (object_at w.heap n) f.1
 counted w k wants action.Join f = counted_join (first_trap (ends_in (task_at w.tree k))) (all_slots (ends_in (task_at w.tree k)))
-counted w k wants (action.End e) f = tt
+counted w k wants a f = tt
 
 -- of a task that doesn't rest nothing is asked that it wants
-pub wants_nothing : (C : PlainCode) (z : State ℕ (ℕ × ℕ)) (turns : ℕ) (a : Action) (wants : Option (List Effect)) → (a ≡ action.Rest → ⊥)
+pub wants_nothing : (C : PlainCode) (z : State ℕ (ℕ × ℕ)) (turns : ℕ) (a : Action) (wants : Option (List Effect)) → (a ≡ action.Do own.Rest → ⊥)
     → WantsRightly C z turns a wants
-wants_nothing C z turns action.Rest wants n = absurd (n refl)
-wants_nothing C z turns (action.Read m j) wants n = tt
-wants_nothing C z turns (action.Write m j v) wants n = tt
-wants_nothing C z turns (action.Look m) wants n = tt
-wants_nothing C z turns (action.NewObject c rs constructor) wants n = tt
-wants_nothing C z turns (action.NewArray region len first) wants n = tt
-wants_nothing C z turns (action.Print bytes) wants n = tt
-wants_nothing C z turns (action.Enter effects) wants n = tt
-wants_nothing C z turns action.Exit wants n = tt
-wants_nothing C z turns (action.Fork forking many) wants n = tt
-wants_nothing C z turns (action.Begin b) wants n = tt
-wants_nothing C z turns action.Join wants n = tt
-wants_nothing C z turns (action.End e) wants n = tt
+wants_nothing C z turns (action.Do own.Rest) wants n = absurd (n refl)
+wants_nothing C z turns a wants n = tt

@@ -45,18 +45,7 @@ ends_unmet v w k e = by_case _ (k == 0) (no_limit e)
 -- nor is any event that was made
 unmet : (v w : World) (k : ℕ) (a : Action) → met_limit (outcome_after v w k a) ≡ false
 unmet v w k (action.End e) = ends_unmet v w k e
-unmet v w k action.Rest = refl
-unmet v w k (action.Read n j) = refl
-unmet v w k (action.Write n j x) = refl
-unmet v w k (action.Look n) = refl
-unmet v w k (action.NewObject c rs constructor) = refl
-unmet v w k (action.NewArray region len first) = refl
-unmet v w k (action.Print bytes) = refl
-unmet v w k (action.Enter effects) = refl
-unmet v w k action.Exit = refl
-unmet v w k (action.Fork forking many) = refl
-unmet v w k (action.Begin b) = refl
-unmet v w k action.Join = refl
+unmet v w k a = refl
 
 module _ (code : Code) (L : Limits) (m : Moment) (e : Event) (new : Run) where
   -- where no limit was met, the event is told

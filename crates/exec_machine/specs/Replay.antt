@@ -51,18 +51,7 @@ with_task tasks k x q = if q == k then x else tasks q
 -- how a task goes on after its event: not at all, where it ends
 abbrev pub goes_on : Action → Halt ℕ (ℕ × ℕ) → Answer → Option Running
 goes_on (action.End e) h x = None
-goes_on action.Rest h x = answered h x
-goes_on (action.Read n j) h x = answered h x
-goes_on (action.Write n j v) h x = answered h x
-goes_on (action.Look n) h x = answered h x
-goes_on (action.NewObject c rs constructor) h x = answered h x
-goes_on (action.NewArray region len first) h x = answered h x
-goes_on (action.Print bytes) h x = answered h x
-goes_on (action.Enter effects) h x = answered h x
-goes_on action.Exit h x = answered h x
-goes_on (action.Fork forking many) h x = answered h x
-goes_on (action.Begin b) h x = answered h x
-goes_on action.Join h x = answered h x
+goes_on a h x = answered h x
 
 abbrev pub begun : Option (Start ℕ (ℕ × ℕ)) → Option Running
 begun b = option_map at_start b
@@ -70,18 +59,7 @@ begun b = option_map at_start b
 -- the tasks with the branch that an action begins, where the task stands here. The next number is its name
 abbrev pub with_branch : PlainCode → State ℕ (ℕ × ℕ) → Action → ℕ → (ℕ → Option Running) → ℕ → Option Running
 with_branch C z (action.Begin b) next tasks = with_task tasks next (begun (slice_get (starts_at C z) b))
-with_branch C z action.Rest next tasks = tasks
-with_branch C z (action.Read n j) next tasks = tasks
-with_branch C z (action.Write n j v) next tasks = tasks
-with_branch C z (action.Look n) next tasks = tasks
-with_branch C z (action.NewObject c rs constructor) next tasks = tasks
-with_branch C z (action.NewArray region len first) next tasks = tasks
-with_branch C z (action.Print bytes) next tasks = tasks
-with_branch C z (action.Enter effects) next tasks = tasks
-with_branch C z action.Exit next tasks = tasks
-with_branch C z (action.Fork forking many) next tasks = tasks
-with_branch C z action.Join next tasks = tasks
-with_branch C z (action.End e) next tasks = tasks
+with_branch C z a next tasks = tasks
 
 -- how a run comes out whose root ends so: `main` gives an int
 abbrev pub number_given : Value → ℤ
@@ -105,18 +83,7 @@ ended before after k e =
 
 abbrev pub outcome_after : World → World → ℕ → Action → Option Outcome
 outcome_after before after k (action.End e) = ended before after k e
-outcome_after before after k action.Rest = None
-outcome_after before after k (action.Read n j) = None
-outcome_after before after k (action.Write n j v) = None
-outcome_after before after k (action.Look n) = None
-outcome_after before after k (action.NewObject c rs constructor) = None
-outcome_after before after k (action.NewArray region len first) = None
-outcome_after before after k (action.Print bytes) = None
-outcome_after before after k (action.Enter effects) = None
-outcome_after before after k action.Exit = None
-outcome_after before after k (action.Fork forking many) = None
-outcome_after before after k (action.Begin b) = None
-outcome_after before after k action.Join = None
+outcome_after before after k a = None
 
 -- a ready task's next event
 pub record NextOf (C : PlainCode) (m : Moment) (k : ℕ) (e : Event) : Type 0 where
@@ -134,18 +101,7 @@ StartsIn C (Some b) = b.body < length C.bodies
 -- where a task stands that begins a branch, there is a start of that branch, in a body of the code
 abbrev pub HasStart : PlainCode → State ℕ (ℕ × ℕ) → Action → Type 0
 HasStart C z (action.Begin b) = StartsIn C (slice_get (starts_at C z) b)
-HasStart C z action.Rest = Unit {0}
-HasStart C z (action.Read n j) = Unit {0}
-HasStart C z (action.Write n j v) = Unit {0}
-HasStart C z (action.Look n) = Unit {0}
-HasStart C z (action.NewObject c rs constructor) = Unit {0}
-HasStart C z (action.NewArray region len first) = Unit {0}
-HasStart C z (action.Print bytes) = Unit {0}
-HasStart C z (action.Enter effects) = Unit {0}
-HasStart C z action.Exit = Unit {0}
-HasStart C z (action.Fork forking many) = Unit {0}
-HasStart C z action.Join = Unit {0}
-HasStart C z (action.End e) = Unit {0}
+HasStart C z a = Unit {0}
 
 -- an event can be made here by a task that stands there
 pub record CanBeMade (C : PlainCode) (w : World) (e : Event) (z : State ℕ (ℕ × ℕ)) : Type 0 where

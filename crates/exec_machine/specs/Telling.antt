@@ -10,8 +10,6 @@ use Rattle.code_instrs.specs.declared.code.Code.{Code}
 use Rattle.code_instrs.specs.Plain.{PlainCode, plain_code}
 use Rattle.exec_task.specs.Halts.{IsWidthBounded}
 use Rattle.exec_task.specs.Tasks.{state_of}
-use Rattle.exec_task.specs.declared.action.Action.{Action}
-use Rattle.exec_task.specs.declared.action.Action.TheVariants as action
 use Rattle.exec_task.specs.declared.action.Answer.{Answer}
 use Rattle.exec_task.specs.declared.action.Answer.TheVariants as answer
 use Rattle.exec_world.specs.Costs.{Within}
@@ -25,15 +23,6 @@ use Rattle.exec_machine.specs.Keeping.{Keeps, Played}
 use Rattle.exec_machine.specs.Premise.{CanProgress}
 use Rattle.exec_machine.specs.Replay.{Moment, NextOf, CanBeMade, after, limited}
 use Rattle.exec_machine.specs.Running.{OfSlot}
-
--- an action that holds no list
-abbrev pub IsSmall : Action → Type 0
-IsSmall (action.NewObject c rs constructor) = ⊥
-IsSmall (action.NewArray region len first) = ⊥
-IsSmall (action.Print bytes) = ⊥
-IsSmall (action.Enter effects) = ⊥
-IsSmall (action.End e) = ⊥
-IsSmall a = Unit {0}
 
 -- an event is the next of its task, which is kept so
 pub record NextIn (C : PlainCode) (m : Moment) (e : Event) (s : Slot) : Type 0 where

@@ -16,6 +16,7 @@ use Rattle.code_instrs.specs.Plain.{Line, Site, block_site, PlainCode, body_at}
 use Rattle.exec_task.specs.Names.{names_of}
 use Rattle.exec_task.specs.declared.action.Action.{Action}
 use Rattle.exec_task.specs.declared.action.Action.TheVariants as action
+use Rattle.exec_task.specs.declared.action.Own.TheVariants as own
 
 -- the effects of an entry in the frame of a level, and by its site
 abbrev pub effects_of : Level ℕ (ℕ × ℕ) → Option (List Effect) → Option (List (EffectOf (ℕ × ℕ)))
@@ -59,5 +60,5 @@ wanted_after C turns z = if turns == most_turns then None else wants_at C z
 
 -- a task that rests has noted what it wants
 abbrev pub WantsRightly : PlainCode → State ℕ (ℕ × ℕ) → ℕ → Action → Option (List Effect) → Type 0
-WantsRightly C z turns action.Rest wants = wants ≡ option_map (map noted) (wanted_after C turns z)
+WantsRightly C z turns (action.Do own.Rest) wants = wants ≡ option_map (map noted) (wanted_after C turns z)
 WantsRightly C z turns a wants = Unit {0}

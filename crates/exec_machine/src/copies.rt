@@ -1,7 +1,6 @@
 ghost use Rattle.std.specs.Prelude.{◌≡◌, IfOk};
-ghost use Rattle.exec_machine.specs.Telling.{IsSmall};
 
-use exec_task::Action;
+use exec_task::{Action, Own};
 use exec_world::Event;
 use lang_base::{Effect, Items, NoMemory, Plain};
 use std::alloc::Global;
@@ -33,56 +32,53 @@ fn copied_wants(
 fn copied_action(alloc: Global, action: &Action) -> Result<Action, NoMemory>
     ensures { IfOk result (λ copy. copy ≡ action.now) }
 {
-    match action {
-        Action::NewObject {
-            class,
-            regions,
-            constructor,
-        } => Ok(Action::NewObject {
-            class: *class,
-            regions: regions.copy(alloc)?,
-            constructor: *constructor,
-        }),
-        Action::NewArray { region, len, first } => Ok(Action::NewArray {
-            region: region.copy(alloc)?,
-            len: *len,
-            first: *first,
-        }),
-        Action::Print(bytes) => Ok(Action::Print(bytes.copy(alloc)?)),
-        Action::Enter(effects) => Ok(Action::Enter(effects.copy(alloc)?)),
-        Action::End(ending) => Ok(Action::End(ending.copy(alloc)?)),
-        _ => Ok(copied_small(action)),
-    }
-}
-
-/// The same of an action that holds no list.
-fn copied_small(action: &Action) -> Action
-    requires { IsSmall action.now }
-    ensures { result ≡ action.now }
-{
-    match action {
-        Action::Rest => Action::Rest,
-        Action::Read { object, index } => Action::Read {
-            object: *object,
-            index: *index,
-        },
-        Action::Write {
-            object,
-            index,
-            value,
-        } => Action::Write {
-            object: *object,
-            index: *index,
-            value: *value,
-        },
-        Action::Look { object } => Action::Look { object: *object },
-        Action::Exit => Action::Exit,
+    Ok(match action {
+        Action::Do(own) => Action::Do(copied_own(alloc, own)?),
         Action::Fork { forking, branches } => Action::Fork {
             forking: *forking,
             branches: *branches,
         },
         Action::Begin { branch } => Action::Begin { branch: *branch },
         Action::Join => Action::Join,
-        _ => unreachable!(),
-    }
+        Action::End(ending) => Action::End(ending.copy(alloc)?),
+    })
+}
+
+fn copied_own(alloc: Global, own: &Own) -> Result<Own, NoMemory>
+    ensures { IfOk result (λ copy. copy ≡ own.now) }
+{
+    Ok(match own {
+        Own::Rest => Own::Rest,
+        Own::Read { object, index } => Own::Read {
+            object: *object,
+            index: *index,
+        },
+        Own::Write {
+            object,
+            index,
+            value,
+        } => Own::Write {
+            object: *object,
+            index: *index,
+            value: *value,
+        },
+        Own::Look { object } => Own::Look { object: *object },
+        Own::NewObject {
+            class,
+            regions,
+            constructor,
+        } => Own::NewObject {
+            class: *class,
+            regions: regions.copy(alloc)?,
+            constructor: *constructor,
+        },
+        Own::NewArray { region, len, first } => Own::NewArray {
+            region: region.copy(alloc)?,
+            len: *len,
+            first: *first,
+        },
+        Own::Print(bytes) => Own::Print(bytes.copy(alloc)?),
+        Own::Enter(effects) => Own::Enter(effects.copy(alloc)?),
+        Own::Exit => Own::Exit,
+    })
 }

@@ -10,7 +10,7 @@ ghost use Rattle.exec_machine.specs.Wants.{WantsRightly, wants_at, wanted_after,
 
 use code_instrs::{Code, Instr, Site};
 use exec_frames::Frame;
-use exec_task::{Action, Standing, Task, concrete_effect, line};
+use exec_task::{Action, Own, Standing, Task, concrete_effect, line};
 use lang_base::{Effect, Elem, Elems, Head, Index, Items, NoMemory, Rpl};
 use std::alloc::Global;
 
@@ -47,7 +47,7 @@ pub fn wants_at(
     ensures { IfOk result (λ wants. WantsRightly (plain_code code.now) (state_of task.now) task.now.turns action.now wants) }
 {
     match action {
-        Action::Rest => wants_of(alloc, code, task),
+        Action::Do(Own::Rest) => wants_of(alloc, code, task),
         _ => Ok(None),
     }
 }

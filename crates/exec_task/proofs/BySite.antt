@@ -17,6 +17,7 @@ use Rattle.code_instrs.specs.declared.code.Site.TheVariants as site
 use Rattle.code_instrs.specs.Machine.{State, Waits, Stuck, one, next, unless_null, unless_long, calls, creates, called, created, first_value, array_of, makes_array}
 use Rattle.code_instrs.specs.Plain.{PlainCode, plain_site, constructor_of}
 use Rattle.exec_task.specs.declared.action.Action.TheVariants as action
+use Rattle.exec_task.specs.declared.action.Own.TheVariants as own
 use Rattle.exec_task.specs.declared.step.Step.{Step}
 use Rattle.exec_task.specs.declared.step.Step.TheVariants as step
 use Rattle.exec_task.specs.declared.task.Level.{Level}
@@ -64,7 +65,7 @@ module _ (C : PlainCode) (at : Place) (sites : List Site) (i : ℕ) (g : Level) 
   pub array_made : (region : Rpl) (first v u : Constant) (rest : List Constant) (made : Region) (k : ℕ) → slice_get sites i ≡ Some (site.Array region first)
       → g.stack ≡ v ∷ rest → number (plain_value v) ≡ pos k → plain_region made ≡ concrete (names_of 0) (around (plain_frame g.frame)) region
       → plain_value u ≡ first_value first → is_long (plain_region made) ≡ false
-      → Acts C (λ names fs. makes_array names at (slice_get (map plain_site sites) i) (plain_level g) fs) g (step.Waits (action.NewArray made k u))
+      → Acts C (λ names fs. makes_array names at (slice_get (map plain_site sites) i) (plain_level g) fs) g (step.Waits (action.Do (own.NewArray made k u)))
   array_made region first v u rest made k e stack len is value short task fs =
       let there : Regions (ℕ × ℕ) = concrete (names_of task) (around (plain_frame g.frame)) region in
       let on : meaning.Answer ℕ (ℕ × ℕ) → State ℕ (ℕ × ℕ) = λ a. next (plain_level g) (name_made a ∷ map plain_value rest) (map plain_level fs) in (

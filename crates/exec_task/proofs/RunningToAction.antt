@@ -8,6 +8,7 @@ use Rattle.code_instrs.specs.Machine.{Stand, Goes, Turns, Makes, Waits, Ends, St
 use Rattle.code_instrs.specs.Plain.{PlainCode}
 use Rattle.exec_task.specs.declared.action.Action.{Action}
 use Rattle.exec_task.specs.declared.action.Action.TheVariants as action
+use Rattle.exec_task.specs.declared.action.Own.TheVariants as own
 use Rattle.exec_task.specs.declared.task.Task.{Task}
 use Rattle.exec_task.specs.Advances.{step_at, Advances, StandsAt}
 use Rattle.exec_task.specs.Fuel.{is_well, is_enough, Least, one_least}
@@ -92,8 +93,8 @@ module _ (C : PlainCode) where
         ∙ ap Some (sym (rest_is t h k));
   }
 
-  pub tells_rest : (t : Task) → 4096 ≤ t.turns → t.turns ≤ 4096 → Tells C action.Rest (front_of C t)
-  tells_rest t h k = subst (Tells C action.Rest) (sym (rest_is t h k)) refl
+  pub tells_rest : (t : Task) → 4096 ≤ t.turns → t.turns ≤ 4096 → Tells C (action.Do own.Rest) (front_of C t)
+  tells_rest t h k = subst (Tells C (action.Do own.Rest)) (sym (rest_is t h k)) refl
 
   pub reaches_next : (a b c : Task) → Reaches C a b → b.turns < 4096 → Advances C b c → c.number ≡ b.number → Paced c
       → (IsAsking (stands b.turns b.made (step_at C b)) → ⊥) → Reaches C a c

@@ -13,6 +13,8 @@ use Rattle.exec_task.specs.declared.action.Answer.{Answer}
 use Rattle.exec_task.specs.declared.action.Answer.TheVariants as answer
 use Rattle.exec_task.specs.declared.action.Ending.{Ending}
 use Rattle.exec_task.specs.declared.action.Ending.TheVariants as ending
+use Rattle.exec_task.specs.declared.action.Own.{Own}
+use Rattle.exec_task.specs.declared.action.Own.TheVariants as own
 use Rattle.exec_task.specs.declared.task.Level.{Level}
 use Rattle.exec_task.specs.declared.task.Standing.{Standing}
 use Rattle.exec_task.specs.declared.task.Standing.TheVariants as standing
@@ -64,19 +66,22 @@ plain_answer (answer.Made n) = meaning.Named n
 plain_answer (answer.Joined ls) = meaning.Joined (map plain_slot ls)
 plain_answer (answer.Fell trap place) = meaning.Fell trap place
 
--- what an action says of the one that the task stands at. The first fields of a new object are those of its class; the
--- branches of a fork are said by their number, and each as it begins
+-- what a task does by itself. The first fields of a new object are those of its class
+abbrev pub plain_own : PlainCode → Own → meaning.Own ℕ (ℕ × ℕ)
+plain_own C own.Rest = meaning.Rest
+plain_own C (own.Read n i) = meaning.Read n i
+plain_own C (own.Write n i v) = meaning.Write n i (plain_value v)
+plain_own C (own.Look n) = meaning.Look n
+plain_own C (own.NewObject c rs constructor) = meaning.New (An_object c (map plain_region rs) (map first_value (fields_of (class_at C c)))) constructor
+plain_own C (own.NewArray region len first) = meaning.New (An_array (plain_region region) len (plain_value first)) false
+plain_own C (own.Print bytes) = meaning.Print bytes
+plain_own C (own.Enter effects) = meaning.Enter (map plain_effect effects)
+plain_own C own.Exit = meaning.Exit
+
+-- what an action says of the one that the task stands at. The branches of a fork are said by their number, and each as it
+-- begins
 abbrev pub Says : PlainCode → Action → meaning.Action ℕ (ℕ × ℕ) (machine.Start ℕ (ℕ × ℕ)) → Type 0
-Says C action.Rest a = a ≡ meaning.Do meaning.Rest
-Says C (action.Read n i) a = a ≡ meaning.Do (meaning.Read n i)
-Says C (action.Write n i v) a = a ≡ meaning.Do (meaning.Write n i (plain_value v))
-Says C (action.Look n) a = a ≡ meaning.Do (meaning.Look n)
-Says C (action.NewObject c rs constructor) a =
-    a ≡ meaning.Do (meaning.New (An_object c (map plain_region rs) (map first_value (fields_of (class_at C c)))) constructor)
-Says C (action.NewArray region len first) a = a ≡ meaning.Do (meaning.New (An_array (plain_region region) len (plain_value first)) false)
-Says C (action.Print bytes) a = a ≡ meaning.Do (meaning.Print bytes)
-Says C (action.Enter effects) a = a ≡ meaning.Do (meaning.Enter (map plain_effect effects))
-Says C action.Exit a = a ≡ meaning.Do meaning.Exit
+Says C (action.Do o) a = a ≡ meaning.Do (plain_own C o)
 Says C (action.Fork forking many) a =
     (ts : List (machine.Start ℕ (ℕ × ℕ))) × (a ≡ meaning.Fork (record { kind = forking; tasks = ts })) × (length ts ≡ many)
 Says C (action.Begin b) a = a ≡ meaning.Begin b

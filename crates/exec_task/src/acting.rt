@@ -6,7 +6,7 @@ ghost use Rattle.code_instrs.specs.Machine.{one, two, three, reads, writes, unle
 ghost use Rattle.exec_task.specs.Steps.{Local};
 ghost use Rattle.exec_task.specs.Tasks.{plain_level};
 
-use crate::action::{Action, Ending};
+use crate::action::{Action, Ending, Own};
 use crate::step::Step;
 use crate::task::Level;
 use exec_frames::{number, reference};
@@ -30,10 +30,10 @@ impl Level {
         let Some(object) = reference(of) else {
             return null(place);
         };
-        Step::Waits(Action::Read {
+        Step::Waits(Action::Do(Own::Read {
             object,
             index: i64::from(field),
-        })
+        }))
     }
 
     /// The write of a field.
@@ -46,11 +46,11 @@ impl Level {
         let Some(object) = reference(of) else {
             return null(place);
         };
-        Step::Waits(Action::Write {
+        Step::Waits(Action::Do(Own::Write {
             object,
             index: i64::from(field),
             value,
-        })
+        }))
     }
 
     /// The read of an element.
@@ -63,10 +63,10 @@ impl Level {
         let Some(object) = reference(of) else {
             return null(place);
         };
-        Step::Waits(Action::Read {
+        Step::Waits(Action::Do(Own::Read {
             object,
             index: i64::from(number(index)),
-        })
+        }))
     }
 
     /// The write of an element.
@@ -79,11 +79,11 @@ impl Level {
         let Some(object) = reference(of) else {
             return null(place);
         };
-        Step::Waits(Action::Write {
+        Step::Waits(Action::Do(Own::Write {
             object,
             index: i64::from(number(index)),
             value,
-        })
+        }))
     }
 
     /// The look at an array's length.
@@ -96,6 +96,6 @@ impl Level {
         let Some(object) = reference(of) else {
             return null(place);
         };
-        Step::Waits(Action::Look { object })
+        Step::Waits(Action::Do(Own::Look { object }))
     }
 }

@@ -13,9 +13,9 @@ pub enum Ending {
     Trapped(Trap, Place),
 }
 
-/// What a task does to the world that it shares with others.
+/// What a task does by itself: no other task begins or ends by it.
 #[derive(Drop)]
-pub enum Action {
+pub enum Own {
     /// Nothing: it lets others go on.
     Rest,
     /// Of a field or an element, by its index in the object or array.
@@ -48,14 +48,15 @@ pub enum Action {
     Print(Bytes),
     Enter(Items<Effect>),
     Exit,
+}
+
+/// What a task does to the world that it shares with others.
+#[derive(Drop)]
+pub enum Action {
+    Do(Own),
     /// So many branches, which begin one after another.
-    Fork {
-        forking: Forking,
-        branches: usize,
-    },
-    Begin {
-        branch: usize,
-    },
+    Fork { forking: Forking, branches: usize },
+    Begin { branch: usize },
     Join,
     End(Ending),
 }

@@ -4,7 +4,7 @@ ghost use Rattle.code_instrs.specs.Plain.{plain_code, body_at};
 ghost use Rattle.exec_task.specs.Steps.{Enters};
 ghost use Rattle.exec_task.specs.Tasks.{plain_level};
 
-use crate::action::Action;
+use crate::action::{Action, Own};
 use crate::lines::line;
 use crate::regions::concrete_effects;
 use crate::step::Step;
@@ -33,6 +33,6 @@ impl Level {
         let Some(Site::Block { effects }) = code.sites.get(site) else {
             return Ok(Step::Stuck);
         };
-        Ok(Step::Waits(Action::Enter(concrete_effects(alloc, &self.frame, effects)?)))
+        Ok(Step::Waits(Action::Do(Own::Enter(concrete_effects(alloc, &self.frame, effects)?))))
     }
 }

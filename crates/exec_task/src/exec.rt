@@ -6,7 +6,7 @@ ghost use Rattle.exec_task.specs.StepsLocally.{is_own};
 ghost use Rattle.exec_task.specs.Steps.{Comes, HasNext};
 ghost use Rattle.exec_task.specs.Tasks.{plain_level};
 
-use crate::action::Action;
+use crate::action::{Action, Own};
 use crate::local::{leave, return_value};
 use crate::step::Step;
 use crate::task::Level;
@@ -46,8 +46,8 @@ pub fn exec(
         Instr::Spread(site) => Ok(level.spread(code, place, site)),
         Instr::Join => Ok(level.join(code)),
         // in front of an entry the task rests
-        Instr::Enter(_) => Ok(Step::Waits(Action::Rest)),
-        Instr::Exit => Ok(Step::Waits(Action::Exit)),
+        Instr::Enter(_) => Ok(Step::Waits(Action::Do(Own::Rest))),
+        Instr::Exit => Ok(Step::Waits(Action::Do(Own::Exit))),
         Instr::End => level.end_branch(alloc, code, callers),
         Instr::Region(declaration) => Ok(Step::Makes(declaration)),
         Instr::Part(part) => Ok(level.take_part(part)),

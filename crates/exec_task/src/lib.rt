@@ -37,7 +37,7 @@ mod starts;
 mod step;
 mod task;
 
-pub use action::{Action, Answer, Ending};
+pub use action::{Action, Answer, Ending, Own};
 pub use lines::line;
 pub use regions::concrete_effect;
 pub use starts::main_start;

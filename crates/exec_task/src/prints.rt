@@ -6,7 +6,7 @@ ghost use Rattle.code_instrs.specs.Plain.{plain_code};
 ghost use Rattle.exec_task.specs.Steps.{Acts, Local};
 ghost use Rattle.exec_task.specs.Tasks.{plain_level};
 
-use crate::action::Action;
+use crate::action::{Action, Own};
 use crate::step::Step;
 use crate::task::Level;
 use code_instrs::Code;
@@ -22,14 +22,14 @@ impl Level {
         let Some(value) = self.stack.top() else {
             return Ok(Step::Stuck);
         };
-        Ok(Step::Waits(Action::Print(value_line(alloc, value)?)))
+        Ok(Step::Waits(Action::Do(Own::Print(value_line(alloc, value)?))))
     }
 
     /// The print of a text.
     pub fn print_text(&self, alloc: Global, code: &Code, text: usize) -> Result<Step, NoMemory>
         ensures { IfOk result (λ s. Local (λ fs. Waits (Do (Print (line (slice_index_or code.now.texts text [])))) (λ a. next (plain_level self.now) (plain_level self.now).stack fs)) self.now s self.now) }
     {
-        Ok(Step::Waits(Action::Print(numbered_line(alloc, code, text)?)))
+        Ok(Step::Waits(Action::Do(Own::Print(numbered_line(alloc, code, text)?))))
     }
 }
 

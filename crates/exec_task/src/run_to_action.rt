@@ -2,7 +2,7 @@ ghost use Rattle.std.specs.Prelude.{◌≡◌, OnOk, IfOk};
 ghost use Rattle.code_instrs.specs.Plain.{plain_code};
 ghost use Rattle.exec_task.specs.Halts.{Paced, Reaches, Halts, Tells, front_of};
 
-use crate::action::Action;
+use crate::action::{Action, Own};
 use crate::run_local::run_local;
 use crate::running::Running;
 use lang_base::NoMemory;
@@ -24,5 +24,5 @@ pub fn run_to_action(running: &mut Running, alloc: Global) -> Result<Action, NoM
         }
         run_local(running)?;
     }
-    Ok(Action::Rest)
+    Ok(Action::Do(Own::Rest))
 }

@@ -7,7 +7,7 @@ ghost use Rattle.exec_task.specs.Names.{names_of};
 ghost use Rattle.exec_task.specs.Steps.{Acts, Looks, Creates, Spreads};
 ghost use Rattle.exec_task.specs.Tasks.{plain_frame, plain_level};
 
-use crate::action::{Action, Ending};
+use crate::action::{Action, Ending, Own};
 use crate::classes::constructor_of;
 use crate::step::Step;
 use crate::task::Level;
@@ -36,13 +36,13 @@ fn first_value(value: Value) -> Value
 }
 
 fn new_object(class: u32, regions: Items<Region>, constructor: bool) -> Step
-    ensures { result ≡ Step.Waits (Action.NewObject class regions constructor) }
+    ensures { result ≡ Step.Waits (Action.Do (Own.NewObject class regions constructor)) }
 {
-    Step::Waits(Action::NewObject {
+    Step::Waits(Action::Do(Own::NewObject {
         class,
         regions,
         constructor,
-    })
+    }))
 }
 
 impl Level {
@@ -91,7 +91,7 @@ impl Level {
         if self.takes_long(alloc, regions)? {
             return Ok(trapped(Trap::Stack, place));
         }
-        Ok(Step::Waits(Action::Look { object }))
+        Ok(Step::Waits(Action::Do(Own::Look { object })))
     }
 
     /// Whether one of these region arguments has too many elements.
@@ -175,11 +175,11 @@ impl Level {
         if is_long(&region) {
             return Ok(trapped(Trap::Stack, place));
         }
-        Ok(Step::Waits(Action::NewArray {
+        Ok(Step::Waits(Action::Do(Own::NewArray {
             region,
             len: len as u32,
             first: first_value(*first),
-        }))
+        })))
     }
 
     /// Branches, by their site.

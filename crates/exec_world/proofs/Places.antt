@@ -8,6 +8,7 @@ use Rattle.lang_base.specs.declared.effect.Effect.{Effect}
 use Rattle.code_instrs.specs.declared.code.Code.{Code}
 use Rattle.exec_task.specs.declared.action.Action.{Action}
 use Rattle.exec_task.specs.declared.action.Action.TheVariants as action
+use Rattle.exec_task.specs.declared.action.Own.TheVariants as own
 use Rattle.exec_locks.specs.declared.standing.Standing.{Standing}
 use Rattle.exec_locks.specs.declared.standing.Standing.TheVariants.{Opener, Adopted}
 use Rattle.exec_locks.specs.Locks.{Standings, is_inside, opened_for, block_interferes, HasEntry, is_inner, is_outermost, entered, entered_from, exited, exited_from, adopted, shallower}
@@ -384,15 +385,11 @@ after_end w queues task q places how run woken = by_case (same_or_apart q task)
 pub acts : (C : Code) (w : World) (queues : Queues) (task q : ℕ) (wants : Option (List Effect)) (a : Action) → FitsAt w task wants a → AdmitsAt w queues task a
     → HasPlace w.tree w.locks w.waits queues q
     → HasPlace (acted_at C w task wants a).tree (acted_at C w task wants a).locks (acted_at C w task wants a).waits queues q
-acts C w queues task q wants action.Rest fits admits place = after_rest w queues task q place wants admits
-acts C w queues task q wants (action.Read n i) fits admits place = place
-acts C w queues task q wants (action.Write n i v) fits admits place = place
-acts C w queues task q wants (action.Look n) fits admits place = place
-acts C w queues task q wants (action.NewObject c rs constructor) fits admits place = place
-acts C w queues task q wants (action.NewArray region len first) fits admits place = place
-acts C w queues task q wants (action.Print bytes) fits admits place = after_print w queues task q place bytes
-acts C w queues task q wants (action.Enter effects) fits admits place = after_enter w queues task q place fits
-acts C w queues task q wants action.Exit fits admits place = after_exit w queues task q place fits admits
+acts C w queues task q wants (action.Do own.Rest) fits admits place = after_rest w queues task q place wants admits
+acts C w queues task q wants (action.Do (own.Print bytes)) fits admits place = after_print w queues task q place bytes
+acts C w queues task q wants (action.Do (own.Enter effects)) fits admits place = after_enter w queues task q place fits
+acts C w queues task q wants (action.Do own.Exit) fits admits place = after_exit w queues task q place fits admits
+acts C w queues task q wants (action.Do o) fits admits place = place
 acts C w queues task q wants (action.Fork forking many) fits admits place = after_fork w queues task q place many fits.0
 acts C w queues task q wants (action.Begin b) fits admits place = after_begin w queues task q place fits.0 fits.2 admits
 acts C w queues task q wants action.Join fits admits place = after_join w queues task q place fits
@@ -401,18 +398,7 @@ acts C w queues task q wants (action.End e) fits admits place =
 
 pub ended : (C : Code) (w : World) (task : ℕ) (wants : Option (List Effect)) (a : Action) → is_end a ≡ true → is_ready (acted_at C w task wants a).tree task ≡ false
 ended C w task wants (action.End e) is = ended_unready w.tree task (origin_of (task_at w.tree task)) (end_of (task_at w.tree task) (trap_in e) (slots_in e))
-ended C w task wants action.Rest is = absurd (true≢false (sym is))
-ended C w task wants (action.Read n i) is = absurd (true≢false (sym is))
-ended C w task wants (action.Write n i v) is = absurd (true≢false (sym is))
-ended C w task wants (action.Look n) is = absurd (true≢false (sym is))
-ended C w task wants (action.NewObject c rs constructor) is = absurd (true≢false (sym is))
-ended C w task wants (action.NewArray region len first) is = absurd (true≢false (sym is))
-ended C w task wants (action.Print bytes) is = absurd (true≢false (sym is))
-ended C w task wants (action.Enter effects) is = absurd (true≢false (sym is))
-ended C w task wants action.Exit is = absurd (true≢false (sym is))
-ended C w task wants (action.Fork forking many) is = absurd (true≢false (sym is))
-ended C w task wants (action.Begin b) is = absurd (true≢false (sym is))
-ended C w task wants action.Join is = absurd (true≢false (sym is))
+ended C w task wants a is = absurd (true≢false (sym is))
 
 pub all_kept : (w : World) (old new : Queues) → Keeps old new → AllHavePlaces w old → AllHavePlaces w new
 all_kept w old new keeps places q = kept w.tree w.locks w.waits old new q keeps (places q)

@@ -5,26 +5,23 @@ use Rattle.code_instrs.specs.declared.code.ClassCode.{ClassCode}
 use Rattle.code_instrs.specs.declared.code.Code.{Code}
 use Rattle.exec_task.specs.declared.action.Action.{Action}
 use Rattle.exec_task.specs.declared.action.Action.TheVariants as action
+use Rattle.exec_task.specs.declared.action.Own.{Own}
+use Rattle.exec_task.specs.declared.action.Own.TheVariants as own
 use Rattle.exec_world.specs.declared.event.Event.{Event}
 use Rattle.exec_world.specs.declared.stop.Stop.{Stop}
 use Rattle.exec_world.specs.declared.stop.Stop.TheVariants as stop
 use Rattle.exec_world.specs.declared.world.World.{World}
 
 -- besides the turns. An entry of a method is the look at its receiver, and one of a constructor a second step of the creation
+abbrev pub own_steps : Own → ℕ
+own_steps own.Rest = 0
+own_steps (own.NewObject c rs constructor) = cond constructor 2 1
+own_steps o = 1
+
 abbrev pub steps_of : Action → ℕ
-steps_of action.Rest = 0
-steps_of (action.Read n i) = 1
-steps_of (action.Write n i v) = 1
-steps_of (action.Look n) = 1
-steps_of (action.NewObject c rs constructor) = cond constructor 2 1
-steps_of (action.NewArray region len first) = 1
-steps_of (action.Print bytes) = 1
-steps_of (action.Enter effects) = 1
-steps_of action.Exit = 1
-steps_of (action.Fork forking many) = 1
-steps_of (action.Begin b) = 1
-steps_of action.Join = 1
+steps_of (action.Do o) = own_steps o
 steps_of (action.End e) = 0
+steps_of a = 1
 
 abbrev pub fields_of : Option ClassCode → List Value
 fields_of None = []
@@ -35,20 +32,15 @@ abbrev pub first_fields : Code → ℕ → List Value
 first_fields C c = fields_of (slice_get C.classes c)
 
 -- an object or an array one and its size, a printed line its bytes
+abbrev pub own_cells : Code → Own → ℕ
+own_cells C (own.NewObject c rs constructor) = length (first_fields C c) + 1
+own_cells C (own.NewArray region len first) = len + 1
+own_cells C (own.Print bytes) = length bytes
+own_cells C o = 0
+
 abbrev pub cells_of : Code → Action → ℕ
-cells_of C action.Rest = 0
-cells_of C (action.Read n i) = 0
-cells_of C (action.Write n i v) = 0
-cells_of C (action.Look n) = 0
-cells_of C (action.NewObject c rs constructor) = length (first_fields C c) + 1
-cells_of C (action.NewArray region len first) = len + 1
-cells_of C (action.Print bytes) = length bytes
-cells_of C (action.Enter effects) = 0
-cells_of C action.Exit = 0
-cells_of C (action.Fork forking many) = 0
-cells_of C (action.Begin b) = 0
-cells_of C action.Join = 0
-cells_of C (action.End e) = 0
+cells_of C (action.Do o) = own_cells C o
+cells_of C a = 0
 
 -- an event keeps to both limits, with its turns
 abbrev pub Within : Code → World → Event → Type 0

@@ -7,6 +7,8 @@ use Rattle.std.specs.declared.collections.BTreeMap.{BTreeMap}
 use Rattle.std.specs.FinMap.{get}
 use Rattle.exec_task.specs.declared.action.Action.{Action}
 use Rattle.exec_task.specs.declared.action.Action.TheVariants as action
+use Rattle.exec_task.specs.declared.action.Own.{Own}
+use Rattle.exec_task.specs.declared.action.Own.TheVariants as own
 use Rattle.exec_locks.specs.Locks.{Standings, is_outermost}
 use Rattle.exec_tasks.specs.declared.task.Origin.{Origin}
 use Rattle.exec_tasks.specs.Tree.{Tree, is_ready, task_at, origin_of}
@@ -76,17 +78,15 @@ abbrev pub RunsSome : Queues → Option ℕ → Type 0
 RunsSome queues None = Unit {0}
 RunsSome queues (Some task) = Runs queues task
 
--- what may become ready by an action of the task is in the run queue
+-- what may become ready by what the task does by itself is in the run queue
+abbrev pub OwnAdmits : World → Queues → ℕ → Own → Type 0
+OwnAdmits w queues task own.Rest = Runs queues task
+OwnAdmits w queues task own.Exit = is_outermost (get w.locks task) ≡ true → NoneWaits queues task
+OwnAdmits w queues task o = Unit {0}
+
+-- and by any action
 abbrev pub AdmitsAt : World → Queues → ℕ → Action → Type 0
-AdmitsAt w queues task action.Rest = Runs queues task
-AdmitsAt w queues task (action.Read n i) = Unit {0}
-AdmitsAt w queues task (action.Write n i v) = Unit {0}
-AdmitsAt w queues task (action.Look n) = Unit {0}
-AdmitsAt w queues task (action.NewObject c rs constructor) = Unit {0}
-AdmitsAt w queues task (action.NewArray region len first) = Unit {0}
-AdmitsAt w queues task (action.Print bytes) = Unit {0}
-AdmitsAt w queues task (action.Enter effects) = Unit {0}
-AdmitsAt w queues task action.Exit = is_outermost (get w.locks task) ≡ true → NoneWaits queues task
+AdmitsAt w queues task (action.Do o) = OwnAdmits w queues task o
 AdmitsAt w queues task (action.Fork forking many) = Unit {0}
 AdmitsAt w queues task (action.Begin b) = Runs queues w.tree.begun
 AdmitsAt w queues task action.Join = Unit {0}

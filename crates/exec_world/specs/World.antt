@@ -15,6 +15,8 @@ use Rattle.exec_task.specs.declared.action.Answer.{Answer}
 use Rattle.exec_task.specs.declared.action.Answer.TheVariants as answer
 use Rattle.exec_task.specs.declared.action.Ending.{Ending}
 use Rattle.exec_task.specs.declared.action.Ending.TheVariants as ending
+use Rattle.exec_task.specs.declared.action.Own.{Own}
+use Rattle.exec_task.specs.declared.action.Own.TheVariants as own
 use Rattle.exec_locks.specs.Locks.{Standings, AllRoot, MayEnter, HasEntry, is_inside, entered, exited, adopted}
 use Rattle.exec_tasks.specs.declared.end.Joined.{Joined}
 use Rattle.exec_tasks.specs.declared.end.TaskEnd.{TaskEnd}
@@ -87,21 +89,20 @@ slots_in (ending.Returned v) = []
 slots_in (ending.Assigned slots) = slots
 slots_in (ending.Trapped trap place) = []
 
--- what an action of a task is answered in this world
+-- what a task is answered in this world to what it does by itself
+abbrev pub own_answer : World → Own → Answer
+own_answer w (own.Read n i) = read_at (object_at w.heap n) i
+own_answer w (own.Write n i v) = wrote_at (object_at w.heap n) i
+own_answer w (own.Look n) = seen (object_at w.heap n)
+own_answer w (own.NewObject c rs constructor) = answer.Made (length w.heap.objects)
+own_answer w (own.NewArray region len first) = answer.Made (length w.heap.objects)
+own_answer w o = answer.Went
+
+-- and to any action
 abbrev pub answer_at : World → ℕ → Action → Answer
-answer_at w task action.Rest = answer.Went
-answer_at w task (action.Read n i) = read_at (object_at w.heap n) i
-answer_at w task (action.Write n i v) = wrote_at (object_at w.heap n) i
-answer_at w task (action.Look n) = seen (object_at w.heap n)
-answer_at w task (action.NewObject c rs constructor) = answer.Made (length w.heap.objects)
-answer_at w task (action.NewArray region len first) = answer.Made (length w.heap.objects)
-answer_at w task (action.Print bytes) = answer.Went
-answer_at w task (action.Enter effects) = answer.Went
-answer_at w task action.Exit = answer.Went
-answer_at w task (action.Fork forking many) = answer.Went
-answer_at w task (action.Begin b) = answer.Went
+answer_at w task (action.Do o) = own_answer w o
 answer_at w task action.Join = join_answer (ends_in (task_at w.tree task))
-answer_at w task (action.End e) = answer.Went
+answer_at w task a = answer.Went
 
 abbrev pub answer_to : World → Event → Answer
 answer_to w e = answer_at w e.task e.action
@@ -131,17 +132,21 @@ rested waits task (Some effects) = insert waits task effects
 abbrev pub with_entry : World → ℕ → World
 with_entry w task = with_waits (with_locks w (entered w.locks task (wanted (get w.waits task)))) (remove w.waits task)
 
+-- what a task does by itself, besides its steps
+abbrev pub own_acted : Code → World → ℕ → Option (List Effect) → Own → World
+own_acted C w task wants own.Rest = with_waits w (rested w.waits task wants)
+own_acted C w task wants (own.Read n i) = w
+own_acted C w task wants (own.Write n i v) = with_heap w (written_at w.heap n i v)
+own_acted C w task wants (own.Look n) = w
+own_acted C w task wants (own.NewObject c rs constructor) = with_heap w (with_object w.heap (instance c rs (first_fields C c)))
+own_acted C w task wants (own.NewArray region len first) = with_heap w (with_object w.heap (array region (replicate len first)))
+own_acted C w task wants (own.Print bytes) = with_tree (with_heap w (charged w.heap (length bytes))) (printed w.tree task bytes)
+own_acted C w task wants (own.Enter effects) = with_entry w task
+own_acted C w task wants own.Exit = with_locks w (exited w.locks task)
+
 -- what an action of a task does besides its steps
 abbrev pub acted_at : Code → World → ℕ → Option (List Effect) → Action → World
-acted_at C w task wants action.Rest = with_waits w (rested w.waits task wants)
-acted_at C w task wants (action.Read n i) = w
-acted_at C w task wants (action.Write n i v) = with_heap w (written_at w.heap n i v)
-acted_at C w task wants (action.Look n) = w
-acted_at C w task wants (action.NewObject c rs constructor) = with_heap w (with_object w.heap (instance c rs (first_fields C c)))
-acted_at C w task wants (action.NewArray region len first) = with_heap w (with_object w.heap (array region (replicate len first)))
-acted_at C w task wants (action.Print bytes) = with_tree (with_heap w (charged w.heap (length bytes))) (printed w.tree task bytes)
-acted_at C w task wants (action.Enter effects) = with_entry w task
-acted_at C w task wants action.Exit = with_locks w (exited w.locks task)
+acted_at C w task wants (action.Do o) = own_acted C w task wants o
 acted_at C w task wants (action.Fork forking many) = with_tree w (forked w.tree task many)
 acted_at C w task wants (action.Begin b) = with_locks (with_tree w (with_task w.tree task)) (adopted_by w.locks task w.tree.begun)
 acted_at C w task wants action.Join = with_tree w (joined w.tree task)
@@ -166,17 +171,19 @@ abbrev pub CanEnter : Standings → ℕ → Option (List Effect) → Type 0
 CanEnter locks task None = ⊥
 CanEnter locks task (Some effects) = MayEnter locks task effects
 
--- an action that the task may make in this world: objects are there, forks and joins come in turn, and so do entries and exits
+-- what the task may do by itself in this world: objects are there, and entries and exits come in turn
+abbrev pub OwnFits : World → ℕ → Option (List Effect) → Own → Type 0
+OwnFits w task wants own.Rest = AllRoot (wanted wants)
+OwnFits w task wants (own.Read n i) = n < length w.heap.objects
+OwnFits w task wants (own.Write n i v) = n < length w.heap.objects
+OwnFits w task wants (own.Look n) = (n < length w.heap.objects) × (length (values_of (object_at w.heap n)) < 2 ^ 31)
+OwnFits w task wants (own.Enter effects) = CanEnter w.locks task (get w.waits task)
+OwnFits w task wants own.Exit = HasEntry (get w.locks task)
+OwnFits w task wants o = Unit {0}
+
+-- an action that the task may make: forks and joins come in turn too
 abbrev pub FitsAt : World → ℕ → Option (List Effect) → Action → Type 0
-FitsAt w task wants action.Rest = AllRoot (wanted wants)
-FitsAt w task wants (action.Read n i) = n < length w.heap.objects
-FitsAt w task wants (action.Write n i v) = n < length w.heap.objects
-FitsAt w task wants (action.Look n) = (n < length w.heap.objects) × (length (values_of (object_at w.heap n)) < 2 ^ 31)
-FitsAt w task wants (action.NewObject c rs constructor) = Unit {0}
-FitsAt w task wants (action.NewArray region len first) = Unit {0}
-FitsAt w task wants (action.Print bytes) = Unit {0}
-FitsAt w task wants (action.Enter effects) = CanEnter w.locks task (get w.waits task)
-FitsAt w task wants action.Exit = HasEntry (get w.locks task)
+FitsAt w task wants (action.Do o) = OwnFits w task wants o
 FitsAt w task wants (action.Fork forking many) = Runs w.tree.tasks task × (many < 2 ^ 32)
 FitsAt w task wants (action.Begin b) = CanBegin w.tree.tasks task × (w.tree.begun < 4294967295) × IsOutside w.locks w.tree.begun
 FitsAt w task wants action.Join = CanJoin w.tree.tasks task

@@ -4,8 +4,8 @@ ghost use Rattle.exec_tasks.specs.Tree.{printed, task_at, joined, CanBegin, CanJ
 ghost use Rattle.std.specs.FinMap.{get, remove};
 ghost use Rattle.exec_locks.specs.Locks.{AllRoot, entered};
 ghost use Rattle.exec_world.specs.Waits.{wanted};
-ghost use Rattle.exec_world.specs.Costs.{cells_of};
-ghost use Rattle.exec_world.specs.World.{Fits, CanEnter, rested, answer_to, acted, read_at, wrote_at, written_at, adopted_by, join_answer, trap_in, slots_in, IsOutside};
+ghost use Rattle.exec_world.specs.Costs.{own_cells, cells_of};
+ghost use Rattle.exec_world.specs.World.{Fits, OwnFits, CanEnter, rested, own_answer, answer_to, own_acted, acted, read_at, wrote_at, written_at, adopted_by, join_answer, trap_in, slots_in, IsOutside};
 
 use crate::cost::first_fields;
 use crate::event::Event;
@@ -15,7 +15,7 @@ use crate::world::World;
 use code_instrs::Code;
 use exec_heap::{Heap, HeapStop};
 use exec_locks::Locks;
-use exec_task::{Action, Answer, Ending};
+use exec_task::{Action, Answer, Ending, Own};
 use exec_tasks::TaskTree;
 use lang_base::{Bytes, Effect, Items, NoMemory, Place, Plain, Region, SlotValue, Trap, Value};
 use std::alloc::Global;
@@ -36,26 +36,7 @@ impl World {
             ..
         } = event;
         match action {
-            Action::Rest => rest(&mut self.waits, task, wants),
-            Action::Read { object, index } => Ok(read(&self.heap, object, index)),
-            Action::Write {
-                object,
-                index,
-                value,
-            } => Ok(write(&mut self.heap, object, index, value)),
-            Action::Look { object } => answer_of(alloc, &self.heap, object),
-            Action::NewObject { class, regions, .. } => {
-                make_object(&mut self.heap, class, first_fields(code, class), regions)
-            }
-            Action::NewArray { region, len, first } => {
-                make_array(&mut self.heap, len, first, region)
-            }
-            Action::Print(bytes) => print(&mut self.heap, &mut self.tree, task, &bytes),
-            Action::Enter(_) => enter(alloc, &mut self.locks, &mut self.waits, task),
-            Action::Exit => {
-                self.locks.exit(task);
-                Ok(Answer::Went)
-            }
+            Action::Do(own) => self.act_alone(alloc, code, task, wants, own),
             Action::Fork { branches, .. } => {
                 self.tree.fork(task, branches as u32);
                 Ok(Answer::Went)
@@ -66,6 +47,43 @@ impl World {
                 let (trap, slots) = parts_of(alloc, ending);
                 self.tree.end(task, trap, slots)?;
                 self.locks.release(task);
+                Ok(Answer::Went)
+            }
+        }
+    }
+
+    /// The same of what a task does by itself.
+    fn act_alone(
+        &mut self,
+        alloc: Global,
+        code: &Code,
+        task: u32,
+        wants: Option<Items<Effect>>,
+        own: Own,
+    ) -> Result<Answer, NoMemory>
+        requires fits { OwnFits self.old task wants own }
+        requires room { self.old.heap.used + own_cells code.now own ≤ self.old.heap.limit }
+        ensures answer { IfOk result (λ answer. answer ≡ own_answer self.old own) }
+        ensures after { OnOk result (self.new ≡ own_acted code.now self.old task wants own) }
+        ensures err { OnErr result (self.new ≡ self.old) }
+    {
+        match own {
+            Own::Rest => rest(&mut self.waits, task, wants),
+            Own::Read { object, index } => Ok(read(&self.heap, object, index)),
+            Own::Write {
+                object,
+                index,
+                value,
+            } => Ok(write(&mut self.heap, object, index, value)),
+            Own::Look { object } => answer_of(alloc, &self.heap, object),
+            Own::NewObject { class, regions, .. } => {
+                make_object(&mut self.heap, class, first_fields(code, class), regions)
+            }
+            Own::NewArray { region, len, first } => make_array(&mut self.heap, len, first, region),
+            Own::Print(bytes) => print(&mut self.heap, &mut self.tree, task, &bytes),
+            Own::Enter(_) => enter(alloc, &mut self.locks, &mut self.waits, task),
+            Own::Exit => {
+                self.locks.exit(task);
                 Ok(Answer::Went)
             }
         }

@@ -1,8 +1,8 @@
 ghost use Rattle.std.specs.Prelude.{◌≡◌, ◌↔◌, ◌+◌, ◌≤◌, IsTrue};
-ghost use Rattle.exec_world.specs.Costs.{steps_of, cells_of, first_fields};
+ghost use Rattle.exec_world.specs.Costs.{steps_of, own_steps, cells_of, first_fields};
 
 use code_instrs::Code;
-use exec_task::Action;
+use exec_task::{Action, Own};
 use lang_base::Value;
 
 /// The steps of an action besides its turns.
@@ -10,8 +10,18 @@ pub fn steps_of(action: &Action) -> u64
     ensures { result ≡ steps_of action.now }
 {
     match action {
-        Action::Rest | Action::End(_) => 0,
-        Action::NewObject { constructor, .. } => { if *constructor { 2 } else { 1 } }
+        Action::Do(own) => own_steps(own),
+        Action::End(_) => 0,
+        _ => 1,
+    }
+}
+
+fn own_steps(own: &Own) -> u64
+    ensures { result ≡ own_steps own.now }
+{
+    match own {
+        Own::Rest => 0,
+        Own::NewObject { constructor, .. } => { if *constructor { 2 } else { 1 } }
         _ => 1,
     }
 }
@@ -30,10 +40,13 @@ pub fn first_fields(code: &Code, class: u32) -> &[Value]
 pub fn cells_of(code: &Code, action: &Action) -> u64
     ensures { result ≡ cells_of code.now action.now }
 {
-    match action {
-        Action::NewObject { class, .. } => first_fields(code, *class).len() as u64 + 1,
-        Action::NewArray { len, .. } => u64::from(*len) + 1,
-        Action::Print(bytes) => bytes.len() as u64,
+    let Action::Do(own) = action else {
+        return 0;
+    };
+    match own {
+        Own::NewObject { class, .. } => first_fields(code, *class).len() as u64 + 1,
+        Own::NewArray { len, .. } => u64::from(*len) + 1,
+        Own::Print(bytes) => bytes.len() as u64,
         _ => 0,
     }
 }

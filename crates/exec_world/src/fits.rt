@@ -4,7 +4,7 @@ ghost use Rattle.exec_heap.specs.Heap.{object_at, values_of};
 ghost use Rattle.exec_locks.specs.Locks.{AllRoot};
 ghost use Rattle.exec_tasks.specs.Tree.{CanBegin};
 ghost use Rattle.exec_world.specs.Waits.{wanted};
-ghost use Rattle.exec_world.specs.World.{Fits, CanEnter, IsOutside};
+ghost use Rattle.exec_world.specs.World.{Fits, OwnFits, CanEnter, IsOutside};
 
 use crate::event::Event;
 use crate::ready::may_enter;
@@ -12,7 +12,7 @@ use crate::waits::Waits;
 use crate::world::World;
 use exec_heap::Heap;
 use exec_locks::Locks;
-use exec_task::Action;
+use exec_task::{Action, Own};
 use exec_tasks::TaskTree;
 use lang_base::{Effect, Head, Items};
 
@@ -23,17 +23,26 @@ impl World {
     {
         let task = event.task;
         match &event.action {
-            Action::Rest => wants_roots(&event.wants),
-            Action::Read { object, .. } => *object < self.heap.count(),
-            Action::Write { object, .. } => *object < self.heap.count(),
-            Action::Look { object } => can_look(&self.heap, *object),
-            Action::NewObject { .. } | Action::NewArray { .. } | Action::Print(_) => true,
-            Action::Enter(_) => can_enter(&self.locks, &self.waits, task),
-            Action::Exit => self.locks.has_entry(task),
+            Action::Do(own) => self.fits_own(task, &event.wants, own),
             Action::Fork { branches, .. } => self.tree.runs(task) && *branches < 4294967296,
             Action::Begin { .. } => can_begin(&self.tree, &self.locks, task),
             Action::Join => self.tree.can_join(task),
             Action::End(_) => self.tree.runs(task),
+        }
+    }
+
+    /// Whether a task may do this by itself here.
+    fn fits_own(&self, task: u32, wants: &Option<Items<Effect>>, own: &Own) -> bool
+        ensures { IsTrue result ↔ OwnFits self.now task wants.now own.now }
+    {
+        match own {
+            Own::Rest => wants_roots(wants),
+            Own::Read { object, .. } => *object < self.heap.count(),
+            Own::Write { object, .. } => *object < self.heap.count(),
+            Own::Look { object } => can_look(&self.heap, *object),
+            Own::NewObject { .. } | Own::NewArray { .. } | Own::Print(_) => true,
+            Own::Enter(_) => can_enter(&self.locks, &self.waits, task),
+            Own::Exit => self.locks.has_entry(task),
         }
     }
 }

@@ -6,7 +6,7 @@ use crate::event::Event;
 use crate::ready::Readiness;
 use crate::task_queue::TaskQueue;
 use crate::world::World;
-use exec_task::Action;
+use exec_task::{Action, Own};
 use exec_tasks::TaskTree;
 use lang_base::NoMemory;
 use std::alloc::Global;
@@ -25,7 +25,7 @@ pub struct Queues {
 }
 
 impl Queues {
-    ghost use Rattle.exec_world.specs.Queues.{Runs, NoneWaits, Keeps, KeepsOthers, Admits, AllHavePlaces, IsPutAside};
+    ghost use Rattle.exec_world.specs.Queues.{Runs, NoneWaits, Keeps, KeepsOthers, OwnAdmits, Admits, AllHavePlaces, IsPutAside};
 
     /// The root alone, in the run queue.
     pub fn open(alloc: Global) -> Result<Queues, NoMemory>
@@ -48,15 +48,26 @@ impl Queues {
     {
         let task = event.task;
         match &event.action {
-            Action::Rest => self.put(task),
+            Action::Do(own) => self.admit_own(world, task, own),
             Action::Begin { .. } => self.put(world.tree.begun()),
-            Action::Exit if world.locks.is_outermost(task) => self.wake(task),
             Action::End(_) => {
                 if let Some(parent) = parent_of(&world.tree, task) {
                     self.put(parent)?;
                 }
                 self.wake(task)
             }
+            _ => Ok(()),
+        }
+    }
+
+    /// The same of what a task does by itself.
+    fn admit_own(&mut self, world: &World, task: u32, own: &Own) -> Result<(), NoMemory>
+        ensures kept { Keeps self.old self.new }
+        ensures admitted { OnOk result (OwnAdmits world.now self.new task own.now) }
+    {
+        match own {
+            Own::Rest => self.put(task),
+            Own::Exit if world.locks.is_outermost(task) => self.wake(task),
             _ => Ok(()),
         }
     }

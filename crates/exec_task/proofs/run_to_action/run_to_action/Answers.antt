@@ -1,6 +1,7 @@
 use Rattle.std.proofs.Common.{◌<◌, ◌∙◌, arith, rules, subst, sym}
 use Rattle.code_instrs.specs.Plain.{plain_code}
 use Rattle.exec_task.specs.declared.action.Action.TheVariants as action
+use Rattle.exec_task.specs.declared.action.Own.TheVariants as own
 use Rattle.exec_task.specs.Advances.{step_at, Advances}
 use Rattle.exec_task.specs.Halts.{Reaches, Halts, front_of, stands, Tells, IsAsking}
 use Rattle.exec_task.specs.StepsLocally.{IsAtOther}
@@ -76,5 +77,5 @@ returns-clause-halts c =
 
 pub returns-clause-tells : goal.returns-clause-tells
 returns-clause-tells c =
-    subst (λ k. Tells (plain_code k) action.Rest (front_of (plain_code k) c.loop-running.running.task)) c.loop-running.invariant.code
+    subst (λ k. Tells (plain_code k) (action.Do own.Rest) (front_of (plain_code k) c.loop-running.running.task)) c.loop-running.invariant.code
     (tells_rest (plain_code c.loop-running.running.code.now) c.loop-running.running.task c.loop-running-test.false c.loop-running.invariant.reaches.paced.turns)
