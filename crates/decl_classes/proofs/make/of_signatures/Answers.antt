@@ -48,8 +48,8 @@ pub returns-clause-made : goal.returns-clause-made
 returns-clause-made c =
     let program = c.args.program.now in
     let headers = c.args.headers in
-    let given = c.in_ok-given.given in
-    let made = c.in_ok-given.made in
+    let given = c.in_ok-given.field-0.given in
+    let made = c.in_ok-given.field-0.made in
     let overrides = c.in_ok-overrides.overrides in
     let rows = c.in_ok-rows.rows in
     let classes : c.as_slice-classes.result.now ≡ program.classes = c.as_slice-classes.ensures in
