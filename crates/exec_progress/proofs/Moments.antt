@@ -1,5 +1,5 @@
 -- At each moment to which a schedule leads, compiled code goes on.
-use Rattle.std.proofs.Common.{◌≡◌, ◌≢◌, ◌≤◌, ◌<◌, ◌+◌, ◌^◌, ℕ, ℤ, ◌==◌, if◌then◌else◌, ◌⊎◌, inl, inr, Bool, true, false, IsTrue, IsSome, List, [], ◌∷◌, length, refl, sym, ap, ◌∙◌, subst, Option, Some, None, slice_get, arith}
+use Rattle.std.proofs.Common.{◌≡◌, ◌≢◌, ◌≤◌, ◌<◌, ◌+◌, ℕ, ℤ, if◌then◌else◌, inl, inr, IsTrue, IsSome, List, [], ◌∷◌, length, refl, sym, ap, ◌∙◌, subst, Option, Some, None, slice_get, arith}
 use Rattle.std.proofs.lemmas.Bool.Decides.{eqb_tells, leb_tells}
 use Rattle.lang_base.specs.declared.effect.Effect.{Effect}
 use Rattle.lang_base.specs.declared.outcome.Limits.{Limits}
@@ -28,15 +28,14 @@ use Rattle.exec_task.specs.declared.action.Action.TheVariants as action
 use Rattle.exec_task.specs.declared.action.Answer.{Answer}
 use Rattle.exec_task.specs.declared.action.Ending.{Ending}
 use Rattle.exec_task.specs.declared.action.Own.TheVariants as own
-use Rattle.exec_tasks.specs.Tree.{Tree, only_root, is_ready, ready, task_at, printed_task, forked_task, joined_task}
+use Rattle.exec_tasks.specs.Tree.{Tree, only_root, ready, task_at, printed_task, forked_task, joined_task}
 use Rattle.exec_tasks.specs.declared.task.Task.{Task}
 use Rattle.exec_world.specs.Costs.{Within, steps_of}
-use Rattle.exec_world.specs.Ready.{IsReady}
 use Rattle.exec_world.specs.World.{acted_at, world_after, answer_to, trap_in, slots_in}
 use Rattle.exec_world.specs.declared.event.Event.{Event}
 use Rattle.exec_world.specs.declared.world.World.{World}
 use Rattle.exec_machine.specs.Premise.{GoesOn, CanProgress}
-use Rattle.exec_machine.specs.Replay.{Moment, Standing, NextOf, CanBeMade, StartsIn, Moves, made, over, Opens, opened, no_room, LeadsTo, with_task, with_branch, goes_on, begun, after, root_alone, limited}
+use Rattle.exec_machine.specs.Replay.{Moment, NextOf, CanBeMade, StartsIn, Moves, made, over, Opens, opened, no_room, LeadsTo, with_task, with_branch, goes_on, begun, after, root_alone, limited}
 use Rattle.exec_machine.specs.Running.{Running, Goes, at_start, answered, front}
 use Rattle.exec_progress.proofs.Legs.{leg_counted, TellsCounts, front_counts, ComesTo, at_first, next_leg, comes_on, never_dead}
 use Rattle.exec_progress.specs.Progress.{CodeMakesProgress}
