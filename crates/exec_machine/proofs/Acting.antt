@@ -1,5 +1,5 @@
 -- Actions after which a task goes on, and the answers to them.
-use Rattle.std.proofs.Common.{arith, ◌≡◌, ◌<◌, ◌^◌, ℕ, ℤ, pos, negsuc, Bool, true, false, cond, List, length, refl, sym, ap, ◌∙◌, subst, Option, Some, None, slice_get}
+use Rattle.std.proofs.Common.{◌≡◌, ◌<◌, ◌^◌, ℕ, ℤ, pos, negsuc, Bool, true, false, cond, List, length, refl, Option, Some, None, slice_get}
 use Rattle.lang_base.specs.declared.effect.Effect.{Effect}
 use Rattle.lang_base.specs.declared.place.Place.{Place}
 use Rattle.lang_base.specs.declared.value.SlotValue.{SlotValue}
@@ -20,7 +20,7 @@ use Rattle.exec_task.specs.declared.action.Answer.TheVariants as answer
 use Rattle.exec_task.specs.declared.action.Ending.{Ending}
 use Rattle.exec_tasks.specs.Join.{first_trap, all_slots}
 use Rattle.exec_tasks.specs.Tree.{ends_in, task_at}
-use Rattle.exec_world.specs.World.{got, read_at, has_index, wrote_at, seen, fell_or, answer_at, FitsAt}
+use Rattle.exec_world.specs.World.{got, read_at, has_index, seen, fell_or, answer_at, FitsAt}
 use Rattle.exec_world.specs.declared.world.World.{World}
 use Rattle.exec_machine.specs.Running.{Running, answered}
 use Rattle.exec_machine.specs.Replay.{goes_on, with_branch, outcome_after, HasStart}

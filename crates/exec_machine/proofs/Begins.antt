@@ -1,5 +1,5 @@
 -- The begin of a branch, as it is noted.
-use Rattle.std.proofs.Common.{◌≡◌, ◌≢◌, ℕ, List, [], ◌∷◌, ◌++◌, refl, sym, ap, subst, ◌∙◌, Option, Some, None}
+use Rattle.std.proofs.Common.{◌≡◌, ◌≢◌, ℕ, List, [], ◌∷◌, ◌++◌, ap, ◌∙◌, Option, Some, None}
 use Rattle.std.specs.FinMap.{FinMap, get, insert, remove}
 use Rattle.std.specs.Ordering.{nat_cmp}
 use Rattle.lang_base.specs.declared.outcome.Limits.{Limits}
@@ -7,7 +7,6 @@ use Rattle.lang_base.specs.declared.outcome.Outcome.{Outcome}
 use Rattle.code_instrs.specs.declared.code.Code.{Code}
 use Rattle.exec_task.specs.declared.action.Answer.{Answer}
 use Rattle.exec_task.specs.declared.task.Start.{Start}
-use Rattle.exec_world.specs.Costs.{Within}
 use Rattle.exec_world.specs.World.{answer_to, world_after}
 use Rattle.exec_world.specs.declared.event.Event.{Event}
 use Rattle.exec_world.specs.declared.world.World.{World}

@@ -1,11 +1,11 @@
 -- A task that is given its answer begins its next leg, and goes on its way.
-use Rattle.std.proofs.Common.{arith, ◌≡◌, ◌<◌, ◌+◌, ◌^◌, ℕ, ◌==◌, if◌then◌else◌, refl, sym, ap, ◌∙◌, false, Option, Some, None}
+use Rattle.std.proofs.Common.{arith, ◌≡◌, ℕ, ◌==◌, if◌then◌else◌, refl, sym, ap, ◌∙◌, false, Some}
 use Rattle.lang_meaning.specs.Actions.{Do, Rest}
 use Rattle.lang_meaning.specs.Asking.{most_turns}
 use Rattle.code_instrs.specs.Legs.{Halt, Asks, Finished, Dead, leg}
 use Rattle.code_instrs.specs.Machine.{State}
 use Rattle.code_instrs.specs.Plain.{PlainCode}
-use Rattle.exec_task.specs.Halts.{leg_from, Halts, OnTheWay, front_of, Follows, Ends, Paced}
+use Rattle.exec_task.specs.Halts.{leg_from, OnTheWay, front_of, Follows, Ends, Paced}
 use Rattle.exec_task.specs.Names.{names_of}
 use Rattle.exec_task.specs.Tasks.{state_of, plain_answer}
 use Rattle.exec_task.specs.declared.action.Answer.{Answer}

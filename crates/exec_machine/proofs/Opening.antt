@@ -1,11 +1,11 @@
 -- A run at its start, where the root alone has begun.
-use Rattle.std.proofs.Common.{arith, ◌≡◌, ◌≤◌, ◌<◌, ◌+◌, ℕ, ℤ, List, [], length, refl, sym, ap, subst, ◌∙◌, Option, Some, None}
-use Rattle.std.specs.FinMap.{FinMap, get, insert, empty, get-empty}
+use Rattle.std.proofs.Common.{arith, ◌≡◌, ℕ, ℤ, List, [], refl, sym, ap, subst, Option, Some, None}
+use Rattle.std.specs.FinMap.{FinMap, insert, empty, get-empty}
 use Rattle.std.specs.Ordering.{nat_cmp}
 use Rattle.lang_base.specs.declared.outcome.Limits.{Limits}
 use Rattle.lang_base.specs.declared.outcome.Outcome.{Outcome}
 use Rattle.code_instrs.specs.declared.code.Code.{Code}
-use Rattle.code_instrs.specs.Machine.{Start as PlainStart, root_start}
+use Rattle.code_instrs.specs.Machine.{root_start}
 use Rattle.code_instrs.specs.Plain.{PlainCode, plain_code}
 use Rattle.exec_heap.specs.Heap.{Contents, instance, with_object}
 use Rattle.exec_task.specs.Names.{names_of}
@@ -13,10 +13,8 @@ use Rattle.exec_task.specs.Tasks.{plain_start}
 use Rattle.exec_task.specs.declared.task.Start.{Start}
 use Rattle.exec_world.specs.Costs.{first_fields}
 use Rattle.exec_world.specs.World.{at_start as world_at_start, with_heap}
-use Rattle.exec_world.specs.declared.world.World.{World}
-use Rattle.exec_machine.specs.declared.run.Run.{Run}
 use Rattle.exec_machine.specs.declared.slot.Slot.{Slot}
-use Rattle.exec_machine.specs.Running.{Running, at_start, Goes, StandsFor, StandsForOne, AllStand, AllGo, IsFirst}
+use Rattle.exec_machine.specs.Running.{at_start, Goes, StandsForOne, AllStand, AllGo, IsFirst}
 use Rattle.exec_machine.specs.Replay.{Moment, Opens, opened, no_room, root_alone, limited}
 use Rattle.exec_machine.specs.Keeping.{Keeps, MakesMain}
 use Rattle.exec_machine.proofs.Tasks.{stand_put}

@@ -1,9 +1,7 @@
 -- How many tasks there are up to the greatest of a schedule, by its stretches.
 use Rattle.std.proofs.Common.{◌≡◌, ◌<◌, ◌+◌, ◌∙◌, ℕ, zero, suc, max, List, ◌++◌, replicate, ap, refl, arith}
 use Rattle.std.specs.Prelude.{fold}
-use Rattle.std.specs.List.{flat_map}
 use Rattle.std.proofs.lemmas.List.Sums.{fold-append}
-use Rattle.exec_machine.specs.declared.schedule.Stretch.{Stretch}
 
 -- up to the greatest of those before and this task
 abbrev further : ℕ → ℕ → ℕ

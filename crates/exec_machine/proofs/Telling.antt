@@ -1,5 +1,5 @@
 -- What a machine tells of the events that it makes.
-use Rattle.std.proofs.Common.{◌≡◌, ℕ, ℤ, ◌==◌, if◌then◌else◌, Bool, true, false, true≢false, List, [], ◌∷◌, ◌++◌, All, reverse, Option, Some, None, refl, sym, ap, subst, ◌∙◌}
+use Rattle.std.proofs.Common.{◌≡◌, ℕ, ℤ, ◌==◌, if◌then◌else◌, Bool, true, false, true≢false, List, [], ◌∷◌, ◌++◌, reverse, Option, Some, None, refl, sym, ap, subst, ◌∙◌}
 use Rattle.std.specs.Prelude.{option_to_list}
 use Rattle.std.proofs.lemmas.List.{append-nil, reverse-append}
 use Rattle.std.specs.FinMap.{get}
@@ -7,7 +7,7 @@ use Rattle.lang_base.specs.declared.outcome.Limits.{Limits}
 use Rattle.lang_base.specs.declared.outcome.Outcome.{Outcome}
 use Rattle.lang_base.specs.declared.place.Place.{Place}
 use Rattle.code_instrs.specs.declared.code.Code.{Code}
-use Rattle.code_instrs.specs.Plain.{PlainCode, plain_code}
+use Rattle.code_instrs.specs.Plain.{plain_code}
 use Rattle.exec_task.specs.Tasks.{state_of}
 use Rattle.exec_task.specs.declared.action.Action.{Action}
 use Rattle.exec_task.specs.declared.action.Action.TheVariants as action
@@ -22,11 +22,11 @@ use Rattle.exec_machine.specs.declared.halted.Halted.{Halted}
 use Rattle.exec_machine.specs.declared.made_event.MadeEvent.{MadeEvent}
 use Rattle.exec_machine.specs.declared.run.Run.{Run}
 use Rattle.exec_machine.specs.declared.slot.Slot.{Slot}
-use Rattle.exec_machine.specs.Events.{place_at, MakesNext, Makes, opens, makes, meets_limit}
+use Rattle.exec_machine.specs.Events.{place_at, Makes, opens, makes, meets_limit}
 use Rattle.exec_machine.specs.Keeping.{Keeps, Plays, CanStep, IsAfter, WhyHalted, WhyHaltedAt}
-use Rattle.exec_machine.specs.Replay.{Moment, Moves, made, over, Opens, LeadsTo, outcome_after, ended, came_to, after, limited}
+use Rattle.exec_machine.specs.Replay.{Moment, Moves, made, over, Opens, LeadsTo, outcome_after, ended, came_to, after}
 use Rattle.exec_machine.specs.Running.{OfSlot}
-use Rattle.exec_machine.specs.Telling.{IsMade, comes_within, comes_beyond, MakesIn, Tells, told, over_limit, PlaysTold, answer_in, at_limit, is_limit, met_limit, MakesThese}
+use Rattle.exec_machine.specs.Telling.{comes_within, comes_beyond, MakesIn, Tells, told, over_limit, PlaysTold, answer_in, at_limit, is_limit, met_limit, MakesThese}
 use Rattle.exec_machine.proofs.Playing.{played, can_step, is_after, why_at}
 
 -- the end of the root is no limit

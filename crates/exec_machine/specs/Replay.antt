@@ -1,6 +1,5 @@
 -- The run that a schedule records: each number is a ready task, which makes its next event.
-use Rattle.std.specs.Prelude.{◌≡◌, ℕ, suc, ◌+◌, ◌≤◌, ◌<◌, ◌⊎◌, ℤ, pos, ◌==◌, if◌then◌else◌, cond, List, [], ◌∷◌, length, map, Option, Some, None, option_map, slice_get}
-use Rattle.std.specs.FinMap.{get}
+use Rattle.std.specs.Prelude.{◌≡◌, ℕ, ◌+◌, ◌≤◌, ◌<◌, ℤ, pos, ◌==◌, if◌then◌else◌, List, [], ◌∷◌, length, Option, Some, None, option_map, slice_get}
 use Rattle.lang_base.specs.declared.outcome.Ending.{Ending as Came}
 use Rattle.lang_base.specs.declared.outcome.Ending.TheVariants as came
 use Rattle.lang_base.specs.declared.outcome.Limits.{Limits}

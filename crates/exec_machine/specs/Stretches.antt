@@ -1,5 +1,5 @@
 -- A schedule by its stretches of equal numbers.
-use Rattle.std.specs.Prelude.{ℕ, zero, List, ◌++◌, ◌<◌, replicate}
+use Rattle.std.specs.Prelude.{ℕ, List, ◌++◌, ◌<◌, replicate}
 use Rattle.std.specs.List.{flat_map}
 use Rattle.exec_machine.specs.declared.schedule.Stretch.{Stretch}
 

@@ -1,11 +1,11 @@
 -- The legs of tasks that began at good starts: a start is good where its legs end and it never is stuck.
-use Rattle.std.proofs.Common.{◌≡◌, ◌≤◌, ℕ, zero, suc, ◌+◌, Bool, true, false, if◌then◌else◌, ◌==◌, List, [], ◌∷◌, refl, sym, ap, ◌∙◌, subst, Option, Some, None, arith}
+use Rattle.std.proofs.Common.{◌≡◌, ◌≤◌, ℕ, zero, suc, ◌+◌, Bool, true, false, if◌then◌else◌, ◌==◌, List, [], ◌∷◌, refl, Option, Some, arith}
 use Rattle.lang_meaning.specs.Values.{Naming}
 use Rattle.lang_meaning.specs.Actions.{Rest, Action, Do, Answer, Unknown}
 use Rattle.lang_meaning.specs.Asking.{most_turns}
 use Rattle.code_instrs.specs.Plain.{PlainCode}
-use Rattle.code_instrs.specs.Machine.{Start, State, Stand, Goes, Turns, Makes, Waits, Ends, Stuck, step, begins_at, Solo}
-use Rattle.code_instrs.specs.Legs.{Halt, Asks, Finished, Dead, legged_turn, legged, leg, Leg, Halts, said}
+use Rattle.code_instrs.specs.Machine.{Start, State, Stand, Goes, Turns, Makes, Waits, Ends, Stuck, step, Solo}
+use Rattle.code_instrs.specs.Legs.{Halt, Asks, Finished, Dead, legged_turn, legged, leg, Leg, Halts}
 use Rattle.code_instrs.proofs.Legs.{legs_are_solo}
 use Rattle.code_scheme.specs.Laws.{LegsEndOf}
 use Rattle.exec_task.specs.Halts.{stands}

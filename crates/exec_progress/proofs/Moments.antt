@@ -1,5 +1,5 @@
 -- At each moment to which a schedule leads, compiled code goes on.
-use Rattle.std.proofs.Common.{◌≡◌, ◌≢◌, ◌≤◌, ◌<◌, ◌+◌, ◌^◌, ℕ, ℤ, ◌==◌, if◌then◌else◌, ◌⊎◌, inl, inr, Bool, true, false, IsTrue, IsSome, List, [], ◌∷◌, length, refl, sym, ap, ◌∙◌, subst, Option, Some, None, slice_get, arith}
+use Rattle.std.proofs.Common.{◌≡◌, ◌≢◌, ◌≤◌, ◌<◌, ◌+◌, ℕ, ℤ, if◌then◌else◌, inl, inr, IsTrue, IsSome, List, [], ◌∷◌, length, refl, sym, ap, ◌∙◌, subst, Option, Some, None, slice_get, arith}
 use Rattle.std.proofs.lemmas.Bool.Decides.{eqb_tells, leb_tells}
 use Rattle.lang_base.specs.declared.effect.Effect.{Effect}
 use Rattle.lang_base.specs.declared.outcome.Limits.{Limits}
@@ -27,15 +27,15 @@ use Rattle.exec_task.specs.declared.action.Action.{Action}
 use Rattle.exec_task.specs.declared.action.Action.TheVariants as action
 use Rattle.exec_task.specs.declared.action.Answer.{Answer}
 use Rattle.exec_task.specs.declared.action.Ending.{Ending}
-use Rattle.exec_tasks.specs.Tree.{Tree, only_root, is_ready, ready, task_at, printed_task, forked_task, joined_task}
+use Rattle.exec_task.specs.declared.action.Own.TheVariants as own
+use Rattle.exec_tasks.specs.Tree.{Tree, only_root, ready, task_at, printed_task, forked_task, joined_task}
 use Rattle.exec_tasks.specs.declared.task.Task.{Task}
 use Rattle.exec_world.specs.Costs.{Within, steps_of}
-use Rattle.exec_world.specs.Ready.{IsReady}
 use Rattle.exec_world.specs.World.{acted_at, world_after, answer_to, trap_in, slots_in}
 use Rattle.exec_world.specs.declared.event.Event.{Event}
 use Rattle.exec_world.specs.declared.world.World.{World}
 use Rattle.exec_machine.specs.Premise.{GoesOn, CanProgress}
-use Rattle.exec_machine.specs.Replay.{Moment, Standing, NextOf, CanBeMade, StartsIn, Moves, made, over, Opens, opened, no_room, LeadsTo, with_task, with_branch, goes_on, begun, after, root_alone, limited}
+use Rattle.exec_machine.specs.Replay.{Moment, NextOf, CanBeMade, StartsIn, Moves, made, over, Opens, opened, no_room, LeadsTo, with_task, with_branch, goes_on, begun, after, root_alone, limited}
 use Rattle.exec_machine.specs.Running.{Running, Goes, at_start, answered, front}
 use Rattle.exec_progress.proofs.Legs.{leg_counted, TellsCounts, front_counts, ComesTo, at_first, next_leg, comes_on, never_dead}
 use Rattle.exec_progress.specs.Progress.{CodeMakesProgress}
@@ -325,61 +325,7 @@ module _ (code : Code) (L : Limits) (few : L.steps ≤ 20000000) (Good : Start �
 
     made_holds : (a : Action) (x : NextOf C m k (event a)) → CanBeMade C m.world (event a) x.stands.state → Within code m.world (event a) →
         Holds (after code m (event a) x.stands.state x.stands.made)
-    made_holds action.Rest x can within = plain_holds action.Rest (record {
-      branch = λ z n t. refl;
-      goes = λ s y. refl;
-      no_end = λ c e. (cc);
-      live = λ w i o q live. live;
-      begun = λ w i o. refl;
-      steps = λ w i o. refl;
-      most = λ w i o. refl;
-    }) x within
-    made_holds (action.Read n j) x can within = plain_holds (action.Read n j) (record {
-      branch = λ z n t. refl;
-      goes = λ s y. refl;
-      no_end = λ c e. (cc);
-      live = λ w i o q live. live;
-      begun = λ w i o. refl;
-      steps = λ w i o. refl;
-      most = λ w i o. refl;
-    }) x within
-    made_holds (action.Write n j v) x can within = plain_holds (action.Write n j v) (record {
-      branch = λ z n t. refl;
-      goes = λ s y. refl;
-      no_end = λ c e. (cc);
-      live = λ w i o q live. live;
-      begun = λ w i o. refl;
-      steps = λ w i o. refl;
-      most = λ w i o. refl;
-    }) x within
-    made_holds (action.Look n) x can within = plain_holds (action.Look n) (record {
-      branch = λ z n t. refl;
-      goes = λ s y. refl;
-      no_end = λ c e. (cc);
-      live = λ w i o q live. live;
-      begun = λ w i o. refl;
-      steps = λ w i o. refl;
-      most = λ w i o. refl;
-    }) x within
-    made_holds (action.NewObject c rs constructor) x can within = plain_holds (action.NewObject c rs constructor) (record {
-      branch = λ z n t. refl;
-      goes = λ s y. refl;
-      no_end = λ c e. (cc);
-      live = λ w i o q live. live;
-      begun = λ w i o. refl;
-      steps = λ w i o. refl;
-      most = λ w i o. refl;
-    }) x within
-    made_holds (action.NewArray region len first) x can within = plain_holds (action.NewArray region len first) (record {
-      branch = λ z n t. refl;
-      goes = λ s y. refl;
-      no_end = λ c e. (cc);
-      live = λ w i o q live. live;
-      begun = λ w i o. refl;
-      steps = λ w i o. refl;
-      most = λ w i o. refl;
-    }) x within
-    made_holds (action.Print bytes) x can within = plain_holds (action.Print bytes) (record {
+    made_holds (action.Do (own.Print bytes)) x can within = plain_holds (action.Do (own.Print bytes)) (record {
       branch = λ z n t. refl;
       goes = λ s y. refl;
       no_end = λ c e. (cc);
@@ -388,16 +334,7 @@ module _ (code : Code) (L : Limits) (few : L.steps ≤ 20000000) (Good : Start �
       steps = λ w i o. refl;
       most = λ w i o. refl;
     }) x within
-    made_holds (action.Enter effects) x can within = plain_holds (action.Enter effects) (record {
-      branch = λ z n t. refl;
-      goes = λ s y. refl;
-      no_end = λ c e. (cc);
-      live = λ w i o q live. live;
-      begun = λ w i o. refl;
-      steps = λ w i o. refl;
-      most = λ w i o. refl;
-    }) x within
-    made_holds action.Exit x can within = plain_holds action.Exit (record {
+    made_holds (action.Do o) x can within = plain_holds (action.Do o) (record {
       branch = λ z n t. refl;
       goes = λ s y. refl;
       no_end = λ c e. (cc);

@@ -1,13 +1,13 @@
 -- How a run comes out that is made in rounds, over plain variables.
-use Rattle.std.proofs.Common.{◌≡◌, ℕ, ℤ, List, [], ◌∷◌, Option, Some, None, MatchOption, Result, Ok, Err, IfOk, IfErr, refl, sym, ap, subst, ◌∙◌}
+use Rattle.std.proofs.Common.{◌≡◌, ℕ, ℤ, List, [], ◌∷◌, Option, Some, None, MatchOption, Result, Ok, Err, IfOk, refl, sym, subst, ◌∙◌}
 use Rattle.lang_base.specs.declared.memory.NoMemory.{NoMemory}
 use Rattle.lang_base.specs.declared.outcome.Limits.{Limits}
 use Rattle.lang_typed.specs.Plain.{PlainProgram}
 use Rattle.exec_machine.specs.declared.halted.Halted.{Halted}
 use Rattle.exec_machine.specs.declared.halted.Halted.TheVariants.{Stuck}
 use Rattle.exec_machine.specs.Keeping.{Played, IsReplayed, HasEnded}
-use Rattle.exec_run.specs.rounds.Rounds.{IsTurn, made, finished, not_ready, HadTurns, IsRound, RoundsOn, here, further, BreaksOff, at_once, within, RoundsBreakOff}
-use Rattle.exec_run.specs.Run.{IsRunOf, IsSameRun, IsOpened, too_wide}
+use Rattle.exec_run.specs.rounds.Rounds.{IsTurn, made, finished, not_ready, HadTurns, RoundsOn, here, further, BreaksOff, at_once, within, RoundsBreakOff}
+use Rattle.exec_run.specs.Run.{IsRunOf, IsOpened, too_wide}
 use Rattle.exec_run.specs.Rounding.{IsByRounds, IsMadeAlone, broken_off, unfinished, never_begun, ComesByRounds, by_rounds, no_rounds}
 use Rattle.exec_run.specs.declared.recorded.Recorded.{Recorded}
 use Rattle.exec_run.proofs.Coming.{still}

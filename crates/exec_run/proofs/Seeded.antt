@@ -1,5 +1,5 @@
 -- How a run comes out whose order a seed draws, over plain variables.
-use Rattle.std.proofs.Common.{◌≡◌, ◌≤◌, ◌<◌, ◌+◌, ◌⊎◌, inl, inr, arith, ℕ, ℤ, List, [], ◌∷◌, length, Option, Some, None, MatchOption, Result, Ok, Err, IfOk, refl, ap, sym, subst, ◌∙◌}
+use Rattle.std.proofs.Common.{◌≡◌, ◌≤◌, ◌<◌, ◌+◌, ◌⊎◌, inl, inr, arith, ℕ, ℤ, [], ◌∷◌, length, Option, Some, None, MatchOption, Result, Ok, Err, IfOk, refl, ap, sym, subst, ◌∙◌}
 use Rattle.std.proofs.lemmas.Bool.{cases_order}
 use Rattle.std.proofs.lemmas.List.{length-append}
 use Rattle.lang_base.specs.declared.memory.NoMemory.{NoMemory}

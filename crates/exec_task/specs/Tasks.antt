@@ -3,7 +3,6 @@ use Rattle.std.specs.Prelude.{◌≡◌, ℕ, List, map, length, false}
 use Rattle.lang_base.specs.declared.value.SlotValue.{SlotValue}
 use Rattle.lang_meaning.specs.Values.{Value, Region, An_object, An_array}
 use Rattle.lang_meaning.specs.Actions as meaning
-use Rattle.lang_meaning.specs.Actions.{Branches}
 use Rattle.code_instrs.specs.Plain.{PlainCode, class_at, fields_of}
 use Rattle.code_instrs.specs.Machine as machine
 use Rattle.code_instrs.specs.Machine.{State, On, Off, first_value}

@@ -1,11 +1,11 @@
-ghost use Rattle.std.specs.Prelude.{◌≡◌, ◌∷◌, option_map, suc, pos, drop, map, IfOk, OnOk, OnErr};
-ghost use Rattle.lang_meaning.specs.Counts.{value_read, is_out, length_seen, name_made, brought, copied};
+ghost use Rattle.std.specs.Prelude.{◌≡◌, ◌∷◌, option_map, suc, pos, drop, IfOk, OnOk, OnErr};
+ghost use Rattle.lang_meaning.specs.Counts.{value_read, is_out, length_seen, name_made};
 ghost use Rattle.lang_meaning.specs.Values.{Int};
-ghost use Rattle.code_instrs.specs.Machine.{cell_read, cell_written, next, joined};
+ghost use Rattle.code_instrs.specs.Machine.{cell_read, cell_written, next};
 ghost use Rattle.exec_task.specs.Answers.{IsIn, IsCounted, below_top};
 ghost use Rattle.exec_frames.specs.Names.{plain_value};
 ghost use Rattle.exec_task.specs.Steps.{HasNext};
-ghost use Rattle.exec_task.specs.Tasks.{plain_level, plain_answer, plain_slot};
+ghost use Rattle.exec_task.specs.Tasks.{plain_level, plain_answer};
 
 use crate::action::{Answer, Ending};
 use crate::task::{Level, Standing};

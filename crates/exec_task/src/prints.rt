@@ -2,8 +2,7 @@ ghost use Rattle.std.specs.Prelude.{◌≡◌, [], slice_index_or, IfOk};
 ghost use Rattle.lang_meaning.specs.Actions.{Do, Print};
 ghost use Rattle.lang_meaning.specs.Counts.{text_of, line};
 ghost use Rattle.code_instrs.specs.Machine.{one, next, Waits};
-ghost use Rattle.code_instrs.specs.Plain.{plain_code};
-ghost use Rattle.exec_task.specs.Steps.{Acts, Local};
+ghost use Rattle.exec_task.specs.Steps.{Local};
 ghost use Rattle.exec_task.specs.Tasks.{plain_level};
 
 use crate::action::{Action, Own};

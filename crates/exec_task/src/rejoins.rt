@@ -7,7 +7,6 @@ ghost use Rattle.lang_meaning.specs.Values.{Int};
 ghost use Rattle.code_instrs.specs.Machine.{one, two, next, all_copied, joined, joins_fork, joins_spread, spread};
 ghost use Rattle.code_instrs.specs.Plain.{spread_site};
 ghost use Rattle.exec_task.specs.Answers.{IsIn, Leads, below_top};
-ghost use Rattle.exec_frames.specs.Names.{plain_value};
 ghost use Rattle.exec_task.specs.Steps.{HasNext};
 ghost use Rattle.exec_task.specs.Tasks.{plain_level, plain_answer};
 

@@ -1,5 +1,5 @@
 -- The heap of the code and that of the elision.
-use Rattle.std.proofs.Common.{◌≡◌, ◌∙◌, ℕ, zero, suc, ◌<◌, ◌≤◌, ◌+◌, List, [], ◌∷◌, ◌++◌, map, length, get_or, refl, sym, ap, arith, Option, Some, None, Bool, true, false, cond, ℤ, pos, negsuc}
+use Rattle.std.proofs.Common.{◌≡◌, ◌∙◌, ℕ, zero, suc, ◌<◌, ◌≤◌, List, [], ◌∷◌, map, length, get_or, refl, sym, ap, arith, Option, Some, None, Bool, true, false, cond, ℤ, pos, negsuc}
 use Rattle.std.specs.Prelude.{slice_get, nat_lt, not, option_map}
 use Rattle.std.specs.Option.{is_some}
 use Rattle.std.proofs.lemmas.Option.{slice_get-map}

@@ -1,5 +1,5 @@
 -- The store after an action holds what the elision's does.
-use Rattle.std.proofs.Common.{◌≡◌, ◌∙◌, ℕ, suc, ◌<◌, ◌≤◌, ◌+◌, List, [], ◌∷◌, ◌++◌, map, length, replicate, get_or, refl, sym, ap, ap₂, subst, arith, Bool, true, false, cond, ℤ, pos, negsuc, ltb, zero, Result, Ok, Err}
+use Rattle.std.proofs.Common.{◌≡◌, ◌∙◌, ℕ, suc, ◌<◌, ◌≤◌, ◌+◌, List, [], ◌∷◌, ◌++◌, map, length, replicate, refl, sym, ap, ap₂, subst, arith, Bool, true, false, cond, ℤ, pos, negsuc, ltb, zero, Result, Ok, Err}
 use Rattle.std.specs.Prelude.{slice_get, slice_set, nat_lt, All}
 use Rattle.std.proofs.lemmas.List.{map-append, length-set, length-replicate, append-nil}
 use Rattle.std.proofs.lemmas.List.Elements.{All-set, All-get_or, All-push}
@@ -11,7 +11,7 @@ use Rattle.exec_heap.specs.declared.stop.HeapStop.TheVariants.{Full}
 use Rattle.std.proofs.lemmas.Bool.{ltb-true, ltb-false}
 use Rattle.exec_heap.specs.Heap.{Object, instance, array, Contents, object_at, values_of, with_values, with_object, cost, no_object, IsOver}
 use Rattle.exec_heap.specs.Heap.{written as code_written}
-use Rattle.lang_meaning.specs.Values.{Value, Thing, An_object, An_array}
+use Rattle.lang_meaning.specs.Values.{Value, Thing, An_array}
 use Rattle.lang_meaning.specs.Actions.{Write, New, Length}
 use Rattle.lang_meaning.specs.Costs.{size, own_steps}
 use Rattle.lang_meaning.specs.Elision.{LocalRegion, held, after, one_step, written}

@@ -1,15 +1,12 @@
 -- How a walk comes out.
-use Rattle.std.specs.Prelude.{◌≡◌, ℕ, suc, ℤ, pos, [], None, Result, Ok, Err}
-use Rattle.lang_base.specs.declared.outcome.Ending.{Ending as Came}
+use Rattle.std.specs.Prelude.{◌≡◌, ℕ, suc, ℤ, [], None, Result, Ok, Err}
 use Rattle.lang_base.specs.declared.outcome.Ending.TheVariants as came
 use Rattle.lang_base.specs.declared.outcome.Limits.{Limits}
 use Rattle.lang_base.specs.declared.outcome.Outcome.{Outcome}
 use Rattle.lang_typed.specs.Plain.{PlainProgram}
-use Rattle.lang_meaning.specs.Actions.{Ending, Returned, Assigned, Trapped}
-use Rattle.lang_meaning.specs.Counts.{number}
+use Rattle.lang_meaning.specs.Actions.{Ending}
 use Rattle.lang_meaning.specs.Elision.{Store, elided}
-use Rattle.lang_meaning.specs.Outcomes.{Outcome as ElidedOutcome}
-use Rattle.lang_meaning.specs.Outcomes.{Came as came_out, Limited}
+use Rattle.lang_meaning.specs.Outcomes.{Limited}
 use Rattle.exec_walker.specs.Walk.{start}
 use Rattle.exec_walker.specs.declared.halt.Halt.{Halt}
 use Rattle.exec_walker.specs.declared.halt.Halt.TheVariants as halt

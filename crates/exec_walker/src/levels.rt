@@ -7,7 +7,7 @@ ghost use Rattle.exec_frames.specs.Names.{plain_value, plain_frame};
 ghost use Rattle.exec_walker.specs.Agenda.{evaluate, goes_on, operate, finish, operands_of, needs};
 ghost use Rattle.exec_walker.specs.Walk.{Waiting, At, does_item, beginning, each};
 ghost use Rattle.exec_walker.specs.Forms.{parts_begun};
-ghost use Rattle.exec_walker.specs.States.{plain_item, plain_level};
+ghost use Rattle.exec_walker.specs.States.{plain_level};
 
 use crate::item::{ExprStage, Item, StmtStage};
 use crate::level::Level;

@@ -8,7 +8,7 @@ ghost use Rattle.lang_meaning.specs.Statements.{with_value, write_cell};
 ghost use Rattle.lang_meaning.specs.Core.{Act};
 ghost use Rattle.lang_meaning.specs.Actions.{Look, Print};
 ghost use Rattle.lang_meaning.specs.Values.{Int};
-ghost use Rattle.exec_frames.specs.Names.{plain_value, plain_frame};
+ghost use Rattle.exec_frames.specs.Names.{plain_value};
 ghost use Rattle.exec_walker.specs.Walk.{At, lands, pushed, without};
 ghost use Rattle.exec_walker.specs.States.{Does};
 

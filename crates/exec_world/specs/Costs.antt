@@ -1,5 +1,5 @@
 -- What an action costs, and when that is within the limits.
-use Rattle.std.specs.Prelude.{ℕ, ◌+◌, ◌≤◌, Bool, true, false, cond, List, [], length, Option, Some, None, slice_get}
+use Rattle.std.specs.Prelude.{ℕ, ◌+◌, ◌≤◌, cond, List, [], length, Option, Some, None, slice_get}
 use Rattle.lang_base.specs.declared.value.Value.{Value}
 use Rattle.code_instrs.specs.declared.code.ClassCode.{ClassCode}
 use Rattle.code_instrs.specs.declared.code.Code.{Code}

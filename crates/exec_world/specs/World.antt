@@ -1,5 +1,5 @@
 -- What an action of a task does to the world that tasks share, and what it is answered.
-use Rattle.std.specs.Prelude.{◌≡◌, ◌<◌, ◌^◌, ℕ, ◌+◌, ℤ, pos, negsuc, Bool, true, false, cond, nat_lt, List, [], ◌∷◌, length, replicate, Option, Some, None, slice_get}
+use Rattle.std.specs.Prelude.{◌≡◌, ◌<◌, ◌^◌, ℕ, ◌+◌, ℤ, pos, negsuc, Bool, false, cond, nat_lt, List, [], length, replicate, Option, Some, None, slice_get}
 use Rattle.std.specs.FinMap.{empty, get, insert, remove}
 use Rattle.lang_base.specs.declared.effect.Effect.{Effect}
 use Rattle.lang_base.specs.declared.outcome.Limits.{Limits}

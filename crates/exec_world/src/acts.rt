@@ -1,5 +1,5 @@
-ghost use Rattle.std.specs.Prelude.{◌≡◌, ◌<◌, ◌≤◌, ◌+◌, ◌^◌, length, replicate, IfOk, OnOk, OnErr};
-ghost use Rattle.exec_heap.specs.Heap.{Contents, object_at, values_of, instance, array, cost, with_object, charged};
+ghost use Rattle.std.specs.Prelude.{◌≡◌, ◌<◌, ◌≤◌, ◌+◌, length, replicate, IfOk, OnOk, OnErr};
+ghost use Rattle.exec_heap.specs.Heap.{object_at, instance, array, cost, with_object, charged};
 ghost use Rattle.exec_tasks.specs.Tree.{printed, task_at, joined, CanBegin, CanJoin, with_task, ends_in};
 ghost use Rattle.std.specs.FinMap.{get, remove};
 ghost use Rattle.exec_locks.specs.Locks.{AllRoot, entered};

@@ -1,10 +1,9 @@
 -- Wherever a schedule leads a machine on compiled code, it records a run of the source.
-use Rattle.std.proofs.Common.{◌≡◌, ◌≤◌, inl, inr, ℕ, zero, suc, ◌+◌, ◌==◌, if◌then◌else◌, ℤ, pos, negsuc, Bool, true, false, cond, nat_lt, List, [], ◌∷◌, length, map, refl, sym, ap, ◌∙◌, subst, Option, Some, None, slice_get, arith}
+use Rattle.std.proofs.Common.{◌≡◌, ◌≤◌, inl, inr, ℕ, ◌+◌, ◌==◌, if◌then◌else◌, ℤ, Bool, true, false, List, [], ◌∷◌, length, map, refl, sym, ap, ◌∙◌, subst, Option, Some, None, slice_get, arith}
 use Rattle.std.proofs.lemmas.Bool.Decides.{eqb_tells}
 use Rattle.std.proofs.lemmas.Option.{slice_get_within}
 use Rattle.std.specs.FinMap.{empty, get, get-empty}
 use Rattle.std.specs.Ordering.{nat_cmp}
-use Rattle.std.specs.Prelude.{replicate}
 use Rattle.lang_base.specs.declared.effect.Effect.{Effect as PathEffect}
 use Rattle.lang_base.specs.declared.outcome.Limits.{Limits}
 use Rattle.lang_base.specs.declared.outcome.Outcome.{Outcome as DeclaredOutcome}
@@ -27,10 +26,10 @@ use Rattle.runs_theory.proofs.runs.Standing.{above_nil, above_step}
 use Rattle.runs_theory.proofs.runs.Written.{allowed_from}
 use Rattle.runs_program.specs.Interfering.{lets}
 use Rattle.runs_program.specs.Steps.{named_by, stepped}
-use Rattle.exec_heap.specs.Heap.{instance, object_at, values_of, with_object}
-use Rattle.exec_heap.specs.Heap.{written as contents_written}
+use Rattle.exec_heap.specs.Heap.{instance, with_object}
 use Rattle.exec_task.specs.declared.action.Action.{Action as DeclaredAction}
 use Rattle.exec_task.specs.declared.action.Action.TheVariants as action
+use Rattle.exec_task.specs.declared.action.Own.TheVariants as own
 use Rattle.exec_task.specs.declared.action.Ending.{Ending as DeclaredEnding}
 use Rattle.exec_tasks.proofs.Numbers.{get_beside, get_inserted}
 use Rattle.exec_tasks.specs.Scope.{Branches as Scope}
@@ -42,7 +41,7 @@ use Rattle.exec_tasks.specs.Tree.{fresh, only_root, out_of, task_at}
 use Rattle.exec_tasks.specs.declared.task.Task.{Task as Live}
 use Rattle.exec_world.specs.Costs.{first_fields}
 use Rattle.exec_world.specs.Costs.{Within as MachineWithin, cells_of as machine_cells, steps_of as machine_steps}
-use Rattle.exec_world.specs.World.{at_start as world_at_start, with_heap, world_after, written_at}
+use Rattle.exec_world.specs.World.{at_start as world_at_start, with_heap, world_after}
 use Rattle.exec_world.specs.declared.event.Event.{Event as DeclaredEvent}
 use Rattle.exec_world.specs.declared.world.World.{World}
 use Rattle.exec_machine.specs.declared.made_event.MadeEvent.{MadeEvent}
@@ -58,7 +57,7 @@ use Rattle.runs_simulation.proofs.tied.Ties.{Q, Tied}
 use Rattle.runs_simulation.proofs.events.Asked.{disciplined}
 use Rattle.runs_simulation.proofs.tied.Trees.{entered_next}
 use Rattle.runs_simulation.proofs.events.Acting.{RightFor, IsScoped, event_of, Matched, Stepped}
-use Rattle.runs_simulation.proofs.events.Owns.{FieldsFor, rests, reads_cell, writes_cell, looks_at, makes_object, makes_array, prints, enters, exits}
+use Rattle.runs_simulation.proofs.events.Owns.{FieldsFor, does_next, length_replicate, write_used}
 use Rattle.runs_simulation.proofs.events.Forks.{forks_next}
 use Rattle.runs_simulation.proofs.events.Begins.{begins_branch}
 use Rattle.runs_simulation.proofs.events.Joinings.{joins_next}
@@ -85,37 +84,15 @@ use Rattle.runs_simulation.proofs.tied.Waiting.{all_noted}
 use Rattle.runs_simulation.proofs.tied.Starting.{fields_for, first_tied, first_sight, main_size}
 use Rattle.lang_meaning.specs.Reported.{reported, reported_ending}
 
-replicated : {A : Type 0} (n : ℕ) (x : A) → length (replicate n x) ≡ n
-replicated zero x = refl
-replicated (suc n) x = ap (λ k. suc k) (replicated n x)
-
 -- what an event costs a machine
 record Charged (code : Code) (w n : World) (turns : ℕ) (a : DeclaredAction) : Type 0 where
   steps : n.steps ≡ w.steps + (turns + machine_steps a)
   cells : n.heap.used ≡ w.heap.used + machine_cells code a
 
 charged : (code : Code) (w : World) (k turns : ℕ) (wants : Option (List PathEffect)) (a : DeclaredAction) → Charged code w (world_after code w (event_of k turns wants a)) turns a
-charged code w k turns wants action.Rest = record { steps = refl; cells = omega arith }
-charged code w k turns wants (action.Read n j) = record { steps = refl; cells = omega arith }
-charged code w k turns wants (action.Look n) = record { steps = refl; cells = omega arith }
-charged code w k turns wants (action.NewObject c rs constructor) = record { steps = refl; cells = omega arith }
-charged code w k turns wants (action.NewArray region len first) = record { steps = refl; cells = (let a = replicated len first in omega (arith, a)) }
-charged code w k turns wants (action.Print bytes) = record { steps = refl; cells = refl }
-charged code w k turns wants (action.Enter effects) = record { steps = refl; cells = omega arith }
-charged code w k turns wants action.Exit = record { steps = refl; cells = omega arith }
-charged code w k turns wants (action.Fork forking many) = record { steps = refl; cells = omega arith }
-charged code w k turns wants (action.Begin b) = record { steps = refl; cells = omega arith }
-charged code w k turns wants action.Join = record { steps = refl; cells = omega arith }
-charged code w k turns wants (action.End c) = record { steps = refl; cells = omega arith }
-charged code w k turns wants (action.Write n j v) = record { steps = refl; cells = (let u = used j in omega (arith, u)) }
-  where
-    used : (j : ℤ) → (written_at w.heap n j v).used ≡ w.heap.used
-    used (negsuc l) = refl
-    used (pos l) = go (nat_lt l (length (values_of (object_at w.heap n))))
-      where
-        go : (b : Bool) → (cond b (contents_written w.heap n l v) w.heap).used ≡ w.heap.used
-        go true = refl
-        go false = refl
+charged code w k turns wants (action.Do (own.Write n j v)) = record { steps = refl; cells = (let u = write_used w.heap n j v in omega (arith, u)) }
+charged code w k turns wants (action.Do (own.NewArray region len first)) = record { steps = refl; cells = (let a = length_replicate len first in omega (arith, a)) }
+charged code w k turns wants a = record { steps = refl; cells = omega arith }
 
 if_reported : {A : Type 0} (b : Bool) (x o : A) → (if b then Some x else None) ≡ Some o → b ≡ true
 if_reported true x o e = refl
@@ -128,18 +105,6 @@ record RootEnds (k : ℕ) (a : DeclaredAction) : Type 0 where
   root : k ≡ 0
 
 root_ends : (before after : World) (k : ℕ) (a : DeclaredAction) (o : DeclaredOutcome) → outcome_after before after k a ≡ Some o → RootEnds k a
-root_ends before after k action.Rest o e = absurd (cc)
-root_ends before after k (action.Read n j) o e = absurd (cc)
-root_ends before after k (action.Write n j v) o e = absurd (cc)
-root_ends before after k (action.Look n) o e = absurd (cc)
-root_ends before after k (action.NewObject c rs constructor) o e = absurd (cc)
-root_ends before after k (action.NewArray region len first) o e = absurd (cc)
-root_ends before after k (action.Print bytes) o e = absurd (cc)
-root_ends before after k (action.Enter effects) o e = absurd (cc)
-root_ends before after k action.Exit o e = absurd (cc)
-root_ends before after k (action.Fork forking many) o e = absurd (cc)
-root_ends before after k (action.Begin b) o e = absurd (cc)
-root_ends before after k action.Join o e = absurd (cc)
 root_ends before after k (action.End c) o e = record { ending = c; ends = refl; root = zero_reported (if_reported (k == 0) _ o e) }
   where
     zero_reported : (k == 0) ≡ true → k ≡ 0
@@ -147,6 +112,7 @@ root_ends before after k (action.End c) o e = record { ending = c; ends = refl; 
       | inl s ↦ s.1
       | inr s ↦ absurd (let no : false ≡ true = sym s.0 ∙ t in cc)
     ]
+root_ends before after k a o e = absurd (cc)
 
 -- and then it tells how, what was printed, and the costs
 end_outcome : (before after : World) (k : ℕ) (c : DeclaredEnding) (o : DeclaredOutcome) → outcome_after before after k (action.End c) ≡ Some o
@@ -198,15 +164,7 @@ module _ (code : Code) (P : PlainProgram) (arg : ℤ) (L : Limits) (right : Righ
   step_any : {m : Moment} {w : Sight} {R : Run} (T : Tied P arg rule C L m w R) → m.world.steps ≤ 20000001 → (k turns : ℕ) (wants : Option (List PathEffect)) (a : DeclaredAction)
       (x : NextOf C m k (event_of k turns wants a)) → (IsScoped a → CanBeMade C m.world (event_of k turns wants a) x.stands.state)
       → Matched_of m (event_of k turns wants a) w R k (after code m (event_of k turns wants a) x.stands.state x.stands.made)
-  step_any T short k turns wants action.Rest x can = rests code P arg rule L right fields T k turns wants x
-  step_any T short k turns wants (action.Read n j) x can = reads_cell code P arg rule L right fields T k turns wants n j x
-  step_any T short k turns wants (action.Write n j v) x can = writes_cell code P arg rule L right fields T k turns wants n j v x
-  step_any T short k turns wants (action.Look n) x can = looks_at code P arg rule L right fields T k turns wants n x
-  step_any T short k turns wants (action.NewObject c rs constructor) x can = makes_object code P arg rule L right fields T k turns wants c rs constructor x
-  step_any T short k turns wants (action.NewArray region len first) x can = makes_array code P arg rule L right fields T k turns wants region len first x
-  step_any T short k turns wants (action.Print bytes) x can = prints code P arg rule L right fields T k turns wants bytes x
-  step_any T short k turns wants (action.Enter effects) x can = enters code P arg rule L right fields T k turns wants effects x
-  step_any T short k turns wants action.Exit x can = exits code P arg rule L right fields T k turns wants x
+  step_any T short k turns wants (action.Do o) x can = does_next code P arg rule L right fields T k turns wants o x
   step_any T short k turns wants (action.Fork forking many) x can = forks_next code P arg rule L right FJ T k turns wants forking many x
   step_any T short k turns wants (action.Begin b) x can = begins_branch code P arg rule L right FJ T short k turns wants b x (can tt)
   step_any T short k turns wants action.Join x can = joins_next code P arg rule L right FJ T k turns wants x (can tt)

@@ -11,7 +11,7 @@ use Rattle.lang_base.specs.declared.value.Value.TheVariants as constant
 use Rattle.lang_typed.specs.declared.stmt.Forking.{Forking}
 use Rattle.lang_meaning.specs.Values.{Int, Boolean, Null, Object, Part, Region_name, Number, Local, Own_index, Any_index, Any_parts, Region, An_object, An_array}
 use Rattle.lang_meaning.specs.Actions.{Effect}
-use Rattle.runs_theory.specs.Actions.{Branches, Ending, Returned, Assigned, Trapped, Action, Do, Fork, Begin, Join, End, Rest, Read, Write, Look, New, Print, Enter, Exit}
+use Rattle.runs_theory.specs.Actions.{Branches, Ending, Returned, Assigned, Trapped, Own, Action, Do, Fork, Begin, Join, End, Rest, Read, Write, Look, New, Print, Enter, Exit}
 use Rattle.runs_theory.specs.Actions.{Answer, Went, Got, Out, Class, Length, Named, Joined, Fell}
 use Rattle.runs_theory.specs.Objects.{Path, Name, LocalRegion, Made, Unmade, Value}
 use Rattle.runs_theory.specs.Runs.{Event, Run}
@@ -24,6 +24,8 @@ use Rattle.exec_task.specs.declared.action.Answer.{Answer as DeclaredAnswer}
 use Rattle.exec_task.specs.declared.action.Answer.TheVariants as answer
 use Rattle.exec_task.specs.declared.action.Ending.{Ending as DeclaredEnding}
 use Rattle.exec_task.specs.declared.action.Ending.TheVariants as ending
+use Rattle.exec_task.specs.declared.action.Own.{Own as DeclaredOwn}
+use Rattle.exec_task.specs.declared.action.Own.TheVariants as own
 use Rattle.exec_machine.specs.declared.made_event.MadeEvent.{MadeEvent}
 
 -- the names of the objects, and the paths of the tasks, by their numbers
@@ -84,21 +86,24 @@ pub data EndingAlike (names : List Name) : DeclaredEnding → Ending → Type 0 
   assigned_alike : {ls : List SlotValue} {us : List (ℕ × Value)} → Each (SlotAlike names) ls us → EndingAlike names (ending.Assigned ls) (Assigned us)
   trapped_alike : (trap : Trap) (place : Place) → EndingAlike names (ending.Trapped trap place) (Trapped trap place)
 
--- an action. Of a new object the machine's doesn't tell the first values, which are those of its class; and of a fork it tells how
--- many branches there are
-pub data ActionAlike (w : Sight) : DeclaredAction → Action → Type 0 where
-  rest_alike : ActionAlike w action.Rest (Do Rest)
-  read_alike : (n : ℕ) (x : Name) (i : ℤ) → slice_get w.names n ≡ Some x → ActionAlike w (action.Read n i) (Do (Read x i))
+-- what a task does by itself. Of a new object the machine's doesn't tell the first values, which are those of its class
+pub data OwnAlike (w : Sight) : DeclaredOwn → Own → Type 0 where
+  rest_alike : OwnAlike w own.Rest Rest
+  read_alike : (n : ℕ) (x : Name) (i : ℤ) → slice_get w.names n ≡ Some x → OwnAlike w (own.Read n i) (Read x i)
   write_alike : (n : ℕ) (x : Name) (i : ℤ) {v : Constant} {u : Value} → slice_get w.names n ≡ Some x → ValueAlike w.names v u
-      → ActionAlike w (action.Write n i v) (Do (Write x i u))
-  look_alike : (n : ℕ) (x : Name) → slice_get w.names n ≡ Some x → ActionAlike w (action.Look n) (Do (Look x))
+      → OwnAlike w (own.Write n i v) (Write x i u)
+  look_alike : (n : ℕ) (x : Name) → slice_get w.names n ≡ Some x → OwnAlike w (own.Look n) (Look x)
   object_made : (c : ℕ) {rs : List DeclaredRegion} {qs : List (Region LocalRegion)} (first : List Value) (constructor : Bool) → RegionsLike w (map plain_region rs) qs
-      → ActionAlike w (action.NewObject c rs constructor) (Do (New (An_object c qs first) constructor))
+      → OwnAlike w (own.NewObject c rs constructor) (New (An_object c qs first) constructor)
   array_made : {r : DeclaredRegion} {q : Region LocalRegion} (len : ℕ) {v : Constant} {u : Value} → RegionLike w (plain_region r) q → ValueAlike w.names v u
-      → ActionAlike w (action.NewArray r len v) (Do (New (An_array q len u) false))
-  print_alike : (bytes : List ℕ) → ActionAlike w (action.Print bytes) (Do (Print bytes))
-  enter_alike : {E : List DeclaredEffect} {F : List (Effect LocalRegion)} → EffectsLike w (map plain_effect E) F → ActionAlike w (action.Enter E) (Do (Enter F))
-  exit_alike : ActionAlike w action.Exit (Do Exit)
+      → OwnAlike w (own.NewArray r len v) (New (An_array q len u) false)
+  print_alike : (bytes : List ℕ) → OwnAlike w (own.Print bytes) (Print bytes)
+  enter_alike : {E : List DeclaredEffect} {F : List (Effect LocalRegion)} → EffectsLike w (map plain_effect E) F → OwnAlike w (own.Enter E) (Enter F)
+  exit_alike : OwnAlike w own.Exit Exit
+
+-- an action. Of a fork the machine's tells how many branches there are
+pub data ActionAlike (w : Sight) : DeclaredAction → Action → Type 0 where
+  do_alike : {o : DeclaredOwn} {q : Own} → OwnAlike w o q → ActionAlike w (action.Do o) (Do q)
   fork_alike : (kind : Forking) (many : ℕ) (branches : Branches) → branches.kind ≡ kind → length branches.tasks ≡ many
       → ActionAlike w (action.Fork kind many) (Fork branches)
   begin_alike : (b : ℕ) → ActionAlike w (action.Begin b) (Begin b)

@@ -14,6 +14,7 @@ use Rattle.runs_program.specs.Steps.{stepped}
 use Rattle.std.specs.FinMap.{get}
 use Rattle.exec_task.specs.declared.action.Action.{Action}
 use Rattle.exec_task.specs.declared.action.Action.TheVariants as action
+use Rattle.exec_task.specs.declared.action.Own.TheVariants as own
 use Rattle.exec_locks.specs.Locks.{HasEntry}
 use Rattle.exec_world.specs.Ready.{IsReady}
 use Rattle.exec_world.specs.declared.world.World.{World}
@@ -75,7 +76,7 @@ SchedulesAreShort =
 -- what isn't ruled out yet where a ready task's event can't be made: an exit where no entry is open, and a fork with more
 -- branches than are counted
 abbrev pub LeftOpen : World → ℕ → Action → Type 0
-LeftOpen w k action.Exit = HasEntry (get w.locks k) → ⊥
+LeftOpen w k (action.Do own.Exit) = HasEntry (get w.locks k) → ⊥
 LeftOpen w k (action.Fork forking many) = 2 ^ 32 ≤ many
 LeftOpen w k a = ⊥
 

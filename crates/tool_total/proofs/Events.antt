@@ -12,6 +12,7 @@ use Rattle.code_instrs.specs.Plain.{PlainCode, plain_code}
 use Rattle.exec_task.specs.Branches.{starts_at}
 use Rattle.exec_task.specs.declared.action.Action.{Action}
 use Rattle.exec_task.specs.declared.action.Action.TheVariants as action
+use Rattle.exec_task.specs.declared.action.Own.TheVariants as own
 use Rattle.exec_locks.specs.Locks.{AllRoot, HasEntry, Standings}
 use Rattle.exec_locks.specs.declared.standing.Standing.{Standing as Lock}
 use Rattle.exec_locks.specs.declared.standing.Standing.TheVariants.{Adopted, Opener}
@@ -88,15 +89,13 @@ enter_so locks k None free = never_so
 enter_so locks k (Some effects) free = λ nn. free
 
 fits_so : (w : World) (k : ℕ) (wants : Option (List Effect)) (a : Action) → IsFreeFor w.locks k (get w.waits k) → Stable (FitsAt w k wants a)
-fits_so w k wants action.Rest free = roots_so (wanted wants)
-fits_so w k wants (action.Read n j) free = less_so _ _
-fits_so w k wants (action.Write n j v) free = less_so _ _
-fits_so w k wants (action.Look n) free = both_so (less_so _ _) (less_so _ _)
-fits_so w k wants (action.NewObject c rs constructor) free = unit_so
-fits_so w k wants (action.NewArray region len first) free = unit_so
-fits_so w k wants (action.Print bytes) free = unit_so
-fits_so w k wants (action.Enter effects) free = enter_so w.locks k (get w.waits k) free
-fits_so w k wants action.Exit free = entry_so (get w.locks k)
+fits_so w k wants (action.Do own.Rest) free = roots_so (wanted wants)
+fits_so w k wants (action.Do (own.Read n j)) free = less_so _ _
+fits_so w k wants (action.Do (own.Write n j v)) free = less_so _ _
+fits_so w k wants (action.Do (own.Look n)) free = both_so (less_so _ _) (less_so _ _)
+fits_so w k wants (action.Do (own.Enter effects)) free = enter_so w.locks k (get w.waits k) free
+fits_so w k wants (action.Do own.Exit) free = entry_so (get w.locks k)
+fits_so w k wants (action.Do o) free = unit_so
 fits_so w k wants (action.Fork forking many) free = both_so (task_so (get w.tree.tasks k) (λ task. task.state ≡ Runs) (λ t. runs_so t.state)) (less_so _ _)
 fits_so w k wants (action.Begin b) free = λ nn. (
   task_so (get w.tree.tasks k) (λ task. OfScope task.state (λ scope. length scope.ends < scope.count)) (λ t. begins_so t.state) (λ never. nn (λ h. never h.0)),
@@ -113,18 +112,7 @@ start_in_so C (Some b) = less_so _ _
 
 start_so : (C : PlainCode) (z : State ℕ (ℕ × ℕ)) (a : Action) → Stable (HasStart C z a)
 start_so C z (action.Begin b) = start_in_so C (slice_get (starts_at C z) b)
-start_so C z action.Rest = unit_so
-start_so C z (action.Read n j) = unit_so
-start_so C z (action.Write n j v) = unit_so
-start_so C z (action.Look n) = unit_so
-start_so C z (action.NewObject c rs constructor) = unit_so
-start_so C z (action.NewArray region len first) = unit_so
-start_so C z (action.Print bytes) = unit_so
-start_so C z (action.Enter effects) = unit_so
-start_so C z action.Exit = unit_so
-start_so C z (action.Fork forking many) = unit_so
-start_so C z action.Join = unit_so
-start_so C z (action.End e) = unit_so
+start_so C z a = unit_so
 
 within_or : (code : Code) (w : World) (e : Event) → Within code w e ⊎ (Within code w e → ⊥)
 within_or code w e =

@@ -10,6 +10,7 @@ use Rattle.lang_base.specs.declared.outcome.Limits.{Limits}
 use Rattle.code_instrs.specs.declared.code.Code.{Code}
 use Rattle.exec_task.specs.declared.action.Action.{Action}
 use Rattle.exec_task.specs.declared.action.Action.TheVariants as action
+use Rattle.exec_task.specs.declared.action.Own.TheVariants as own
 use Rattle.exec_tasks.specs.declared.end.TaskEnd.{TaskEnd}
 use Rattle.exec_tasks.specs.declared.task.Origin.{Origin}
 use Rattle.exec_tasks.specs.declared.task.Task.{Task}
@@ -50,15 +51,8 @@ after_end tree k (Some origin) how c = record {
 }
 
 after_action : (code : Code) (w : World) (k : ℕ) (wants : Option (List Effect)) (a : Action) → FitsAt w k wants a → Counted w.tree → Counted (acted_at code w k wants a).tree
-after_action code w k wants action.Rest fits c = c
-after_action code w k wants (action.Read n i) fits c = c
-after_action code w k wants (action.Write n i v) fits c = c
-after_action code w k wants (action.Look n) fits c = c
-after_action code w k wants (action.NewObject d rs constructor) fits c = c
-after_action code w k wants (action.NewArray region len first) fits c = c
-after_action code w k wants (action.Print bytes) fits c = record { below = after_change w.tree k (printed_task bytes) c; few = c.few }
-after_action code w k wants (action.Enter effects) fits c = c
-after_action code w k wants action.Exit fits c = c
+after_action code w k wants (action.Do (own.Print bytes)) fits c = record { below = after_change w.tree k (printed_task bytes) c; few = c.few }
+after_action code w k wants (action.Do o) fits c = c
 after_action code w k wants (action.Fork forking many) fits c = record { below = after_change w.tree k (forked_task many) c; few = c.few }
 after_action code w k wants (action.Begin b) fits c =
     let small : w.tree.begun < 4294967295 = fits.1 in record {

@@ -1,27 +1,25 @@
 -- What is like has a like event: from the plain data to what a machine has; and it stays so, whatever more there is.
-use Rattle.std.proofs.Common.{ℕ, ℤ, Bool, false, List, [], ◌∷◌, map, refl}
-use Rattle.lang_base.specs.declared.effect.Effect.{Effect as DeclaredEffect}
-use Rattle.lang_base.specs.declared.region.Region.{Region as DeclaredRegion}
+use Rattle.std.proofs.Common.{ℕ, List, [], ◌∷◌, map, refl}
 use Rattle.lang_base.specs.declared.value.SlotValue.{SlotValue}
 use Rattle.lang_base.specs.declared.value.Value.{Value as Constant}
 use Rattle.lang_base.specs.declared.value.Value.TheVariants as constant
-use Rattle.lang_meaning.specs.Values.{Value as ValueOver, An_object, An_array}
-use Rattle.lang_meaning.specs.Actions.{Effect, Rest, Read, Write, Look, New, Print, Enter, Exit}
-use Rattle.runs_theory.specs.Actions.{Action, Answer, Do, Ending, Own}
+use Rattle.lang_meaning.specs.Actions.{Effect}
+use Rattle.code_instrs.specs.Plain.{PlainCode}
+use Rattle.runs_theory.specs.Actions.{Action, Answer, Ending, Own}
 use Rattle.runs_theory.specs.Objects.{LocalRegion, Name, Value}
 use Rattle.runs_theory.specs.Runs.{Event}
 use Rattle.exec_frames.specs.Names.{plain_value}
-use Rattle.exec_task.specs.Names.{plain_region, plain_effect}
-use Rattle.exec_task.specs.Tasks.{plain_answer, plain_ending, plain_slot}
+use Rattle.exec_task.specs.Tasks.{plain_answer, plain_ending, plain_own, plain_slot}
 use Rattle.exec_task.specs.declared.action.Action.{Action as DeclaredAction}
-use Rattle.exec_task.specs.declared.action.Action.TheVariants as action
 use Rattle.exec_task.specs.declared.action.Answer.{Answer as DeclaredAnswer}
 use Rattle.exec_task.specs.declared.action.Answer.TheVariants as answer
 use Rattle.exec_task.specs.declared.action.Ending.{Ending as DeclaredEnding}
 use Rattle.exec_task.specs.declared.action.Ending.TheVariants as ending
+use Rattle.exec_task.specs.declared.action.Own.{Own as DeclaredOwn}
+use Rattle.exec_task.specs.declared.action.Own.TheVariants as own
 use Rattle.exec_machine.specs.declared.made_event.MadeEvent.{MadeEvent}
 use Rattle.runs_elision.proofs.Worlds.{Later, LocalsLike, ValueLike, no_locals, more_locals, int_like, boolean_like, null_like, object_like, name_later, EndingLike, returned_like, assigned_like, trapped_like}
-use Rattle.runs_simulation.specs.Alike.{ActionAlike, AnswerAlike, EndingAlike, EventAlike, SlotAlike, ValueAlike}
+use Rattle.runs_simulation.specs.Alike.{ActionAlike, AnswerAlike, EndingAlike, EventAlike, OwnAlike, SlotAlike, ValueAlike}
 use Rattle.runs_simulation.specs.Alike as alike
 use Rattle.runs_simulation.proofs.alike.Sights.{Each, each_none, each_more, each_weaker, Sight, Wider, EffectsLike, region_later, regions_later, an_object, an_array, OwnLike, AnswerLike}
 use Rattle.runs_simulation.proofs.alike.Sights as sights
@@ -52,35 +50,16 @@ answer_alike (answer.Joined ls) (sights.joined_like l) = alike.joined_alike (slo
 answer_alike (answer.Fell t p) (sights.fell_like t' p') = alike.fell_alike t p
 
 -- what a task does by itself
-module _ {w : Sight} where
-  pub rest_alike : (q : Own) → OwnLike w Rest q → ActionAlike w action.Rest (Do q)
-  rest_alike q sights.rest_like = alike.rest_alike
-
-  pub read_alike : (n : ℕ) (i : ℤ) (q : Own) → OwnLike w (Read n i) q → ActionAlike w (action.Read n i) (Do q)
-  read_alike n i q (sights.read_like n' x i' h) = alike.read_alike n x i h
-
-  pub write_alike : (n : ℕ) (i : ℤ) (v : Constant) (q : Own) → OwnLike w (Write n i (plain_value v)) q → ActionAlike w (action.Write n i v) (Do q)
-  write_alike n i v q (sights.write_like n' x i' h l) = alike.write_alike n x i h (value_alike v l)
-
-  pub look_alike : (n : ℕ) (q : Own) → OwnLike w (Look n) q → ActionAlike w (action.Look n) (Do q)
-  look_alike n q (sights.look_like n' x h) = alike.look_alike n x h
-
-  pub object_made : (c : ℕ) (rs : List DeclaredRegion) (first : List (ValueOver ℕ)) (constructor : Bool) (q : Own)
-      → OwnLike w (New (An_object c (map plain_region rs) first) constructor) q → ActionAlike w (action.NewObject c rs constructor) (Do q)
-  object_made c rs first constructor q (sights.new_like b (an_object c' {us = us} r v)) = alike.object_made c us constructor r
-
-  pub array_made : (r : DeclaredRegion) (len : ℕ) (v : Constant) (q : Own)
-      → OwnLike w (New (An_array (plain_region r) len (plain_value v)) false) q → ActionAlike w (action.NewArray r len v) (Do q)
-  array_made r len v q (sights.new_like b (an_array len' l u)) = alike.array_made len l (value_alike v u)
-
-  pub print_alike : (bytes : List ℕ) (q : Own) → OwnLike w (Print bytes) q → ActionAlike w (action.Print bytes) (Do q)
-  print_alike bytes q (sights.print_like bytes') = alike.print_alike bytes
-
-  pub enter_alike : (E : List DeclaredEffect) (q : Own) → OwnLike w (Enter (map plain_effect E)) q → ActionAlike w (action.Enter E) (Do q)
-  enter_alike E q (sights.enter_like l) = alike.enter_alike l
-
-  pub exit_alike : (q : Own) → OwnLike w Exit q → ActionAlike w action.Exit (Do q)
-  exit_alike q sights.exit_like = alike.exit_alike
+pub own_alike : {w : Sight} (C : PlainCode) (o : DeclaredOwn) {q : Own} → OwnLike w (plain_own C o) q → OwnAlike w o q
+own_alike C own.Rest sights.rest_like = alike.rest_alike
+own_alike C (own.Read n i) (sights.read_like n' x i' h) = alike.read_alike n x i h
+own_alike C (own.Write n i v) (sights.write_like n' x i' h l) = alike.write_alike n x i h (value_alike v l)
+own_alike C (own.Look n) (sights.look_like n' x h) = alike.look_alike n x h
+own_alike C (own.NewObject c rs constructor) (sights.new_like b (an_object c' {us = us} r v)) = alike.object_made c us constructor r
+own_alike C (own.NewArray r len v) (sights.new_like b (an_array len' l u)) = alike.array_made len l (value_alike v u)
+own_alike C (own.Print bytes) (sights.print_like bytes') = alike.print_alike bytes
+own_alike C (own.Enter E) (sights.enter_like l) = alike.enter_alike l
+own_alike C own.Exit sights.exit_like = alike.exit_alike
 
 -- what is alike is so after more were made
 value_later : {ns ms : List Name} {v : Constant} {u : Value} → Later ns ms → ValueAlike ns v u → ValueAlike ms v u
@@ -101,16 +80,19 @@ module _ {v w : Sight} (wide : Wider v w) where
   effects_later : {E : List (Effect (ℕ × ℕ))} {F : List (Effect LocalRegion)} → EffectsLike v E F → EffectsLike w E F
   effects_later h = each_weaker (λ x y k. record { access = k.access; region = region_later wide k.region }) h
 
+  own_later : {o : DeclaredOwn} {q : Own} → OwnAlike v o q → OwnAlike w o q
+  own_later alike.rest_alike = alike.rest_alike
+  own_later (alike.read_alike n x i h) = alike.read_alike n x i (name_later n x wide.names h)
+  own_later (alike.write_alike n x i h l) = alike.write_alike n x i (name_later n x wide.names h) (value_later wide.names l)
+  own_later (alike.look_alike n x h) = alike.look_alike n x (name_later n x wide.names h)
+  own_later (alike.object_made c first constructor r) = alike.object_made c first constructor (regions_later wide r)
+  own_later (alike.array_made len r l) = alike.array_made len (region_later wide r) (value_later wide.names l)
+  own_later (alike.print_alike bytes) = alike.print_alike bytes
+  own_later (alike.enter_alike l) = alike.enter_alike (effects_later l)
+  own_later alike.exit_alike = alike.exit_alike
+
   pub action_later : {a : DeclaredAction} {b : Action} → ActionAlike v a b → ActionAlike w a b
-  action_later alike.rest_alike = alike.rest_alike
-  action_later (alike.read_alike n x i h) = alike.read_alike n x i (name_later n x wide.names h)
-  action_later (alike.write_alike n x i h l) = alike.write_alike n x i (name_later n x wide.names h) (value_later wide.names l)
-  action_later (alike.look_alike n x h) = alike.look_alike n x (name_later n x wide.names h)
-  action_later (alike.object_made c first constructor r) = alike.object_made c first constructor (regions_later wide r)
-  action_later (alike.array_made len r l) = alike.array_made len (region_later wide r) (value_later wide.names l)
-  action_later (alike.print_alike bytes) = alike.print_alike bytes
-  action_later (alike.enter_alike l) = alike.enter_alike (effects_later l)
-  action_later alike.exit_alike = alike.exit_alike
+  action_later (alike.do_alike h) = alike.do_alike (own_later h)
   action_later (alike.fork_alike kind many branches k l) = alike.fork_alike kind many branches k l
   action_later (alike.begin_alike b) = alike.begin_alike b
   action_later alike.join_alike = alike.join_alike

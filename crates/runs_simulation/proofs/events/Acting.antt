@@ -20,20 +20,22 @@ use Rattle.runs_theory.proofs.runs.Faithful.{begun_upto}
 use Rattle.runs_theory.proofs.events.Mine.{mine_same}
 use Rattle.runs_program.specs.Steps.{named_by}
 use Rattle.exec_task.specs.Names.{names_of}
-use Rattle.exec_task.specs.Tasks.{Says, plain_answer}
+use Rattle.exec_task.specs.Tasks.{plain_answer, plain_own}
 use Rattle.exec_task.specs.declared.action.Action.{Action as DeclaredAction}
 use Rattle.exec_task.specs.declared.action.Action.TheVariants as action
 use Rattle.exec_task.specs.declared.action.Answer.{Answer as DeclaredAnswer}
+use Rattle.exec_task.specs.declared.action.Own.{Own as DeclaredOwn}
 use Rattle.exec_tasks.specs.Tree.{Tasks, ready}
 use Rattle.exec_tasks.specs.declared.task.Origin.{Origin}
 use Rattle.exec_tasks.specs.declared.task.State.TheVariants.{Running as Runs, Forked}
 use Rattle.exec_tasks.specs.declared.task.Task.{Task as Live}
-use Rattle.exec_world.specs.World.{answer_at, answer_to}
+use Rattle.exec_world.specs.World.{answer_to, own_acted, own_answer, world_after}
+use Rattle.exec_world.specs.declared.world.World.{World}
 use Rattle.exec_world.specs.declared.event.Event.{Event as DeclaredEvent}
-use Rattle.exec_machine.specs.Replay.{Moment, NextOf, with_task}
+use Rattle.exec_machine.specs.Replay.{Moment, NextOf, after}
 use Rattle.exec_machine.specs.Running.{Running, answered, front}
-use Rattle.runs_simulation.specs.Alike.{ActionAlike, AnswerAlike}
-use Rattle.runs_simulation.proofs.alike.Alikes.{action_later, answer_alike}
+use Rattle.runs_simulation.specs.Alike.{ActionAlike, AnswerAlike, do_alike}
+use Rattle.runs_simulation.proofs.alike.Alikes.{action_later, answer_alike, own_alike}
 use Rattle.runs_simulation.proofs.alike.Sights.{Sight, Wider, OwnLike, AnswerLike, rest_like, read_like, write_like, look_like, new_like, print_like, enter_like, exit_like}
 use Rattle.runs_simulation.proofs.alike.Legs.{HaltOf, StandsAfter, after_answer}
 use Rattle.runs_simulation.proofs.tied.Heaps.{OwnTied}
@@ -196,11 +198,11 @@ module _ (code : Code) (P : PlainProgram) (arg : ℤ) (rule : Rule) (L : Limits)
         cc
 
   -- an action of a task's own
-  pub record OwnCosts (m n : Moment) (turns : ℕ) (q : Own) : Type 0 where
-    pub steps : n.world.steps ≡ m.world.steps + (turns + own_steps q)
-    pub cells : n.world.heap.used ≡ m.world.heap.used + own_cells q
-    pub most_steps : n.world.most_steps ≡ m.world.most_steps
-    pub most_cells : n.world.heap.limit ≡ m.world.heap.limit
+  pub record OwnCosts (old new : World) (turns : ℕ) (q : Own) : Type 0 where
+    pub steps : new.steps ≡ old.steps + (turns + own_steps q)
+    pub cells : new.heap.used ≡ old.heap.used + own_cells q
+    pub most_steps : new.most_steps ≡ old.most_steps
+    pub most_cells : new.heap.limit ≡ old.heap.limit
 
   -- a task, whatever it has printed
   pub record SameLive (old new : Tasks) (k : ℕ) (more : List ℕ) : Type 0 where
@@ -210,18 +212,27 @@ module _ (code : Code) (P : PlainProgram) (arg : ℤ) (rule : Rule) (L : Limits)
   pub same_live : (tasks : Tasks) (k : ℕ) → SameLive tasks tasks k []
   same_live tasks k = record { others = λ j apart. refl; itself = λ x e. (x, e, refl, refl, sym (append-nil x.out)) }
 
-  module _ {m : Moment} {w : Sight} {R : Run} (T : Tied P arg rule C L m w R) (k turns : ℕ) (wants : Option (List Effect)) (a : DeclaredAction)
-      (x : NextOf C m k (event_of k turns wants a)) (n : Moment) (o : OwnOver ℕ (ℕ × ℕ)) (says : (b : ActionIn) → Says C a b → b ≡ Do o)
-      (alike : (q : Own) → OwnLike w o q → ActionAlike w a (Do q))
-      (tasks_are : (j : ℕ) → n.tasks j ≡ with_task m.tasks k (answered (at T k turns wants a x) (answer_at m.world k a)) j)
-      (does : (p : Path) (q : Own) → OwnLike w o q → OwnTied (Q P arg rule C) w R p turns q (answer_at m.world k a) n.world.heap.objects)
-      (costs : (q : Own) → OwnLike w o q → OwnCosts m n turns q) (begun_same : n.world.tree.begun ≡ m.world.tree.begun)
-      (tree : SameLive m.world.tree.tasks n.world.tree.tasks k (bytes_of o)) where
+  module _ {m : Moment} {w : Sight} {R : Run} (T : Tied P arg rule C L m w R) (k turns : ℕ) (wants : Option (List Effect)) (d : DeclaredOwn)
+      (x : NextOf C m k (event_of k turns wants (action.Do d)))
+      (does : (p : Path) (q : Own) → OwnLike w (plain_own C d) q
+      → OwnTied (Q P arg rule C) w R p turns q (own_answer m.world d) (own_acted code m.world k wants d).heap.objects)
+      (costs : (q : Own) → OwnLike w (plain_own C d) q → OwnCosts m.world (world_after code m.world (event_of k turns wants (action.Do d))) turns q)
+      (begun_same : (own_acted code m.world k wants d).tree.begun ≡ m.world.tree.begun)
+      (tree : SameLive m.world.tree.tasks (own_acted code m.world k wants d).tree.tasks k (bytes_of (plain_own C d))) where
+    abbrev a : DeclaredAction
+    a = action.Do d
+
+    abbrev n : Moment
+    n = after code m (event_of k turns wants (action.Do d)) x.stands.state x.stands.made
+
+    abbrev o : OwnOver ℕ (ℕ × ℕ)
+    o = plain_own C d
+
     abbrev V : LiveTied P arg rule C w R m.world.tree.tasks m.tasks k (found T k turns wants a x).0
     V = live T k turns wants a x
 
     A : AskedAt T k turns wants a x (Do o)
-    A = asked_at T k turns wants a x (Do o) (acts_at C a (Do o) (λ e i. (cc)) says (at T k turns wants a x) x.stands.tells)
+    A = asked_at T k turns wants a x (Do o) (acts_at C a (Do o) (λ e i. (cc)) (λ b e. e) (at T k turns wants a x) x.stands.tells)
 
     own : (q : Own) × (A.both.act ≡ Do q) × OwnLike w o q
     own = own_like A.both.like
@@ -232,7 +243,7 @@ module _ (code : Code) (P : PlainProgram) (arg : ℤ) (rule : Rule) (L : Limits)
     asks : (Q P arg rule C).meaning V.path V.task.task (answers (mine R V.path)) ≡ Next turns (Do own.0)
     asks = A.asks ∙ ap (λ c. Next turns c) act_is
 
-    D : OwnTied (Q P arg rule C) w R V.path turns own.0 (answer_at m.world k a) n.world.heap.objects
+    D : OwnTied (Q P arg rule C) w R V.path turns own.0 (own_answer m.world d) (own_acted code m.world k wants d).heap.objects
     D = does V.path own.0 own.2
 
     abbrev event : Event
@@ -248,7 +259,7 @@ module _ (code : Code) (P : PlainProgram) (arg : ℤ) (rule : Rule) (L : Limits)
         × (y.out ≡ (found T k turns wants a x).0.out ++ bytes_of o)
     y = tree.itself (found T k turns wants a x).0 (found T k turns wants a x).1
 
-    K : OwnCosts m n turns own.0
+    K : OwnCosts m.world n.world turns own.0
     K = costs own.0 own.2
 
     H : OutRuns R V.path V.runs.state (found T k turns wants a x).0.out
@@ -257,7 +268,7 @@ module _ (code : Code) (P : PlainProgram) (arg : ℤ) (rule : Rule) (L : Limits)
     fine : trapped H.segment ≡ None
     fine = fine_none H.segment V.runs.state H.fine (λ f i. not_off T k turns wants a x (Do o) A (Trapped f.0 f.1) i)
 
-    out_now : OutRuns (event ∷ R) V.path (goes_to T k turns wants a x (Do o) A (answer_at m.world k a)).state y.0.out
+    out_now : OutRuns (event ∷ R) V.path (goes_to T k turns wants a x (Do o) A (own_answer m.world d)).state y.0.out
     out_now = record {
       segment = event ∷ H.segment;
       seg = seg_with event refl (λ b i. (cc)) H;
@@ -273,11 +284,11 @@ module _ (code : Code) (P : PlainProgram) (arg : ℤ) (rule : Rule) (L : Limits)
       there = V.there;
       sight = D.sight;
       tied = plain_next P arg rule C L m n T k (found T k turns wants a x).0 y.0 (found T k turns wants a x).1 D.wider D.paths event V.there follows refl D.heap begun_same
-          tree.others y.1 y.2 (λ j apart. tasks_are j ∙ beside m.tasks k _ j apart) (goes_to T k turns wants a x (Do o) A (answer_at m.world k a))
-          (tasks_are k ∙ placed m.tasks k _ k refl ∙ goes_so T k turns wants a x (Do o) A (answer_at m.world k a))
-          (task_next T k turns wants a x (Do o) A (answer_at m.world k a) event refl D.wider D.like)
-          (subst (λ s. ScopeTied P arg rule C D.sight (event ∷ R) V.path (goes_to T k turns wants a x (Do o) A (answer_at m.world k a)).state s) (sym (y.3 ∙ runs)) tt)
-          (subst (λ s. OutLive (event ∷ R) V.path (goes_to T k turns wants a x (Do o) A (answer_at m.world k a)).state y.0.out s) (sym (y.3 ∙ runs)) out_now)
+          tree.others y.1 y.2 (λ j apart. beside m.tasks k _ j apart) (goes_to T k turns wants a x (Do o) A (own_answer m.world d))
+          (placed m.tasks k _ k refl ∙ goes_so T k turns wants a x (Do o) A (own_answer m.world d))
+          (task_next T k turns wants a x (Do o) A (own_answer m.world d) event refl D.wider D.like)
+          (subst (λ s. ScopeTied P arg rule C D.sight (event ∷ R) V.path (goes_to T k turns wants a x (Do o) A (own_answer m.world d)).state s) (sym (y.3 ∙ runs)) tt)
+          (subst (λ s. OutLive (event ∷ R) V.path (goes_to T k turns wants a x (Do o) A (own_answer m.world d)).state y.0.out s) (sym (y.3 ∙ runs)) out_now)
           (childless_if T k turns wants a x runs)
           (record { steps = K.steps; cells = K.cells; most_steps = K.most_steps; most_cells = K.most_cells });
     }
@@ -287,6 +298,6 @@ module _ (code : Code) (P : PlainProgram) (arg : ℤ) (rule : Rule) (L : Limits)
       stepped = stepped;
       wider = D.wider;
       turns = refl;
-      action = action_later D.wider (alike own.0 own.2);
-      answer = answer_alike (answer_at m.world k a) D.like;
+      action = action_later D.wider (do_alike (own_alike C d own.2));
+      answer = answer_alike (own_answer m.world d) D.like;
     }

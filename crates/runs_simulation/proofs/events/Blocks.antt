@@ -31,9 +31,11 @@ use Rattle.runs_theory.proofs.events.Upto.{upto_length, upto_none, upto_same, up
 use Rattle.runs_program.specs.Interfering as run
 use Rattle.exec_task.specs.Names.{plain_effect}
 use Rattle.exec_task.specs.Halts.{Tells}
-use Rattle.exec_task.specs.Tasks.{Says}
+use Rattle.exec_task.specs.Tasks.{Says, plain_own}
 use Rattle.exec_task.specs.declared.action.Action.{Action as DeclaredAction}
 use Rattle.exec_task.specs.declared.action.Action.TheVariants as action
+use Rattle.exec_task.specs.declared.action.Own.{Own as DeclaredOwn}
+use Rattle.exec_task.specs.declared.action.Own.TheVariants as alone
 use Rattle.exec_locks.specs.Locks as locks
 use Rattle.exec_locks.specs.Locks.{lists_interfere}
 use Rattle.exec_locks.specs.declared.standing.Standing.{Standing as Lock}
@@ -85,37 +87,22 @@ passes_do {q = q} is = (λ ts e. (let both : Do q ≡ Fork ts = sym is ∙ e in 
 
 -- what an event of a machine is in the run, as far as blocks see it
 abbrev pub ActsLike : Sight → DeclaredAction → Action → Type 0
-ActsLike w (action.Enter effects) a = (F : List Effect) × (a ≡ Do (Enter F)) × EffectsLike w (map plain_effect effects) F
-ActsLike w action.Exit a = a ≡ Do Exit
+ActsLike w (action.Do (alone.Enter effects)) a = (F : List Effect) × (a ≡ Do (Enter F)) × EffectsLike w (map plain_effect effects) F
+ActsLike w (action.Do alone.Exit) a = a ≡ Do Exit
 ActsLike w (action.End c) a = (x : Ending) × (a ≡ End x)
 ActsLike w (action.Begin b) a = a ≡ Begin b
-ActsLike w action.Rest a = Quiet a
-ActsLike w (action.Read n i) a = Quiet a
-ActsLike w (action.Write n i v) a = Quiet a
-ActsLike w (action.Look n) a = Quiet a
-ActsLike w (action.NewObject c rs constructor) a = Quiet a
-ActsLike w (action.NewArray region len first) a = Quiet a
-ActsLike w (action.Print bytes) a = Quiet a
-ActsLike w (action.Fork forking many) a = Quiet a
-ActsLike w action.Join a = Quiet a
+ActsLike w x a = Quiet a
 
-quiet_rest : {w : Sight} {q : Own} → OwnLike w meaning.Rest q → Quiet (Do q)
-quiet_rest rest_like h = refl
-
-quiet_read : {w : Sight} {n : ℕ} {j : ℤ} {q : Own} → OwnLike w (meaning.Read n j) q → Quiet (Do q)
-quiet_read (read_like n x i e) h = refl
-
-quiet_write : {w : Sight} {n : ℕ} {j : ℤ} {v : _} {q : Own} → OwnLike w (meaning.Write n j v) q → Quiet (Do q)
-quiet_write (write_like n x i e l) h = refl
-
-quiet_look : {w : Sight} {n : ℕ} {q : Own} → OwnLike w (meaning.Look n) q → Quiet (Do q)
-quiet_look (look_like n x e) h = refl
-
-quiet_new : {w : Sight} {t : _} {c : Bool} {q : Own} → OwnLike w (meaning.New t c) q → Quiet (Do q)
-quiet_new (new_like c l) h = refl
-
-quiet_print : {w : Sight} {bytes : List ℕ} {q : Own} → OwnLike w (meaning.Print bytes) q → Quiet (Do q)
-quiet_print (print_like bytes) h = refl
+own_seen : {w : Sight} (C : PlainCode) (o : DeclaredOwn) {q : Own} → OwnLike w (plain_own C o) q → ActsLike w (action.Do o) (Do q)
+own_seen C alone.Rest rest_like = λ h. refl
+own_seen C (alone.Read n i) (read_like n' x j e) = λ h. refl
+own_seen C (alone.Write n i v) (write_like n' x j e l) = λ h. refl
+own_seen C (alone.Look n) (look_like n' x e) = λ h. refl
+own_seen C (alone.NewObject d rs constructor) (new_like c l) = λ h. refl
+own_seen C (alone.NewArray region len first) (new_like c l) = λ h. refl
+own_seen C (alone.Print bytes) (print_like b) = λ h. refl
+own_seen C (alone.Enter effects) (enter_like {F = F} l) = (F, refl, l)
+own_seen C alone.Exit exit_like = refl
 
 pub entry_like : {w : Sight} {E : EffectsIn} {q : Own} → OwnLike w (meaning.Enter E) q → (F : List Effect) × (q ≡ Enter F) × EffectsLike w E F
 entry_like (enter_like {F = F} l) = (F, refl, l)
@@ -133,16 +120,7 @@ module _ (C : PlainCode) (P : PlainProgram) {w : Sight} {b : ActionIn} {c : Acti
       (h.0, same_do C P a h.0 (subst (λ c. SameAct C P a c) h.1 same), h.2)
 
   acts_like : (x : DeclaredAction) → Says C x b → ActsLike w x a
-  acts_like action.Rest s = (let h = own_acts meaning.Rest s in subst Quiet (sym h.1) (quiet_rest h.2))
-  acts_like (action.Read n i) s = (let h = own_acts (meaning.Read n i) s in subst Quiet (sym h.1) (quiet_read h.2))
-  acts_like (action.Write n i v) s = (let h = own_acts _ s in subst Quiet (sym h.1) (quiet_write h.2))
-  acts_like (action.Look n) s = (let h = own_acts (meaning.Look n) s in subst Quiet (sym h.1) (quiet_look h.2))
-  acts_like (action.NewObject d rs constructor) s = (let h = own_acts _ s in subst Quiet (sym h.1) (quiet_new h.2))
-  acts_like (action.NewArray region len first) s = (let h = own_acts _ s in subst Quiet (sym h.1) (quiet_new h.2))
-  acts_like (action.Print bytes) s = (let h = own_acts (meaning.Print bytes) s in subst Quiet (sym h.1) (quiet_print h.2))
-  acts_like (action.Enter effects) s =
-      (let h = own_acts (meaning.Enter (map plain_effect effects)) s in let e = entry_like h.2 in (e.0, h.1 ∙ ap (λ (q : Own). Do q) e.1, e.2))
-  acts_like action.Exit s = (let h = own_acts meaning.Exit s in h.1 ∙ ap (λ (q : Own). Do q) (leave_like h.2))
+  acts_like (action.Do o) s = (let h = own_acts (plain_own C o) s in subst (λ a. ActsLike w (action.Do o) a) (sym h.1) (own_seen C o h.2))
   acts_like (action.Fork forking many) s =
       let h = forking_like (subst (λ b. ActionLike w b c) s.1 like) in
       let f = same_fork C P a forking h.0 (subst (λ c. SameAct C P a c) h.1 same) in
@@ -155,15 +133,7 @@ module _ (C : PlainCode) (P : PlainProgram) {w : Sight} {b : ActionIn} {c : Acti
 
   -- neither a fork nor a begin
   pub acts_pass : (x : DeclaredAction) → NotForking x → Says C x b → NoFork a
-  acts_pass action.Rest n s = passes_do (own_acts meaning.Rest s).1
-  acts_pass (action.Read i j) n s = passes_do (own_acts (meaning.Read i j) s).1
-  acts_pass (action.Write i j v) n s = passes_do (own_acts _ s).1
-  acts_pass (action.Look i) n s = passes_do (own_acts (meaning.Look i) s).1
-  acts_pass (action.NewObject d rs constructor) n s = passes_do (own_acts _ s).1
-  acts_pass (action.NewArray region len first) n s = passes_do (own_acts _ s).1
-  acts_pass (action.Print bytes) n s = passes_do (own_acts (meaning.Print bytes) s).1
-  acts_pass (action.Enter effects) n s = passes_do (own_acts (meaning.Enter (map plain_effect effects)) s).1
-  acts_pass action.Exit n s = passes_do (own_acts meaning.Exit s).1
+  acts_pass (action.Do o) n s = passes_do (own_acts (plain_own C o) s).1
   acts_pass action.Join n s =
       let is = same_join C P a (subst (λ c. SameAct C P a c) (joining_like (subst (λ b. ActionLike w b c) s like)) same) in
       (λ ts e. (let both : Join ≡ Fork ts = sym is ∙ e in cc), λ b e. (let both : Join ≡ Begin b = sym is ∙ e in cc))
@@ -570,27 +540,21 @@ module _ (code : Code) (P : PlainProgram) (arg : ℤ) (rule : Rule) (L : Limits)
         → BlocksTied S.sight (S.event ∷ R) (world_after code m.world (event_of k turns wants a))
 
     blocks_any : (a : DeclaredAction) → Next_blocks a
-    blocks_any action.Rest x S = same_next T short B wanted k turns wants action.Rest x S (event_like T k turns wants action.Rest x S) refl (λ j. refl) refl
-    blocks_any (action.Read i j) x S = same_next T short B wanted k turns wants (action.Read i j) x S (event_like T k turns wants (action.Read i j) x S) refl (λ j. refl) refl
-    blocks_any (action.Write i j u) x S = same_next T short B wanted k turns wants (action.Write i j u) x S (event_like T k turns wants (action.Write i j u) x S) refl (λ j. refl) refl
-    blocks_any (action.Look i) x S = same_next T short B wanted k turns wants (action.Look i) x S (event_like T k turns wants (action.Look i) x S) refl (λ j. refl) refl
-    blocks_any (action.NewObject d rs constructor) x S =
-        same_next T short B wanted k turns wants (action.NewObject d rs constructor) x S (event_like T k turns wants (action.NewObject d rs constructor) x S) refl (λ j. refl) refl
-    blocks_any (action.NewArray region len first) x S =
-        same_next T short B wanted k turns wants (action.NewArray region len first) x S (event_like T k turns wants (action.NewArray region len first) x S) refl (λ j. refl) refl
-    blocks_any (action.Print bytes) x S =
-        same_next T short B wanted k turns wants (action.Print bytes) x S (event_like T k turns wants (action.Print bytes) x S) refl
+    blocks_any (action.Do (alone.Print bytes)) x S =
+        same_next T short B wanted k turns wants (action.Do (alone.Print bytes)) x S (event_like T k turns wants (action.Do (alone.Print bytes)) x S) refl
         (changed_keys m.world.tree.tasks k (printed_task bytes)) refl
+    blocks_any (action.Do (alone.Enter effects)) x S =
+        let e = event_like T k turns wants (action.Do (alone.Enter effects)) x S in
+        entered_next T short B wanted k turns wants (action.Do (alone.Enter effects)) x S (map plain_effect effects) e.0 e.1 e.2
+        (ap (λ o. locks.entered m.world.locks k (wanted_of o)) (entry_noted C m k turns wants effects x wanted)) refl
+    blocks_any (action.Do alone.Exit) x S =
+        exited_next T short B wanted k turns wants (action.Do alone.Exit) x S (event_like T k turns wants (action.Do alone.Exit) x S) refl refl
+    blocks_any (action.Do o) x S = same_next T short B wanted k turns wants (action.Do o) x S (event_like T k turns wants (action.Do o) x S) refl (λ j. refl) refl
     blocks_any (action.Fork forking many) x S =
         same_next T short B wanted k turns wants (action.Fork forking many) x S (event_like T k turns wants (action.Fork forking many) x S) refl
         (changed_keys m.world.tree.tasks k (forked_task many)) refl
     blocks_any action.Join x S =
         same_next T short B wanted k turns wants action.Join x S (event_like T k turns wants action.Join x S) refl (changed_keys m.world.tree.tasks k joined_task) refl
-    blocks_any (action.Enter effects) x S =
-        let e = event_like T k turns wants (action.Enter effects) x S in
-        entered_next T short B wanted k turns wants (action.Enter effects) x S (map plain_effect effects) e.0 e.1 e.2
-        (ap (λ o. locks.entered m.world.locks k (wanted_of o)) (entry_noted C m k turns wants effects x wanted)) refl
-    blocks_any action.Exit x S = exited_next T short B wanted k turns wants action.Exit x S (event_like T k turns wants action.Exit x S) refl refl
     blocks_any (action.Begin b) x S = begun_next T short B wanted k turns wants (action.Begin b) x S b (event_like T k turns wants (action.Begin b) x S) refl refl refl
     blocks_any (action.End c) x S =
         let e = event_like T k turns wants (action.End c) x S in
@@ -601,7 +565,7 @@ module _ (code : Code) (P : PlainProgram) (arg : ℤ) (rule : Rule) (L : Limits)
     not_quiet : (E : List Effect) (a : Action) → Quiet a → a ≡ Do (Enter E) → ⊥
     not_quiet E a q e = (let both : In_block 0 E ≡ Out_of = subst Quiet e q Out_of in cc)
 
-    module _ (effects : List PathEffect) (x : NextOf C m k (event_of k turns wants (action.Enter effects)))
+    module _ (effects : List PathEffect) (x : NextOf C m k (event_of k turns wants (action.Do (alone.Enter effects))))
         (p : Path) (own_path : slice_get w.paths k ≡ Some p) (F : List Effect) (like : EffectsLike w (map plain_effect effects) F) where
       abbrev E_in : EffectsIn
       E_in = map plain_effect effects
@@ -676,7 +640,7 @@ module _ (code : Code) (P : PlainProgram) (arg : ℤ) (rule : Rule) (L : Limits)
           H = holder q G stands
 
           y : (y : Live) × (get m.world.tree.tasks k ≡ Some y)
-          y = found code P arg rule L right T k turns wants (action.Enter effects) x
+          y = found code P arg rule L right T k turns wants (action.Do (alone.Enter effects)) x
 
           outside : get m.world.locks k ≡ None
           outside = tells_standing (B.stand k y.0 p y.1 own_path) out
@@ -710,28 +674,28 @@ module _ (code : Code) (P : PlainProgram) (arg : ℤ) (rule : Rule) (L : Limits)
         → (S : Stepped code P arg rule L right w R k n) (F : List Effect) → S.event.act ≡ Do (Enter F) → CanEnter run.lets R S.event.path F
 
     enters_any : (a : DeclaredAction) → Enters a
-    enters_any (action.Enter effects) x n S F act = record { clear = λ out q G stands. apart_so effects x S.event.path S.there F like out q G stands }
+    enters_any (action.Do (alone.Enter effects)) x n S F act = record { clear = λ out q G stands. apart_so effects x S.event.path S.there F like out q G stands }
       where
-        e : ActsLike w (action.Enter effects) S.event.act
-        e = event_like T k turns wants (action.Enter effects) x S
+        e : ActsLike w (action.Do (alone.Enter effects)) S.event.act
+        e = event_like T k turns wants (action.Do (alone.Enter effects)) x S
 
         like : EffectsLike w (map plain_effect effects) F
         like = subst (λ H. EffectsLike w (map plain_effect effects) H) (same_entry e.0 F (sym e.1 ∙ act)) e.2
           where
             same_entry : (H G : List Effect) → ◌≡◌ {A = Action} (Do (Enter H)) (Do (Enter G)) → H ≡ G
             same_entry H G e = cc
-    enters_any action.Rest x n S F act = absurd (not_quiet F S.event.act (event_like T k turns wants action.Rest x S) act)
-    enters_any (action.Read i j) x n S F act = absurd (not_quiet F S.event.act (event_like T k turns wants (action.Read i j) x S) act)
-    enters_any (action.Write i j u) x n S F act = absurd (not_quiet F S.event.act (event_like T k turns wants (action.Write i j u) x S) act)
-    enters_any (action.Look i) x n S F act = absurd (not_quiet F S.event.act (event_like T k turns wants (action.Look i) x S) act)
-    enters_any (action.NewObject d rs constructor) x n S F act =
-        absurd (not_quiet F S.event.act (event_like T k turns wants (action.NewObject d rs constructor) x S) act)
-    enters_any (action.NewArray region len first) x n S F act =
-        absurd (not_quiet F S.event.act (event_like T k turns wants (action.NewArray region len first) x S) act)
-    enters_any (action.Print bytes) x n S F act = absurd (not_quiet F S.event.act (event_like T k turns wants (action.Print bytes) x S) act)
+    enters_any (action.Do alone.Rest) x n S F act = absurd (not_quiet F S.event.act (event_like T k turns wants (action.Do alone.Rest) x S) act)
+    enters_any (action.Do (alone.Read i j)) x n S F act = absurd (not_quiet F S.event.act (event_like T k turns wants (action.Do (alone.Read i j)) x S) act)
+    enters_any (action.Do (alone.Write i j u)) x n S F act = absurd (not_quiet F S.event.act (event_like T k turns wants (action.Do (alone.Write i j u)) x S) act)
+    enters_any (action.Do (alone.Look i)) x n S F act = absurd (not_quiet F S.event.act (event_like T k turns wants (action.Do (alone.Look i)) x S) act)
+    enters_any (action.Do (alone.NewObject d rs constructor)) x n S F act =
+        absurd (not_quiet F S.event.act (event_like T k turns wants (action.Do (alone.NewObject d rs constructor)) x S) act)
+    enters_any (action.Do (alone.NewArray region len first)) x n S F act =
+        absurd (not_quiet F S.event.act (event_like T k turns wants (action.Do (alone.NewArray region len first)) x S) act)
+    enters_any (action.Do (alone.Print bytes)) x n S F act = absurd (not_quiet F S.event.act (event_like T k turns wants (action.Do (alone.Print bytes)) x S) act)
     enters_any (action.Fork forking many) x n S F act = absurd (not_quiet F S.event.act (event_like T k turns wants (action.Fork forking many) x S) act)
     enters_any action.Join x n S F act = absurd (not_quiet F S.event.act (event_like T k turns wants action.Join x S) act)
-    enters_any action.Exit x n S F act = absurd (let both : Do Exit ≡ Do (Enter F) = sym (event_like T k turns wants action.Exit x S) ∙ act in cc)
+    enters_any (action.Do alone.Exit) x n S F act = absurd (let both : Do Exit ≡ Do (Enter F) = sym (event_like T k turns wants (action.Do alone.Exit) x S) ∙ act in cc)
     enters_any (action.Begin b) x n S F act = absurd (let both : Begin b ≡ Do (Enter F) = sym (event_like T k turns wants (action.Begin b) x S) ∙ act in cc)
     enters_any (action.End c) x n S F act = absurd (let e = event_like T k turns wants (action.End c) x S in let both : End e.0 ≡ Do (Enter F) = sym e.1 ∙ act in cc)
 

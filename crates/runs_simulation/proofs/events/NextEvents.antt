@@ -10,6 +10,7 @@ use Rattle.exec_task.specs.Halts.{Tells, stands}
 use Rattle.exec_task.specs.Names.{names_of}
 use Rattle.exec_task.specs.declared.action.Action.{Action}
 use Rattle.exec_task.specs.declared.action.Action.TheVariants as action
+use Rattle.exec_task.specs.declared.action.Own.TheVariants as own
 use Rattle.exec_world.specs.Ready.{IsReady}
 use Rattle.exec_world.specs.declared.event.Event.{Event}
 use Rattle.exec_machine.specs.Premise.{GoesOn}
@@ -43,8 +44,8 @@ module _ (C : PlainCode) (k fuel : ℕ) (more : Further C k fuel) where
     made = count;
     state = z;
     is = ap (λ b. if b then Asks turns count (Do Rest) (λ x. z) else stands turns count (step (names_of k) C z)) last ∙ same_halt runs;
-    action = action.Rest;
-    tells = subst (Tells C action.Rest) (same_halt runs) refl;
+    action = action.Do own.Rest;
+    tells = subst (Tells C (action.Do own.Rest)) (same_halt runs) refl;
   }
   turned turns count z h false last runs alive = more turns count z h last runs alive
 
@@ -82,7 +83,7 @@ front_there C k zero turns count z h less runs alive = absurd (let none : None �
 front_there C k (suc fuel) turns count z h less runs alive = by_stand C k fuel (front_there C k fuel) turns count z h less alive (step (names_of k) C z) refl runs
 
 wants_rightly : (C : PlainCode) (z : State ℕ (ℕ × ℕ)) (turns : ℕ) (a : Action) → WantsRightly C z turns a (option_map (map noted) (wanted_after C turns z))
-wants_rightly C z turns action.Rest = refl
+wants_rightly C z turns (action.Do own.Rest) = refl
 wants_rightly C z turns a = tt
 
 first_turn : (0 == most_turns) ≡ false

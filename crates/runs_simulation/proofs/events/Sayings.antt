@@ -12,7 +12,7 @@ use Rattle.lang_base.specs.declared.op.BinaryOp.{BinaryOp}
 use Rattle.lang_meaning.specs.Counts.{how_many, number, operated, part_place, reference}
 use Rattle.lang_meaning.specs.Regions.{around, concrete, is_long, some_long}
 use Rattle.lang_meaning.specs.Values.{An_array, An_object, Any_index, Any_parts, Boolean, Int, Local, Naming, Null, Number, Object, Own_index, Part, Region, Region_name, Value}
-use Rattle.lang_meaning.specs.Actions.{Action, Assigned, Begin, Do, End, Ending, Enter, Exit, Fork, Join, Look, New, Print, Read, Rest, Returned, Trapped, Write}
+use Rattle.lang_meaning.specs.Actions.{Action, Assigned, Begin, Do, End, Ending, Enter, Exit, Fork, Join, Look, New, Own, Print, Read, Rest, Returned, Trapped, Write}
 use Rattle.lang_meaning.specs.Actions.{Effect as EffectOf}
 use Rattle.code_instrs.specs.Machine as machine
 use Rattle.code_instrs.specs.Machine.{Ends, Goes, Level, Makes, Nowhere, Off, On, Rested, Stand, Start, State, Stuck, Turns, Waits, all_copied, array_of, called, created, creates, deeper, ends_branch, enters_block, exec, exec_line, first_value, forked, joins, joins_fork, joins_site, joins_spread, line_before, makes_array, one, or_trap, rested_at, rested_line, site_of, spread, step, taken, three, two, unless_long}
@@ -21,9 +21,11 @@ use Rattle.code_instrs.specs.declared.instr.Instr.{Instr}
 use Rattle.code_instrs.specs.declared.instr.Instr.TheVariants as i
 use Rattle.exec_frames.specs.Names.{plain_value}
 use Rattle.exec_task.specs.Names.{plain_effect, plain_part, plain_region}
-use Rattle.exec_task.specs.Tasks.{Says, plain_ending, plain_slot}
+use Rattle.exec_task.specs.Tasks.{Says, plain_ending, plain_own, plain_slot}
 use Rattle.exec_task.specs.declared.action.Action.{Action as DeclaredAction}
 use Rattle.exec_task.specs.declared.action.Action.TheVariants as action
+use Rattle.exec_task.specs.declared.action.Own.{Own as DeclaredOwn}
+use Rattle.exec_task.specs.declared.action.Own.TheVariants as own
 use Rattle.exec_task.specs.declared.action.Ending.{Ending as DeclaredEnding}
 use Rattle.exec_task.specs.declared.action.Ending.TheVariants as ending
 use Rattle.exec_machine.specs.Wants.{noted, noted_part}
@@ -87,25 +89,28 @@ IsRight C (Do (New (An_object c rs fields) constructor)) = fields ≡ map first_
 IsRight C (Do (New (An_array region len first) constructor)) = constructor ≡ false
 IsRight C a = Unit {0}
 
+own_said : (C : PlainCode) (o : Own ℕ (ℕ × ℕ)) → IsRight C (Do o) → (x : DeclaredOwn) × (o ≡ plain_own C x)
+own_said C Rest right = (own.Rest, refl)
+own_said C (Read n j) right = (own.Read n j, refl)
+own_said C (Write n j v) right = (own.Write n j (value_for v), ap (λ u. Write n j u) (sym (value_back v)))
+own_said C (Look n) right = (own.Look n, refl)
+own_said C (New (An_object c rs fields) constructor) right = (
+  own.NewObject c (map region_for rs) constructor,
+  ap (λ q. New (An_object c q fields) constructor) (sym (map_back plain_region region_for region_back rs))
+      ∙ ap (λ q. New (An_object c (map plain_region (map region_for rs)) q) constructor) right,
+)
+own_said C (New (An_array region len first) constructor) right = (
+  own.NewArray (region_for region) len (value_for first),
+  ap (λ r. New (An_array r len first) constructor) (sym (region_back region))
+      ∙ ap (λ v. New (An_array (plain_region (region_for region)) len v) constructor) (sym (value_back first))
+      ∙ ap (λ b. New (An_array (plain_region (region_for region)) len (plain_value (value_for first))) b) right,
+)
+own_said C (Print bytes) right = (own.Print bytes, refl)
+own_said C (Enter effects) right = (own.Enter (map noted effects), ap (λ es. Enter es) (sym (map_back plain_effect noted effect_back effects)))
+own_said C Exit right = (own.Exit, refl)
+
 pub said_by : (C : PlainCode) (a : Acting) → IsRight C a → (x : DeclaredAction) × Says C x a
-said_by C (Do Rest) right = (action.Rest, refl)
-said_by C (Do (Read n j)) right = (action.Read n j, refl)
-said_by C (Do (Write n j v)) right = (action.Write n j (value_for v), ap (λ u. Do (Write n j u)) (sym (value_back v)))
-said_by C (Do (Look n)) right = (action.Look n, refl)
-said_by C (Do (New (An_object c rs fields) constructor)) right = (
-  action.NewObject c (map region_for rs) constructor,
-  ap (λ q. Do (New (An_object c q fields) constructor)) (sym (map_back plain_region region_for region_back rs))
-      ∙ ap (λ q. Do (New (An_object c (map plain_region (map region_for rs)) q) constructor)) right,
-)
-said_by C (Do (New (An_array region len first) constructor)) right = (
-  action.NewArray (region_for region) len (value_for first),
-  ap (λ r. Do (New (An_array r len first) constructor)) (sym (region_back region))
-      ∙ ap (λ v. Do (New (An_array (plain_region (region_for region)) len v) constructor)) (sym (value_back first))
-      ∙ ap (λ b. Do (New (An_array (plain_region (region_for region)) len (plain_value (value_for first))) b)) right,
-)
-said_by C (Do (Print bytes)) right = (action.Print bytes, refl)
-said_by C (Do (Enter effects)) right = (action.Enter (map noted effects), ap (λ es. Do (Enter es)) (sym (map_back plain_effect noted effect_back effects)))
-said_by C (Do Exit) right = (action.Exit, refl)
+said_by C (Do o) right = (let x = own_said C o right in (action.Do x.0, ap (λ o. Do o) x.1))
 said_by C (Fork bs) right = (action.Fork bs.kind (length bs.tasks), (bs.tasks, refl, refl))
 said_by C (Begin b) right = (action.Begin b, refl)
 said_by C Join right = (action.Join, refl)

@@ -21,6 +21,7 @@ use Rattle.code_instrs.specs.declared.code.Code.{Code}
 use Rattle.code_scheme.specs.Whole.{compiled}
 use Rattle.exec_task.specs.declared.action.Action.{Action}
 use Rattle.exec_task.specs.declared.action.Action.TheVariants as action
+use Rattle.exec_task.specs.declared.action.Own.TheVariants as own
 use Rattle.exec_heap.specs.Heap.{object_at, values_of}
 use Rattle.exec_progress.specs.Progress.{CodeMakesProgress}
 use Rattle.exec_tasks.specs.declared.task.Task.{Task as Live}
@@ -146,7 +147,7 @@ module _ (keeps : EachKeeps) (known : NamesAreKnown) (going : CodeMakesProgress)
       legal = ran_legal (stepped P arg) L ks A.run A.ran
 
       by_action : (a : Action) (x : NextOf (plain_code code) m s.event.task (event_of s.event.task s.event.turns s.event.wants a)) → LeftOpen m.world s.event.task a → StuckRun P arg
-      by_action action.Exit x left =
+      by_action (action.Do own.Exit) x left =
           let h = exit_next code P arg lets L (right code P L arg is resolved main few) (FJ code P L arg is resolved main few) A.tied A.short A.blocks A.lives (all_noted code L arg ks m leads)
           (keeps P arg).lively (keeps P arg).in_turn s.event.task s.event.turns s.event.wants x left in
           record { run = A.run; event = h.0; legal = (h.1, legal); what = inl (h.2, h.3) }
@@ -154,14 +155,4 @@ module _ (keeps : EachKeeps) (known : NamesAreKnown) (going : CodeMakesProgress)
           let h = fork_next code P arg lets L (right code P L arg is resolved main few) (FJ code P L arg is resolved main few) A.tied A.short A.blocks A.lives (all_noted code L arg ks m leads)
           (keeps P arg).lively (keeps P arg).in_turn s.event.task s.event.turns s.event.wants forking many x in
           record { run = A.run; event = h.0; legal = (h.1, legal); what = inr (h.2, h.3, (let n = h.4 in omega (arith, n, left))) }
-      by_action action.Rest x left = absurd left
-      by_action (action.Read n j) x left = absurd left
-      by_action (action.Write n j v) x left = absurd left
-      by_action (action.Look n) x left = absurd left
-      by_action (action.NewObject d rs constructor) x left = absurd left
-      by_action (action.NewArray region len first) x left = absurd left
-      by_action (action.Print bytes) x left = absurd left
-      by_action (action.Enter effects) x left = absurd left
-      by_action (action.Begin b) x left = absurd left
-      by_action action.Join x left = absurd left
-      by_action (action.End z) x left = absurd left
+      by_action a x left = absurd left

@@ -36,6 +36,7 @@ use Rattle.exec_task.specs.Tasks.{Says, plain_answer}
 use Rattle.exec_task.specs.declared.action.Answer.TheVariants as answer
 use Rattle.exec_task.specs.declared.action.Action.{Action as DeclaredAction}
 use Rattle.exec_task.specs.declared.action.Action.TheVariants as action
+use Rattle.exec_task.specs.declared.action.Own.TheVariants as own
 use Rattle.exec_locks.specs.Locks.{AllRoot, is_inside}
 use Rattle.exec_tasks.specs.Scope.{all_begun, all_ended}
 use Rattle.exec_tasks.specs.Tree.{CanBegin, OfScope, OfTask, ready, state_ready}
@@ -172,33 +173,33 @@ module _ (code : Code) (P : PlainProgram) (arg : ℤ) (rule : Rule) (L : Limits)
           let l = slice_get_within w.names n z e in omega (arith, many, l)
 
     -- one clause an action
-    stuck_rest : (x : At action.Rest) → Stuck_at action.Rest x
+    stuck_rest : (x : At (action.Do own.Rest)) → Stuck_at (action.Do own.Rest) x
     stuck_rest x unmade = absurd (unmade (record { fits = subst (λ o. AllRoot (wanted o)) (sym x.stands.wants) (all_roots (wanted_after C turns x.stands.state)); starts = tt }))
 
-    stuck_read : (n : ℕ) (j : ℤ) (x : At (action.Read n j)) → Stuck_at (action.Read n j) x
+    stuck_read : (n : ℕ) (j : ℤ) (x : At (action.Do (own.Read n j))) → Stuck_at (action.Do (own.Read n j)) x
     stuck_read n j x unmade =
-        asked_by (action.Read n j) x ⊥ (λ i act b c asks says like same. (let q = own_acts C P act like same (meaning.Read n j) says in
+        asked_by (action.Do (own.Read n j)) x ⊥ (λ i act b c asks says like same. (let q = own_acts C P act like same (meaning.Read n j) says in
         unmade (record { fits = read_there q.2; starts = tt })))
       where
         read_there : {q : Own} → OwnLike w (meaning.Read n j) q → n < length m.world.heap.objects
-        read_there (read_like n z i e) = object_in (action.Read n j) x n z e
+        read_there (read_like n z i e) = object_in (action.Do (own.Read n j)) x n z e
 
-    stuck_write : (n : ℕ) (j : ℤ) (v : Constant) (x : At (action.Write n j v)) → Stuck_at (action.Write n j v) x
+    stuck_write : (n : ℕ) (j : ℤ) (v : Constant) (x : At (action.Do (own.Write n j v))) → Stuck_at (action.Do (own.Write n j v)) x
     stuck_write n j v x unmade =
-        asked_by (action.Write n j v) x ⊥ (λ i act b c asks says like same. (let q = own_acts C P act like same (meaning.Write n j (plain_value v)) says in
+        asked_by (action.Do (own.Write n j v)) x ⊥ (λ i act b c asks says like same. (let q = own_acts C P act like same (meaning.Write n j (plain_value v)) says in
         unmade (record { fits = write_there q.2; starts = tt })))
       where
         write_there : {q : Own} → OwnLike w (meaning.Write n j (plain_value v)) q → n < length m.world.heap.objects
-        write_there (write_like n z i e l) = object_in (action.Write n j v) x n z e
+        write_there (write_like n z i e l) = object_in (action.Do (own.Write n j v)) x n z e
 
-    stuck_look : ((n : ℕ) → length (values_of (object_at m.world.heap n)) < 2 ^ 31) → (n : ℕ) (x : At (action.Look n)) → Stuck_at (action.Look n) x
-    stuck_look small n x unmade = asked_by (action.Look n) x ⊥ (λ i act b c asks says like same. (let q = own_acts C P act like same (meaning.Look n) says in
+    stuck_look : ((n : ℕ) → length (values_of (object_at m.world.heap n)) < 2 ^ 31) → (n : ℕ) (x : At (action.Do (own.Look n))) → Stuck_at (action.Do (own.Look n)) x
+    stuck_look small n x unmade = asked_by (action.Do (own.Look n)) x ⊥ (λ i act b c asks says like same. (let q = own_acts C P act like same (meaning.Look n) says in
         unmade (record { fits = (look_there q.2, small n); starts = tt })))
       where
         look_there : {q : Own} → OwnLike w (meaning.Look n) q → n < length m.world.heap.objects
-        look_there (look_like n z e) = object_in (action.Look n) x n z e
+        look_there (look_like n z e) = object_in (action.Do (own.Look n)) x n z e
 
-    stuck_enter : (effects : List PathEffect) (x : At (action.Enter effects)) → Stuck_at (action.Enter effects) x
+    stuck_enter : (effects : List PathEffect) (x : At (action.Do (own.Enter effects))) → Stuck_at (action.Do (own.Enter effects)) x
     stuck_enter effects x unmade =
         absurd (unmade (record {
           fits = (let waits = entry_noted C m k turns wants effects x noted_all in
@@ -357,15 +358,13 @@ module _ (code : Code) (P : PlainProgram) (arg : ℤ) (rule : Rule) (L : Limits)
     scoped_can a x scoped = absurd scoped
 
     pub stuck_any : ((n : ℕ) → length (values_of (object_at m.world.heap n)) < 2 ^ 31) → (a : DeclaredAction) (x : At a) → Stuck_at a x
-    stuck_any small action.Rest x unmade = stuck_rest x unmade
-    stuck_any small (action.Read n j) x unmade = stuck_read n j x unmade
-    stuck_any small (action.Write n j v) x unmade = stuck_write n j v x unmade
-    stuck_any small (action.Look n) x unmade = stuck_look small n x unmade
-    stuck_any small (action.NewObject d rs constructor) x unmade = unmade (record { fits = tt; starts = tt })
-    stuck_any small (action.NewArray region len first) x unmade = unmade (record { fits = tt; starts = tt })
-    stuck_any small (action.Print bytes) x unmade = unmade (record { fits = tt; starts = tt })
-    stuck_any small (action.Enter effects) x unmade = stuck_enter effects x unmade
-    stuck_any small action.Exit x unmade = λ open_so. unmade (record { fits = open_so; starts = tt })
+    stuck_any small (action.Do own.Rest) x unmade = stuck_rest x unmade
+    stuck_any small (action.Do (own.Read n j)) x unmade = stuck_read n j x unmade
+    stuck_any small (action.Do (own.Write n j v)) x unmade = stuck_write n j v x unmade
+    stuck_any small (action.Do (own.Look n)) x unmade = stuck_look small n x unmade
+    stuck_any small (action.Do (own.Enter effects)) x unmade = stuck_enter effects x unmade
+    stuck_any small (action.Do own.Exit) x unmade = λ open_so. unmade (record { fits = open_so; starts = tt })
+    stuck_any small (action.Do o) x unmade = unmade (record { fits = tt; starts = tt })
     stuck_any small (action.Fork forking many) x unmade = stuck_fork forking many x unmade
     stuck_any small (action.Begin b) x unmade = stuck_begin b x unmade
     stuck_any small action.Join x unmade = stuck_join x unmade
@@ -384,17 +383,17 @@ module _ (code : Code) (P : PlainProgram) (arg : ℤ) (rule : Rule) (L : Limits)
       }
 
     -- what the run comes to where an exit or a fork is left open
-    pub exit_next : (x : At action.Exit) → LeftOpen m.world k action.Exit
+    pub exit_next : (x : At (action.Do own.Exit)) → LeftOpen m.world k (action.Do own.Exit)
         → (e : Event) × Allowed QR R e × (e.act ≡ Do Exit) × (hold (mine R e.path) ≡ Out_of)
     exit_next x closed =
-        asked_by action.Exit x ((e : Event) × Allowed QR R e × (e.act ≡ Do Exit) × (hold (mine R e.path) ≡ Out_of)) (λ n act b c asks says like same.
+        asked_by (action.Do own.Exit) x ((e : Event) × Allowed QR R e × (e.act ≡ Do Exit) × (hold (mine R e.path) ≡ Out_of)) (λ n act b c asks says like same.
         let q = own_acts C P act like same meaning.Exit says in
         let is : act ≡ Do Exit = q.1 ∙ ap (λ (o : Own). Do o) (leave_like q.2) in (
-          next_one action.Exit x n act,
-          allowed_there action.Exit x n act asks (λ E e. (let both : Do Exit ≡ Do (Enter E) = sym is ∙ e in cc))
-              (subst (λ act. Right QR R (V action.Exit x).path act Went) (sym is) refl),
+          next_one (action.Do own.Exit) x n act,
+          allowed_there (action.Do own.Exit) x n act asks (λ E e. (let both : Do Exit ≡ Do (Enter E) = sym is ∙ e in cc))
+              (subst (λ act. Right QR R (V (action.Do own.Exit) x).path act Went) (sym is) refl),
           is,
-          none_open (B.stand k (y action.Exit x).0 (V action.Exit x).path (y action.Exit x).1 (V action.Exit x).there) closed,
+          none_open (B.stand k (y (action.Do own.Exit) x).0 (V (action.Do own.Exit) x).path (y (action.Do own.Exit) x).1 (V (action.Do own.Exit) x).there) closed,
         ))
 
     pub fork_next : (forking : Forking) (many : ℕ) (x : At (action.Fork forking many))

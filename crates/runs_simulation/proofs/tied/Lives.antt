@@ -20,6 +20,7 @@ use Rattle.runs_theory.proofs.events.Numbers.{number_of_begun, number_same}
 use Rattle.runs_theory.proofs.events.Upto.{upto_split, upto_tail}
 use Rattle.exec_task.specs.declared.action.Action.{Action as DeclaredAction}
 use Rattle.exec_task.specs.declared.action.Action.TheVariants as action
+use Rattle.exec_task.specs.declared.action.Own.TheVariants as alone
 use Rattle.exec_tasks.specs.Scope.{no_branch_yet, with_branch}
 use Rattle.exec_tasks.specs.Tree.{Tasks, CanBegin, OfScope, OfTask, with_scope, forked_task, joined_task, printed_task}
 use Rattle.exec_tasks.specs.declared.task.State.TheVariants.{Running, Forked}
@@ -189,31 +190,22 @@ module _ (code : Code) (P : PlainProgram) (arg : ℤ) (rule : Rule) (L : Limits)
               none (y ∷ ys) i = absurd (let f = found R p (subst (λ l. Upto (y ∷ ys) l) (sym i) now) in none_made p h y f.before f.stands f.path)
 
     lives_any : (a : DeclaredAction) → Then a
-    lives_any action.Rest x can S =
-        kept_lives action.Rest x S (λ j. refl) lives.branches (not_end S.event.act (event_like code P arg rule L right T k turns wants action.Rest x S))
-        (λ j apart. refl) (λ y is run. event_passes code P arg rule L right T k turns wants action.Rest x S tt)
-    lives_any (action.Read i j) x can S =
-        kept_lives (action.Read i j) x S (λ j. refl) lives.branches (not_end S.event.act (event_like code P arg rule L right T k turns wants (action.Read i j) x S))
-        (λ j apart. refl) (λ y is run. event_passes code P arg rule L right T k turns wants (action.Read i j) x S tt)
-    lives_any (action.Write i j u) x can S =
-        kept_lives (action.Write i j u) x S (λ j. refl) lives.branches (not_end S.event.act (event_like code P arg rule L right T k turns wants (action.Write i j u) x S))
-        (λ j apart. refl) (λ y is run. event_passes code P arg rule L right T k turns wants (action.Write i j u) x S tt)
-    lives_any (action.Look i) x can S =
-        kept_lives (action.Look i) x S (λ j. refl) lives.branches (not_end S.event.act (event_like code P arg rule L right T k turns wants (action.Look i) x S))
-        (λ j apart. refl) (λ y is run. event_passes code P arg rule L right T k turns wants (action.Look i) x S tt)
-    lives_any (action.NewObject d rs constructor) x can S =
-        kept_lives (action.NewObject d rs constructor) x S (λ j. refl) lives.branches
-        (not_end S.event.act (event_like code P arg rule L right T k turns wants (action.NewObject d rs constructor) x S))
-        (λ j apart. refl) (λ y is run. event_passes code P arg rule L right T k turns wants (action.NewObject d rs constructor) x S tt)
-    lives_any (action.NewArray region len first) x can S =
-        kept_lives (action.NewArray region len first) x S (λ j. refl) lives.branches
-        (not_end S.event.act (event_like code P arg rule L right T k turns wants (action.NewArray region len first) x S))
-        (λ j apart. refl) (λ y is run. event_passes code P arg rule L right T k turns wants (action.NewArray region len first) x S tt)
-    lives_any (action.Print bytes) x can S =
-        kept_lives (action.Print bytes) x S (changed_keys m.world.tree.tasks k (printed_task bytes)) (branches_printed m.world.tree.tasks k bytes lives.branches)
-        (not_end S.event.act (event_like code P arg rule L right T k turns wants (action.Print bytes) x S))
-        (λ j apart. changed_other m.world.tree.tasks k (printed_task bytes) j (own code P arg rule L right T short B wanted k turns wants (action.Print bytes) x S).1 apart)
-        (λ y is run. event_passes code P arg rule L right T k turns wants (action.Print bytes) x S tt)
+    lives_any (action.Do (alone.Print bytes)) x can S =
+        kept_lives (action.Do (alone.Print bytes)) x S (changed_keys m.world.tree.tasks k (printed_task bytes)) (branches_printed m.world.tree.tasks k bytes lives.branches)
+        (not_end S.event.act (event_like code P arg rule L right T k turns wants (action.Do (alone.Print bytes)) x S))
+        (λ j apart. changed_other m.world.tree.tasks k (printed_task bytes) j (own code P arg rule L right T short B wanted k turns wants (action.Do (alone.Print bytes)) x S).1 apart)
+        (λ y is run. event_passes code P arg rule L right T k turns wants (action.Do (alone.Print bytes)) x S tt)
+    lives_any (action.Do (alone.Enter effects)) x can S =
+        kept_lives (action.Do (alone.Enter effects)) x S (λ j. refl) lives.branches
+        (λ z e. (let f = event_like code P arg rule L right T k turns wants (action.Do (alone.Enter effects)) x S in let both : Do (Enter f.0) ≡ End z = sym f.1 ∙ e in cc))
+        (λ j apart. refl) (λ y is run. event_passes code P arg rule L right T k turns wants (action.Do (alone.Enter effects)) x S tt)
+    lives_any (action.Do alone.Exit) x can S =
+        kept_lives (action.Do alone.Exit) x S (λ j. refl) lives.branches
+        (λ z e. (let both : Do Exit ≡ End z = sym (event_like code P arg rule L right T k turns wants (action.Do alone.Exit) x S) ∙ e in cc))
+        (λ j apart. refl) (λ y is run. event_passes code P arg rule L right T k turns wants (action.Do alone.Exit) x S tt)
+    lives_any (action.Do o) x can S =
+        kept_lives (action.Do o) x S (λ j. refl) lives.branches (not_end S.event.act (event_like code P arg rule L right T k turns wants (action.Do o) x S))
+        (λ j apart. refl) (λ y is run. event_passes code P arg rule L right T k turns wants (action.Do o) x S tt)
     lives_any (action.Fork forking many) x can S =
         kept_lives (action.Fork forking many) x S (changed_keys m.world.tree.tasks k (forked_task many)) (branches_forked m.world.tree.tasks k many lives.branches)
         (not_end S.event.act (event_like code P arg rule L right T k turns wants (action.Fork forking many) x S))
@@ -226,14 +218,6 @@ module _ (code : Code) (P : PlainProgram) (arg : ℤ) (rule : Rule) (L : Limits)
         (not_end S.event.act (event_like code P arg rule L right T k turns wants action.Join x S))
         (λ j apart. changed_other m.world.tree.tasks k joined_task j (own code P arg rule L right T short B wanted k turns wants action.Join x S).1 apart)
         (λ y is run. event_passes code P arg rule L right T k turns wants action.Join x S tt)
-    lives_any (action.Enter effects) x can S =
-        kept_lives (action.Enter effects) x S (λ j. refl) lives.branches
-        (λ z e. (let f = event_like code P arg rule L right T k turns wants (action.Enter effects) x S in let both : Do (Enter f.0) ≡ End z = sym f.1 ∙ e in cc))
-        (λ j apart. refl) (λ y is run. event_passes code P arg rule L right T k turns wants (action.Enter effects) x S tt)
-    lives_any action.Exit x can S =
-        kept_lives action.Exit x S (λ j. refl) lives.branches
-        (λ z e. (let both : Do Exit ≡ End z = sym (event_like code P arg rule L right T k turns wants action.Exit x S) ∙ e in cc))
-        (λ j apart. refl) (λ y is run. event_passes code P arg rule L right T k turns wants action.Exit x S tt)
     lives_any (action.Begin b) x can S =
         let act = event_like code P arg rule L right T k turns wants (action.Begin b) x S in
         let y = own code P arg rule L right T short B wanted k turns wants (action.Begin b) x S in

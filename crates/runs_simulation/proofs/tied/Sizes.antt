@@ -9,6 +9,7 @@ use Rattle.exec_heap.specs.Heap.{Contents, Object, array, instance, no_object, o
 use Rattle.exec_heap.specs.Heap.{written as contents_written}
 use Rattle.exec_task.specs.declared.action.Action.{Action}
 use Rattle.exec_task.specs.declared.action.Action.TheVariants as action
+use Rattle.exec_task.specs.declared.action.Own.TheVariants as own
 use Rattle.exec_world.specs.Costs.{first_fields}
 use Rattle.exec_world.specs.World.{world_after, written_at}
 use Rattle.exec_world.specs.declared.world.World.{World}
@@ -52,19 +53,11 @@ write_charged heap n (pos i) v h = go (nat_lt i (length (values_of (object_at he
 
 event_charged : (code : Code) (w : World) (k turns : ℕ) (wants : Option (List PathEffect)) (a : Action) → AllCharged w.heap
     → AllCharged (world_after code w (event_of k turns wants a)).heap
-event_charged code w k turns wants action.Rest h = h
-event_charged code w k turns wants (action.Read n j) h = h
-event_charged code w k turns wants (action.Write n j v) h = write_charged w.heap n j v h
-event_charged code w k turns wants (action.Look n) h = h
-event_charged code w k turns wants (action.NewObject c rs constructor) h = more_charged w.heap (instance c rs (first_fields code c)) h
-event_charged code w k turns wants (action.NewArray region len first) h = more_charged w.heap (array region (replicate len first)) h
-event_charged code w k turns wants (action.Print bytes) h = λ n o e. (let l = h n o e in omega (arith, l))
-event_charged code w k turns wants (action.Enter effects) h = h
-event_charged code w k turns wants action.Exit h = h
-event_charged code w k turns wants (action.Fork forking many) h = h
-event_charged code w k turns wants (action.Begin b) h = h
-event_charged code w k turns wants action.Join h = h
-event_charged code w k turns wants (action.End c) h = h
+event_charged code w k turns wants (action.Do (own.Write n j v)) h = write_charged w.heap n j v h
+event_charged code w k turns wants (action.Do (own.NewObject c rs constructor)) h = more_charged w.heap (instance c rs (first_fields code c)) h
+event_charged code w k turns wants (action.Do (own.NewArray region len first)) h = more_charged w.heap (array region (replicate len first)) h
+event_charged code w k turns wants (action.Do (own.Print bytes)) h = λ n o e. (let l = h n o e in omega (arith, l))
+event_charged code w k turns wants a h = h
 
 -- wherever a schedule leads
 pub all_charged : (code : Code) (L : Limits) (arg : ℤ) (ks : List ℕ) (m : Moment) → LeadsTo code L arg ks m → AllCharged m.world.heap

@@ -20,6 +20,7 @@ use Rattle.exec_task.specs.Names.{names_of, plain_effect}
 use Rattle.exec_task.specs.Tasks.{Says, plain_answer}
 use Rattle.exec_task.specs.declared.action.Action.{Action as DeclaredAction}
 use Rattle.exec_task.specs.declared.action.Action.TheVariants as action
+use Rattle.exec_task.specs.declared.action.Own.TheVariants as own
 use Rattle.exec_task.specs.declared.action.Answer.{Answer as DeclaredAnswer}
 use Rattle.exec_tasks.proofs.Numbers.{itself, other_number}
 use Rattle.exec_world.specs.Waits.{Waiting}
@@ -58,20 +59,10 @@ rested_other waits k j (Some E) apart = inserted_other waits k j E apart
 
 waits_other : (code : Code) (w : World) (k turns : ℕ) (wants : Option (List PathEffect)) (a : DeclaredAction) (j : ℕ) → j ≢ k
     → get (world_after code w (event_of k turns wants a)).waits j ≡ get w.waits j
-waits_other code w k turns wants action.Rest j apart = rested_other w.waits k j wants apart
-waits_other code w k turns wants (action.Read n i) j apart = refl
-waits_other code w k turns wants (action.Write n i v) j apart = refl
-waits_other code w k turns wants (action.Look n) j apart = refl
-waits_other code w k turns wants (action.NewObject c rs constructor) j apart = refl
-waits_other code w k turns wants (action.NewArray region len first) j apart = refl
-waits_other code w k turns wants (action.Print bytes) j apart = refl
-waits_other code w k turns wants (action.Enter effects) j apart =
+waits_other code w k turns wants (action.Do own.Rest) j apart = rested_other w.waits k j wants apart
+waits_other code w k turns wants (action.Do (own.Enter effects)) j apart =
     get-remove nat_cmp_total w.waits k j ∙ ap (λ b. cond b None (get w.waits j)) (other_number j k apart)
-waits_other code w k turns wants action.Exit j apart = refl
-waits_other code w k turns wants (action.Fork forking many) j apart = refl
-waits_other code w k turns wants (action.Begin b) j apart = refl
-waits_other code w k turns wants action.Join j apart = refl
-waits_other code w k turns wants (action.End c) j apart = refl
+waits_other code w k turns wants a j apart = refl
 
 -- a branch that begins is in front of no entry
 module _ (C : PlainCode) where
@@ -87,18 +78,7 @@ module _ (C : PlainCode) where
     | inl s ↦ fresh_noted waits j (slice_get (starts_at C z) b) t (sym (placed tasks next _ j s.1) ∙ e)
     | inr s ↦ h j t (sym (beside tasks next _ j s.1) ∙ e)
   ]
-  branch_noted z action.Rest next tasks waits h j t e = h j t e
-  branch_noted z (action.Read n i) next tasks waits h j t e = h j t e
-  branch_noted z (action.Write n i v) next tasks waits h j t e = h j t e
-  branch_noted z (action.Look n) next tasks waits h j t e = h j t e
-  branch_noted z (action.NewObject c rs constructor) next tasks waits h j t e = h j t e
-  branch_noted z (action.NewArray region len first) next tasks waits h j t e = h j t e
-  branch_noted z (action.Print bytes) next tasks waits h j t e = h j t e
-  branch_noted z (action.Enter effects) next tasks waits h j t e = h j t e
-  branch_noted z action.Exit next tasks waits h j t e = h j t e
-  branch_noted z (action.Fork forking many) next tasks waits h j t e = h j t e
-  branch_noted z action.Join next tasks waits h j t e = h j t e
-  branch_noted z (action.End c) next tasks waits h j t e = h j t e
+  branch_noted z a next tasks waits h j t e = h j t e
 
   -- where a task stands at an action, what it answers leads on
   record At (z : State ℕ (ℕ × ℕ)) (turns : ℕ) (h : Halt ℕ (ℕ × ℕ)) (x : Answer ℕ (ℕ × ℕ)) (t : Running) : Type 0 where
@@ -174,15 +154,15 @@ module _ (C : PlainCode) where
             let both : None ≡ Some E = sym none ∙ ap (λ s. entry_next C s) (sym A.state) ∙ i in cc
 
     -- after a rest the entry in front of which the task rests
-    rest_next : {first : ℕ} {s : State ℕ (ℕ × ℕ)} → Leg (names_of k) C first s (front C k turns made z) → Tells C action.Rest (front C k turns made z)
-        → (wants : Option (List PathEffect)) → WantsRightly C z turns action.Rest wants → answered (front C k turns made z) y ≡ Some t → Noted C (rested waits k wants) k t
+    rest_next : {first : ℕ} {s : State ℕ (ℕ × ℕ)} → Leg (names_of k) C first s (front C k turns made z) → Tells C (action.Do own.Rest) (front C k turns made z)
+        → (wants : Option (List PathEffect)) → WantsRightly C z turns (action.Do own.Rest) wants → answered (front C k turns made z) y ≡ Some t → Noted C (rested waits k wants) k t
     rest_next {first} {s} leg tells wants right e E i = go (turns == most_turns) refl
       where
         A : At z turns (front C k turns made z) (plain_answer y) t
         A = at_answer k turns made z y t e
 
         is_rest : A.act ≡ Do Rest
-        is_rest = reported action.Rest (front C k turns made z) turns A.made A.act A.then_in tells A.is
+        is_rest = reported (action.Do own.Rest) (front C k turns made z) turns A.made A.act A.then_in tells A.is
 
         entry : entry_next C (A.then_in (plain_answer y)) ≡ Some E
         entry = ap (λ s. entry_next C s) (sym A.state) ∙ i
@@ -213,20 +193,11 @@ module _ (code : Code) (m : Moment) (k turns : ℕ) (wants : Option (List PathEf
   None_next a x p t e waits = none_next C k turns x.stands.made x.stands.state (answer_at m.world k a) t waits a x.stands.tells p e
 
   own_noted : (a : DeclaredAction) (x : NextOf C m k (event_of k turns wants a)) → Own a x
-  own_noted action.Rest x t e =
-      rest_next C k turns x.stands.made x.stands.state (answer_at m.world k action.Rest) t m.world.waits x.stands.leg x.stands.tells wants x.stands.wants e
-  own_noted (action.Read n i) x t e = None_next (action.Read n i) x (λ b s. passes C s (λ r. (cc), λ x r. (cc))) t e _
-  own_noted (action.Write n i v) x t e = None_next (action.Write n i v) x (λ b s. passes C s (λ r. (cc), λ x r. (cc))) t e _
-  own_noted (action.Look n) x t e = None_next (action.Look n) x (λ b s. passes C s (λ r. (cc), λ x r. (cc))) t e _
-  own_noted (action.NewObject c rs constructor) x t e = None_next (action.NewObject c rs constructor) x (λ b s. passes C s (λ r. (cc), λ x r. (cc))) t e _
-  own_noted (action.NewArray region len first) x t e = None_next (action.NewArray region len first) x (λ b s. passes C s (λ r. (cc), λ x r. (cc))) t e _
-  own_noted (action.Print bytes) x t e = None_next (action.Print bytes) x (λ b s. passes C s (λ r. (cc), λ x r. (cc))) t e _
-  own_noted (action.Enter effects) x t e = None_next (action.Enter effects) x (λ b s. passes C s (λ r. (cc), λ x r. (cc))) t e _
-  own_noted action.Exit x t e = None_next action.Exit x (λ b s. passes C s (λ r. (cc), λ x r. (cc))) t e _
+  own_noted (action.Do own.Rest) x t e =
+      rest_next C k turns x.stands.made x.stands.state (answer_at m.world k (action.Do own.Rest)) t m.world.waits x.stands.leg x.stands.tells wants x.stands.wants e
   own_noted (action.Fork forking many) x t e = None_next (action.Fork forking many) x (λ b s. passes C s.1 (λ r. (cc), λ x r. (cc))) t e _
-  own_noted (action.Begin b) x t e = None_next (action.Begin b) x (λ b s. passes C s (λ r. (cc), λ x r. (cc))) t e _
-  own_noted action.Join x t e = None_next action.Join x (λ b s. passes C s (λ r. (cc), λ x r. (cc))) t e _
   own_noted (action.End c) x t e = absurd (cc)
+  own_noted a x t e = None_next a x (λ b s. passes C s (λ r. (cc), λ x r. (cc))) t e _
 
   event_noted : (a : DeclaredAction) (x : NextOf C m k (event_of k turns wants a)) → AllNoted C m
       → AllNoted C (after code m (event_of k turns wants a) x.stands.state x.stands.made)
@@ -263,11 +234,11 @@ module _ (code : Code) (L : Limits) (arg : ℤ) where
   all_noted (k ∷ ks) m (before, leads, over_so e x can beyond is) = subst (λ m. AllNoted (plain_code code) m) (sym is) (all_noted ks before leads)
 
 -- a task that makes an entry has noted its effects
-pub entry_noted : (C : PlainCode) (m : Moment) (k turns : ℕ) (wants : Option (List PathEffect)) (effects : List PathEffect) (x : NextOf C m k (event_of k turns wants (action.Enter effects)))
+pub entry_noted : (C : PlainCode) (m : Moment) (k turns : ℕ) (wants : Option (List PathEffect)) (effects : List PathEffect) (x : NextOf C m k (event_of k turns wants (action.Do (own.Enter effects))))
     → AllNoted C m → get m.world.waits k ≡ Some (map noted (map plain_effect effects))
 entry_noted C m k turns wants effects x all = all k x.task x.there (map plain_effect effects) (at_front (front C k turns x.stands.made x.stands.state) refl x.stands.tells)
   where
-    at_front : (h : Halt ℕ (ℕ × ℕ)) → front C k turns x.stands.made x.stands.state ≡ h → Tells C (action.Enter effects) h
+    at_front : (h : Halt ℕ (ℕ × ℕ)) → front C k turns x.stands.made x.stands.state ≡ h → Tells C (action.Do (own.Enter effects)) h
         → entry_next C x.task.state ≡ Some (map plain_effect effects)
     at_front (Asks n m a f) e t =
         leg_entry C k x.task.made x.task.state (front C k turns x.stands.made x.stands.state) n m (map plain_effect effects) f x.stands.leg (e ∙ ap (λ b. Asks n m b f) t)
@@ -279,7 +250,7 @@ record Goes_on (C : PlainCode) (h : Halt ℕ (ℕ × ℕ)) (y : DeclaredAnswer) 
   task : Running
   goes : answered h y ≡ Some task
 
-rest_goes_on : (C : PlainCode) (h : Halt ℕ (ℕ × ℕ)) (y : DeclaredAnswer) → Tells C action.Rest h → Goes_on C h y
+rest_goes_on : (C : PlainCode) (h : Halt ℕ (ℕ × ℕ)) (y : DeclaredAnswer) → Tells C (action.Do own.Rest) h → Goes_on C h y
 rest_goes_on C (Asks i j b f) y t = record { task = record { state = f (plain_answer y); made = j }; goes = refl }
 rest_goes_on C (Finished i e) y t = absurd (cc)
 rest_goes_on C Dead y t = absurd t
@@ -327,18 +298,7 @@ module _ (code : Code) (m : Moment) (k turns : ℕ) (wants : Option (List PathEf
 
       branch_beside : (a : DeclaredAction) → with_branch CA x.stands.state a m.world.tree.begun m.tasks j ≡ Some t
       branch_beside (action.Begin b) = beside m.tasks m.world.tree.begun _ j not_fresh ∙ e
-      branch_beside action.Rest = e
-      branch_beside (action.Read n i) = e
-      branch_beside (action.Write n i v) = e
-      branch_beside (action.Look n) = e
-      branch_beside (action.NewObject c rs constructor) = e
-      branch_beside (action.NewArray region len first) = e
-      branch_beside (action.Print bytes) = e
-      branch_beside (action.Enter effects) = e
-      branch_beside action.Exit = e
-      branch_beside (action.Fork forking many) = e
-      branch_beside action.Join = e
-      branch_beside (action.End c) = e
+      branch_beside a = e
 
   abbrev Own_rests : DeclaredAction → Type 0
   Own_rests a = (x : NextOf CA m k (event_of k turns wants a)) (W : List PathEffect) → get (world_after code m.world (event_of k turns wants a)).waits k ≡ Some W
@@ -353,7 +313,7 @@ module _ (code : Code) (m : Moment) (k turns : ℕ) (wants : Option (List PathEf
   no_entry e n E i = n E (sym e ∙ i)
 
   -- a rest
-  rest_rests : Own_rests action.Rest
+  rest_rests : Own_rests (action.Do own.Rest)
   rest_rests x W e = go wants refl
     where
       z : State ℕ (ℕ × ℕ)
@@ -363,19 +323,19 @@ module _ (code : Code) (m : Moment) (k turns : ℕ) (wants : Option (List PathEf
       h = front CA k turns x.stands.made z
 
       n : Moment
-      n = after code m (event_of k turns wants action.Rest) z x.stands.made
+      n = after code m (event_of k turns wants (action.Do own.Rest)) z x.stands.made
 
-      G : Goes_on CA h (answer_at m.world k action.Rest)
-      G = rest_goes_on CA h (answer_at m.world k action.Rest) x.stands.tells
+      G : Goes_on CA h (answer_at m.world k (action.Do own.Rest))
+      G = rest_goes_on CA h (answer_at m.world k (action.Do own.Rest)) x.stands.tells
 
       there : n.tasks k ≡ Some G.task
-      there = placed (with_branch CA z action.Rest m.world.tree.begun m.tasks) k _ k refl ∙ G.goes
+      there = placed (with_branch CA z (action.Do own.Rest) m.world.tree.begun m.tasks) k _ k refl ∙ G.goes
 
-      A : At CA z turns h (plain_answer (answer_at m.world k action.Rest)) G.task
-      A = at_answer CA k turns x.stands.made z (answer_at m.world k action.Rest) G.task G.goes
+      A : At CA z turns h (plain_answer (answer_at m.world k (action.Do own.Rest))) G.task
+      A = at_answer CA k turns x.stands.made z (answer_at m.world k (action.Do own.Rest)) G.task G.goes
 
       is_rest : A.act ≡ Do Rest
-      is_rest = reported CA action.Rest h turns A.made A.act A.then_in x.stands.tells A.is
+      is_rest = reported CA (action.Do own.Rest) h turns A.made A.act A.then_in x.stands.tells A.is
 
       rests_with : (V : List PathEffect) → wants ≡ Some V → V ≡ W → (b : Bool) → (turns == most_turns) ≡ b → Rests CA n k W
       rests_with V i s true b =
@@ -386,7 +346,7 @@ module _ (code : Code) (m : Moment) (k turns : ℕ) (wants : Option (List PathEf
           wanted_so = sym i ∙ x.stands.wants ∙ ap (λ c. option_map (map noted) (if c then None else wants_at CA z)) b
 
           next_so : entry_next CA G.task.state ≡ wants_at CA z
-          next_so = ap (λ s. entry_next CA s) A.state ∙ (subst (λ c. Following CA z c A.then_in) is_rest (A.following b)) (plain_answer (answer_at m.world k action.Rest))
+          next_so = ap (λ s. entry_next CA s) A.state ∙ (subst (λ c. Following CA z c A.then_in) is_rest (A.following b)) (plain_answer (answer_at m.world k (action.Do own.Rest)))
 
           by_wants : (o : Option EffectsIn) → wants_at CA z ≡ o → Rests CA n k W
           by_wants None o = absurd (let both : Some V ≡ None = wanted_so ∙ ap (option_map (map noted)) o in cc)
@@ -399,26 +359,17 @@ module _ (code : Code) (m : Moment) (k turns : ℕ) (wants : Option (List PathEf
           }
 
       go : (o : Option (List PathEffect)) → wants ≡ o → Rests CA n k W
-      go None i = absurd (nothing_noted action.Rest x (λ b s. no_entry s (λ E r. (cc))) W (ap (λ o. get (rested m.world.waits k o) k) (sym i) ∙ e))
+      go None i = absurd (nothing_noted (action.Do own.Rest) x (λ b s. no_entry s (λ E r. (cc))) W (ap (λ o. get (rested m.world.waits k o) k) (sym i) ∙ e))
       go (Some V) i =
           let here : Some V ≡ Some W = sym (inserted_own m.world.waits k V) ∙ ap (λ o. get (rested m.world.waits k o) k) (sym i) ∙ e in
           rests_with V i (cc) (turns == most_turns) refl
 
   own_rests : (a : DeclaredAction) → Own_rests a
-  own_rests action.Rest x W e = rest_rests x W e
-  own_rests (action.Enter effects) x W e =
+  own_rests (action.Do own.Rest) x W e = rest_rests x W e
+  own_rests (action.Do (own.Enter effects)) x W e =
       absurd (let gone = get-remove nat_cmp_total m.world.waits k k ∙ ap (λ b. cond b None (get m.world.waits k)) (itself k) in let both : None ≡ Some W = sym gone ∙ e in cc)
-  own_rests (action.Read n i) x W e = absurd (nothing_noted (action.Read n i) x (λ b s. no_entry s (λ E r. (cc))) W e)
-  own_rests (action.Write n i v) x W e = absurd (nothing_noted (action.Write n i v) x (λ b s. no_entry s (λ E r. (cc))) W e)
-  own_rests (action.Look n) x W e = absurd (nothing_noted (action.Look n) x (λ b s. no_entry s (λ E r. (cc))) W e)
-  own_rests (action.NewObject c rs constructor) x W e = absurd (nothing_noted (action.NewObject c rs constructor) x (λ b s. no_entry s (λ E r. (cc))) W e)
-  own_rests (action.NewArray region len first) x W e = absurd (nothing_noted (action.NewArray region len first) x (λ b s. no_entry s (λ E r. (cc))) W e)
-  own_rests (action.Print bytes) x W e = absurd (nothing_noted (action.Print bytes) x (λ b s. no_entry s (λ E r. (cc))) W e)
-  own_rests action.Exit x W e = absurd (nothing_noted action.Exit x (λ b s. no_entry s (λ E r. (cc))) W e)
   own_rests (action.Fork forking many) x W e = absurd (nothing_noted (action.Fork forking many) x (λ b s. no_entry s.1 (λ E r. (cc))) W e)
-  own_rests (action.Begin c) x W e = absurd (nothing_noted (action.Begin c) x (λ b s. no_entry s (λ E r. (cc))) W e)
-  own_rests action.Join x W e = absurd (nothing_noted action.Join x (λ b s. no_entry s (λ E r. (cc))) W e)
-  own_rests (action.End c) x W e = absurd (nothing_noted (action.End c) x (λ b s. no_entry s (λ E r. (cc))) W e)
+  own_rests a x W e = absurd (nothing_noted a x (λ b s. no_entry s (λ E r. (cc))) W e)
 
   rests_after : (a : DeclaredAction) (x : NextOf CA m k (event_of k turns wants a)) → RestsAlone CA (after code m (event_of k turns wants a) x.stands.state x.stands.made)
   rests_after a x j W e = elim (eqb_tells j k) [

@@ -1,5 +1,5 @@
 -- The task in turn goes further, and those after it are as they were.
-use Rattle.std.proofs.Common.{ℕ, ◌<◌, ◌+◌, length, get_or, arith, sym, subst, ◌∙◌, get_or-set_other, get_or-set_same, below_more}
+use Rattle.std.proofs.Common.{ℕ, ◌<◌, length, get_or, arith, sym, subst, ◌∙◌, get_or-set_other, get_or-set_same, below_more}
 use Rattle.std.proofs.Math.ListN.{set}
 use Rattle.std.proofs.lemmas.List.{get_or_default}
 use Rattle.code_instrs.specs.Plain.{plain_code}

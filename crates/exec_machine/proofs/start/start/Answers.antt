@@ -8,9 +8,7 @@ use Rattle.code_instrs.specs.Machine.{root_start}
 use Rattle.exec_task.specs.Names.{names_of}
 use Rattle.code_instrs.specs.Plain.{plain_code}
 use Rattle.exec_machine.specs.Keeping.{Keeps, MakesMain}
-use Rattle.exec_machine.specs.Replay.{Moment, Opens}
-use Rattle.exec_machine.specs.Running.{AllGo}
-use Rattle.exec_world.specs.World.{at_start, with_heap}
+use Rattle.exec_world.specs.World.{with_heap}
 use Rattle.exec_machine.proofs.Opening.{opens}
 use Rattle.exec_machine.proofs.start.start.Goals as goal
 

@@ -1,6 +1,6 @@
 -- A task that couldn't begin belongs to no block.
 use Rattle.std.proofs.Common.{◌≡◌, refl, sym, ap, subst, ◌∙◌, ℕ, Option, Some, None, is_some, false, true, true≢false}
-use Rattle.std.specs.FinMap.{get, insert, remove}
+use Rattle.std.specs.FinMap.{get, remove}
 use Rattle.exec_locks.specs.Locks.{Standings, is_inside, adopted}
 use Rattle.exec_locks.specs.declared.standing.Standing.{Standing}
 use Rattle.exec_world.proofs.Maps.{taken_back}

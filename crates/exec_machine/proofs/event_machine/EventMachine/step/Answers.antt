@@ -1,6 +1,6 @@
 -- A machine makes a step, and keeps its event.
 use mir.Val.{SFits}
-use Rattle.std.proofs.Common.{rules, ◌≡◌, ap, sym, subst, ◌∙◌, to_z, of_z}
+use Rattle.std.proofs.Common.{rules, ap, sym, subst, ◌∙◌}
 use Rattle.std.proofs.lemmas.Int.{to_z-of_z}
 use Rattle.std.proofs.lemmas.Result.{err_from_is_err_and}
 use Rattle.std.specs.Int.{w32}

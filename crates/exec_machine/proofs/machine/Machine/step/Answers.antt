@@ -1,5 +1,5 @@
 -- A machine makes a step, or is as it was.
-use Rattle.std.proofs.Common.{◌≡◌, ap, sym, subst, ◌∙◌}
+use Rattle.std.proofs.Common.{ap, sym, subst, ◌∙◌}
 use Rattle.std.proofs.lemmas.Result.{err_from_is_err_and}
 use Rattle.exec_world.specs.Ready.{IsReady}
 use Rattle.exec_machine.specs.Keeping.{Played, IsAfter, WhyHaltedAt}

@@ -1,5 +1,5 @@
 -- A branch begins, or nothing has changed.
-use Rattle.std.proofs.Common.{◌≡◌, sym, subst, ap, ◌∙◌, Some, None}
+use Rattle.std.proofs.Common.{◌≡◌, sym, subst, ap, ◌∙◌, Some}
 use Rattle.std.specs.FinMap.{get, insert, remove}
 use Rattle.exec_machine.specs.Keeping.{Recorded, with_slots}
 use Rattle.exec_machine.specs.Running.{OfSlot, IsFirst}

@@ -1,7 +1,6 @@
 -- A task that is given its answer begins its next leg.
-use Rattle.std.proofs.Common.{sym, subst, ◌∙◌}
+use Rattle.std.proofs.Common.{sym, subst}
 use Rattle.code_instrs.specs.Plain.{plain_code}
-use Rattle.exec_task.specs.Answers.{IsCounted}
 use Rattle.exec_machine.specs.Running.{StandsWith, IsAnswered}
 use Rattle.exec_machine.proofs.Delivering.{on_its_way, delivered}
 use Rattle.exec_machine.proofs.slot.Slot.deliver.Goals as goal

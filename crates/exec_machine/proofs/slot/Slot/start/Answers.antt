@@ -1,5 +1,4 @@
 -- A task that starts stands for its start.
-use Rattle.std.proofs.Common.{◌≡◌}
 use Rattle.exec_machine.proofs.Delivering.{on_its_way}
 use Rattle.exec_machine.proofs.slot.Slot.start.Goals as goal
 

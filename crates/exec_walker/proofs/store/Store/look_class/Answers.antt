@@ -1,5 +1,5 @@
-use Rattle.std.proofs.Common.{◌≡◌, ◌<◌, length, ap, ap₂, sym, ◌∙◌, arith, map, Some, None}
-use Rattle.exec_heap.specs.Heap.{no_object, object_at, regions_of}
+use Rattle.std.proofs.Common.{◌<◌, length, ap, ◌∙◌, arith, map, Some}
+use Rattle.exec_heap.specs.Heap.{object_at, regions_of}
 use Rattle.exec_frames.specs.Names.{plain_region}
 use Rattle.exec_walker.specs.Cells.{seen_of}
 use Rattle.exec_walker.proofs.Heaps.{class_there}

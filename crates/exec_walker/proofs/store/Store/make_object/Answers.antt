@@ -1,4 +1,4 @@
-use Rattle.std.proofs.Common.{refl, sym, map}
+use Rattle.std.proofs.Common.{refl, map}
 use Rattle.std.proofs.lemmas.List.{length-map}
 use Rattle.exec_heap.specs.Heap.{instance}
 use Rattle.lang_meaning.specs.Values.{An_object}

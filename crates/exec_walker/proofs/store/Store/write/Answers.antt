@@ -7,7 +7,7 @@ use Rattle.exec_walker.specs.Cells.{cell_set, has_index}
 use Rattle.exec_frames.specs.Names.{plain_value}
 use Rattle.exec_walker.specs.Stores.{IsSmall, object_seen, held_seen}
 use Rattle.exec_walker.proofs.Heaps.{write_there, write_nowhere, out_there, out_nowhere}
-use Rattle.exec_walker.proofs.Holding.{Beside, after_write, set_used, set_limit, set_small}
+use Rattle.exec_walker.proofs.Holding.{after_write, set_used, set_limit, set_small}
 use Rattle.exec_walker.proofs.store.Store.write.Goals as goal
 
 pub returns-then-object-count-clause-store : goal.returns-then-object-count-clause-store

@@ -1,6 +1,6 @@
 -- Nobody wants anything.
 use Rattle.std.proofs.Common.{subst, sym, ap, ◌∙◌}
-use Rattle.std.specs.FinMap.{FinMap, get, get-empty}
+use Rattle.std.specs.FinMap.{get, get-empty}
 use Rattle.std.specs.Ordering.{nat_cmp}
 use Rattle.exec_locks.specs.Locks.{AllRoot}
 use Rattle.exec_world.specs.Waits.{Waiting, wanted}
