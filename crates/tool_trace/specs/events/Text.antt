@@ -16,9 +16,12 @@ use Rattle.exec_task.specs.declared.action.Answer.{Answer}
 use Rattle.exec_task.specs.declared.action.Answer.TheVariants as answer
 use Rattle.exec_task.specs.declared.action.Ending.{Ending}
 use Rattle.exec_task.specs.declared.action.Ending.TheVariants as ending
+use Rattle.exec_task.specs.declared.action.Own.{Own}
+use Rattle.exec_task.specs.declared.action.Own.TheVariants as own
 use Rattle.exec_machine.specs.declared.made_event.MadeEvent.{MadeEvent}
 use Rattle.tool_trace.specs.Text.{settings_text, events_text as count_text}
 use Rattle.tool_words.specs.Reports.{ending_report, line}
+use Rattle.tool_trace.specs.declared.events.thing.Thing.{Thing}
 use Rattle.tool_trace.specs.declared.events.thing.Thing.TheVariants.{Object, Array}
 use Rattle.tool_trace.specs.declared.events.walk.Walk.{Walk}
 use Rattle.tool_trace.specs.events.Names.{Spelling, elements_name, elements_of, name_of, spot_text, value_text}
@@ -29,8 +32,8 @@ walk_at_start main = record { things = Object main ∷ []; begun = 1 }
 
 -- what a run has made after an action
 abbrev pub walk_after : Walk → Action → Walk
-walk_after w (action.NewObject class regions constructor) = record { things = w.things ++ Object class ∷ []; begun = w.begun }
-walk_after w (action.NewArray region len first) = record { things = w.things ++ Array (elements_of first) ∷ []; begun = w.begun }
+walk_after w (action.Do (own.NewObject class regions constructor)) = record { things = w.things ++ Object class ∷ []; begun = w.begun }
+walk_after w (action.Do (own.NewArray region len first)) = record { things = w.things ++ Array (elements_of first) ∷ []; begun = w.begun }
 walk_after w (action.Begin branch) = record { things = w.things; begun = w.begun + 1 }
 walk_after w _ = w
 
@@ -48,17 +51,21 @@ ending_text names w (ending.Trapped trap place) = codes "end trap " ++ trap_name
 abbrev pub byte_text : ℕ → List ℕ
 byte_text b = if b == 10 then codes "\\n" else (if b == 92 then codes "\\\\" else b ∷ [])
 
--- what a task does. What is printed has the end of its line last, which isn't written
+-- what a task does by itself. What is printed has the end of its line last, which isn't written
+abbrev pub own_text : Spelling → List Thing → Own → List ℕ
+own_text s things own.Rest = codes "rest"
+own_text s things (own.Read number index) = codes "read " ++ spot_text s things number index
+own_text s things (own.Write number index value) = codes "write " ++ spot_text s things number index ++ codes " = " ++ value_text s.names things value
+own_text s things (own.Look number) = codes "look " ++ name_of s.names things number
+own_text s things (own.NewObject class regions constructor) = codes "new " ++ class_name s.names class
+own_text s things (own.NewArray region len first) = codes "new " ++ elements_name (elements_of first) ++ codes "[" ++ decimal len ++ codes "]"
+own_text s things (own.Print bytes) = codes "print " ++ flat_map byte_text (take (length bytes - 1) bytes)
+own_text s things (own.Enter effects) = codes "enter" ++ summary_text s.names [] effects
+own_text s things own.Exit = codes "exit"
+
+-- what a task does
 abbrev pub action_text : Spelling → Walk → Action → List ℕ
-action_text s w action.Rest = codes "rest"
-action_text s w (action.Read number index) = codes "read " ++ spot_text s w.things number index
-action_text s w (action.Write number index value) = codes "write " ++ spot_text s w.things number index ++ codes " = " ++ value_text s.names w.things value
-action_text s w (action.Look number) = codes "look " ++ name_of s.names w.things number
-action_text s w (action.NewObject class regions constructor) = codes "new " ++ class_name s.names class
-action_text s w (action.NewArray region len first) = codes "new " ++ elements_name (elements_of first) ++ codes "[" ++ decimal len ++ codes "]"
-action_text s w (action.Print bytes) = codes "print " ++ flat_map byte_text (take (length bytes - 1) bytes)
-action_text s w (action.Enter effects) = codes "enter" ++ summary_text s.names [] effects
-action_text s w action.Exit = codes "exit"
+action_text s w (action.Do o) = own_text s w.things o
 action_text s w (action.Fork forking branches) = forking_text forking ++ decimal branches
 action_text s w (action.Begin branch) = codes "begin " ++ decimal w.begun
 action_text s w action.Join = codes "join"

@@ -2,13 +2,13 @@ ghost use Rattle.std.specs.Prelude.{◌≡◌, ◌++◌, ◌-◌, codes, flat_ma
 ghost use Rattle.std.specs.Fmt.{decimal};
 ghost use Rattle.lang_typed.specs.Names.{names_of};
 ghost use Rattle.tool_trace.specs.events.Names.{elements_name, spelling_of};
-ghost use Rattle.tool_trace.specs.events.Text.{action_text, answer_text, byte_text, ending_text, forking_text};
+ghost use Rattle.tool_trace.specs.events.Text.{action_text, answer_text, byte_text, ending_text, forking_text, own_text};
 
 use crate::events::naming::{name, spot, value};
-use crate::events::thing::Elements;
+use crate::events::thing::{Elements, Thing};
 use crate::events::walk::Walk;
 use body_infer::{class_name, summary};
-use exec_task::{Action, Answer, Ending};
+use exec_task::{Action, Answer, Ending, Own};
 use lang_base::{Bytes, Items, NoMemory};
 use lang_typed::{Forking, Program};
 use std::alloc::Global;
@@ -24,14 +24,33 @@ pub fn act(
 ) -> Result<(), NoMemory>
     ensures { OnOk result (out.new ≡ out.old ++ action_text (spelling_of program.now fields.now) walk.now action.now) }
 {
-    let things = walk.things.as_slice();
     match action {
-        Action::Rest => out.extend(b"rest"),
-        Action::Read { object, index } => {
+        Action::Do(own) => act_alone(alloc, program, fields, walk.things.as_slice(), own, out),
+        Action::Fork { forking, branches } => fork(alloc, *forking, *branches, out),
+        Action::Begin { .. } => begin(alloc, walk.begun, out),
+        Action::Join => out.extend(b"join"),
+        Action::End(ending) => end(alloc, program, walk, ending, out),
+    }
+}
+
+/// Puts what a task does by itself after a text.
+fn act_alone(
+    alloc: Global,
+    program: &Program,
+    fields: &[Items<Bytes>],
+    things: &[Thing],
+    own: &Own,
+    out: &mut Bytes,
+) -> Result<(), NoMemory>
+    ensures { OnOk result (out.new ≡ out.old ++ own_text (spelling_of program.now fields.now) things.now own.now) }
+{
+    match own {
+        Own::Rest => out.extend(b"rest"),
+        Own::Read { object, index } => {
             out.extend(b"read ")?;
             spot(alloc, program, fields, things, *object, *index, out)
         }
-        Action::Write {
+        Own::Write {
             object,
             index,
             value: written,
@@ -41,25 +60,21 @@ pub fn act(
             out.extend(b" = ")?;
             value(alloc, program, things, *written, out)
         }
-        Action::Look { object } => {
+        Own::Look { object } => {
             out.extend(b"look ")?;
             name(alloc, program, things, *object, out)
         }
-        Action::NewObject { class, .. } => {
+        Own::NewObject { class, .. } => {
             out.extend(b"new ")?;
             out.extend(class_name(program, *class))
         }
-        Action::NewArray { len, first, .. } => new_array(alloc, *len, Elements::of(*first), out),
-        Action::Print(bytes) => printed(bytes, out),
-        Action::Enter(effects) => {
+        Own::NewArray { len, first, .. } => new_array(alloc, *len, Elements::of(*first), out),
+        Own::Print(bytes) => printed(bytes, out),
+        Own::Enter(effects) => {
             out.extend(b"enter")?;
             summary(alloc, program, &[], &[], effects, out)
         }
-        Action::Exit => out.extend(b"exit"),
-        Action::Fork { forking, branches } => fork(alloc, *forking, *branches, out),
-        Action::Begin { .. } => begin(alloc, walk.begun, out),
-        Action::Join => out.extend(b"join"),
-        Action::End(ending) => end(alloc, program, walk, ending, out),
+        Own::Exit => out.extend(b"exit"),
     }
 }
 

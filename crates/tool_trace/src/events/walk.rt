@@ -1,7 +1,7 @@
 ghost use Rattle.std.specs.Prelude.{◌≡◌, ◌<◌, ◌^◌, ◌+◌, ◌∷◌, [], IfOk, OnOk};
 
 use crate::events::thing::{Elements, Thing};
-use exec_task::Action;
+use exec_task::{Action, Own};
 use lang_base::{Items, NoMemory};
 use std::alloc::Global;
 
@@ -32,8 +32,10 @@ impl Walk {
         ensures { OnOk result (self.new ≡ walk_after self.old action.now) }
     {
         match action {
-            Action::NewObject { class, .. } => self.things.push(Thing::Object(*class)),
-            Action::NewArray { first, .. } => self.things.push(Thing::Array(Elements::of(*first))),
+            Action::Do(Own::NewObject { class, .. }) => self.things.push(Thing::Object(*class)),
+            Action::Do(Own::NewArray { first, .. }) => {
+                self.things.push(Thing::Array(Elements::of(*first)))
+            }
             Action::Begin { .. } => {
                 self.begun += 1;
                 Ok(())
