@@ -55,8 +55,6 @@ def ended(tally):
     """An interrupt is answered with what was found, and ends all runs; other signals end the tool."""
     desk = Desk(ACCEPTING)
     (desk.path / "a.dpj").write_bytes(ORDER)
-    # (what is begun under nohup ignores that one, and so would the tool)
-    signal.signal(signal.SIGHUP, signal.SIG_DFL)
     for number, status in ((signal.SIGINT, 130), (signal.SIGTERM, -signal.SIGTERM), (signal.SIGHUP, -signal.SIGHUP), (signal.SIGKILL, -signal.SIGKILL)):
         run = Run(desk, "outcomes", "a.dpj")
         run.running.send_signal(number)

@@ -20,6 +20,10 @@ REFUSING = '[ -e "$BEGAN.asked" ] || { : >"$BEGAN.asked"; echo refused 1:1 unkno
 PATIENCE, SECOND = 20, 1.0
 
 CATCHABLE = (signal.SIGTERM, signal.SIGINT, signal.SIGHUP)
+# (what is begun under nohup or behind a shell's `&` ignores one of them, and so would the launcher)
+for caught in CATCHABLE:
+    if signal.getsignal(caught) is signal.SIG_IGN:
+        signal.signal(caught, signal.SIG_DFL)
 
 
 def waited(condition, seconds):
