@@ -1,5 +1,5 @@
 -- The fields of a class, from the class at the top of those above it down.
-use Rattle.std.proofs.Common.{◌≡◌, ◌∙◌, ℕ, zero, suc, ◌+◌, ◌-◌, ◌<◌, List, [], ◌∷◌, ◌++◌, map, length, refl, sym, ap, ap₂, arith, append_assoc, Option, Some, None, option_map, slice_get}
+use Rattle.std.proofs.Common.{◌≡◌, ◌∙◌, ℕ, zero, suc, ◌+◌, ◌-◌, ◌<◌, List, [], ◌∷◌, ◌++◌, map, length, refl, sym, ap, ap₂, append_assoc, Option, Some, None, option_map, slice_get}
 use Rattle.std.specs.Option.{option_map_or}
 use Rattle.std.proofs.lemmas.List.{append-nil, map-append}
 use Rattle.lang_base.specs.declared.region.Rpl.{Rpl}
@@ -9,7 +9,7 @@ use Rattle.lang_base.specs.Types.{PlainType as ty}
 use Rattle.lang_typed.specs.declared.program.Class.{Class}
 use Rattle.lang_typed.specs.declared.program.Field.{Field}
 use Rattle.lang_typed.specs.declared.program.Parent.{Parent}
-use Rattle.lang_typed.specs.Plain.{PlainClass, PlainField, field_with, fields_after, fields_up, plain_class, plain_field, plain_parent}
+use Rattle.lang_typed.specs.Plain.{PlainField, field_with, fields_after, fields_up, plain_class, plain_field, plain_parent}
 use Rattle.lang_typed.specs.Inherited.{first_value, superclasses}
 
 -- one class further up, and no class further up

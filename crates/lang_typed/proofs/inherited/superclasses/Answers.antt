@@ -1,7 +1,6 @@
 use Rattle.std.proofs.Common.{◌≡◌, ◌∙◌, ℕ, suc, ◌+◌, ◌-◌, ◌++◌, ◌∷◌, [], length, ap, sym, arith, append_assoc}
-use Rattle.std.proofs.lemmas.List.{append-nil}
 use Rattle.lang_typed.specs.Inherited.{superclasses}
-use Rattle.lang_typed.proofs.FirstValues.{one_above, nothing_above, no_class_above}
+use Rattle.lang_typed.proofs.FirstValues.{one_above}
 use Rattle.lang_typed.proofs.inherited.superclasses.Goals as goal
 
 pub loop-step-preserved : goal.loop-step-preserved
