@@ -1,6 +1,7 @@
 pub mod Apart
 pub mod Branches
 pub mod Effects
+pub mod FirstValues
 pub mod Keys
 pub mod Matching
 pub mod Operators

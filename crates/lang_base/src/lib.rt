@@ -1,8 +1,8 @@
 //! The vocabulary of dpj: what every other crate names and none of them owns.
 //!
 //! Here stand places in a text, region paths with their elements, effects, constraints and types, the
-//! operators, the values and traps of a run, its limits and its outcome, and every refusal that the
-//! checker can give.
+//! operators, the values and traps of a run, what a field holds before it is assigned, a run's limits and
+//! its outcome, and every refusal that the checker can give.
 //! Beside them stand four small containers, `Items`, `Boxed`, `Bytes` and `Elems`, which a contract sees
 //! as what they hold and nothing else.
 //!
@@ -44,4 +44,4 @@ pub use plain::Plain;
 pub use refusal::{Kind, Refusal, Stop};
 pub use region::{Head, Region, Rpl};
 pub use ty::{Super, Ty};
-pub use value::{SlotValue, Trap, Value};
+pub use value::{FirstValue, SlotValue, Trap, Value};

@@ -2,6 +2,7 @@ ghost use Rattle.std.specs.Prelude.{Some, ◌≡◌, ◌↔◌, IsTrue, IfOk};
 
 use crate::memory::NoMemory;
 use crate::plain::Plain;
+use crate::ty::Ty;
 use std::alloc::Global;
 use std::fmt;
 
@@ -16,6 +17,40 @@ pub enum Value {
 }
 
 const _: () = prove!(size_of::<Value>() <= 16);
+
+/// What a field or an element holds before it is assigned. A byte, since the code of a class has one for each of its fields.
+#[derive(Clone, Copy, Debug, PartialEq, Eq)]
+pub enum FirstValue {
+    Zero,
+    False,
+    Null,
+}
+
+impl FirstValue {
+    ghost use Rattle.lang_base.specs.FirstValues.{first_value, constant_of};
+    ghost use Rattle.lang_base.specs.Types.{plain_type};
+
+    /// Of a field or an element of this type.
+    pub fn of(ty: &Ty) -> FirstValue
+        ensures { result ≡ first_value (plain_type ty.now) }
+    {
+        match ty {
+            Ty::Int => FirstValue::Zero,
+            Ty::Bool => FirstValue::False,
+            Ty::Void | Ty::Null | Ty::Class { .. } | Ty::Array { .. } => FirstValue::Null,
+        }
+    }
+
+    pub fn value(self) -> Value
+        ensures { result ≡ constant_of self }
+    {
+        match self {
+            FirstValue::Zero => Value::Int(0),
+            FirstValue::False => Value::Bool(false),
+            FirstValue::Null => Value::Null,
+        }
+    }
+}
 
 /// The value of a local, which has this number in its body.
 #[derive(Clone, Copy, Debug, PartialEq, Eq)]

@@ -1,16 +1,17 @@
 -- The fields of a class, from the class at the top of those above it down.
-use Rattle.std.proofs.Common.{◌≡◌, ◌∙◌, ℕ, zero, suc, ◌+◌, ◌-◌, ◌<◌, List, [], ◌∷◌, ◌++◌, map, length, refl, sym, ap, ap₂, append_assoc, Option, Some, None, option_map, slice_get}
+use Rattle.std.proofs.Common.{◌≡◌, ◌∙◌, ℕ, zero, suc, List, [], ◌∷◌, ◌++◌, map, length, refl, sym, ap, ap₂, append_assoc, Option, Some, None, option_map, slice_get}
 use Rattle.std.specs.Option.{option_map_or}
 use Rattle.std.proofs.lemmas.List.{append-nil, map-append}
 use Rattle.lang_base.specs.declared.region.Rpl.{Rpl}
-use Rattle.lang_base.specs.declared.value.Value.{Value}
+use Rattle.lang_base.specs.declared.value.FirstValue.{FirstValue}
+use Rattle.lang_base.specs.FirstValues.{first_value}
 use Rattle.lang_base.specs.Types.{PlainType, plain_type, type_with}
 use Rattle.lang_base.specs.Types.{PlainType as ty}
 use Rattle.lang_typed.specs.declared.program.Class.{Class}
 use Rattle.lang_typed.specs.declared.program.Field.{Field}
 use Rattle.lang_typed.specs.declared.program.Parent.{Parent}
 use Rattle.lang_typed.specs.Plain.{PlainField, field_with, fields_after, fields_up, plain_class, plain_field, plain_parent}
-use Rattle.lang_typed.specs.Inherited.{first_value, superclasses}
+use Rattle.lang_typed.specs.Inherited.{superclasses}
 
 -- one class further up, and no class further up
 pub one_above : (all : List Class) (n : ℕ) (p : Parent) (parent : Option Parent) (above : Class) → parent ≡ Some p → slice_get all p.class.number ≡ Some above →
@@ -61,10 +62,10 @@ own_firsts : (fs : List Field) → map (λ (f : PlainField). first_value f.ty) (
 own_firsts [] = refl
 own_firsts (f ∷ fs) = ap (λ vs. first_value (plain_type f.ty) ∷ vs) (own_firsts fs)
 
-abbrev pub firsts : List PlainField → List Value
+abbrev pub firsts : List PlainField → List FirstValue
 firsts fs = map (λ (f : PlainField). first_value f.ty) fs
 
-abbrev pub value_of : Field → Value
+abbrev pub value_of : Field → FirstValue
 value_of f = first_value (plain_type f.ty)
 
 abbrev inherited : List Class → ℕ → Option Parent → List PlainField

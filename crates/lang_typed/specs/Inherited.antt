@@ -1,10 +1,6 @@
 -- What a class has from the classes above it.
-use Rattle.std.specs.Prelude.{ℕ, zero, suc, pos, false, List, [], ◌∷◌, slice_get, Option, None, Some}
+use Rattle.std.specs.Prelude.{ℕ, zero, suc, List, [], ◌∷◌, slice_get, Option, None, Some}
 use Rattle.std.specs.Option.{option_map_or}
-use Rattle.lang_base.specs.declared.value.Value.{Value}
-use Rattle.lang_base.specs.declared.value.Value.TheVariants as constant
-use Rattle.lang_base.specs.Types.{PlainType}
-use Rattle.lang_base.specs.Types.{PlainType as ty}
 use Rattle.lang_typed.specs.declared.program.Class.{Class}
 use Rattle.lang_typed.specs.declared.program.Parent.{Parent}
 
@@ -13,9 +9,3 @@ abbrev pub superclasses : List Class → ℕ → Option Parent → List ℕ
 superclasses all zero parent = []
 superclasses all (suc n) None = []
 superclasses all (suc n) (Some p) = option_map_or (λ above. p.class.number ∷ superclasses all n above.parent) (slice_get all p.class.number) []
-
--- the value of a field before it is assigned
-abbrev pub first_value : PlainType → Value
-first_value ty.int = constant.Int (pos 0)
-first_value ty.boolean = constant.Bool false
-first_value t = constant.Null

@@ -1,11 +1,12 @@
 ghost use Rattle.std.specs.Prelude.{◌≡◌, ◌++◌, [], length, map, slice_get, IfOk, OnOk};
 ghost use Rattle.std.specs.Option.{option_map_or};
+ghost use Rattle.lang_base.specs.FirstValues.{first_value};
 ghost use Rattle.lang_base.specs.Types.{plain_type};
-ghost use Rattle.lang_typed.specs.Inherited.{first_value, superclasses};
+ghost use Rattle.lang_typed.specs.Inherited.{superclasses};
 ghost use Rattle.lang_typed.specs.Plain.{plain_class};
 
 use crate::program::{Class, Field, Program};
-use lang_base::{Items, NoMemory, Ty, Value};
+use lang_base::{FirstValue, Items, NoMemory};
 use std::alloc::Global;
 
 /// The superclasses of a class, the nearest first.
@@ -27,12 +28,12 @@ pub fn superclasses(alloc: Global, program: &Program, class: &Class) -> Result<I
     Ok(all)
 }
 
-/// The values of all fields of a class before they are assigned.
+/// What all fields of a class hold before they are assigned.
 pub fn first_values(
     alloc: Global,
     program: &Program,
     class: &Class,
-) -> Result<Items<Value>, NoMemory>
+) -> Result<Items<FirstValue>, NoMemory>
     ensures { IfOk result (λ values. values ≡ map (λ f. first_value f.ty) (plain_class program.now.classes class.now).fields) }
 {
     let mut values = Items::new(alloc);
@@ -45,7 +46,7 @@ pub fn first_values(
 }
 
 /// Adds the first values of the fields that a class declares itself.
-fn add_own(program: &Program, class: u32, values: &mut Items<Value>) -> Result<(), NoMemory>
+fn add_own(program: &Program, class: u32, values: &mut Items<FirstValue>) -> Result<(), NoMemory>
     ensures { OnOk result (values.new ≡ values.old ++ option_map_or (λ c. map (λ f. first_value (plain_type f.ty)) c.fields) (slice_get program.now.classes class) []) }
 {
     match program.classes.get(class as usize) {
@@ -54,21 +55,11 @@ fn add_own(program: &Program, class: u32, values: &mut Items<Value>) -> Result<(
     }
 }
 
-fn add_values(fields: &[Field], values: &mut Items<Value>) -> Result<(), NoMemory>
+fn add_values(fields: &[Field], values: &mut Items<FirstValue>) -> Result<(), NoMemory>
     ensures { OnOk result (values.new ≡ values.old ++ map (λ f. first_value (plain_type f.ty)) fields.now) }
 {
     for field in fields {
-        values.push(first_value(&field.ty))?;
+        values.push(FirstValue::of(&field.ty))?;
     }
     Ok(())
-}
-
-fn first_value(ty: &Ty) -> Value
-    ensures { result ≡ first_value (plain_type ty.now) }
-{
-    match ty {
-        Ty::Int => Value::Int(0),
-        Ty::Bool => Value::Bool(false),
-        _ => Value::Null,
-    }
 }

@@ -9,7 +9,7 @@
 //! text, without reuse. So the identity of an index variable comes from counting, and two are never one.
 //!
 //! A class keeps the fields that it declares itself, and what else it has is found by going up its superclasses: `superclasses`
-//! gives them, and `first_values` the values of all fields before they are assigned (`specs/Inherited.antt`).
+//! gives them (`specs/Inherited.antt`), and `first_values` what all fields hold before they are assigned.
 //!
 //! `specs/Plain.antt` has the same program as plain data, in which a class has all its fields, inherited ones first, and `specs/WellTyped.antt` says when it keeps the rules
 //! of the language: the judgement that soundness and determinism are proved from. `specs/Resolved.antt` is the part of it that

@@ -35,7 +35,7 @@ impl Passed {
     ghost use Rattle.lang_typed.specs.Plain.{plain_program};
     ghost use Rattle.tool_front.specs.Judging.{names_of_passed, typed_of};
 
-    /// The typed program. Its size grows with the square of a chain of superclasses, since each class has all fields.
+    /// The typed program. Its size grows with the square of a chain of superclasses, since each class has all rows of methods.
     pub fn typed(self, alloc: Global) -> Result<Program, NoMemory>
         ensures typed { IfOk result (λ made. plain_program made ≡ typed_of self) }
         ensures named { IfOk result (λ made. names_of made ≡ names_of_passed self) }

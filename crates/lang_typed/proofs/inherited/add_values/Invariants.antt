@@ -1,6 +1,6 @@
 use Rattle.std.proofs.Common.{◌≡◌, ◌++◌, map, drop}
 use Rattle.lang_base.specs.Types.{plain_type}
-use Rattle.lang_typed.specs.Inherited.{first_value}
+use Rattle.lang_base.specs.FirstValues.{first_value}
 use Rattle.lang_typed.proofs.inherited.add_values.Given as goal
 
 abbrev pub invariant-loop-field : goal.invariant-loop-field
