@@ -1,6 +1,6 @@
 -- Member after member: the output, and the numbers of the bodies.
 use Rattle.std.proofs.Common.{◌≡◌, ◌∙◌, ℕ, ◌+◌, List, [], ◌∷◌, ◌++◌, map, length, drop, sym, ap, ap₂, append_assoc, length-append}
-use Rattle.std.proofs.lemmas.List.{append-nil, length-map}
+use Rattle.std.proofs.lemmas.List.{append-nil, length-map, map-append}
 use Rattle.lang_typed.specs.declared.program.Member.{Member}
 use Rattle.lang_typed.specs.Plain.{plain_member, PlainMember, PlainProgram}
 use Rattle.code_instrs.specs.declared.code.Body.{Body}
@@ -8,17 +8,25 @@ use Rattle.code_instrs.specs.Plain.{plain_body, PlainBody, Site, ClassCode, Plai
 use Rattle.code_scheme.specs.Pieces.{Next}
 use Rattle.code_scheme.specs.Whole.{Output, then_output, member_output, past_output, members_output, member_numbers, first, number_in, compiled}
 use Rattle.code_scheme.specs.Scheme.{class_code}
-use Rattle.code_compile.specs.Classes.{number_from}
+use Rattle.code_instrs.specs.declared.code.MethodCode.{MethodCode}
+use Rattle.code_compile.specs.Classes.{number_from, numbers_of}
 use Rattle.code_compile.specs.Emitted.{Emitted}
 use Rattle.code_compile.specs.Bodies.{output_of, next_member, Finished, IsNew}
 use Rattle.code_compile.proofs.Emits.{same_next}
 use Rattle.code_compile.proofs.Generating.{same_output, nothing_left}
 
+abbrev owner_in : MethodCode → ℕ
+owner_in m = m.owner
+
+abbrev class_of : Member → ℕ
+class_of m = m.class.number
+
 -- what is emitted, and what the rest leads to, are the whole
-pub record SoFar (s : Emitted) (bodies : List Body) (numbers : List ℕ) (at : ℕ) (all : List Member) : Type 0 where
+pub record SoFar (s : Emitted) (bodies : List Body) (made : List MethodCode) (at : ℕ) (all : List Member) : Type 0 where
   pub lines : s.piece.lines ≡ []
   pub output : then_output (output_of s bodies) (members_output (next_member s bodies) (map plain_member (drop at all))) ≡ members_output first (map plain_member all)
-  pub numbered : numbers ++ member_numbers (next_member s bodies) (map plain_member (drop at all)) ≡ member_numbers first (map plain_member all)
+  pub owners : map owner_in made ++ map class_of (drop at all) ≡ map class_of all
+  pub numbered : numbers_of made ++ member_numbers (next_member s bodies) (map plain_member (drop at all)) ≡ member_numbers first (map plain_member all)
 
 then_assoc : (a b c : Output) → then_output (then_output a b) c ≡ then_output a (then_output b c)
 then_assoc a b c = same_output _ _ (append_assoc a.bodies b.bodies c.bodies) (append_assoc a.sites b.sites c.sites) (append_assoc a.texts b.texts c.texts)
@@ -31,21 +39,22 @@ next_after_member s t bodies made o e =
     (sym (length-map made plain_body) ∙ ap (λ (z : Output). length z.bodies) e ∙ length-append (map plain_body bodies) o.bodies
     ∙ ap (λ n. n + length o.bodies) (length-map bodies plain_body))
 
-pub none_yet : (s : Emitted) (bodies : List Body) (numbers : List ℕ) (all : List Member) → numbers ≡ [] → IsNew s bodies → SoFar s bodies numbers 0 all
-none_yet s bodies numbers all none new =
+pub none_yet : (s : Emitted) (bodies : List Body) (made : List MethodCode) (all : List Member) → made ≡ [] → IsNew s bodies → SoFar s bodies made 0 all
+none_yet s bodies made all none new =
     let start : next_member s bodies ≡ first =
     same_next _ _ (ap (λ (z : Output). length z.sites) new.output) (ap (λ (z : Output). length z.texts) new.output)
     (sym (length-map bodies plain_body) ∙ ap (λ (z : Output). length z.bodies) new.output) in
     record {
       lines = new.lines;
       output = ap₂ (λ o k. then_output o (members_output k (map plain_member all))) new.output start;
-      numbered = ap₂ (λ z k. z ++ member_numbers k (map plain_member all)) none start;
+      owners = ap (λ ms. map owner_in ms ++ map class_of all) none;
+      numbered = ap₂ (λ ms k. numbers_of ms ++ member_numbers k (map plain_member all)) none start;
     }
 
-pub one_more : (s t : Emitted) (bodies made : List Body) (numbers more : List ℕ) (n at : ℕ) (all : List Member) (m : Member) → drop at all ≡ m ∷ drop (at + 1) all →
-    n ≡ length bodies → more ≡ numbers ++ n ∷ [] → t.piece.lines ≡ [] → Finished s bodies (λ k. member_output k (plain_member m)) t made →
-    SoFar s bodies numbers at all → SoFar t made more (at + 1) all
-one_more s t bodies made numbers more n at all m is counted pushed lines done w =
+pub one_more : (s t : Emitted) (bodies made : List Body) (before more : List MethodCode) (n at : ℕ) (all : List Member) (m : Member) → drop at all ≡ m ∷ drop (at + 1) all →
+    n ≡ length bodies → more ≡ before ++ record { owner = m.class.number; body = n } ∷ [] → t.piece.lines ≡ [] → Finished s bodies (λ k. member_output k (plain_member m)) t made →
+    SoFar s bodies before at all → SoFar t made more (at + 1) all
+one_more s t bodies made before more n at all m is counted pushed lines done w =
     let k : Next = next_member s bodies in
     let o : Output = member_output k (plain_member m) in
     let later : List PlainMember = map plain_member (drop (at + 1) all) in
@@ -55,20 +64,30 @@ one_more s t bodies made numbers more n at all m is counted pushed lines done w 
       output =
           ap₂ (λ z j. then_output z (members_output j later)) done next ∙ then_assoc (output_of s bodies) o (members_output (past_output k o) later)
           ∙ ap (λ xs. then_output (output_of s bodies) (members_output k (map plain_member xs))) (sym is) ∙ w.output;
+      owners =
+          ap (λ ms. map owner_in ms ++ map class_of (drop (at + 1) all)) pushed
+          ∙ ap (λ os. os ++ map class_of (drop (at + 1) all)) (map-append owner_in before (record { owner = m.class.number; body = n } ∷ []))
+          ∙ append_assoc (map owner_in before) (m.class.number ∷ []) (map class_of (drop (at + 1) all)) ∙ ap (λ xs. map owner_in before ++ map class_of xs) (sym is) ∙ w.owners;
       numbered =
-          ap₂ (λ z j. z ++ member_numbers j later) (pushed ∙ ap (λ z. numbers ++ z ∷ []) counted) next ∙ append_assoc numbers (length bodies ∷ []) (member_numbers (past_output k o) later)
-          ∙ ap (λ xs. numbers ++ member_numbers k (map plain_member xs)) (sym is) ∙ w.numbered;
+          ap₂ (λ z j. z ++ member_numbers j later)
+          (ap numbers_of pushed ∙ map-append (λ (m : MethodCode). m.body) before (record { owner = m.class.number; body = n } ∷ []) ∙ ap (λ z. numbers_of before ++ z ∷ []) counted) next
+          ∙ append_assoc (numbers_of before) (length bodies ∷ []) (member_numbers (past_output k o) later)
+          ∙ ap (λ xs. numbers_of before ++ member_numbers k (map plain_member xs)) (sym is) ∙ w.numbered;
     }
 
-pub all_output : (s : Emitted) (bodies : List Body) (numbers : List ℕ) (at : ℕ) (all : List Member) → drop at all ≡ [] → SoFar s bodies numbers at all →
+pub all_output : (s : Emitted) (bodies : List Body) (made : List MethodCode) (at : ℕ) (all : List Member) → drop at all ≡ [] → SoFar s bodies made at all →
     output_of s bodies ≡ members_output first (map plain_member all)
-all_output s bodies numbers at all is w =
+all_output s bodies made at all is w =
     sym (nothing_left (output_of s bodies)) ∙ ap (λ xs. then_output (output_of s bodies) (members_output (next_member s bodies) (map plain_member xs))) (sym is) ∙ w.output
 
-pub all_numbers : (s : Emitted) (bodies : List Body) (numbers : List ℕ) (at : ℕ) (all : List Member) → drop at all ≡ [] → SoFar s bodies numbers at all →
-    numbers ≡ member_numbers first (map plain_member all)
-all_numbers s bodies numbers at all is w =
-    sym (append-nil numbers) ∙ ap (λ xs. numbers ++ member_numbers (next_member s bodies) (map plain_member xs)) (sym is) ∙ w.numbered
+pub all_owners : (s : Emitted) (bodies : List Body) (made : List MethodCode) (at : ℕ) (all : List Member) → drop at all ≡ [] → SoFar s bodies made at all →
+    map owner_in made ≡ map class_of all
+all_owners s bodies made at all is w = sym (append-nil (map owner_in made)) ∙ ap (λ xs. map owner_in made ++ map class_of xs) (sym is) ∙ w.owners
+
+pub all_numbers : (s : Emitted) (bodies : List Body) (made : List MethodCode) (at : ℕ) (all : List Member) → drop at all ≡ [] → SoFar s bodies made at all →
+    numbers_of made ≡ member_numbers first (map plain_member all)
+all_numbers s bodies made at all is w =
+    sym (append-nil (numbers_of made)) ∙ ap (λ xs. numbers_of made ++ member_numbers (next_member s bodies) (map plain_member xs)) (sym is) ∙ w.numbered
 
 -- the code that is made of it
 abbrev code_from : List ClassCode → List PlainBody → List Site → List (List ℕ) → ℕ → ℕ → PlainCode

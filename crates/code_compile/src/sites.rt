@@ -3,10 +3,10 @@ ghost use Rattle.lang_base.specs.Types.{plain_type};
 ghost use Rattle.lang_typed.specs.Resolved.{is_void};
 ghost use Rattle.lang_meaning.specs.Expressions.{class_in};
 ghost use Rattle.code_instrs.specs.Plain.{plain_site, new_site};
-ghost use Rattle.code_scheme.specs.Scheme.{first_constant, site_of_array};
+ghost use Rattle.code_scheme.specs.Scheme.{site_of_array};
 
 use code_instrs::Site;
-use lang_base::{Elems, Head, Items, NoMemory, Plain, Rpl, Ty, Value};
+use lang_base::{Elems, FirstValue, Head, Items, NoMemory, Plain, Rpl, Ty};
 use std::alloc::Global;
 
 /// The site of a creation of an object of that type.
@@ -34,26 +34,15 @@ pub fn array_site(alloc: Global, ty: &Ty) -> Result<Site, NoMemory>
     match ty {
         Ty::Array { elem, rpl, .. } => Ok(Site::Array {
             region: rpl.copy(alloc)?,
-            first: first_value(elem.get()),
+            first: FirstValue::of(elem.get()),
         }),
         _ => Ok(Site::Array {
             region: Rpl {
                 head: Head::Root,
                 elems: Elems::new(alloc),
             },
-            first: Value::Null,
+            first: FirstValue::Null,
         }),
-    }
-}
-
-/// The first value of a field or an element.
-pub fn first_value(ty: &Ty) -> Value
-    ensures { result ≡ first_constant (plain_type ty.now) }
-{
-    match ty {
-        Ty::Int => Value::Int(0),
-        Ty::Bool => Value::Bool(false),
-        _ => Value::Null,
     }
 }
 

@@ -6,6 +6,7 @@ ghost use Rattle.lang_typed.specs.WellTyped.{WellTyped};
 ghost use Rattle.code_instrs.specs.Plain.{plain_code};
 ghost use Rattle.code_fit.specs.Closed.{CodeClosed};
 ghost use Rattle.code_scheme.specs.Whole.{compiled, first, member_numbers, members_output};
+ghost use Rattle.code_compile.specs.Classes.{numbers_of};
 ghost use Rattle.code_compile.specs.Emitted.{emitted_of};
 ghost use Rattle.code_compile.specs.Bodies.{IsNew, output_of};
 ghost use Rattle.code_compile.specs.Titles.{Follow, HasPlaces, member_title, name_of, titles_of};
@@ -13,7 +14,7 @@ ghost use Rattle.code_compile.specs.Titles.{Follow, HasPlaces, member_title, nam
 use crate::bodies::member;
 use crate::classes::{classes, number_of};
 use crate::emitter::Emitter;
-use code_instrs::{Body, Code};
+use code_instrs::{Body, Code, MethodCode};
 use lang_base::{Items, NoMemory};
 use lang_typed::{Class, Member, Program};
 use std::alloc::Global;
@@ -27,43 +28,49 @@ pub fn compile(alloc: Global, program: &Program) -> Result<Code, NoMemory>
 {
     let mut out = Emitter::new(alloc);
     let mut bodies = Items::new(alloc);
-    let numbers = members(
+    let members = members(
         alloc,
         &mut out,
         &mut bodies,
         &program.classes,
         &program.members,
     )?;
-    let classes = classes(alloc, program, &numbers)?;
+    let classes = classes(alloc, program, &members)?;
+    let main_body = number_of(&members, program.main_member);
     let Emitter { sites, texts, .. } = out;
     Ok(Code {
         classes,
+        members,
         bodies,
         sites,
         texts,
         main_class: program.main_class.number,
-        main_body: number_of(&numbers, program.main_member),
+        main_body,
     })
 }
 
-/// Emits all members, and answers the number of the body of each.
+/// Emits all members, and answers each with its class and the number of its body.
 fn members<'p>(
     alloc: Global,
     out: &mut Emitter<'p>,
     bodies: &mut Items<Body>,
     classes: &Items<Class>,
     all: &'p Items<Member>,
-) -> Result<Items<usize>, NoMemory>
+) -> Result<Items<MethodCode>, NoMemory>
     requires { IsNew (emitted_of out.old) bodies.old }
-    ensures numbers { IfOk result (λ numbers. numbers ≡ member_numbers first (map plain_member all.now)) }
+    ensures owners { IfOk result (λ made. map (λ m. m.owner) made ≡ map (λ m. m.class.number) all.now) }
+    ensures numbers { IfOk result (λ made. numbers_of made ≡ member_numbers first (map plain_member all.now)) }
     ensures output { OnOk result (output_of (emitted_of out.new) bodies.new ≡ members_output first (map plain_member all.now)) }
     ensures titled { OnOk result (Follow bodies.old bodies.new (map (λ m. member_title (name_of (slice_get classes.now m.class.number)) m.name) all.now)) }
 {
-    let mut numbers = Items::new(alloc);
+    let mut made = Items::new(alloc);
     for m in all.as_slice() {
-        numbers.push(bodies.len())?;
+        made.push(MethodCode {
+            owner: m.class.number,
+            body: bodies.len(),
+        })?;
         let owner = classes.get(m.class.number as usize);
         member(alloc, out, bodies, owner, m)?;
     }
-    Ok(numbers)
+    Ok(made)
 }

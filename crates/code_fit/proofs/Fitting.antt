@@ -3,7 +3,7 @@ use Rattle.std.proofs.Common.{◌≡◌, ◌⊎◌, inl, inr, ◌<◌, ◌≤◌
 use Rattle.lang_base.specs.declared.effect.Effect.{Effect}
 use Rattle.lang_base.specs.declared.place.Place.{Place}
 use Rattle.lang_base.specs.declared.region.Rpl.{Rpl}
-use Rattle.lang_base.specs.declared.value.Value.{Value}
+use Rattle.lang_base.specs.declared.value.FirstValue.{FirstValue}
 use Rattle.lang_base.specs.Types.{PlainType}
 use Rattle.lang_base.specs.Types.{PlainType as ty}
 use Rattle.lang_typed.specs.declared.stmt.Forking.{Forking}
@@ -19,24 +19,16 @@ use Rattle.code_instrs.specs.Plain as code
 use Rattle.code_instrs.specs.Plain.{Method, method_at, ClassCode, Line, Site, fork_site, spread_site, PlainCode, body_at, array_site}
 use Rattle.code_instrs.specs.Machine.{line_before, site_of}
 use Rattle.code_instrs.specs.Fit.{Mark, is_branch, Falls_to, puts_of, RowIs, left_by, site_at, Local}
-use Rattle.code_scheme.specs.Scheme.{first_constant, many, after_expr, after_exprs, after_stmt, after_stmts, after_regions, site_of_array, copy_lists}
+use Rattle.code_scheme.specs.Scheme.{many, after_expr, after_exprs, after_stmt, after_stmts, after_regions, site_of_array, copy_lists}
 use Rattle.code_scheme.specs.Stands.{LineAt, ExprAt, ExprsAt, PoppedAt, RegionsAt, StmtAt, StmtsAt}
-use Rattle.code_fit.specs.Closed.{IsAbove, IsFirst, NoJoin, Keeps}
+use Rattle.code_fit.specs.Closed.{IsAbove, NoJoin, Keeps}
 use Rattle.code_fit.specs.Room.{RowTakes, Constructs, IsFull, FullArray, BranchesWithin, ExprWithin, ExprsWithin, StmtWithin, StmtsWithin}
 use Rattle.code_fit.proofs.Lists.{some_is, none_is}
 use Rattle.code_fit.proofs.Marks.{mark, reached, Marked, cut, top_expr, top_exprs, high, high_is, expr_marks, exprs_marks, expr_reach, exprs_reach, top_perform, perform_marks, top_regions, region_marks, spread_marks, parts_marks, top_stmt, top_stmts, stmt_marks, stmts_marks, stmt_reach, stmts_reach}
 use Rattle.code_fit.proofs.Linked.{ForkThere, SpreadThere, Linked, AllLinked}
 
-pub first_is : (t : PlainType) → IsFirst (first_constant t)
-first_is ty.int = tt
-first_is ty.boolean = tt
-first_is ty.void = tt
-first_is ty.null = tt
-first_is (ty.class c args) = tt
-first_is (ty.array t a named) = tt
-
-array_is : (n : ℕ) (t : PlainType) → FullArray n t → (a : Rpl) × (first : Value) × (site_of_array t ≡ array_site a first) × IsFull n 1 a × IsFirst first
-array_is n (ty.array t a named) f = (_, _, refl, f, first_is t)
+array_is : (n : ℕ) (t : PlainType) → FullArray n t → (a : Rpl) × (first : FirstValue) × (site_of_array t ≡ array_site a first) × IsFull n 1 a
+array_is n (ty.array t a named) f = (_, _, refl, f)
 array_is n t f = absurd f
 
 both_hold : (a b : Bool) → a ≡ true → b ≡ true → a && b ≡ true
@@ -251,7 +243,7 @@ module _ (C : PlainCode) (P : PlainProgram) (marks : ℕ → ℕ → Option Mark
         let u = cut (marks j) _ (expr_reach n p _ _ _) x in
         let s = array_is (body_at C j).slots t w.1 in
         covers_then (fit_expr n p _ _ _ ok.0 w.0 a.0 u.0 u.1.0)
-        (covers_one a.1.stands u.1.0 (s.0, s.1, a.1.site_is ∙ ap Some s.2, s.3, s.4) (s.0, s.1, a.1.site_is ∙ ap Some s.2, one_for_one y))
+        (covers_one a.1.stands u.1.0 (s.0, s.1, a.1.site_is ∙ ap Some s.2, s.3) (s.0, s.1, a.1.site_is ∙ ap Some s.2, one_for_one y))
     fit_expr (typed at t (expr.unary o e)) p h r z ok w a x y =
         let u = cut (marks j) _ (expr_reach e p _ _ _) x in
         covers_then (fit_expr e p _ _ _ ok w a.0 u.0 u.1.0) (covers_one a.1 u.1.0 tt (one_for_one y))

@@ -1,8 +1,9 @@
 -- The code of a resolved program with room for its bodies is fit.
-use Rattle.std.proofs.Common.{◌≡◌, ◌⊎◌, inl, inr, ◌<◌, ◌≤◌, ℕ, zero, suc, ◌+◌, Bool, true, false, not, nat_lt, ltb-true, ltb-false, List, [], ◌∷◌, All, ◌++◌, map, length, length-append, refl, sym, ap, ◌∙◌, subst, arith, Option, Some, None, option_map, option_and_then, slice_get}
+use Rattle.std.proofs.Common.{◌≡◌, ◌⊎◌, inl, inr, ◌<◌, ◌≤◌, ℕ, zero, suc, ◌+◌, Bool, true, false, not, nat_lt, ltb-true, ltb-false, List, [], ◌∷◌, ◌++◌, map, length, length-append, refl, sym, ap, ◌∙◌, subst, arith, Option, Some, None, option_map, option_and_then, slice_get}
+use Rattle.lang_base.specs.FirstValues.{first_value}
 use Rattle.std.proofs.lemmas.List.{length-map}
 use Rattle.std.proofs.lemmas.Option.{slice_get-map}
-use Rattle.lang_typed.specs.Plain.{PlainField, PlainProgram, PlainClass, PlainParent, TypedStmts}
+use Rattle.lang_typed.specs.Plain.{PlainProgram, PlainClass, PlainParent, TypedStmts}
 use Rattle.lang_typed.specs.Resolved.{is_void, gives_value, RowGives, Resolved}
 use Rattle.lang_typed.specs.Scope.{IsBelow, same, below, class_at, row_at}
 use Rattle.lang_typed.specs.Scope as program
@@ -12,18 +13,18 @@ use Rattle.code_instrs.specs.Plain as code
 use Rattle.code_instrs.specs.Plain.{ClassCode, fields_of, Method, Line, PlainCode, body_at, parent_of, method_at, constructor_of}
 use Rattle.code_instrs.specs.Fit.{Mark, MemberBody, RowIs, Local, CodeFit}
 use Rattle.lang_typed.specs.Table.{field_with}
-use Rattle.code_scheme.specs.Scheme.{first_constant, owner_of, after_stmts, method_code, class_code}
+use Rattle.code_scheme.specs.Scheme.{owner_of, after_stmts, method_code, class_code}
 use Rattle.code_scheme.specs.Stands.{first_place, BeginsAt}
 use Rattle.code_scheme.specs.Whole.{number_in, compiled}
 use Rattle.code_scheme.proofs.Tables.{parents_are, method_is, constructor_is}
 use Rattle.lang_typed.proofs.Resolved.{typed_is_resolved}
 use Rattle.code_scheme.proofs.Whole.{laid_out, members_at}
-use Rattle.code_fit.specs.Closed.{IsFirst, Keeps, IsAbove, itself, through_parent, ExtendsCode, RowOf, CodeClosed}
+use Rattle.code_fit.specs.Closed.{Keeps, IsAbove, itself, through_parent, ExtendsCode, RowOf, CodeClosed}
 use Rattle.code_fit.specs.Room.{RowTakes, Constructs, Roomy}
 use Rattle.code_fit.proofs.Typed.{through, row_there, parent_full, typed_is_roomy}
 use Rattle.code_fit.proofs.Lists.{some_is, none_is}
 use Rattle.code_fit.proofs.Marks.{mark, reached, Marked, Reach, far, next, stop, cut, top_stmts, stmts_marks, stmts_reach}
-use Rattle.code_fit.proofs.Fitting.{first_is, TablesFit, Fine, Covers, covers_then, covers_none, covers_if, covers_one, still, is_reached, stmts_first, fit_stmts, Holds, keeps_to}
+use Rattle.code_fit.proofs.Fitting.{TablesFit, Fine, Covers, covers_then, covers_none, covers_if, covers_one, still, is_reached, stmts_first, fit_stmts, Holds, keeps_to}
 use Rattle.code_fit.proofs.Bodies.{TakesWithin, Ends, Known, gives_in, body_known, member_body}
 
 abbrev list_at : List (Option Mark) → ℕ → Option Mark
@@ -275,18 +276,6 @@ module _ (P : PlainProgram) where
             body = subst (λ z. MemberBody (compiled P) (gives_in P) z (gives_value x.0)) (ap (λ z. z.body) (some_is f)) (member_body P n x.0 x.1);
           }
 
-  all_first : (fs : List PlainField) → All IsFirst (map (λ f. first_constant f.ty) fs)
-  all_first [] k d l = absurd (omega arith)
-  all_first (f ∷ fs) zero d l = first_is f.ty
-  all_first (f ∷ fs) (suc k) d l = all_first fs k d (omega arith)
-
-  firsts_are : (c : ℕ) → All IsFirst (fields_of (code.class_at (compiled P) c))
-  firsts_are c = subst (λ o. All IsFirst (fields_of o)) (sym (class_is c)) (go (class_at P c))
-    where
-      go : (o : Option PlainClass) → All IsFirst (fields_of (option_map (class_code P (number_in P)) o))
-      go None = λ k d l. absurd (omega arith)
-      go (Some k) = all_first k.fields
-
   main_is : number_in P P.main_member ≡ (compiled P).main_body
   unfolding compiled
   main_is = refl
@@ -309,8 +298,8 @@ module _ (P : PlainProgram) where
       let k = through (class_at P c) (λ k. k.parent) p (parent_is c p e) in
       let x = (W.classes c k.0 k.1).parent p k.2 in
       let own = ap (λ z. length (fields_of z)) (class_is c ∙ ap (λ o. option_map (class_code P (number_in P)) o) k.1) in
-      let l = length-map k.0.fields (λ f. first_constant f.ty) in
-      let m = length-map x.above.fields (λ f. first_constant f.ty) in
+      let l = length-map k.0.fields (λ f. first_value f.ty) in
+      let m = length-map x.above.fields (λ f. first_value f.ty) in
       let a = length-map x.above.fields (field_with p.args) in
       let n = ap length x.fields in
       let s = length-append (map (field_with p.args) x.above.fields) x.own_fields in
@@ -331,7 +320,6 @@ typed_is_closed P W = record {
   main = main_member P W;
   main_room = main_has_room P W;
   rows = λ c r m e. row_of P W c r m e;
-  firsts = λ c. firsts_are P c;
   order = W.rank;
   parents = λ c p e. extends P W c p e;
 }

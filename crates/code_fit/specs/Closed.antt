@@ -1,8 +1,7 @@
 -- When a code is closed, beside that it is fit: how its bodies are left, and that its classes and `main` name bodies of members.
 use Rattle.std.specs.Prelude.{◌≡◌, ◌<◌, ◌≤◌, ℕ, suc, Bool, true, false, List, All, length, Some, slice_get}
 use Rattle.lang_base.specs.declared.region.Rpl.{Rpl}
-use Rattle.lang_base.specs.declared.value.Value.{Value}
-use Rattle.lang_base.specs.declared.value.Value.TheVariants as constant
+use Rattle.lang_base.specs.declared.value.FirstValue.{FirstValue}
 use Rattle.lang_typed.specs.declared.stmt.Forking.{Forking}
 use Rattle.lang_typed.specs.Plain.{PlainParent}
 use Rattle.code_instrs.specs.declared.instr.Instr.{Instr}
@@ -15,11 +14,6 @@ use Rattle.code_fit.specs.Room.{AllFull, IsFull}
 pub data IsAbove (C : PlainCode) : ℕ → ℕ → Type 0 where
   itself : {c : ℕ} → IsAbove C c c
   through_parent : {c d : ℕ} {p : PlainParent} → parent_of C c ≡ Some p → IsAbove C p.class d → IsAbove C c d
-
--- a first value is no object
-abbrev pub IsFirst : Value → Type 0
-IsFirst (constant.Obj n) = ⊥
-IsFirst v = Unit {0}
 
 abbrev pub NoJoin : PlainBody → ℕ → Type 0
 NoJoin b q = (l : Line) → slice_get b.lines q ≡ Some l → l.instr ≡ i.Join → ⊥
@@ -47,7 +41,7 @@ module _ (C : PlainCode) (b : PlainBody) (p : ℕ) (m : Mark) where
   Keeps (i.New s) =
       (c n : ℕ) × (regions : List Rpl) × (slice_get C.sites s ≡ Some (new_site c n regions)) × ((k : ClassCode) × (class_at C c ≡ Some k)) ×
       AllFull b.slots regions × ((j : ℕ) → constructor_of C c ≡ Some j → n < (body_at C j).slots)
-  Keeps (i.Array s) = (a : Rpl) × (first : Value) × (slice_get C.sites s ≡ Some (array_site a first)) × IsFull b.slots 1 a × IsFirst first
+  Keeps (i.Array s) = (a : Rpl) × (first : FirstValue) × (slice_get C.sites s ≡ Some (array_site a first)) × IsFull b.slots 1 a
   Keeps (i.Fork s) =
       (forking : Forking) × (bodies : List ℕ) × (copies : List (List ℕ)) × (slice_get C.sites s ≡ Some (fork_site forking bodies copies)) ×
       All (λ xs. All (λ x. x < b.slots) xs) copies × Joined
@@ -75,6 +69,5 @@ pub record CodeClosed (C : PlainCode) : Type 0 where
   pub main : MemberBody C fit.gives C.main_body true
   pub main_room : 1 < (body_at C C.main_body).slots
   pub rows : (c r : ℕ) (m : Method) → method_at C c r ≡ Some m → RowOf C fit.gives c m
-  pub firsts : (c : ℕ) → All IsFirst (fields_of (class_at C c))
   pub order : ℕ → ℕ
   pub parents : (c : ℕ) (p : PlainParent) → parent_of C c ≡ Some p → ExtendsCode C order c p

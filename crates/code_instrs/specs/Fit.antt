@@ -2,7 +2,7 @@
 use Rattle.std.specs.Prelude.{◌≡◌, ◌<◌, ◌≤◌, ℕ, suc, ◌+◌, Bool, true, false, List, [], ◌∷◌, length, Option, Some, None, slice_get}
 use Rattle.lang_base.specs.declared.effect.Effect.{Effect}
 use Rattle.lang_base.specs.declared.region.Rpl.{Rpl}
-use Rattle.lang_base.specs.declared.value.Value.{Value}
+use Rattle.lang_base.specs.declared.value.FirstValue.{FirstValue}
 use Rattle.lang_typed.specs.declared.stmt.Forking.{Forking}
 use Rattle.lang_typed.specs.Plain.{PlainParent}
 use Rattle.code_instrs.specs.declared.instr.Instr.{Instr}
@@ -97,7 +97,7 @@ module _ (C : PlainCode) (marks : ℕ → ℕ → Option Mark) (gives : ℕ → 
       (c r n : ℕ) × (regions : List Rpl) × (y : Bool) × (slice_get C.sites s ≡ Some (call_site c r n regions)) × RowIs C gives c r y × straight (suc n)
       (puts_of y)
   Local (i.New s) = (c n : ℕ) × (regions : List Rpl) × (slice_get C.sites s ≡ Some (new_site c n regions)) × straight n 1
-  Local (i.Array s) = (a : Rpl) × (first : Value) × (slice_get C.sites s ≡ Some (array_site a first)) × straight 1 1
+  Local (i.Array s) = (a : Rpl) × (first : FirstValue) × (slice_get C.sites s ≡ Some (array_site a first)) × straight 1 1
   Local i.Return = (1 ≤ m.height) × (gives j ≡ true)
   Local i.Leave = gives j ≡ false
   Local i.Print = straight 1 0

@@ -5,8 +5,8 @@ use Rattle.std.specs.Prelude.{◌≡◌, ℕ, zero, suc, ◌-◌, ◌==◌, ℤ,
 use Rattle.lang_base.specs.declared.place.Place.{Place}
 use Rattle.lang_base.specs.declared.value.Trap.{Trap}
 use Rattle.lang_base.specs.declared.value.Trap.TheVariants as trap
-use Rattle.lang_base.specs.declared.value.Value.{Value as Constant}
-use Rattle.lang_base.specs.declared.value.Value.TheVariants as constant
+use Rattle.lang_base.specs.declared.value.FirstValue.{FirstValue}
+use Rattle.lang_base.specs.declared.value.FirstValue.TheVariants as held
 use Rattle.lang_base.specs.declared.op.BinaryOp.{BinaryOp}
 use Rattle.lang_meaning.specs.Values.{Value, Int, Boolean, Null, Object, Region, An_object, An_array, Naming}
 use Rattle.lang_meaning.specs.Actions.{Frame, Ending, Returned, Assigned, Trapped, Rest, Read, Write, Look, New, Print, Enter, Exit, Action, Do, Fork, Begin, Join, End, Answer, Reply, Next, Over, Unknown}
@@ -144,18 +144,17 @@ called names C at (Some (call_site c r formals regions)) g fs =
 called names C at site g fs = Stuck
 
 -- a creation, by its site: the object stands on the caller's stack while its constructor runs
-abbrev pub first_value : {N : Type 0} → Constant → Value N
-first_value (constant.Int k) = Int k
-first_value (constant.Bool b) = Boolean b
-first_value constant.Null = Null
-first_value (constant.Obj n) = Null
+abbrev pub held_first : {N : Type 0} → FirstValue → Value N
+held_first held.Zero = Int (pos 0)
+held_first held.False = Boolean false
+held_first held.Null = Null
 
 abbrev pub creates : {N M : Type 0} → Naming N M → PlainCode → Place → ℕ → List (Region M) → List (Value N) → Option ℕ → Level N M → List (Value N) →
     List (Level N M) → Stand N M
 creates names C at c regions vs None g st fs =
-    Waits (Do (New (An_object c regions (map first_value (fields_of (class_at C c)))) false)) (λ a. next g (name_made a ∷ st) fs)
+    Waits (Do (New (An_object c regions (map held_first (fields_of (class_at C c)))) false)) (λ a. next g (name_made a ∷ st) fs)
 creates names C at c regions vs (Some j) g st fs =
-    deeper g.frame.left at (Waits (Do (New (An_object c regions (map first_value (fields_of (class_at C c)))) true)) (λ a.
+    deeper g.frame.left at (Waits (Do (New (An_object c regions (map held_first (fields_of (class_at C c)))) true)) (λ a.
     entered names C j (name_made a ∷ vs) regions (record g { at = suc g.at; stack = name_made a ∷ st }) fs))
 
 abbrev pub created : {N M : Type 0} → Naming N M → PlainCode → Place → Option Site → Level N M → List (Level N M) → Stand N M
@@ -165,9 +164,9 @@ created names C at (Some (new_site c formals regions)) g fs =
 created names C at site g fs = Stuck
 
 -- the creation of an array, by its site
-abbrev pub array_of : {N M : Type 0} → Place → Region M → Constant → ℤ → Level N M → List (Value N) → List (Level N M) → Stand N M
+abbrev pub array_of : {N M : Type 0} → Place → Region M → FirstValue → ℤ → Level N M → List (Value N) → List (Level N M) → Stand N M
 array_of at region first (pos k) g st fs =
-    unless_long (is_long region) at (Waits (Do (New (An_array region k (first_value first)) false)) (λ a. next g (name_made a ∷ st) fs))
+    unless_long (is_long region) at (Waits (Do (New (An_array region k (held_first first)) false)) (λ a. next g (name_made a ∷ st) fs))
 array_of at region first len g st fs = Goes (trapped trap.Size at)
 
 abbrev pub makes_array : {N M : Type 0} → Naming N M → Place → Option Site → Level N M → List (Level N M) → Stand N M

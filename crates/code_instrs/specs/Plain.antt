@@ -3,7 +3,7 @@ use Rattle.std.specs.Prelude.{ℕ, List, [], ◌∷◌, map, Option, Some, None,
 use Rattle.lang_base.specs.declared.effect.Effect.{Effect}
 use Rattle.lang_base.specs.declared.place.Place.{Place}
 use Rattle.lang_base.specs.declared.region.Rpl.{Rpl}
-use Rattle.lang_base.specs.declared.value.Value.{Value}
+use Rattle.lang_base.specs.declared.value.FirstValue.{FirstValue}
 use Rattle.lang_typed.specs.declared.stmt.Forking.{Forking}
 use Rattle.lang_typed.specs.Plain.{PlainParent}
 use Rattle.code_instrs.specs.declared.code.Body.{Body}
@@ -39,8 +39,8 @@ pub record Method : Type 0 where
 
 pub record ClassCode : Type 0 where
   pub parent : Option PlainParent
-  -- the first values of its fields
-  pub fields : List Value
+  -- what its fields hold at first
+  pub fields : List FirstValue
   pub constructor : Option ℕ
   pub methods : List Method
 
@@ -53,7 +53,7 @@ pub data Site : Type 0 where
   block_site : (effects : List Effect) → Site
   call_site : (class row formals : ℕ) (regions : List Rpl) → Site
   new_site : (class formals : ℕ) (regions : List Rpl) → Site
-  array_site : (region : Rpl) (first : Value) → Site
+  array_site : (region : Rpl) (first : FirstValue) → Site
 
 pub record PlainCode : Type 0 where
   pub classes : List ClassCode
@@ -83,7 +83,7 @@ method_at C c r = option_and_then (λ k. slice_get k.methods r) (class_at C c)
 abbrev pub constructor_of : PlainCode → ℕ → Option ℕ
 constructor_of C c = option_and_then (λ k. k.constructor) (class_at C c)
 
-abbrev pub fields_of : Option ClassCode → List Value
+abbrev pub fields_of : Option ClassCode → List FirstValue
 fields_of None = []
 fields_of (Some k) = k.fields
 
@@ -103,12 +103,20 @@ plain_body b = record { title = plain_title b.title; lines = lines_of b.instrs b
 abbrev pub plain_method : MethodCode → Method
 plain_method m = record { owner = m.owner; body = m.body }
 
-abbrev pub plain_class : DeclaredClass → ClassCode
-plain_class k = record {
+-- the member of this number; where there is none, the first body, of the first class
+abbrev pub member_or_none : Option MethodCode → Method
+member_or_none None = record { owner = 0; body = 0 }
+member_or_none (Some m) = plain_method m
+
+abbrev pub member_in : List MethodCode → ℕ → Method
+member_in members n = member_or_none (slice_get members n)
+
+abbrev pub plain_class : List MethodCode → DeclaredClass → ClassCode
+plain_class members k = record {
   parent = option_map (λ c. record { class = c; args = k.args }) k.parent;
   fields = k.fields;
   constructor = k.constructor;
-  methods = map plain_method k.methods;
+  methods = map (member_in members) k.methods;
 }
 
 abbrev pub plain_site : DeclaredSite → Site
@@ -121,7 +129,7 @@ plain_site (site.Array region first) = array_site region first
 
 abbrev pub plain_code : Code → PlainCode
 plain_code C = record {
-  classes = map plain_class C.classes;
+  classes = map (plain_class C.members) C.classes;
   bodies = map plain_body C.bodies;
   sites = map plain_site C.sites;
   texts = C.texts;

@@ -1,11 +1,13 @@
 use crate::instr::Instr;
-use lang_base::{Bytes, Effect, Items, Place, Rpl, Value};
+use lang_base::{Bytes, Effect, FirstValue, Items, Place, Rpl};
 use lang_typed::Forking;
 
 /// The code of a program.
 #[derive(Drop)]
 pub struct Code {
     pub classes: Items<ClassCode>,
+    /// Each member, by its number: rows of methods name it so.
+    pub members: Items<MethodCode>,
     /// The bodies, in the order of the listing: each method or constructor, and after it its branches.
     pub bodies: Items<Body>,
     pub sites: Items<Site>,
@@ -20,14 +22,15 @@ pub struct ClassCode {
     pub parent: Option<u32>,
     /// The region arguments that it gives its superclass.
     pub args: Items<Rpl>,
-    /// The first values of all fields.
-    pub fields: Items<Value>,
+    /// What all fields hold at first.
+    pub fields: Items<FirstValue>,
     /// The body of its constructor.
     pub constructor: Option<usize>,
-    pub methods: Items<MethodCode>,
+    /// The member in each row of methods, by its number.
+    pub methods: Items<u32>,
 }
 
-/// A row of methods: the class whose region parameters its body speaks of, and the body.
+/// A member: the class whose region parameters its body speaks of, and the body.
 #[derive(Clone, Copy, Debug, PartialEq, Eq)]
 pub struct MethodCode {
     pub owner: u32,
@@ -96,6 +99,6 @@ pub enum Site {
     /// The creation of an array: the region of its elements, and the first value of each.
     Array {
         region: Rpl,
-        first: Value,
+        first: FirstValue,
     },
 }

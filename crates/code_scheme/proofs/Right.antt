@@ -6,6 +6,7 @@ use Rattle.lang_base.specs.declared.value.Trap.{Trap}
 use Rattle.lang_base.specs.declared.value.Trap.TheVariants as trap
 use Rattle.lang_base.specs.Types.{PlainType}
 use Rattle.lang_base.specs.Types.{PlainType as ty}
+use Rattle.lang_base.specs.FirstValues.{first_value}
 use Rattle.lang_typed.specs.Plain.{PlainProgram, PlainMember, TypedExpr, typed, TypedExprs, no_exprs, more_exprs}
 use Rattle.lang_typed.specs.Plain.{ExprForm as expr}
 use Rattle.lang_typed.specs.Resolved.{gives_value, RowGives, IsArray, ExprFits, ExprsFit, Resolved}
@@ -23,7 +24,7 @@ use Rattle.code_instrs.specs.declared.instr.Instr.{Instr}
 use Rattle.code_instrs.specs.declared.instr.Instr.TheVariants as i
 use Rattle.code_instrs.specs.Plain.{PlainCode, call_site, new_site, body_at, parent_of, constructor_of}
 use Rattle.code_instrs.specs.Machine.{State, Level, Stand, Goes, Waits, spot, exec, exec_line, step, or_trap, deeper, unless_long, reads, writes, cell_read, cell_written, taken, called, calls, enters, calls_method, entered, created, creates, makes_array, array_of, returned, left_with}
-use Rattle.code_scheme.specs.Scheme.{many, after_expr, after_exprs, first_constant, site_of_array, owner_of}
+use Rattle.code_scheme.specs.Scheme.{many, after_expr, after_exprs, site_of_array, owner_of}
 use Rattle.code_scheme.specs.Stands.{LineAt, SitedAt, ExprAt, ExprsAt, LaidOut}
 use Rattle.code_scheme.proofs.Does.{after, does_on}
 use Rattle.code_scheme.proofs.Sim.{Sim, sim_here, sim_step, sim_last, sim_value, sim_off, sim_trap, sim_then, sim_act}
@@ -269,7 +270,7 @@ module _ {N M : Type 0} (names : Naming N M) (C : PlainCode) (P : PlainProgram) 
   -- the creation of an array of a length
   right_array : (d : ℕ) (at : Place) (t : PlainType) (a : Rpl) (named : Bool) (len : ℤ) (b p : ℕ) (fs : List (Level N M)) (more st : List (Value N))
       (f : Frame N M) → f.left ≡ d → {s : State N M} {G : Value N → State N M} →
-      step names C s ≡ array_of at (concrete names (around f) a) (first_constant t) len (lvl b p more f) st fs →
+      step names C s ≡ array_of at (concrete names (around f) a) (first_value t) len (lvl b p more f) st fs →
       Sim names C P d s (λ v g. spot b fs (suc p) (v ∷ st) g) G (meaning.made_array names at (ty.array t a named) len f)
   right_array d at t a named (negsuc k) b p fs more st f l e = sim_trap trap.Size at e
   right_array d at t a named (pos k) b p fs more st f l e =

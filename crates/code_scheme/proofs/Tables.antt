@@ -6,6 +6,7 @@ use Rattle.std.proofs.Math.Path.{fun_ext}
 use Rattle.std.specs.Option.{option_map_or}
 use Rattle.lang_base.specs.Types.{PlainType}
 use Rattle.lang_base.specs.Types.{PlainType as ty}
+use Rattle.lang_base.specs.FirstValues.{first_value}
 use Rattle.lang_typed.specs.Plain.{PlainProgram, PlainClass, PlainField}
 use Rattle.lang_typed.specs.Resolved.{RowGives, Resolved}
 use Rattle.lang_typed.specs.Scope as program
@@ -14,11 +15,11 @@ use Rattle.lang_meaning.specs.Counts.{class_entered}
 use Rattle.lang_meaning.specs.Expressions.{first_of, class_fields}
 use Rattle.code_scheme.proofs.Below.{entered_has}
 use Rattle.code_instrs.specs.Plain.{PlainCode, parent_of, method_at, constructor_of, fields_of, class_at}
-use Rattle.code_instrs.specs.Machine.{first_value}
-use Rattle.code_scheme.specs.Scheme.{first_constant, method_code, class_code}
+use Rattle.code_instrs.specs.Machine.{held_first}
+use Rattle.code_scheme.specs.Scheme.{method_code, class_code}
 use Rattle.code_scheme.specs.Stands.{LaidOut}
 
-pub first_is : {N : Type 0} (t : PlainType) → first_value {N = N} (first_constant t) ≡ first_of t
+pub first_is : {N : Type 0} (t : PlainType) → held_first {N = N} (first_value t) ≡ first_of t
 first_is ty.int = refl
 first_is ty.boolean = refl
 first_is ty.void = refl
@@ -26,7 +27,7 @@ first_is ty.null = refl
 first_is (ty.class c args) = refl
 first_is (ty.array t a named) = refl
 
-firsts_are : {N : Type 0} (fs : List PlainField) → map (first_value {N = N}) (map (λ f. first_constant f.ty) fs) ≡ map (λ f. first_of f.ty) fs
+firsts_are : {N : Type 0} (fs : List PlainField) → map (held_first {N = N}) (map (λ f. first_value f.ty) fs) ≡ map (λ f. first_of f.ty) fs
 firsts_are [] = refl
 firsts_are (f ∷ fs) = ap₂ ◌∷◌ (first_is f.ty) (firsts_are fs)
 
@@ -72,10 +73,10 @@ module _ (C : PlainCode) (P : PlainProgram) (number : ℕ → ℕ) (laid : LaidO
       go None = refl
       go (Some k) = refl
 
-  pub fields_are : {N : Type 0} (c : ℕ) → map (first_value {N = N}) (fields_of (class_at C c)) ≡ map (λ f. first_of f.ty) (class_fields P c)
-  fields_are {N} c = ap (λ k. map (first_value {N = N}) (fields_of k)) (class_is c) ∙ go (program.class_at P c)
+  pub fields_are : {N : Type 0} (c : ℕ) → map (held_first {N = N}) (fields_of (class_at C c)) ≡ map (λ f. first_of f.ty) (class_fields P c)
+  fields_are {N} c = ap (λ k. map (held_first {N = N}) (fields_of k)) (class_is c) ∙ go (program.class_at P c)
     where
       go : (k : Option PlainClass) →
-          map (first_value {N = N}) (fields_of (option_map (class_code P number) k)) ≡ map (λ f. first_of f.ty) (option_map_or (λ k. k.fields) k [])
+          map (held_first {N = N}) (fields_of (option_map (class_code P number) k)) ≡ map (λ f. first_of f.ty) (option_map_or (λ k. k.fields) k [])
       go None = refl
       go (Some k) = firsts_are k.fields

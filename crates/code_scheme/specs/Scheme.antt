@@ -2,8 +2,8 @@
 use Rattle.std.specs.Prelude.{◌&&◌, ℕ, suc, ◌+◌, Bool, true, false, cond, pos, List, [], ◌∷◌, map, Option, Some, None, option_map}
 use Rattle.lang_base.specs.declared.place.Place.{Place}
 use Rattle.lang_base.specs.declared.region.Head.TheVariants.{Root}
-use Rattle.lang_base.specs.declared.value.Value.{Value}
-use Rattle.lang_base.specs.declared.value.Value.TheVariants as constant
+use Rattle.lang_base.specs.declared.value.FirstValue.TheVariants as held
+use Rattle.lang_base.specs.FirstValues.{first_value}
 use Rattle.lang_base.specs.Types.{PlainType}
 use Rattle.lang_base.specs.Types.{PlainType as ty}
 use Rattle.lang_typed.specs.declared.stmt.Forking.{Forking}
@@ -89,16 +89,10 @@ abbrev mutual
   after_stmts p no_stmts = p
   after_stmts p (more_stmts s ss) = after_stmts (after_stmt p s) ss
 
--- the first value of a field or an element
-abbrev pub first_constant : PlainType → Value
-first_constant ty.int = constant.Int (pos 0)
-first_constant ty.boolean = constant.Bool false
-first_constant t = constant.Null
-
 -- the site of an array's creation
 abbrev pub site_of_array : PlainType → Site
-site_of_array (ty.array t a named) = array_site a (first_constant t)
-site_of_array t = array_site (record { head = Root; elems = [] }) constant.Null
+site_of_array (ty.array t a named) = array_site a (first_value t)
+site_of_array t = array_site (record { head = Root; elems = [] }) held.Null
 
 abbrev mutual
   pub expr_piece : Next → ℕ → TypedExpr → Piece
@@ -228,7 +222,7 @@ method_code P number n = record { owner = owner_of (member_at P n); body = numbe
 abbrev pub class_code : PlainProgram → (ℕ → ℕ) → PlainClass → ClassCode
 class_code P number k = record {
   parent = k.parent;
-  fields = map (λ f. first_constant f.ty) k.fields;
+  fields = map (λ f. first_value f.ty) k.fields;
   constructor = option_map number k.constructor;
   methods = map (method_code P number) k.rows;
 }

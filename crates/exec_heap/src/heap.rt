@@ -1,11 +1,12 @@
-ghost use Rattle.std.specs.Prelude.{◌≡◌, ◌↔◌, ◌<◌, ◌≤◌, ◌+◌, ◌∷◌, [], length, replicate, slice_get, IsTrue, IfOk, OnOk, OnErr, IsErr, Err, false, vec_len};
+ghost use Rattle.std.specs.Prelude.{◌≡◌, ◌↔◌, ◌<◌, ◌≤◌, ◌+◌, ◌∷◌, ◌++◌, [], length, map, replicate, slice_get, IsTrue, IfOk, OnOk, OnErr, IsErr, Err, false, vec_len};
 ghost use Rattle.std.specs.Vec.{VecUnchanged, vec_capacity};
+ghost use Rattle.lang_base.specs.FirstValues.{constant_of};
 ghost use Rattle.exec_heap.specs.Rows.{Placed};
 
 use crate::header::{Header, Kind};
 use crate::rows::Rows;
 use crate::stop::{HeapFull, HeapStop};
-use lang_base::{Items, NoMemory, Region, Value};
+use lang_base::{FirstValue, Items, NoMemory, Region, Value};
 use std::alloc::Global;
 use std::marker::Model;
 
@@ -85,17 +86,17 @@ impl Heap {
         Ok(())
     }
 
-    /// Makes an object of a class with its regions and its first field values, and answers its number. Full comes exactly
-    /// where its cells would be over the limit.
+    /// Makes an object of a class with its regions and with what its fields hold at first, and answers its number. Full comes
+    /// exactly where its cells would be over the limit.
     pub fn new_object(
         &mut self,
         class: u32,
-        fields: &[Value],
+        fields: &[FirstValue],
         regions: Items<Region>,
     ) -> Result<u32, HeapStop>
-        ensures full { (result ≡ Err HeapStop.Full) ↔ IsOver self.old (cost (instance class regions fields.now)) }
+        ensures full { (result ≡ Err HeapStop.Full) ↔ IsOver self.old (cost (instance class regions (map constant_of fields.now))) }
         ensures number { IfOk result (λ object. object ≡ length self.old.objects) }
-        ensures made { OnOk result (self.new ≡ with_object self.old (instance class regions fields.now)) }
+        ensures made { OnOk result (self.new ≡ with_object self.old (instance class regions (map constant_of fields.now))) }
         ensures err { OnErr result (self.new ≡ self.old) }
     {
         let asked = 1 + fields.len() as u64;
@@ -115,7 +116,7 @@ impl Heap {
                 regions,
             )?,
         };
-        self.cells.extend_from_slice(fields)?;
+        hold_first(&mut self.cells, fields);
         self.headers.push(header)?;
         self.used += asked;
         Ok(object)
@@ -230,6 +231,18 @@ fn prepare(
     cells.reserve(values)?;
     headers.reserve(1)?;
     rows.place(regions)
+}
+
+/// Puts what fields hold at first behind the cells, which have room for it.
+fn hold_first(cells: &mut Vec<Value>, fields: &[FirstValue])
+    requires { vec_len cells.old + length fields.now ≤ vec_capacity cells.old }
+    ensures { cells.new.items ≡ cells.old.items ++ map constant_of fields.now }
+{
+    for first in fields {
+        if cells.push(first.value()).is_err() {
+            unreachable!()
+        }
+    }
 }
 
 fn one_region(alloc: Global, region: Region) -> Result<Items<Region>, NoMemory>

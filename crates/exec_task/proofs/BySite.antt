@@ -5,7 +5,9 @@ use Rattle.std.proofs.lemmas.Option.{slice_get-map}
 use Rattle.lang_base.specs.declared.place.Place.{Place}
 use Rattle.lang_base.specs.declared.region.Region.{Region}
 use Rattle.lang_base.specs.declared.region.Rpl.{Rpl}
+use Rattle.lang_base.specs.declared.value.FirstValue.{FirstValue}
 use Rattle.lang_base.specs.declared.value.Value.{Value as Constant}
+use Rattle.lang_base.specs.FirstValues.{constant_of}
 use Rattle.lang_meaning.specs.Actions as meaning
 use Rattle.lang_meaning.specs.Actions.{Do, New}
 use Rattle.lang_meaning.specs.Counts.{name_made, number}
@@ -14,7 +16,7 @@ use Rattle.lang_meaning.specs.Values.{An_array}
 use Rattle.lang_meaning.specs.Values.{Region as Regions}
 use Rattle.code_instrs.specs.declared.code.Site.{Site}
 use Rattle.code_instrs.specs.declared.code.Site.TheVariants as site
-use Rattle.code_instrs.specs.Machine.{State, Waits, Stuck, one, next, unless_null, unless_long, calls, creates, called, created, first_value, array_of, makes_array}
+use Rattle.code_instrs.specs.Machine.{State, Waits, Stuck, one, next, unless_null, unless_long, calls, creates, called, created, held_first, array_of, makes_array}
 use Rattle.code_instrs.specs.Plain.{PlainCode, plain_site, constructor_of}
 use Rattle.exec_task.specs.declared.action.Action.TheVariants as action
 use Rattle.exec_task.specs.declared.action.Own.TheVariants as own
@@ -25,6 +27,7 @@ use Rattle.exec_frames.specs.Names.{plain_value}
 use Rattle.exec_task.specs.Names.{names_of, plain_region}
 use Rattle.exec_task.specs.Steps.{Comes, Acts, Looks, Creates}
 use Rattle.exec_task.specs.Tasks.{plain_frame, plain_level}
+use Rattle.exec_task.proofs.FirstValues.{held_is}
 use Rattle.exec_task.proofs.Taken.{taken_short, taken_all, taken_none, taken_one}
 
 pub site_found : (sites : List Site) (i : ℕ) (x : Site) → slice_get sites i ≡ Some x → slice_get (map plain_site sites) i ≡ Some (plain_site x)
@@ -62,11 +65,12 @@ module _ (C : PlainCode) (at : Place) (sites : List Site) (i : ℕ) (g : Level) 
       (map plain_level fs))) h in
       subst (λ o. Comes C o g fs s g fs) (sym is) (m task (reverse (take n (map plain_value g.stack))) (drop n (map plain_value g.stack)) fs)
 
-  pub array_made : (region : Rpl) (first v u : Constant) (rest : List Constant) (made : Region) (k : ℕ) → slice_get sites i ≡ Some (site.Array region first)
+  pub array_made : (region : Rpl) (first : FirstValue) (v u : Constant) (rest : List Constant) (made : Region) (k : ℕ) → slice_get sites i ≡ Some (site.Array region first)
       → g.stack ≡ v ∷ rest → number (plain_value v) ≡ pos k → plain_region made ≡ concrete (names_of 0) (around (plain_frame g.frame)) region
-      → plain_value u ≡ first_value first → is_long (plain_region made) ≡ false
+      → u ≡ constant_of first → is_long (plain_region made) ≡ false
       → Acts C (λ names fs. makes_array names at (slice_get (map plain_site sites) i) (plain_level g) fs) g (step.Waits (action.Do (own.NewArray made k u)))
-  array_made region first v u rest made k e stack len is value short task fs =
+  array_made region first v u rest made k e stack len is from short task fs =
+      let value : plain_value u ≡ held_first first = ap plain_value from ∙ held_is first in
       let there : Regions (ℕ × ℕ) = concrete (names_of task) (around (plain_frame g.frame)) region in
       let on : meaning.Answer ℕ (ℕ × ℕ) → State ℕ (ℕ × ℕ) = λ a. next (plain_level g) (name_made a ∷ map plain_value rest) (map plain_level fs) in (
         record {
@@ -75,8 +79,8 @@ module _ (C : PlainCode) (at : Place) (sites : List Site) (i : ℕ) (g : Level) 
           waits = ap (λ o. makes_array (names_of task) at o (plain_level g) (map plain_level fs)) (site_found sites i (site.Array region first) e)
               ∙ ap (λ st. one (map plain_value st) (λ w more. array_of at there first (number w) (plain_level g) more (map plain_level fs))) stack
               ∙ ap (λ z. array_of at there first z (plain_level g) (map plain_value rest) (map plain_level fs)) len
-              ∙ ap (λ r. unless_long (is_long r) at (Waits (Do (New (An_array r k (first_value first)) false)) on)) (sym is)
-              ∙ ap (λ b. unless_long b at (Waits (Do (New (An_array (plain_region made) k (first_value first)) false)) on)) short
+              ∙ ap (λ r. unless_long (is_long r) at (Waits (Do (New (An_array r k (held_first first)) false)) on)) (sym is)
+              ∙ ap (λ b. unless_long b at (Waits (Do (New (An_array (plain_region made) k (held_first first)) false)) on)) short
               ∙ ap (λ y. Waits (Do (New (An_array (plain_region made) k y) false)) on) (sym value);
           says = refl;
         },

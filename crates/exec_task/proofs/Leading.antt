@@ -3,6 +3,7 @@ use Rattle.std.proofs.Common.{◌≡◌, ℕ, ℤ, zero, suc, ◌-◌, pos, List
 use Rattle.std.specs.Prelude.{negsuc, slice_get}
 use Rattle.lang_base.specs.declared.place.Place.{Place}
 use Rattle.lang_base.specs.declared.region.Rpl.{Rpl}
+use Rattle.lang_base.specs.declared.value.FirstValue.{FirstValue}
 use Rattle.lang_base.specs.declared.value.Value.{Value as Constant}
 use Rattle.lang_typed.specs.declared.stmt.Forking.{Forking}
 use Rattle.lang_typed.specs.Plain.{PlainParent}
@@ -11,7 +12,7 @@ use Rattle.lang_meaning.specs.Actions as meaning
 use Rattle.lang_meaning.specs.Actions.{Do, Look, New, Print}
 use Rattle.lang_meaning.specs.Counts.{number, value_read, is_out, length_seen, name_made, class_seen, class_entered, padded}
 use Rattle.lang_meaning.specs.Regions.{handed_up, around, concrete, some_long, is_long, regions_above, unmade_from}
-use Rattle.code_instrs.specs.Machine.{Level, State, Stand, On, Waits, Nowhere, one, two, three, next, cell_read, cell_written, reads, writes, unless_null, unless_long, deeper, first_value, array_of, calls, enters, called, created, creates, calls_method, forked, taken}
+use Rattle.code_instrs.specs.Machine.{Level, State, Stand, On, Waits, Nowhere, one, two, three, next, cell_read, cell_written, reads, writes, unless_null, unless_long, deeper, held_first, array_of, calls, enters, called, created, creates, calls_method, forked, taken}
 use Rattle.code_instrs.specs.Plain.{PlainCode, body_at, Method, parent_of, method_at, constructor_of, call_site, new_site, fork_site}
 use Rattle.exec_task.specs.Answers.{LeadsTo, method_start, first_at}
 use Rattle.exec_task.specs.Frames.{frame_of}
@@ -72,14 +73,14 @@ module _ (x : meaning.Answer ℕ (ℕ × ℕ)) (s : State ℕ (ℕ × ℕ)) (pla
     print_leads [] bytes e = tt
     print_leads (v ∷ st) bytes e = e
 
-    pub array_leads : (task : ℕ) (st : List (Value ℕ)) (region : Rpl) (first : Constant) → s ≡ next g (name_made x ∷ drop 1 st) fs
+    pub array_leads : (task : ℕ) (st : List (Value ℕ)) (region : Rpl) (first : FirstValue) → s ≡ next g (name_made x ∷ drop 1 st) fs
         → LeadsTo (one st (λ v rest. array_of place (concrete (names_of task) (around g.frame) region) first (number v) g rest fs)) x s
     array_leads task [] region first e = tt
     array_leads task (v ∷ st) region first e = by_sign (number v)
       where
         by_sign : (k : ℤ) → LeadsTo (array_of place (concrete (names_of task) (around g.frame) region) first k g st fs) x s
         by_sign (pos k) = not_long (is_long (concrete (names_of task) (around g.frame) region))
-            (Waits (Do (New (An_array (concrete (names_of task) (around g.frame) region) k (first_value first)) false)) (λ a. next g (name_made a ∷ st) fs)) e
+            (Waits (Do (New (An_array (concrete (names_of task) (around g.frame) region) k (held_first first)) false)) (λ a. next g (name_made a ∷ st) fs)) e
         by_sign (negsuc k) = tt
 
     pub fork_leads : (forking : Forking) (js : List ℕ) (copies : List (List ℕ)) → s ≡ next g (Int (pos (length js)) ∷ g.stack) fs

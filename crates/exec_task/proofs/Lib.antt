@@ -1,5 +1,6 @@
 pub mod Taken
 pub mod BySite
+pub mod FirstValues
 pub mod Bodies
 pub mod Branching
 pub mod Starting

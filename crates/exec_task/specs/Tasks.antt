@@ -5,7 +5,7 @@ use Rattle.lang_meaning.specs.Values.{Value, Region, An_object, An_array}
 use Rattle.lang_meaning.specs.Actions as meaning
 use Rattle.code_instrs.specs.Plain.{PlainCode, class_at, fields_of}
 use Rattle.code_instrs.specs.Machine as machine
-use Rattle.code_instrs.specs.Machine.{State, On, Off, first_value}
+use Rattle.code_instrs.specs.Machine.{State, On, Off, held_first}
 use Rattle.exec_task.specs.declared.action.Action.{Action}
 use Rattle.exec_task.specs.declared.action.Action.TheVariants as action
 use Rattle.exec_task.specs.declared.action.Answer.{Answer}
@@ -71,7 +71,7 @@ plain_own C own.Rest = meaning.Rest
 plain_own C (own.Read n i) = meaning.Read n i
 plain_own C (own.Write n i v) = meaning.Write n i (plain_value v)
 plain_own C (own.Look n) = meaning.Look n
-plain_own C (own.NewObject c rs constructor) = meaning.New (An_object c (map plain_region rs) (map first_value (fields_of (class_at C c)))) constructor
+plain_own C (own.NewObject c rs constructor) = meaning.New (An_object c (map plain_region rs) (map held_first (fields_of (class_at C c)))) constructor
 plain_own C (own.NewArray region len first) = meaning.New (An_array (plain_region region) len (plain_value first)) false
 plain_own C (own.Print bytes) = meaning.Print bytes
 plain_own C (own.Enter effects) = meaning.Enter (map plain_effect effects)

@@ -3,7 +3,7 @@ ghost use Rattle.lang_base.specs.declared.place.Place.{Place};
 ghost use Rattle.lang_meaning.specs.Counts.{class_seen};
 ghost use Rattle.lang_meaning.specs.Regions.{around, concrete};
 ghost use Rattle.code_instrs.specs.Machine.{called, created};
-ghost use Rattle.code_instrs.specs.Plain.{plain_code, plain_method, method_at, call_site, new_site};
+ghost use Rattle.code_instrs.specs.Plain.{plain_code, plain_method, member_in, method_at, call_site, new_site};
 ghost use Rattle.exec_task.specs.Answers.{LeadsTo, below_top, first_at, method_start};
 ghost use Rattle.exec_frames.specs.Names.{plain_value};
 ghost use Rattle.exec_task.specs.Names.{names_of, plain_region};
@@ -34,7 +34,18 @@ fn class_seen(answer: Answer) -> Option<Seen>
 fn method_at(code: &Code, class: u32, row: u32) -> Option<MethodCode>
     ensures { option_map plain_method result ≡ method_at (plain_code code.now) class row }
 {
-    Some(*code.classes.get(class as usize)?.methods.get(row as usize)?)
+    let member = code.classes.get(class as usize)?.methods.get(row as usize)?;
+    Some(member_of(code, *member))
+}
+
+/// A member, by its number; where there is none, the first body, of the first class.
+fn member_of(code: &Code, member: u32) -> MethodCode
+    ensures { plain_method result ≡ member_in code.now.members member }
+{
+    match code.members.get(member as usize) {
+        Some(found) => *found,
+        None => MethodCode { owner: 0, body: 0 },
+    }
 }
 
 /// The regions of the class, and then the row's own.

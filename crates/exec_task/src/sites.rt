@@ -1,6 +1,6 @@
 ghost use Rattle.std.specs.Prelude.{◌≡◌, map, slice_get, IfOk};
 ghost use Rattle.lang_meaning.specs.Regions.{around, concrete, some_long};
-ghost use Rattle.code_instrs.specs.Machine.{called, created, makes_array, forked, spread, first_value};
+ghost use Rattle.code_instrs.specs.Machine.{called, created, makes_array, forked, spread};
 ghost use Rattle.code_instrs.specs.Plain.{plain_code};
 ghost use Rattle.exec_frames.specs.Names.{plain_value};
 ghost use Rattle.exec_task.specs.Names.{names_of};
@@ -22,17 +22,6 @@ fn trapped(trap: Trap, place: Place) -> Step
     ensures { result ≡ Step.Ends (Ending.Trapped trap place) }
 {
     Step::Ends(Ending::Trapped(trap, place))
-}
-
-/// The first value of a field or an element.
-fn first_value(value: Value) -> Value
-    ensures { plain_value result ≡ first_value value }
-{
-    match value {
-        Value::Int(n) => Value::Int(n),
-        Value::Bool(b) => Value::Bool(b),
-        Value::Null | Value::Obj(_) => Value::Null,
-    }
 }
 
 fn new_object(class: u32, regions: Items<Region>, constructor: bool) -> Step
@@ -178,7 +167,7 @@ impl Level {
         Ok(Step::Waits(Action::Do(Own::NewArray {
             region,
             len: len as u32,
-            first: first_value(*first),
+            first: first.value(),
         })))
     }
 

@@ -3,18 +3,18 @@ use Rattle.std.proofs.Common.{◌≡◌, ◌∙◌, ℕ, List, [], ◌∷◌, ma
 use Rattle.std.specs.Prelude.{slice_get, option_map}
 use Rattle.std.specs.Option.{option_map_or}
 use Rattle.std.proofs.lemmas.Option.{slice_get-map}
+use Rattle.lang_base.specs.FirstValues.{first_value, constant_of}
 use Rattle.lang_base.specs.Types.{PlainType}
 use Rattle.lang_base.specs.Types.{PlainType as ty}
 use Rattle.lang_typed.specs.declared.program.Class.{Class}
 use Rattle.lang_typed.specs.declared.program.Program.{Program}
 use Rattle.lang_typed.specs.declared.program.Member.{Member}
-use Rattle.lang_typed.specs.Inherited.{first_value}
 use Rattle.lang_typed.specs.Plain.{PlainField, plain_program, plain_class, plain_member}
 use Rattle.lang_typed.specs.Scope.{member_at}
 use Rattle.lang_meaning.specs.Expressions.{class_fields, first_of}
 use Rattle.exec_frames.specs.Names.{plain_value}
 
-first_is : (t : PlainType) → plain_value (first_value t) ≡ first_of t
+pub first_is : (t : PlainType) → plain_value (constant_of (first_value t)) ≡ first_of t
 first_is ty.int = refl
 first_is ty.boolean = refl
 first_is ty.void = refl
@@ -22,12 +22,12 @@ first_is ty.null = refl
 first_is (ty.class c args) = refl
 first_is (ty.array t a named) = refl
 
-firsts : (fs : List PlainField) → map plain_value (map (λ f. first_value f.ty) fs) ≡ map (λ f. first_of {N = ℕ} f.ty) fs
+firsts : (fs : List PlainField) → map plain_value (map constant_of (map (λ f. first_value f.ty) fs)) ≡ map (λ f. first_of {N = ℕ} f.ty) fs
 firsts [] = refl
 firsts (f ∷ fs) = ap₂ (λ v vs. v ∷ vs) (first_is f.ty) (firsts fs)
 
 pub first_values : (P : Program) (c : ℕ) (k : Class) → Some k ≡ slice_get P.classes c
-    → map plain_value (map (λ f. first_value f.ty) (plain_class P.classes k).fields) ≡ map (λ f. first_of {N = ℕ} f.ty) (class_fields (plain_program P) c)
+    → map plain_value (map constant_of (map (λ f. first_value f.ty) (plain_class P.classes k).fields)) ≡ map (λ f. first_of {N = ℕ} f.ty) (class_fields (plain_program P) c)
 first_values P c k e =
     firsts (plain_class P.classes k).fields
     ∙ ap (λ o. map (λ f. first_of {N = ℕ} f.ty) (option_map_or (λ k. k.fields) o []))

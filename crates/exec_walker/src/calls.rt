@@ -1,6 +1,7 @@
 ghost use Rattle.std.specs.Prelude.{◌≡◌, ◌∷◌, ◌++◌, ◌-◌, suc, cond, map, take, drop, reverse, option_map, IfOk};
 ghost use Rattle.std.specs.Option.{option_copied};
 ghost use Rattle.lang_base.specs.declared.value.Trap.TheVariants as trap;
+ghost use Rattle.lang_base.specs.FirstValues.{constant_of};
 ghost use Rattle.lang_base.specs.Types.{plain_type};
 ghost use Rattle.lang_typed.specs.Plain.{plain_program, plain_member};
 ghost use Rattle.lang_typed.specs.Scope.{row_at, constructor_of};
@@ -22,7 +23,7 @@ use exec_frames::{
     Seen, call_values, class_entered, concrete, concrete_all, constructor_of, entered, is_long,
     number, reference, regions_above, some_long,
 };
-use lang_base::{Items, NoMemory, Place, Plain, Region, Rpl, Trap, Ty, Value};
+use lang_base::{FirstValue, Items, NoMemory, Place, Plain, Region, Rpl, Trap, Ty, Value};
 use lang_typed::{Member, Program};
 use std::alloc::Global;
 use std::mem;
@@ -186,8 +187,10 @@ impl<'p> Walker<'p> {
         if is_long(&region) {
             return self.fall(Trap::Stack, place);
         }
-        let first = first_of(elem.get());
-        let array = self.store.make_array(region, len as u32, first)?;
+        let first = FirstValue::of(elem.get());
+        let array = self
+            .store
+            .make_array(region, len as u32, first.value())?;
         self.give(1, array)
     }
 }
@@ -201,20 +204,13 @@ fn row_member(program: &Program, class: u32, row: u32) -> Option<&Member>
     program.members.get(member.number as usize)
 }
 
-/// The first value of a type.
-fn first_of(ty: &Ty) -> Value
-    ensures { plain_value result ≡ first_of (plain_type ty.now) }
-{
-    match ty {
-        Ty::Int => Value::Int(0),
-        Ty::Bool => Value::Bool(false),
-        Ty::Void | Ty::Null | Ty::Class { .. } | Ty::Array { .. } => Value::Null,
-    }
-}
-
-/// The first values of the fields of a class.
-pub fn first_values(alloc: Global, program: &Program, class: u32) -> Result<Items<Value>, NoMemory>
-    ensures { IfOk result (λ vs. map plain_value vs ≡ map (λ f. first_of f.ty) (class_fields (plain_program program.now) class)) }
+/// What the fields of a class hold at first.
+pub fn first_values(
+    alloc: Global,
+    program: &Program,
+    class: u32,
+) -> Result<Items<FirstValue>, NoMemory>
+    ensures { IfOk result (λ held. map plain_value (map constant_of held) ≡ map (λ f. first_of f.ty) (class_fields (plain_program program.now) class)) }
 {
     match program.classes.get(class as usize) {
         None => Ok(Items::new(alloc)),

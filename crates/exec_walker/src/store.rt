@@ -1,6 +1,7 @@
 ghost use Rattle.std.specs.Prelude.{◌≡◌, ◌<◌, ◌≤◌, ◌^◌, IfOk, pos, length};
 ghost use Rattle.lang_base.specs.declared.value.Value.TheVariants.{Int};
 ghost use Rattle.lang_base.specs.declared.outcome.Limits.{Limits};
+ghost use Rattle.lang_base.specs.FirstValues.{constant_of};
 ghost use Rattle.exec_heap.specs.Heap.{object_at, values_of};
 ghost use Rattle.lang_meaning.specs.Elision.{at_index};
 ghost use Rattle.exec_walker.specs.Cells.{has_index, cell_set, length_of};
@@ -8,7 +9,7 @@ ghost use Rattle.exec_walker.specs.Cells.{has_index, cell_set, length_of};
 use crate::halt::Halt;
 use exec_frames::Seen;
 use exec_heap::Heap;
-use lang_base::{Bytes, Items, NoMemory, Place, Plain, Region, Trap, Value};
+use lang_base::{Bytes, FirstValue, Items, NoMemory, Place, Plain, Region, Trap, Value};
 use std::alloc::Global;
 
 /// What the bodies share: the heap, what was printed up to the first trap, that trap, and the cost.
@@ -158,11 +159,11 @@ impl Store {
         &mut self,
         class: u32,
         regions: Items<Region>,
-        fields: &[Value],
+        fields: &[FirstValue],
         constructor: bool,
     ) -> Result<Value, Halt>
-        ensures store { (L : Limits) (w : Elided) → Holds L self.old w → After L result (Holds L self.new) (after (New (An_object class (map plain_region regions) (map plain_value fields.now)) constructor) w) }
-        ensures name { IfOk result (λ v. (L : Limits) (w : Elided) → Holds L self.old w → plain_value v ≡ name_made {M = LocalRegion} (answer w.heap (New (An_object class (map plain_region regions) (map plain_value fields.now)) constructor))) }
+        ensures store { (L : Limits) (w : Elided) → Holds L self.old w → After L result (Holds L self.new) (after (New (An_object class (map plain_region regions) (map plain_value (map constant_of fields.now))) constructor) w) }
+        ensures name { IfOk result (λ v. (L : Limits) (w : Elided) → Holds L self.old w → plain_value v ≡ name_made {M = LocalRegion} (answer w.heap (New (An_object class (map plain_region regions) (map plain_value (map constant_of fields.now))) constructor))) }
     {
         self.count_creation(constructor)?;
         Ok(Value::Obj(self.heap.new_object(class, fields, regions)?))

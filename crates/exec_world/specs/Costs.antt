@@ -1,6 +1,8 @@
 -- What an action costs, and when that is within the limits.
-use Rattle.std.specs.Prelude.{ℕ, ◌+◌, ◌≤◌, cond, List, [], length, Option, Some, None, slice_get}
+use Rattle.std.specs.Prelude.{ℕ, ◌+◌, ◌≤◌, cond, List, [], length, map, Option, Some, None, slice_get}
+use Rattle.lang_base.specs.declared.value.FirstValue.{FirstValue}
 use Rattle.lang_base.specs.declared.value.Value.{Value}
+use Rattle.lang_base.specs.FirstValues.{constant_of}
 use Rattle.code_instrs.specs.declared.code.ClassCode.{ClassCode}
 use Rattle.code_instrs.specs.declared.code.Code.{Code}
 use Rattle.exec_task.specs.declared.action.Action.{Action}
@@ -23,13 +25,13 @@ steps_of (action.Do o) = own_steps o
 steps_of (action.End e) = 0
 steps_of a = 1
 
-abbrev pub fields_of : Option ClassCode → List Value
+abbrev pub fields_of : Option ClassCode → List FirstValue
 fields_of None = []
 fields_of (Some k) = k.fields
 
--- the first values of the fields of a class
+-- what the fields of a class hold at first
 abbrev pub first_fields : Code → ℕ → List Value
-first_fields C c = fields_of (slice_get C.classes c)
+first_fields C c = map constant_of (fields_of (slice_get C.classes c))
 
 -- an object or an array one and its size, a printed line its bytes
 abbrev pub own_cells : Code → Own → ℕ

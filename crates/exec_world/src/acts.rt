@@ -1,4 +1,5 @@
-ghost use Rattle.std.specs.Prelude.{◌≡◌, ◌<◌, ◌≤◌, ◌+◌, length, replicate, IfOk, OnOk, OnErr};
+ghost use Rattle.std.specs.Prelude.{◌≡◌, ◌<◌, ◌≤◌, ◌+◌, length, map, replicate, IfOk, OnOk, OnErr};
+ghost use Rattle.lang_base.specs.FirstValues.{constant_of};
 ghost use Rattle.exec_heap.specs.Heap.{object_at, instance, array, cost, with_object, charged};
 ghost use Rattle.exec_tasks.specs.Tree.{printed, task_at, joined, CanBegin, CanJoin, with_task, ends_in};
 ghost use Rattle.std.specs.FinMap.{get, remove};
@@ -17,7 +18,9 @@ use exec_heap::{Heap, HeapStop};
 use exec_locks::Locks;
 use exec_task::{Action, Answer, Ending, Own};
 use exec_tasks::TaskTree;
-use lang_base::{Bytes, Effect, Items, NoMemory, Place, Plain, Region, SlotValue, Trap, Value};
+use lang_base::{
+    Bytes, Effect, FirstValue, Items, NoMemory, Place, Plain, Region, SlotValue, Trap, Value,
+};
 use std::alloc::Global;
 
 impl World {
@@ -162,12 +165,12 @@ fn write(heap: &mut Heap, object: u32, index: i64, value: Value) -> Answer
 fn make_object(
     heap: &mut Heap,
     class: u32,
-    fields: &[Value],
+    fields: &[FirstValue],
     regions: Items<Region>,
 ) -> Result<Answer, NoMemory>
     requires { heap.old.used + (length fields.now + 1) ≤ heap.old.limit }
     ensures answer { IfOk result (λ answer. answer ≡ Answer.Made (length heap.old.objects)) }
-    ensures after { OnOk result (heap.new ≡ with_object heap.old (instance class regions fields.now)) }
+    ensures after { OnOk result (heap.new ≡ with_object heap.old (instance class regions (map constant_of fields.now))) }
     ensures err { OnErr result (heap.new ≡ heap.old) }
 {
     match heap.new_object(class, fields, regions) {

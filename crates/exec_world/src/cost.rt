@@ -1,9 +1,10 @@
-ghost use Rattle.std.specs.Prelude.{◌≡◌, ◌↔◌, ◌+◌, ◌≤◌, IsTrue};
+ghost use Rattle.std.specs.Prelude.{◌≡◌, ◌↔◌, ◌+◌, ◌≤◌, map, IsTrue};
+ghost use Rattle.lang_base.specs.FirstValues.{constant_of};
 ghost use Rattle.exec_world.specs.Costs.{steps_of, own_steps, cells_of, first_fields};
 
 use code_instrs::Code;
 use exec_task::{Action, Own};
-use lang_base::Value;
+use lang_base::FirstValue;
 
 /// The steps of an action besides its turns.
 pub fn steps_of(action: &Action) -> u64
@@ -26,9 +27,9 @@ fn own_steps(own: &Own) -> u64
     }
 }
 
-/// The first values of the fields of a class: none, where there is no such class.
-pub fn first_fields(code: &Code, class: u32) -> &[Value]
-    ensures { result.now ≡ first_fields code.now class }
+/// What the fields of a class hold at first: nothing, where there is no such class.
+pub fn first_fields(code: &Code, class: u32) -> &[FirstValue]
+    ensures { map constant_of result.now ≡ first_fields code.now class }
 {
     match code.classes.get(class as usize) {
         Some(class) => class.fields.as_slice(),

@@ -1,8 +1,9 @@
 -- Code as plain data is that of some code.
-use Rattle.std.proofs.Common.{◌≡◌, ℕ, List, [], ◌∷◌, map, Option, Some, None, option_map, refl, ap}
+use Rattle.std.proofs.Common.{◌≡◌, ◌∙◌, ℕ, suc, ◌+◌, List, [], ◌∷◌, ◌++◌, map, length, length-append, append_assoc, Option, Some, None, option_map, slice_get, refl, sym, ap, ap₂, arith}
+use Rattle.std.proofs.lemmas.List.{length-map}
 use Rattle.lang_base.specs.declared.region.Rpl.{Rpl}
 use Rattle.lang_typed.specs.Plain.{PlainParent}
-use Rattle.code_instrs.specs.Plain.{ClassCode, Line, Method, PlainBody, PlainCode, Site, Title, array_site, block_site, call_site, fork_site, lines_of, new_site, of_branch, of_member, plain_body, plain_class, plain_code, plain_method, plain_site, plain_title, spread_site}
+use Rattle.code_instrs.specs.Plain.{ClassCode, Line, Method, PlainBody, PlainCode, Site, Title, array_site, block_site, call_site, fork_site, lines_of, new_site, of_branch, of_member, plain_body, member_in, member_or_none, plain_class, plain_code, plain_site, plain_title, spread_site}
 use Rattle.code_instrs.specs.declared.code.Body.{Body}
 use Rattle.code_instrs.specs.declared.code.BranchCopies.{BranchCopies}
 use Rattle.code_instrs.specs.declared.code.ClassCode.{ClassCode as DeclaredClass}
@@ -49,14 +50,28 @@ abbrev args_for : Option PlainParent → List Rpl
 args_for None = []
 args_for (Some p) = p.args
 
-abbrev class_for : ClassCode → DeclaredClass
-class_for k = record {
+-- so many numbers from one on
+abbrev up_from : ℕ → List Method → List ℕ
+up_from n [] = []
+up_from n (m ∷ ms) = n ∷ up_from (suc n) ms
+
+-- a class whose rows are members of these numbers
+abbrev class_for : ℕ → ClassCode → DeclaredClass
+class_for n k = record {
   parent = parent_for k.parent;
   args = args_for k.parent;
   fields = k.fields;
   constructor = k.constructor;
-  methods = map method_for k.methods;
+  methods = up_from n k.methods;
 }
+
+abbrev classes_for : ℕ → List ClassCode → List DeclaredClass
+classes_for n [] = []
+classes_for n (k ∷ ks) = class_for n k ∷ classes_for (length k.methods + n) ks
+
+abbrev members_for : List ClassCode → List MethodCode
+members_for [] = []
+members_for (k ∷ ks) = map method_for k.methods ++ members_for ks
 
 abbrev parent_with : List Rpl → ℕ → PlainParent
 parent_with args c = record { class = c; args = args }
@@ -65,13 +80,35 @@ parent_back : (p : Option PlainParent) → option_map (parent_with (args_for p))
 parent_back None = refl
 parent_back (Some p) = refl
 
-class_back : (k : ClassCode) → plain_class (class_for k) ≡ k
-class_back k = λ i. record {
+there : (before : List MethodCode) (m : MethodCode) (after : List MethodCode) → slice_get (before ++ m ∷ after) (length before) ≡ Some m
+there [] m after = refl
+there (b ∷ before) m after = there before m after
+
+counted : (before : List MethodCode) (m : MethodCode) → suc (length before) ≡ length (before ++ m ∷ [])
+counted before m = omega (arith, length-append before (m ∷ []))
+
+rows_back : (before : List MethodCode) (ms : List Method) (after : List MethodCode) → map (member_in (before ++ map method_for ms ++ after)) (up_from (length before) ms) ≡ ms
+rows_back before [] after = refl
+rows_back before (m ∷ ms) after =
+    ap₂ ◌∷◌ (ap member_or_none (there before (method_for m) (map method_for ms ++ after)))
+    (ap₂ (λ members n. map (member_in members) (up_from n ms)) (sym (append_assoc before (method_for m ∷ []) (map method_for ms ++ after))) (counted before (method_for m))
+    ∙ rows_back (before ++ method_for m ∷ []) ms after)
+
+class_back : (before : List MethodCode) (k : ClassCode) (after : List MethodCode) → plain_class (before ++ map method_for k.methods ++ after) (class_for (length before) k) ≡ k
+class_back before k after = λ i. record {
   parent = parent_back k.parent i;
   fields = k.fields;
   constructor = k.constructor;
-  methods = map_back plain_method method_for (λ m. refl) k.methods i;
+  methods = rows_back before k.methods after i;
 }
+
+classes_back : (before : List MethodCode) (ks : List ClassCode) → map (plain_class (before ++ members_for ks)) (classes_for (length before) ks) ≡ ks
+classes_back before [] = refl
+classes_back before (k ∷ ks) =
+    ap₂ ◌∷◌ (class_back before k (members_for ks))
+    (ap₂ (λ members n. map (plain_class members) (classes_for n ks)) (sym (append_assoc before (map method_for k.methods) (members_for ks)))
+    (omega (arith, length-append before (map method_for k.methods), length-map k.methods method_for))
+    ∙ classes_back (before ++ map method_for k.methods) ks)
 
 abbrev copies_for : List ℕ → BranchCopies
 copies_for slots = record { slots = slots }
@@ -97,7 +134,8 @@ site_back (array_site region first) = refl
 
 abbrev pub code_for : PlainCode → Code
 code_for C = record {
-  classes = map class_for C.classes;
+  classes = classes_for 0 C.classes;
+  members = members_for C.classes;
   bodies = map body_for C.bodies;
   sites = map site_for C.sites;
   texts = C.texts;
@@ -107,7 +145,7 @@ code_for C = record {
 
 pub code_back : (C : PlainCode) → plain_code (code_for C) ≡ C
 code_back C = λ i. record {
-  classes = map_back plain_class class_for class_back C.classes i;
+  classes = classes_back [] C.classes i;
   bodies = map_back plain_body body_for body_back C.bodies i;
   sites = map_back plain_site site_for site_back C.sites i;
   texts = C.texts;

@@ -5,8 +5,8 @@ use Rattle.std.specs.Prelude.{slice_index_or}
 use Rattle.lang_base.specs.declared.place.Place.{Place}
 use Rattle.lang_base.specs.declared.value.Trap.{Trap}
 use Rattle.lang_base.specs.declared.value.Trap.TheVariants as trap
-use Rattle.lang_base.specs.declared.value.Value.{Value as Constant}
-use Rattle.lang_base.specs.declared.value.Value.TheVariants as constant
+use Rattle.lang_base.specs.declared.value.FirstValue.{FirstValue}
+use Rattle.lang_base.specs.declared.value.FirstValue.TheVariants as held
 use Rattle.lang_base.specs.declared.op.BinaryOp.{BinaryOp}
 use Rattle.lang_meaning.specs.Values.{Value, Region}
 use Rattle.lang_typed.specs.declared.stmt.Forking.{Forking}
@@ -16,7 +16,7 @@ use Rattle.lang_meaning.specs.Expressions.{none}
 use Rattle.lang_meaning.specs.Regions.{around, concrete, regions_above}
 use Rattle.code_instrs.specs.declared.instr.Instr.{Instr}
 use Rattle.code_instrs.specs.declared.instr.Instr.TheVariants as i
-use Rattle.code_instrs.specs.Machine.{Level, State, On, Off, Stand, Goes, Waits, next, one, two, three, taken, trapped, or_trap, unless_null, cell_read, cell_written, reads, writes, deeper, unless_long, entered, calls_method, enters, called, first_value, creates, created, array_of, makes_array, returned, left_with, below, started, forked, each_started, waiting, spread, joined, all_copied, joins_fork, joins_spread, joins_site, site_of, line_before, joins, copies_of, ends_branch, in_part, operates, exec, exec_line, enters_block, rested_at, rested_line, step}
+use Rattle.code_instrs.specs.Machine.{Level, State, On, Off, Stand, Goes, Waits, next, one, two, three, taken, trapped, or_trap, unless_null, cell_read, cell_written, reads, writes, deeper, unless_long, entered, calls_method, enters, called, held_first, creates, created, array_of, makes_array, returned, left_with, below, started, forked, each_started, waiting, spread, joined, all_copied, joins_fork, joins_spread, joins_site, site_of, line_before, joins, copies_of, ends_branch, in_part, operates, exec, exec_line, enters_block, rested_at, rested_line, step}
 use Rattle.code_instrs.specs.Plain.{Line, Site, fork_site, spread_site, block_site, call_site, new_site, array_site, Method, PlainCode, body_at, class_at, parent_of, method_at, constructor_of, fields_of}
 use Rattle.runs_theory.specs.Objects.{Path, Name, LocalRegion}
 use Rattle.runs_program.specs.Steps.{named_by}
@@ -156,13 +156,12 @@ writes_like {w} at {v' = v'} {u' = u'} x y {g} {h} {st} {ut} {gs} {hs} a e b l s
     (waits_like (do_like (write_like n q x there b)) (λ v c d wide k. state_if (is_out c) (is_out d) (is_out_like k) (off_trapped trap.Index at)
     (next_like (level_later wide l) (levels_later wide ls) (values_later wide.names s)))))
 
-first_like : (w : Names) (c : Constant) → ValueLike w (first_value c) (first_value c)
-first_like w (constant.Int x) = int_like x
-first_like w (constant.Bool b) = boolean_like b
-first_like w constant.Null = null_like
-first_like w (constant.Obj n) = null_like
+first_like : (w : Names) (c : FirstValue) → ValueLike w (held_first c) (held_first c)
+first_like w held.Zero = int_like (pos 0)
+first_like w held.False = boolean_like false
+first_like w held.Null = null_like
 
-firsts_like : (w : Names) (cs : List Constant) → ValuesLike w (map first_value cs) (map first_value cs)
+firsts_like : (w : Names) (cs : List FirstValue) → ValuesLike w (map held_first cs) (map held_first cs)
 firsts_like w [] = no_values
 firsts_like w (c ∷ cs) = more_values (first_like w c) (firsts_like w cs)
 
@@ -241,7 +240,7 @@ module _ (C : PlainCode) (k : ℕ) (p : Path) where
       taken_like formals l.stack (λ vs st us ut a b. unless_long_like _ _ at (some_long_like (concretes_like k p l.frame regions))
       (creates_like at c (constructor_of C c) (concretes_like k p l.frame regions) (reverse_like a) l b ls))
 
-  array_of_like : {w : Sight} (at : Place) {r : Region (ℕ × ℕ)} {q : Region LocalRegion} (first : Constant) (len : ℤ) {g : LevelIn} {h : LevelOf}
+  array_of_like : {w : Sight} (at : Place) {r : Region (ℕ × ℕ)} {q : Region LocalRegion} (first : FirstValue) (len : ℤ) {g : LevelIn} {h : LevelOf}
       {st : List (Value ℕ)} {ut : List (Value Name)} {gs : List LevelIn} {hs : List LevelOf} → RegionLike w r q → LevelLike w g h → ValuesLike w.names st ut
       → LevelsLike w gs hs → StandLike w (array_of at r first len g st gs) (array_of at q first len h ut hs)
   array_of_like at first (negsuc n) r l s ls = goes_like (off_trapped trap.Size at)

@@ -5,7 +5,7 @@ use Rattle.std.specs.Prelude.{slice_set}
 use Rattle.lang_base.specs.declared.place.Place.{Place}
 use Rattle.lang_base.specs.declared.value.Trap.{Trap}
 use Rattle.lang_base.specs.declared.value.Trap.TheVariants as trap
-use Rattle.lang_base.specs.declared.value.Value.{Value as Constant}
+use Rattle.lang_base.specs.declared.value.FirstValue.{FirstValue}
 use Rattle.lang_typed.specs.declared.stmt.Forking.{Forking}
 use Rattle.lang_base.specs.declared.op.BinaryOp.{BinaryOp}
 use Rattle.lang_meaning.specs.Values.{Value, Int, Object, Region, An_object, An_array}
@@ -16,7 +16,7 @@ use Rattle.code_instrs.specs.declared.instr.Instr.{Instr}
 use Rattle.code_instrs.specs.declared.instr.Instr.TheVariants as i
 use Rattle.code_instrs.specs.Fit.{site_at}
 use Rattle.code_instrs.specs.Legs.{Halt, legged, leg, Leg}
-use Rattle.code_instrs.specs.Machine.{Level, State, On, Rested, Off, Nowhere, Stand, Goes, Turns, Makes, Waits, Ends, Stuck, next, one, two, three, taken, or_trap, cell_read, cell_written, reads, writes, deeper, unless_long, entered, enters, calls, called, first_value, creates, created, array_of, makes_array, below, forked, each_started, waiting, spread, all_copied, joins_fork, joins_spread, joins_site, branch_site, site_of, line_before, joins, ends_branch, in_part, operates, exec, exec_line, enters_block, rested_at, rested_line, step}
+use Rattle.code_instrs.specs.Machine.{Level, State, On, Rested, Off, Nowhere, Stand, Goes, Turns, Makes, Waits, Ends, Stuck, next, one, two, three, taken, or_trap, cell_read, cell_written, reads, writes, deeper, unless_long, entered, enters, calls, called, held_first, creates, created, array_of, makes_array, below, forked, each_started, waiting, spread, all_copied, joins_fork, joins_spread, joins_site, branch_site, site_of, line_before, joins, ends_branch, in_part, operates, exec, exec_line, enters_block, rested_at, rested_line, step}
 use Rattle.code_instrs.specs.Plain.{Line, Site, fork_site, spread_site, block_site, call_site, new_site, array_site, PlainCode, body_at, class_at, parent_of, constructor_of, fields_of}
 use Rattle.exec_task.specs.Branches.{spread_starts, starts_of, starts_at}
 use Rattle.exec_task.specs.Halts.{stands}
@@ -236,9 +236,9 @@ module _ (C : PlainCode) (FJ : ForksAreJoined C) (firsts : FirstNumbers) (nexts 
   joins_keep None e = record { is = tt }
   joins_keep (Some s) e = join_keeps (slice_get C.sites s) (ap (λ q. site_at C q) e)
 
-  array_keeps : (at : Place) (r : Region (ℕ × ℕ)) (c : Constant) (n : ℤ) (st : List (Value ℕ)) → Kept C Here (array_of at r c n g st fs)
+  array_keeps : (at : Place) (r : Region (ℕ × ℕ)) (c : FirstValue) (n : ℤ) (st : List (Value ℕ)) → Kept C Here (array_of at r c n g st fs)
   array_keeps at r c (negsuc n) st = record { is = tt }
-  array_keeps at r c (pos n) st = keeps_long C Here (is_long r) at (Waits (Do (New (An_array r n (first_value c)) false)) (λ a. next g (name_made a ∷ st) fs)) (record { is = tt })
+  array_keeps at r c (pos n) st = keeps_long C Here (is_long r) at (Waits (Do (New (An_array r n (held_first c)) false)) (λ a. next g (name_made a ∷ st) fs)) (record { is = tt })
 
   calls_keep : (at : Place) (c r : ℕ) (own : List (Region (ℕ × ℕ))) (n : ℕ) (vs st : List (Value ℕ)) → Kept C Here (calls (names_of k) C at c r own n vs g st fs)
   calls_keep at c r own n vs st =
@@ -262,7 +262,7 @@ module _ (C : PlainCode) (FJ : ForksAreJoined C) (firsts : FirstNumbers) (nexts 
       → Kept C Here (creates (names_of k) C at c rs vs o g st fs)
   creates_keep at c rs vs None st = record { is = tt }
   creates_keep at c rs vs (Some j) st = keeps_deeper C Here g.frame.left at
-      (Waits (Do (New (An_object c rs (map first_value (fields_of (class_at C c)))) true)) (λ a. entered (names_of k) C j (name_made a ∷ vs) rs (record g { at = suc g.at; stack = name_made a ∷ st }) fs))
+      (Waits (Do (New (An_object c rs (map held_first (fields_of (class_at C c)))) true)) (λ a. entered (names_of k) C j (name_made a ∷ vs) rs (record g { at = suc g.at; stack = name_made a ∷ st }) fs))
       (record { is = tt })
 
   create_keeps : (at : Place) (o : Option Site) → Kept C Here (created (names_of k) C at o g fs)

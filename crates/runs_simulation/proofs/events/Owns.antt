@@ -9,7 +9,7 @@ use Rattle.lang_typed.specs.Plain.{PlainProgram}
 use Rattle.lang_meaning.specs.Values.{Part, Any_index, Region, An_object, An_array}
 use Rattle.lang_meaning.specs.Costs.{own_cells, own_steps}
 use Rattle.lang_meaning.specs.Elision.{LocalRegion as Counted}
-use Rattle.code_instrs.specs.Machine.{first_value}
+use Rattle.code_instrs.specs.Machine.{held_first}
 use Rattle.code_instrs.specs.Plain.{PlainCode, plain_code, class_at, fields_of}
 use Rattle.code_instrs.specs.declared.code.Code.{Code}
 use Rattle.runs_theory.specs.Actions.{Own, Rule}
@@ -74,13 +74,13 @@ write_limit heap n (pos l) v = at (nat_lt l (length (values_of (object_at heap n
 
 -- the first values of the fields of a class, as both see them
 abbrev pub FieldsFor : Code → Type 0
-FieldsFor code = (c : ℕ) → map plain_value (first_fields code c) ≡ map first_value (fields_of (class_at (plain_code code) c))
+FieldsFor code = (c : ℕ) → map plain_value (first_fields code c) ≡ map held_first (fields_of (class_at (plain_code code) c))
 
 module _ (code : Code) (P : PlainProgram) (arg : ℤ) (rule : Rule) (L : Limits) (right : RightFor (plain_code code) P) (fields : FieldsFor code) where
   abbrev C : PlainCode
   C = plain_code code
 
-  few_fields : (c : ℕ) → length (first_fields code c) ≡ length (map (first_value {N = ℕ}) (fields_of (class_at C c)))
+  few_fields : (c : ℕ) → length (first_fields code c) ≡ length (map (held_first {N = ℕ}) (fields_of (class_at C c)))
   few_fields c = sym (length-map (first_fields code c) plain_value) ∙ ap length (fields c)
 
   module _ {m : Moment} {w : Sight} {R : Run} (T : Tied P arg rule C L m w R) (k turns : ℕ) (wants : Option (List Effect)) where
@@ -91,7 +91,7 @@ module _ (code : Code) (P : PlainProgram) (arg : ℤ) (rule : Rule) (L : Limits)
     own_does (own.Write i j v) p q (write_like i' y j' e l) = writes (Q P arg rule C) T.heap p turns i y j v m.world.heap refl e l
     own_does (own.Look i) p q (look_like i' y e) = looks (Q P arg rule C) T.heap p turns i y m.world.heap refl e
     own_does (own.NewObject c rs constructor) p q (new_like k' (an_object c' {qs = qs} {us = us} r v)) =
-        makes (Q P arg rule C) T.heap p turns (instance c rs (first_fields code c)) (An_object c (counted qs) (map first_value (fields_of (class_at C c)))) (An_object c qs us)
+        makes (Q P arg rule C) T.heap p turns (instance c rs (first_fields code c)) (An_object c (counted qs) (map held_first (fields_of (class_at C c)))) (An_object c qs us)
         constructor (elided.an_object_like c (record { lengths = counted_lengths qs }) v) (sym (fields c)) (refl, r)
     own_does (own.NewArray region len first) p q (new_like k' (an_array {q = r} len' {u = u} l v)) =
         makes (Q P arg rule C) T.heap p turns (array region (replicate len first)) (An_array [] len (plain_value first)) (An_array r len u) false

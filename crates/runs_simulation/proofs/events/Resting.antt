@@ -3,7 +3,7 @@ use Rattle.std.proofs.Common.{◌≡◌, ℕ, zero, suc, ◌==◌, if◌then◌e
 use Rattle.lang_base.specs.declared.place.Place.{Place}
 use Rattle.lang_base.specs.declared.value.Trap.{Trap}
 use Rattle.lang_base.specs.declared.value.Trap.TheVariants as trap
-use Rattle.lang_base.specs.declared.value.Value.{Value as Constant}
+use Rattle.lang_base.specs.declared.value.FirstValue.{FirstValue}
 use Rattle.lang_base.specs.declared.op.BinaryOp.{BinaryOp}
 use Rattle.lang_meaning.specs.Values.{Value, Int, Object, Region, An_object, An_array}
 use Rattle.lang_meaning.specs.Actions.{Action, Answer, Effect, Read, Write, Look, New, Print, Enter, Exit, Do, Fork, Begin, Join, End, Rest}
@@ -14,7 +14,7 @@ use Rattle.lang_meaning.specs.Regions.{around, concrete, concrete_effect, is_lon
 use Rattle.code_instrs.specs.declared.instr.Instr.{Instr}
 use Rattle.code_instrs.specs.declared.instr.Instr.TheVariants as i
 use Rattle.code_instrs.specs.Legs.{Halt, Asks, Finished, Dead, legged_turn, legged, leg, Leg}
-use Rattle.code_instrs.specs.Machine.{Level, Start, State, On, Rested, Off, Nowhere, Stand, Goes, Turns, Makes, Waits, Ends, Stuck, step, next, one, two, three, taken, or_trap, cell_read, cell_written, reads, writes, deeper, unless_long, entered, calls_method, enters, calls, called, creates, created, array_of, makes_array, first_value, returned, left_with, forked, spread, joined, joins_fork, joins_spread, joins_site, joins, all_copied, site_of, line_before, ends_branch, in_part, operates, exec, exec_line, enters_block, rested_at, rested_line}
+use Rattle.code_instrs.specs.Machine.{Level, Start, State, On, Rested, Off, Nowhere, Stand, Goes, Turns, Makes, Waits, Ends, Stuck, step, next, one, two, three, taken, or_trap, cell_read, cell_written, reads, writes, deeper, unless_long, entered, calls_method, enters, calls, called, creates, created, array_of, makes_array, held_first, returned, left_with, forked, spread, joined, joins_fork, joins_spread, joins_site, joins, all_copied, site_of, line_before, ends_branch, in_part, operates, exec, exec_line, enters_block, rested_at, rested_line}
 use Rattle.code_instrs.specs.Plain.{Line, Site, fork_site, spread_site, block_site, call_site, new_site, array_site, PlainCode, body_at, class_at, parent_of, method_at, Method, constructor_of, fields_of}
 use Rattle.exec_task.specs.Names.{names_of}
 use Rattle.exec_machine.specs.Wants.{entry_of, entry_by, effects_of, accesses_of, wants_at}
@@ -172,10 +172,10 @@ module _ (C : PlainCode) (k : ℕ) (g : LevelIn) (fs : List LevelIn) where
   joins_lead None = record { is = tt }
   joins_lead (Some s) = join_leads (slice_get C.sites s)
 
-  array_leads : (at : Place) (r : Region (ℕ × ℕ)) (c : Constant) (n : ℤ) (st : List (Value ℕ)) → Leading C Here (array_of at r c n g st fs)
+  array_leads : (at : Place) (r : Region (ℕ × ℕ)) (c : FirstValue) (n : ℤ) (st : List (Value ℕ)) → Leading C Here (array_of at r c n g st fs)
   array_leads at r c (negsuc n) st = record { is = refl }
   array_leads at r c (pos n) st =
-      leads_long C Here (is_long r) at (Waits (Do (New (An_array r n (first_value c)) false)) (λ a. next g (name_made a ∷ st) fs)) (record { is = λ x. refl })
+      leads_long C Here (is_long r) at (Waits (Do (New (An_array r n (held_first c)) false)) (λ a. next g (name_made a ∷ st) fs)) (record { is = λ x. refl })
 
   calls_lead : (at : Place) (c r : ℕ) (own : List (Region (ℕ × ℕ))) (n : ℕ) (vs st : List (Value ℕ)) → Leading C Here (calls (names_of k) C at c r own n vs g st fs)
   calls_lead at c r own n vs st =
@@ -202,7 +202,7 @@ module _ (C : PlainCode) (k : ℕ) (g : LevelIn) (fs : List LevelIn) where
       → Leading C Here (creates (names_of k) C at c rs vs o g st fs)
   creates_lead at c rs vs None st = record { is = λ x. refl }
   creates_lead at c rs vs (Some j) st = leads_deeper C Here g.frame.left at
-      (Waits (Do (New (An_object c rs (map first_value (fields_of (class_at C c)))) true)) (λ a. entered (names_of k) C j (name_made a ∷ vs) rs (record g { at = suc g.at; stack = name_made a ∷ st }) fs))
+      (Waits (Do (New (An_object c rs (map held_first (fields_of (class_at C c)))) true)) (λ a. entered (names_of k) C j (name_made a ∷ vs) rs (record g { at = suc g.at; stack = name_made a ∷ st }) fs))
       (record { is = λ x. refl })
 
   create_leads : (at : Place) (o : Option Site) → Leading C Here (created (names_of k) C at o g fs)

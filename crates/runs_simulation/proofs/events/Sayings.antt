@@ -6,6 +6,7 @@ use Rattle.lang_base.specs.declared.region.Region.{Region as DeclaredRegion}
 use Rattle.lang_base.specs.declared.value.SlotValue.{SlotValue}
 use Rattle.lang_base.specs.declared.value.Trap.{Trap}
 use Rattle.lang_base.specs.declared.value.Trap.TheVariants as trap
+use Rattle.lang_base.specs.declared.value.FirstValue.{FirstValue}
 use Rattle.lang_base.specs.declared.value.Value.{Value as Constant}
 use Rattle.lang_base.specs.declared.value.Value.TheVariants as constant
 use Rattle.lang_base.specs.declared.op.BinaryOp.{BinaryOp}
@@ -15,7 +16,7 @@ use Rattle.lang_meaning.specs.Values.{An_array, An_object, Any_index, Any_parts,
 use Rattle.lang_meaning.specs.Actions.{Action, Assigned, Begin, Do, End, Ending, Enter, Exit, Fork, Join, Look, New, Own, Print, Read, Rest, Returned, Trapped, Write}
 use Rattle.lang_meaning.specs.Actions.{Effect as EffectOf}
 use Rattle.code_instrs.specs.Machine as machine
-use Rattle.code_instrs.specs.Machine.{Ends, Goes, Level, Makes, Nowhere, Off, On, Rested, Stand, Start, State, Stuck, Turns, Waits, all_copied, array_of, called, created, creates, deeper, ends_branch, enters_block, exec, exec_line, first_value, forked, joins, joins_fork, joins_site, joins_spread, line_before, makes_array, one, or_trap, rested_at, rested_line, site_of, spread, step, taken, three, two, unless_long}
+use Rattle.code_instrs.specs.Machine.{Ends, Goes, Level, Makes, Nowhere, Off, On, Rested, Stand, Start, State, Stuck, Turns, Waits, all_copied, array_of, called, created, creates, deeper, ends_branch, enters_block, exec, exec_line, held_first, forked, joins, joins_fork, joins_site, joins_spread, line_before, makes_array, one, or_trap, rested_at, rested_line, site_of, spread, step, taken, three, two, unless_long}
 use Rattle.code_instrs.specs.Plain.{Line, PlainCode, Site, array_site, block_site, body_at, call_site, class_at, constructor_of, fields_of, fork_site, new_site, spread_site}
 use Rattle.code_instrs.specs.declared.instr.Instr.{Instr}
 use Rattle.code_instrs.specs.declared.instr.Instr.TheVariants as i
@@ -85,7 +86,7 @@ Acting = Action ℕ (ℕ × ℕ) (Start ℕ (ℕ × ℕ))
 
 -- a new object has the first values of the fields of its class, and an array has no constructor
 abbrev pub IsRight : PlainCode → Acting → Type 0
-IsRight C (Do (New (An_object c rs fields) constructor)) = fields ≡ map first_value (fields_of (class_at C c))
+IsRight C (Do (New (An_object c rs fields) constructor)) = fields ≡ map held_first (fields_of (class_at C c))
 IsRight C (Do (New (An_array region len first) constructor)) = constructor ≡ false
 IsRight C a = Unit {0}
 
@@ -181,7 +182,7 @@ module _ (N : Naming ℕ (ℕ × ℕ)) (C : PlainCode) where
     created_right (Some (new_site c formals regions)) = taken_right formals g.stack _ (λ vs st. long_right (some_long (map (concrete N (around g.frame)) regions)) at _ (creates_right c (map (concrete N (around g.frame)) regions) (reverse vs) (constructor_of C c) st))
     created_right o = record { right = tt }
 
-    array_right : (region : Region (ℕ × ℕ)) (first : Constant) (len : ℤ) (st : Values) → AllRight C (array_of at region first len g st fs)
+    array_right : (region : Region (ℕ × ℕ)) (first : FirstValue) (len : ℤ) (st : Values) → AllRight C (array_of at region first len g st fs)
     array_right region first (pos k) st = long_right (is_long region) at _ (record { right = refl })
     array_right region first (negsuc k) st = record { right = tt }
 

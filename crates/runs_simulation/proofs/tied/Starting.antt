@@ -9,6 +9,7 @@ use Rattle.std.specs.Ordering.{nat_cmp, eq_by_cmp}
 use Rattle.lang_base.specs.Types.{PlainType}
 use Rattle.lang_base.specs.Types.{PlainType as ty}
 use Rattle.lang_base.specs.declared.outcome.Limits.{Limits}
+use Rattle.lang_base.specs.FirstValues.{constant_of, first_value}
 use Rattle.lang_typed.specs.Plain.{PlainProgram, PlainMember, PlainClass, PlainField}
 use Rattle.lang_typed.specs.Resolved.{Resolved, HasMain}
 use Rattle.lang_typed.specs.Scope.{member_at}
@@ -17,12 +18,13 @@ use Rattle.lang_meaning.specs.Expressions.{entered, class_fields, first_of}
 use Rattle.lang_meaning.specs.Regions.{unmade_from}
 use Rattle.lang_meaning.specs.Counts.{padded}
 use Rattle.lang_meaning.specs.Values.{Int, Object}
-use Rattle.code_instrs.specs.Machine.{begins_at, first_value, root_start}
+use Rattle.code_instrs.specs.Machine.{begins_at, held_first, root_start}
 use Rattle.code_instrs.specs.Plain.{PlainCode, plain_code, plain_class, body_at, class_at, fields_of}
 use Rattle.code_instrs.specs.declared.code.ClassCode.{ClassCode}
 use Rattle.code_instrs.specs.declared.code.Code.{Code}
+use Rattle.code_instrs.specs.declared.code.MethodCode.{MethodCode}
 use Rattle.code_scheme.specs.Compiled.{Compiled}
-use Rattle.code_scheme.specs.Scheme.{class_code, first_constant}
+use Rattle.code_scheme.specs.Scheme.{class_code}
 use Rattle.code_scheme.specs.Stands.{MemberIs}
 use Rattle.code_scheme.specs.Whole.{compiled, number_in}
 use Rattle.code_scheme.proofs.Whole.{laid_out, members_are_compiled}
@@ -40,6 +42,7 @@ use Rattle.exec_heap.specs.Heap.{instance, with_object}
 use Rattle.exec_heap.specs.Heap.{Object as HeapObject}
 use Rattle.exec_frames.specs.Names.{plain_value}
 use Rattle.exec_task.specs.Names.{names_of}
+use Rattle.exec_task.proofs.FirstValues.{all_held}
 use Rattle.exec_tasks.specs.Tree.{Tasks, fresh, only_root}
 use Rattle.exec_tasks.specs.declared.task.Task.{Task as Live}
 use Rattle.exec_tasks.proofs.Numbers.{get_inserted, same_number}
@@ -61,20 +64,12 @@ use Rattle.runs_simulation.proofs.tied.Ties.{Q, LiveTied, NumbersTied, TaskTied,
 use Rattle.runs_simulation.proofs.events.Owns.{FieldsFor}
 
 -- the fields of a class in the code and in the program
-fields_at : (ks : List ClassCode) (c : ℕ) → fields_of (slice_get (map plain_class ks) c) ≡ declared_fields (slice_get ks c)
-fields_at [] c = refl
-fields_at (k ∷ ks) zero = refl
-fields_at (k ∷ ks) (suc c) = fields_at ks c
+fields_at : (members : List MethodCode) (ks : List ClassCode) (c : ℕ) → fields_of (slice_get (map (plain_class members) ks) c) ≡ declared_fields (slice_get ks c)
+fields_at members [] c = refl
+fields_at members (k ∷ ks) zero = refl
+fields_at members (k ∷ ks) (suc c) = fields_at members ks c
 
-plain_first : (t : PlainType) → plain_value (first_constant t) ≡ first_value (first_constant t)
-plain_first ty.int = refl
-plain_first ty.boolean = refl
-plain_first ty.void = refl
-plain_first ty.null = refl
-plain_first (ty.class c args) = refl
-plain_first (ty.array t a named) = refl
-
-first_is : (t : PlainType) → plain_value (first_constant t) ≡ first_of t
+first_is : (t : PlainType) → plain_value (constant_of (first_value t)) ≡ first_of t
 first_is ty.int = refl
 first_is ty.boolean = refl
 first_is ty.void = refl
@@ -82,24 +77,15 @@ first_is ty.null = refl
 first_is (ty.class c args) = refl
 first_is (ty.array t a named) = refl
 
-plain_firsts : (fs : List PlainField) → map plain_value (map (λ f. first_constant f.ty) fs) ≡ map first_value (map (λ f. first_constant f.ty) fs)
-plain_firsts [] = refl
-plain_firsts (f ∷ fs) = ap₂ (λ v vs. v ∷ vs) (plain_first f.ty) (plain_firsts fs)
-
-firsts_are : (fs : List PlainField) → map plain_value (map (λ f. first_constant f.ty) fs) ≡ map (λ f. first_of f.ty) fs
+firsts_are : (fs : List PlainField) → map plain_value (map constant_of (map (λ f. first_value f.ty) fs)) ≡ map (λ f. first_of f.ty) fs
 firsts_are [] = refl
 firsts_are (f ∷ fs) = ap₂ (λ v vs. v ∷ vs) (first_is f.ty) (firsts_are fs)
 
-class_firsts : (P : PlainProgram) (number : ℕ → ℕ) (ks : List PlainClass) (c : ℕ) → map plain_value (fields_of (slice_get (map (class_code P number) ks) c)) ≡ map first_value (fields_of (slice_get (map (class_code P number) ks) c))
-class_firsts P number [] c = refl
-class_firsts P number (k ∷ ks) zero = plain_firsts k.fields
-class_firsts P number (k ∷ ks) (suc c) = class_firsts P number ks c
-
 class_first_of : (P : PlainProgram) (number : ℕ → ℕ) (c : ℕ)
-    → map plain_value (fields_of (slice_get (map (class_code P number) P.classes) c)) ≡ map (λ f. first_of f.ty) (class_fields P c)
+    → map plain_value (map constant_of (fields_of (slice_get (map (class_code P number) P.classes) c))) ≡ map (λ f. first_of f.ty) (class_fields P c)
 class_first_of P number c = go P.classes c
   where
-    go : (ks : List PlainClass) (c : ℕ) → map plain_value (fields_of (slice_get (map (class_code P number) ks) c))
+    go : (ks : List PlainClass) (c : ℕ) → map plain_value (map constant_of (fields_of (slice_get (map (class_code P number) ks) c)))
         ≡ map (λ f. first_of f.ty) (option_map_or (λ k. k.fields) (slice_get ks c) [])
     go [] c = refl
     go (k ∷ ks) zero = firsts_are k.fields
@@ -114,16 +100,14 @@ unfolding compiled
 main_body_of P = refl
 
 module _ (code : Code) (P : PlainProgram) (is : plain_code code ≡ compiled P) where
-  fields_same : (c : ℕ) → first_fields code c ≡ fields_of (class_at (compiled P) c)
-  fields_same c = sym (fields_at code.classes c) ∙ ap (λ (C : PlainCode). fields_of (class_at C c)) is
+  fields_same : (c : ℕ) → declared_fields (slice_get code.classes c) ≡ fields_of (class_at (compiled P) c)
+  fields_same c = sym (fields_at code.members code.classes c) ∙ ap (λ (C : PlainCode). fields_of (class_at C c)) is
 
   classes_are : (compiled P).classes ≡ map (class_code P (number_in P)) P.classes
   classes_are = (laid_out P).classes
 
   pub fields_for : FieldsFor code
-  fields_for c =
-      ap (map plain_value) (fields_same c ∙ ap (λ ks. fields_of (slice_get ks c)) classes_are) ∙ class_firsts P (number_in P) P.classes c
-      ∙ ap (map first_value) (sym (ap (λ (C : PlainCode). fields_of (class_at C c)) is ∙ ap (λ ks. fields_of (slice_get ks c)) classes_are))
+  fields_for c = all_held (declared_fields (slice_get code.classes c)) ∙ ap (map held_first) (sym (fields_at code.members code.classes c))
 
   main_is : code.main_class ≡ P.main_class
   main_is = ap (λ (C : PlainCode). C.main_class) is ∙ main_class_of P
@@ -131,7 +115,7 @@ module _ (code : Code) (P : PlainProgram) (is : plain_code code ≡ compiled P) 
   main_fields : map plain_value (first_fields code code.main_class) ≡ map (λ f. first_of f.ty) (class_fields P P.main_class)
   main_fields =
       ap (λ c. map plain_value (first_fields code c)) main_is
-      ∙ ap (map plain_value) (fields_same P.main_class ∙ ap (λ ks. fields_of (slice_get ks P.main_class)) classes_are) ∙ class_first_of P (number_in P) P.main_class
+      ∙ ap (λ fs. map plain_value (map constant_of fs)) (fields_same P.main_class ∙ ap (λ ks. fields_of (slice_get ks P.main_class)) classes_are) ∙ class_first_of P (number_in P) P.main_class
 
 abbrev no_tasks : Tasks
 no_tasks = empty

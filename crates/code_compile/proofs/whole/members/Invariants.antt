@@ -6,6 +6,6 @@ use Rattle.code_compile.proofs.whole.members.Given as goal
 
 abbrev pub invariant-loop-m : goal.invariant-loop-m
 invariant-loop-m l = record {
-  output : SoFar (emitted_of l.out) l.bodies l.numbers l.m-index l.m-items;
+  output : SoFar (emitted_of l.out) l.bodies l.made l.m-index l.m-items;
   titled : TitledSoFar l.classes l.fn.bodies l.bodies (drop l.m-index l.m-items) l.m-items;
 }

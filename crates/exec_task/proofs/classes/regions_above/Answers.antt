@@ -17,14 +17,14 @@ pub returns-in_default : goal.returns-in_default
 returns-in_default c =
     let k : ℕ = length c.args.code.now.classes - c.loop-up.up in
     sym (top_above (parent_of (plain_code c.args.code.now)) (names_of 0) c.args.above k c.loop-up.at (map plain_region c.loop-up.regions)
-    (found_in plain_class (λ k. k.parent) c.args.code.now.classes c.loop-up.at None c.in_default.ensures.value))
+    (found_in (plain_class c.args.code.now.members) (λ k. k.parent) c.args.code.now.classes c.loop-up.at None c.in_default.ensures.value))
     ∙ c.loop-up.invariant k (omega arith)
 
 pub returns-in_default-parent : goal.returns-in_default-parent
 returns-in_default-parent c =
     let k : ℕ = length c.args.code.now.classes - c.loop-up.up in
     sym (top_above (parent_of (plain_code c.args.code.now)) (names_of 0) c.args.above k c.loop-up.at (map plain_region c.loop-up.regions)
-    (found_in plain_class (λ k. k.parent) c.args.code.now.classes c.loop-up.at (Some c.in-Some.row.now) c.in-Some.ensures.value
+    (found_in (plain_class c.args.code.now.members) (λ k. k.parent) c.args.code.now.classes c.loop-up.at (Some c.in-Some.row.now) c.in-Some.ensures.value
     ∙ ap (option_map (λ p. record { class = p; args = c.in-Some.row.now.args })) c.in_default-parent.is))
     ∙ c.loop-up.invariant k (omega arith)
 
@@ -33,7 +33,7 @@ loop-up-preserved c = λ k e.
     ap (λ rs. regions_above (names_of 0) (parent_of (plain_code c.args.code.now)) k c.in-Some-parent.parent rs c.args.above) c.in_ok-regions.ensures
     ∙ sym (up_above (parent_of (plain_code c.args.code.now)) (names_of 0) c.args.above k c.loop-up.at (map plain_region c.loop-up.regions)
     (record { class = c.in-Some-parent.parent; args = c.in-Some.row.now.args }) c.if-at-above.false
-    (found_in plain_class (λ k. k.parent) c.args.code.now.classes c.loop-up.at (Some c.in-Some.row.now) c.in-Some.ensures.value
+    (found_in (plain_class c.args.code.now.members) (λ k. k.parent) c.args.code.now.classes c.loop-up.at (Some c.in-Some.row.now) c.in-Some.ensures.value
     ∙ ap (option_map (λ p. record { class = p; args = c.in-Some.row.now.args })) c.in-Some-parent.is))
     ∙ c.loop-up.invariant (suc k) (omega (arith, e))
 

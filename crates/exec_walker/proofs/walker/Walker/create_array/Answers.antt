@@ -4,6 +4,7 @@ use Rattle.std.proofs.Math.IntN.{nat_abs}
 use Rattle.std.proofs.lemmas.Int.{to_z-of_z}
 use Rattle.std.proofs.lemmas.Result.{err_from_is_err_and}
 use Rattle.lang_base.specs.declared.value.Value.{Value as Constant}
+use Rattle.lang_base.specs.FirstValues.{constant_of}
 use Rattle.lang_base.specs.Types.{plain_type}
 use Rattle.lang_meaning.specs.Actions.{New}
 use Rattle.lang_meaning.specs.Counts.{name_made, number, slot_value}
@@ -17,6 +18,7 @@ use Rattle.exec_walker.specs.States.{ComesTo, IsOverAt, plain_level, plain_waiti
 use Rattle.exec_frames.proofs.Counting.{counts_len}
 use Rattle.exec_walker.proofs.Arrays.{at_array, array_made}
 use Rattle.exec_walker.proofs.Halting.{refused}
+use Rattle.exec_walker.proofs.Programs.{first_is}
 use Rattle.exec_walker.proofs.walker.Walker.create_array.Goals as goal
 
 pub returns-in_err-array : goal.returns-in_err-array
@@ -28,7 +30,7 @@ returns-in_err-array c = λ L w h.
     let fits : SFits w32 c.number-len.result = search rules in
     let len = sym (c.number-len.ensures ∙ ap number c.operand.ensures) ∙ counts_len c.number-len.result _ (to_z-of_z w32 c.number-len.result fits) c.if-len-lt0.false in
     let r = plain_region c.in_ok-region.region in
-    let v = plain_value c.first_of-first.result in
+    let v = plain_value c.value.result in
     let short : is_long r ≡ false = sym c.is_long.ensures ∙ c.if-is_long.false in
     let out = err_from_is_err_and c.from_residual-in_err-array.result c.from_residual-in_err-array.ensures.1 in
     rw (out.1, out.2) (refused Constant L c.in_err-array.field-0.0 _ _ (Holds L c.make_array.new.self) (after (New (An_array r k v) false) w)
@@ -37,7 +39,7 @@ returns-in_err-array c = λ L w h.
     (array_made g (λ v. v ∷ drop 1 g.operands) ws c.args.place g.frame w (plain_type c.args.ty.now) (plain_type c.in-Array.elem) c.in-Array.rpl c.in-Array.named i k r v
     (name_made {M = LocalRegion} (answer w.heap (New (An_array r k v) false)))
     (at_array c.args.ty.now c.in-Array.elem c.in-Array.rpl c.in-Array.named c.in-Array.is) len c.in_ok-region.ensures
-    (c.first_of-first.ensures ∙ ap (λ t. first_of (plain_type t)) c.get.ensures) short refl)
+    (ap plain_value (c.value.ensures ∙ ap constant_of c.of-first.ensures) ∙ first_is (plain_type c.get.result.now) ∙ ap (λ t. first_of (plain_type t)) c.get.ensures) short refl)
     over))
 
 pub returns : goal.returns
@@ -49,11 +51,11 @@ returns c = λ L w h.
     let fits : SFits w32 c.number-len.result = search rules in
     let len = sym (c.number-len.ensures ∙ ap number c.operand.ensures) ∙ counts_len c.number-len.result _ (to_z-of_z w32 c.number-len.result fits) c.if-len-lt0.false in
     let r = plain_region c.in_ok-region.region in
-    let v = plain_value c.first_of-first.result in
+    let v = plain_value c.value.result in
     let short : is_long r ≡ false = sym c.is_long.ensures ∙ c.if-is_long.false in
     subst (λ s. ComesTo L c.give-2.result c.give-2.new.self s)
     (array_made g (λ v. v ∷ drop 1 g.operands) ws c.args.place g.frame w (plain_type c.args.ty.now) (plain_type c.in-Array.elem) c.in-Array.rpl c.in-Array.named i k r v
     (plain_value c.in_ok-array.array)
     (at_array c.args.ty.now c.in-Array.elem c.in-Array.rpl c.in-Array.named c.in-Array.is) len c.in_ok-region.ensures
-    (c.first_of-first.ensures ∙ ap (λ t. first_of (plain_type t)) c.get.ensures) short (c.in_ok-array.ensures.name L w h))
+    (ap plain_value (c.value.ensures ∙ ap constant_of c.of-first.ensures) ∙ first_is (plain_type c.get.result.now) ∙ ap (λ t. first_of (plain_type t)) c.get.ensures) short (c.in_ok-array.ensures.name L w h))
     (c.give-2.ensures L (after (New (An_array r k v) false) w) (c.in_ok-array.ensures.store L w h))
