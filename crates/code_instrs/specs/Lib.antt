@@ -1,4 +1,4 @@
 pub mod Plain
 pub mod Machine
 pub mod Fit
-pub mod Legs
+pub mod RunsToActions

@@ -13,4 +13,4 @@ pub mod Branched
 pub mod Built
 pub mod Bodies
 pub mod Samples
-pub mod Legs
+pub mod RunsToActions

@@ -7,7 +7,7 @@ use Rattle.lang_meaning.specs.Values.{Naming}
 use Rattle.lang_meaning.specs.Actions.{Frame, Work, Task, Action, Answer, Reply, Unknown}
 use Rattle.lang_meaning.specs.Asking.{ask}
 use Rattle.code_instrs.specs.Plain.{PlainCode}
-use Rattle.code_instrs.specs.Legs.{Halt, Asks, Leg, Halts, said}
+use Rattle.code_instrs.specs.RunsToActions.{Halt, Asks, RunsToAction, Halts, said}
 use Rattle.code_instrs.specs.Machine.{Start, State, begins_at, Solo}
 use Rattle.code_scheme.specs.Whole.{number_in, compiled}
 use Rattle.code_scheme.specs.Compiled.{Compiled, SameReply, Right}
@@ -48,18 +48,18 @@ NeverStuck N M =
     (got : List (Answer N M)) → Solo names (compiled P) b got Unknown → ⊥
 
 -- a compiled task that gets its answers one at a time stands each time at what the meaning asks
-abbrev pub LegsAreRight : Type 0 → Type 0 → Type 0
-LegsAreRight N M =
+abbrev pub RunsAreRight : Type 0 → Type 0 → Type 0
+RunsAreRight N M =
     (names : Naming N M) (P : PlainProgram) → Resolved P → (b : Start N M) (t : Task N M) → Compiled (compiled P) P b t →
     (got : List (Answer N M)) (h : Halt N M) → Halts names (compiled P) b got h → SameReply (compiled P) P (ask names P t got) (said h)
 
--- its first leg ends, and so does each leg after an answer
-pub record LegsEndOf {N M : Type 0} (names : Naming N M) (C : PlainCode) (b : Start N M) : Type 0 where
-  pub first : (h : Halt N M) × Leg names C 0 (begins_at b) h
+-- it comes to a first action, and to one after each answer
+pub record RunsEndOf {N M : Type 0} (names : Naming N M) (C : PlainCode) (b : Start N M) : Type 0 where
+  pub first : (h : Halt N M) × RunsToAction names C 0 (begins_at b) h
   pub later :
       (got : List (Answer N M)) (n m : ℕ) (a : Action N M (Start N M)) (k : Answer N M → State N M) → Halts names C b got (Asks n m a k) →
-      (x : Answer N M) → (h : Halt N M) × Leg names C m (k x) h
+      (x : Answer N M) → (h : Halt N M) × RunsToAction names C m (k x) h
 
-abbrev pub LegsEnd : Type 0 → Type 0 → Type 0
-LegsEnd N M =
-    (names : Naming N M) (P : PlainProgram) → Resolved P → (b : Start N M) (t : Task N M) → Compiled (compiled P) P b t → LegsEndOf names (compiled P) b
+abbrev pub RunsEnd : Type 0 → Type 0 → Type 0
+RunsEnd N M =
+    (names : Naming N M) (P : PlainProgram) → Resolved P → (b : Start N M) (t : Task N M) → Compiled (compiled P) P b t → RunsEndOf names (compiled P) b

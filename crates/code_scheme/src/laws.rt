@@ -2,7 +2,7 @@
 //! made local regions.
 
 ghost use Rattle.code_scheme.specs.Samples.{SamplesStand};
-ghost use Rattle.code_scheme.specs.Laws.{CodeIsRight, MembersAreCompiled, BodiesAreCompiled, OneReply, NeverStuck, LegsAreRight, LegsEnd};
+ghost use Rattle.code_scheme.specs.Laws.{CodeIsRight, MembersAreCompiled, BodiesAreCompiled, OneReply, NeverStuck, RunsAreRight, RunsEnd};
 
 /// The code of a program does what the program means, whatever its tasks are answered.
 pub fn law_code<N, M>()
@@ -17,10 +17,10 @@ pub fn law_solo<N, M>()
     ensures never { NeverStuck N M }
 {}
 
-/// A compiled task that gets its answers one at a time does what it means, and each of its legs ends.
-pub fn law_legs<N, M>()
-    ensures right { LegsAreRight N M }
-    ensures ends { LegsEnd N M }
+/// A compiled task that gets its answers one at a time does what it means, and comes to an action after each answer.
+pub fn law_runs_to_actions<N, M>()
+    ensures right { RunsAreRight N M }
+    ensures ends { RunsEnd N M }
 {}
 
 /// Small programs have the code that a person writes.

@@ -6,7 +6,7 @@ use Rattle.lang_base.specs.declared.value.SlotValue.{SlotValue}
 use Rattle.lang_base.specs.declared.value.Trap.{Trap}
 use Rattle.lang_base.specs.declared.value.Value.{Value}
 use Rattle.lang_meaning.specs.Actions as meaning
-use Rattle.code_instrs.specs.Legs.{Halt, Asks, Finished, Dead}
+use Rattle.code_instrs.specs.RunsToActions.{Halt, Asks, Finished, Dead}
 use Rattle.code_instrs.specs.Machine.{State}
 use Rattle.code_instrs.specs.Plain.{PlainCode}
 use Rattle.exec_heap.specs.Heap.{Object, instance, array, object_at, values_of}

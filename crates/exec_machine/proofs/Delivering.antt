@@ -1,11 +1,11 @@
--- A task that is given its answer begins its next leg, and goes on its way.
+-- A task that is given its answer goes on its way to the next action.
 use Rattle.std.proofs.Common.{arith, ◌≡◌, ℕ, ◌==◌, if◌then◌else◌, refl, sym, ap, ◌∙◌, false, Some}
 use Rattle.lang_meaning.specs.Actions.{Do, Rest}
 use Rattle.lang_meaning.specs.Asking.{most_turns}
-use Rattle.code_instrs.specs.Legs.{Halt, Asks, Finished, Dead, leg}
+use Rattle.code_instrs.specs.RunsToActions.{Halt, Asks, Finished, Dead, run_to_action}
 use Rattle.code_instrs.specs.Machine.{State}
 use Rattle.code_instrs.specs.Plain.{PlainCode}
-use Rattle.exec_task.specs.Halts.{leg_from, OnTheWay, front_of, Follows, Ends, Paced}
+use Rattle.exec_task.specs.Halts.{run_from, OnTheWay, front_of, Follows, Ends, Paced}
 use Rattle.exec_task.specs.Names.{names_of}
 use Rattle.exec_task.specs.Tasks.{state_of, plain_answer}
 use Rattle.exec_task.specs.declared.action.Answer.{Answer}
@@ -16,31 +16,31 @@ at_zero : (0 == most_turns) ≡ false
 unfolding most_turns
 at_zero = refl
 
--- a leg that has made no turn yet
-from_zero : (C : PlainCode) (k fuel made : ℕ) (s : State ℕ (ℕ × ℕ)) → leg_from (names_of k) C fuel 0 made s ≡ leg (names_of k) C fuel 0 made s
-from_zero C k fuel made s = ap (λ b. if b then Some (Asks 0 made (Do Rest) (λ x. s)) else leg (names_of k) C fuel 0 made s) at_zero
+-- a way to an action on which no turn was made yet
+from_zero : (C : PlainCode) (k fuel made : ℕ) (s : State ℕ (ℕ × ℕ)) → run_from (names_of k) C fuel 0 made s ≡ run_to_action (names_of k) C fuel 0 made s
+from_zero C k fuel made s = ap (λ b. if b then Some (Asks 0 made (Do Rest) (λ x. s)) else run_to_action (names_of k) C fuel 0 made s) at_zero
 
--- what is kept of a task is at the start of its leg
+-- what is kept of a task is at the start of its way to the next action
 pub record Begins (k : ℕ) (s : Task) (t : Running) : Type 0 where
   pub number : s.number ≡ k
   pub turns : s.turns ≡ 0
   pub made : s.made ≡ t.made
   pub state : state_of s ≡ t.state
 
-leg_is : (C : PlainCode) (k : ℕ) (s : Task) (t : Running) → Begins k s t → (fuel : ℕ)
-    → leg_from (names_of s.number) C fuel s.turns s.made (state_of s) ≡ leg (names_of k) C fuel 0 t.made t.state
-leg_is C k s t b fuel =
-    ap (λ n. leg_from (names_of n) C fuel s.turns s.made (state_of s)) b.number
-    ∙ ap (λ n. leg_from (names_of k) C fuel n s.made (state_of s)) b.turns
-    ∙ ap (λ n. leg_from (names_of k) C fuel 0 n (state_of s)) b.made
-    ∙ ap (λ z. leg_from (names_of k) C fuel 0 t.made z) b.state
+run_is : (C : PlainCode) (k : ℕ) (s : Task) (t : Running) → Begins k s t → (fuel : ℕ)
+    → run_from (names_of s.number) C fuel s.turns s.made (state_of s) ≡ run_to_action (names_of k) C fuel 0 t.made t.state
+run_is C k s t b fuel =
+    ap (λ n. run_from (names_of n) C fuel s.turns s.made (state_of s)) b.number
+    ∙ ap (λ n. run_from (names_of k) C fuel n s.made (state_of s)) b.turns
+    ∙ ap (λ n. run_from (names_of k) C fuel 0 n (state_of s)) b.made
+    ∙ ap (λ z. run_from (names_of k) C fuel 0 t.made z) b.state
     ∙ from_zero C k fuel t.made t.state
 
 pub on_its_way : (C : PlainCode) (k : ℕ) (s : Task) (t : Running) → Goes C k t → Begins k s t → OnItsWay C k s t
 on_its_way C k s t g b = record {
   number = b.number;
-  way = λ h x. record { fuel = x.fuel; runs = sym (leg_is C k s t b x.fuel) ∙ x.runs };
-  ends = record { halt = g.halt; halts = record { fuel = g.leg.fuel; runs = leg_is C k s t b g.leg.fuel ∙ g.leg.runs }; alive = g.alive };
+  way = λ h x. record { fuel = x.fuel; runs = sym (run_is C k s t b x.fuel) ∙ x.runs };
+  ends = record { halt = g.halt; halts = record { fuel = g.run_to_action.fuel; runs = run_is C k s t b g.run_to_action.fuel ∙ g.run_to_action.runs }; alive = g.alive };
   paced = record { turns = omega (arith, b.turns); names = omega (arith, b.turns, b.made, g.names) };
 }
 
@@ -60,6 +60,6 @@ delivered C k old new x t a f n = by_case (front_of C old) a.goes_on f
     by_case Dead e f = absurd (cc)
 
 -- further on its way
-pub legged : (C : PlainCode) (k : ℕ) (old new : Task) (t : Running) → OnItsWay C k old t → OnTheWay C old new → new.number ≡ old.number → Ends C new → Paced new
+pub ran_on : (C : PlainCode) (k : ℕ) (old new : Task) (t : Running) → OnItsWay C k old t → OnTheWay C old new → new.number ≡ old.number → Ends C new → Paced new
     → OnItsWay C k new t
-legged C k old new t w way n ends paced = record { number = n ∙ w.number; way = λ h x. w.way h (way h x); ends = ends; paced = paced }
+ran_on C k old new t w way n ends paced = record { number = n ∙ w.number; way = λ h x. w.way h (way h x); ends = ends; paced = paced }

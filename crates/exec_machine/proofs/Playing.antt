@@ -25,7 +25,7 @@ all_go C m g k = by_case (m.tasks k) refl
   where
     by_case : (o : Option Running) → m.tasks k ≡ o → GoesOne C k o
     by_case None is = tt
-    by_case (Some t) is = g.legs k t is
+    by_case (Some t) is = g.all_go k t is
 
 module _ (code : Code) (L : Limits) (argument : ℤ) where
   abbrev pub played : Run → Played

@@ -6,7 +6,7 @@ use Rattle.std.specs.Ordering.{nat_cmp}
 use Rattle.lang_base.specs.declared.outcome.Limits.{Limits}
 use Rattle.lang_base.specs.declared.outcome.Outcome.{Outcome}
 use Rattle.code_instrs.specs.declared.code.Code.{Code}
-use Rattle.code_instrs.specs.Legs.{Halt, Leg}
+use Rattle.code_instrs.specs.RunsToActions.{Halt, RunsToAction}
 use Rattle.code_instrs.specs.Plain.{PlainCode, plain_code}
 use Rattle.exec_task.specs.Answers.{IsCounted}
 use Rattle.exec_task.specs.Halts.{Tells, front_of}
@@ -51,7 +51,7 @@ next_in C r m e s h there at =
         stands = record {
           state = state_of s.task;
           made = s.task.made;
-          leg = subst (λ f. Leg (names_of e.task) C live.0.made live.0.state f) here (way.way (front_of C s.task) at.stands.halts);
+          run_to_action = subst (λ f. RunsToAction (names_of e.task) C live.0.made live.0.state f) here (way.way (front_of C s.task) at.stands.halts);
           tells = subst (λ f. Tells C e.action f) here at.stands.tells;
           number = refl;
           wants = subst (λ n. WantsRightly C (state_of s.task) n e.action e.wants) (sym at.turns) at.wants;
@@ -210,7 +210,7 @@ module _ (code : Code) (L : Limits) (old new : Run) (m : Moment) (e : Event) whe
       } in
       let moves : Moves code L m e.task n = made e x.next can_be (subst (λ v. Within code v e) keeps.world within) refl in
       let goes : Goes C m.world.tree.begun (at_start (plain_start start)) =
-      (can.later n moves).legs m.world.tree.begun (at_start (plain_start start)) (child_there s b start x act starts_too apart_too) in
+      (can.later n moves).all_go m.world.tree.begun (at_start (plain_start start)) (child_there s b start x act starts_too apart_too) in
       let branch : with_branch C x.next.stands.state e.action m.world.tree.begun m.tasks ≡ with_task m.tasks m.world.tree.begun (Some (at_start (plain_start start))) =
       ap (λ a. with_branch C x.next.stands.state a m.world.tree.begun m.tasks) act ∙ ap (λ o. with_task m.tasks m.world.tree.begun (begun o)) starts_too in
       let first_too : IsFirst m.world.tree.begun start child = subst (λ q. IsFirst q start child) next_is first in

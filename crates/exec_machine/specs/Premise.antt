@@ -12,7 +12,7 @@ pub record GoesOn (C : PlainCode) (m : Moment) : Type 0 where
   -- no task has the next number yet
   pub next : m.tasks m.world.tree.begun ≡ None
   pub live : (k : ℕ) → IsReady m.world k → (t : Running) × (m.tasks k ≡ Some t)
-  pub legs : (k : ℕ) (t : Running) → m.tasks k ≡ Some t → Goes C k t
+  pub all_go : (k : ℕ) (t : Running) → m.tasks k ≡ Some t → Goes C k t
 
 -- so at each moment to which a schedule leads
 abbrev pub CanProgress : Code → Limits → ℤ → Type 0

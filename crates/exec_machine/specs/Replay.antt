@@ -7,7 +7,7 @@ use Rattle.lang_base.specs.declared.outcome.Outcome.{Outcome}
 use Rattle.lang_base.specs.declared.value.Value.{Value}
 use Rattle.lang_base.specs.declared.value.Value.TheVariants as value
 use Rattle.code_instrs.specs.declared.code.Code.{Code}
-use Rattle.code_instrs.specs.Legs.{Halt, Leg}
+use Rattle.code_instrs.specs.RunsToActions.{Halt, RunsToAction}
 use Rattle.code_instrs.specs.Machine.{State, Start, root_start}
 use Rattle.code_instrs.specs.Plain.{PlainCode, plain_code}
 use Rattle.exec_heap.specs.Heap.{instance, with_object}
@@ -38,7 +38,7 @@ pub record Moment : Type 0 where
 pub record Standing (C : PlainCode) (k : ℕ) (t : Running) (e : Event) : Type 0 where
   pub state : State ℕ (ℕ × ℕ)
   pub made : ℕ
-  pub leg : Leg (names_of k) C t.made t.state (front C k e.turns made state)
+  pub run_to_action : RunsToAction (names_of k) C t.made t.state (front C k e.turns made state)
   pub tells : Tells C e.action (front C k e.turns made state)
   pub number : e.task ≡ k
   pub wants : WantsRightly C state e.turns e.action e.wants

@@ -4,7 +4,7 @@ use Rattle.std.specs.Ordering.{nat_cmp}
 use Rattle.std.specs.FinMap.{FinMap, get}
 use Rattle.lang_meaning.specs.Actions.{Do, Rest}
 use Rattle.lang_meaning.specs.Asking.{most_turns}
-use Rattle.code_instrs.specs.Legs.{Halt, Asks, Finished, Dead, Leg}
+use Rattle.code_instrs.specs.RunsToActions.{Halt, Asks, Finished, Dead, RunsToAction}
 use Rattle.code_instrs.specs.Machine.{State, Start, begins_at, step}
 use Rattle.code_instrs.specs.Plain.{PlainCode}
 use Rattle.exec_task.specs.Answers.{IsCounted}
@@ -25,7 +25,7 @@ pub record Running : Type 0 where
 abbrev pub at_start : Start ℕ (ℕ × ℕ) → Running
 at_start b = record { state = begins_at b; made = 0 }
 
--- where the leg of a task of this number stands, that has made so many turns and local regions
+-- where a task of this number stands on its way to its next action, that has made so many turns and local regions
 abbrev pub front : PlainCode → ℕ → ℕ → ℕ → State ℕ (ℕ × ℕ) → Halt ℕ (ℕ × ℕ)
 front C k turns made z = if turns == most_turns then Asks turns made (Do Rest) (λ x. z) else stands turns made (step (names_of k) C z)
 
@@ -35,17 +35,17 @@ answered (Asks turns made a k) x = Some (record { state = k (plain_answer x); ma
 answered (Finished turns e) x = None
 answered Dead x = None
 
--- its next leg ends, and isn't stuck; and there are names for the local regions that it makes
+-- it comes to a next action, and isn't stuck; and there are names for the local regions that it makes
 pub record Goes (C : PlainCode) (k : ℕ) (t : Running) : Type 0 where
   pub halt : Halt ℕ (ℕ × ℕ)
-  pub leg : Leg (names_of k) C t.made t.state halt
+  pub run_to_action : RunsToAction (names_of k) C t.made t.state halt
   pub alive : halt ≡ Dead → ⊥
   pub names : t.made + 4096 < 2 ^ 32
 
--- a task that has its last answer is on the way of its leg
+-- a task that has its last answer is on the way to its next action
 pub record OnItsWay (C : PlainCode) (k : ℕ) (s : Task) (t : Running) : Type 0 where
   pub number : s.number ≡ k
-  pub way : (h : Halt ℕ (ℕ × ℕ)) → Halts C s h → Leg (names_of k) C t.made t.state h
+  pub way : (h : Halt ℕ (ℕ × ℕ)) → Halts C s h → RunsToAction (names_of k) C t.made t.state h
   pub ends : Ends C s
   pub paced : Paced s
 

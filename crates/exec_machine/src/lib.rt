@@ -12,13 +12,13 @@
 //! A machine is stuck where what a ready task does next can't be done: an object isn't there, a fork, a join, an entry or an
 //! exit comes out of turn, or a branch has no start. A step tells so, and leaves the machine as it was.
 //!
-//! What a task does up to its event, its leg, touches nothing but the task. So `prepare` takes many tasks towards their next events side
+//! What a task does up to its event touches nothing but the task. So `prepare` takes many tasks towards their next events side
 //! by side, in threads, ahead of their steps; a contract sees the machine as it was.
 //!
 //! A machine keeps no event. `EventMachine` does, from the start on, each with its answer and with the place in the text where its task
 //! stood (`specs/Events.antt`).
 //!
-//! A step takes the time of the leg that its task makes and of what its event touches. `next_ready` and `ready_below` take that of
+//! A step takes the time of its task's way to the event and of what the event touches. `next_ready` and `ready_below` take that of
 //! the queues of `exec_world`: a task that waits isn't asked again before what it waits for has come.
 #![tactic(auto)]
 

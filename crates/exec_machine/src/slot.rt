@@ -72,7 +72,7 @@ impl Slot {
         ensures tells { IfOk result (λ action. Tells (plain_code code.now) action (front_of (plain_code code.now) self.new.task)) }
     {
         self.deliver(alloc, code)?;
-        self.task.leg(alloc, code)
+        self.task.run_to_action(alloc, code)
     }
 }
 

@@ -1,3 +1,3 @@
-pub mod Legs
+pub mod RunsToActions
 pub mod Trees
 pub mod Moments

@@ -9,14 +9,14 @@ use Rattle.lang_typed.specs.Resolved.{Resolved, HasMain}
 use Rattle.lang_meaning.specs.Actions.{End}
 use Rattle.lang_meaning.specs.Actions as meaning
 use Rattle.code_instrs.specs.declared.code.Code.{Code}
-use Rattle.code_instrs.specs.Legs.{Halt, Asks, Finished, Dead, Leg}
+use Rattle.code_instrs.specs.RunsToActions.{Halt, Asks, Finished, Dead, RunsToAction}
 use Rattle.code_instrs.specs.Machine.{Start, State, Solo, root_start}
 use Rattle.code_instrs.specs.Plain.{PlainCode, plain_code}
 use Rattle.code_scheme.specs.Compiled.{Compiled}
-use Rattle.code_scheme.specs.Laws.{LegsEndOf}
+use Rattle.code_scheme.specs.Laws.{RunsEndOf}
 use Rattle.code_scheme.specs.Whole.{number_in, compiled}
 use Rattle.code_scheme.proofs.Bodies.{bodies_are_compiled}
-use Rattle.code_scheme.proofs.Legs.{legs_end}
+use Rattle.code_scheme.proofs.RunsToActions.{runs_end}
 use Rattle.code_scheme.proofs.Theorems.{never_stuck}
 use Rattle.code_scheme.proofs.Whole.{laid_out, members_are_compiled}
 use Rattle.exec_task.specs.Branches.{starts_at}
@@ -37,12 +37,12 @@ use Rattle.exec_world.specs.declared.world.World.{World}
 use Rattle.exec_machine.specs.Premise.{GoesOn, CanProgress}
 use Rattle.exec_machine.specs.Replay.{Moment, NextOf, CanBeMade, StartsIn, Moves, made, over, Opens, opened, no_room, LeadsTo, with_task, with_branch, goes_on, begun, after, root_alone, limited}
 use Rattle.exec_machine.specs.Running.{Running, Goes, at_start, answered, front}
-use Rattle.exec_progress.proofs.Legs.{leg_counted, TellsCounts, front_counts, ComesTo, at_first, next_leg, comes_on, never_dead}
+use Rattle.exec_progress.proofs.RunsToActions.{run_counted, TellsCounts, front_counts, ComesTo, at_first, next_run, comes_on, never_dead}
 use Rattle.exec_progress.specs.Progress.{CodeMakesProgress}
 use Rattle.exec_progress.proofs.Trees.{IsLive, root_live, changed_live, begun_live, ended_live, ended_begun}
 
 module _ (code : Code) (L : Limits) (few : L.steps ≤ 20000000) (Good : Start ℕ (ℕ × ℕ) → Type 0)
-    (ends : (k : ℕ) (b : Start ℕ (ℕ × ℕ)) → Good b → LegsEndOf (names_of k) (plain_code code) b)
+    (ends : (k : ℕ) (b : Start ℕ (ℕ × ℕ)) → Good b → RunsEndOf (names_of k) (plain_code code) b)
     (never : (k : ℕ) (b : Start ℕ (ℕ × ℕ)) → Good b → (got : List (meaning.Answer ℕ (ℕ × ℕ))) → Solo (names_of k) (plain_code code) b got meaning.Unknown → ⊥)
     (bodies : (b : Start ℕ (ℕ × ℕ)) → b.body < length (plain_code code).bodies → Good b) where
   abbrev C : PlainCode
@@ -69,19 +69,19 @@ module _ (code : Code) (L : Limits) (few : L.steps ≤ 20000000) (Good : Start �
   known_goes : (k steps : ℕ) (t : Running) → steps ≤ 20000001 → Known k steps t → Goes C k t
   known_goes k steps t few x = record {
     halt = l.0;
-    leg = l.1;
-    alive = λ dead. never_dead C k x.start (never k x.start x.good) t x.comes (subst (λ h. Leg (names_of k) C t.made t.state h) dead l.1);
+    run_to_action = l.1;
+    alive = λ dead. never_dead C k x.start (never k x.start x.good) t x.comes (subst (λ h. RunsToAction (names_of k) C t.made t.state h) dead l.1);
     names = (let le = x.made in omega (arith, le, few));
   }
     where
-      l : (h : Halt ℕ (ℕ × ℕ)) × Leg (names_of k) C t.made t.state h
-      l = next_leg C k x.start (ends k x.start x.good) t x.comes
+      l : (h : Halt ℕ (ℕ × ℕ)) × RunsToAction (names_of k) C t.made t.state h
+      l = next_run C k x.start (ends k x.start x.good) t x.comes
 
   holds_goes : (m : Moment) → Holds m → GoesOn C m
   holds_goes m h = record {
     next = h.beyond m.world.tree.begun (omega (arith));
     live = λ k x. h.there k (ready_live (task_at m.world.tree k) x.0);
-    legs = λ k t e. known_goes k m.world.steps t h.steps (h.known k t e);
+    all_go = λ k t e. known_goes k m.world.steps t h.steps (h.known k t e);
   }
 
   later : (q steps more : ℕ) (t : Running) → steps ≤ more → Known q steps t → Known q more t
@@ -148,20 +148,20 @@ module _ (code : Code) (L : Limits) (few : L.steps ≤ 20000000) (Good : Start �
     known : Known k steps task
 
   answered_known : (k steps : ℕ) (t : Running) (turns regions : ℕ) (a : Action) → ((c : meaning.Ending ℕ) → Says C a (End c) → ⊥) → Known k steps t →
-      (h : Halt ℕ (ℕ × ℕ)) → Leg (names_of k) C t.made t.state h → TellsCounts turns regions h → Tells C a h → (x : Answer) → Answered k (steps + turns) h x
-  answered_known k steps t turns regions a no_end known (Asks n m b f) leg counts tells x = record {
+      (h : Halt ℕ (ℕ × ℕ)) → RunsToAction (names_of k) C t.made t.state h → TellsCounts turns regions h → Tells C a h → (x : Answer) → Answered k (steps + turns) h x
+  answered_known k steps t turns regions a no_end known (Asks n m b f) run_to_action counts tells x = record {
     task = record { state = f (plain_answer x); made = m };
     goes = refl;
     known = record {
       start = known.start;
       good = known.good;
-      comes = comes_on C k known.start t known.comes n m b f leg (plain_answer x);
-      made = (let le = leg_counted (names_of k) C leg.fuel 0 t.made t.state n m b f leg.runs in let before = known.made in let n_is = counts.0 in
+      comes = comes_on C k known.start t known.comes n m b f run_to_action (plain_answer x);
+      made = (let le = run_counted (names_of k) C run_to_action.fuel 0 t.made t.state n m b f run_to_action.runs in let before = known.made in let n_is = counts.0 in
           omega (arith, le, before, n_is));
     };
   }
-  answered_known k steps t turns regions a no_end known (Finished n e) leg counts tells x = absurd (no_end e tells)
-  answered_known k steps t turns regions a no_end known Dead leg counts tells x = absurd tells
+  answered_known k steps t turns regions a no_end known (Finished n e) run_to_action counts tells x = absurd (no_end e tells)
+  answered_known k steps t turns regions a no_end known Dead run_to_action counts tells x = absurd tells
 
   start_there : (o : Option (Start ℕ (ℕ × ℕ))) → StartsIn C o → (s : Start ℕ (ℕ × ℕ)) × (o ≡ Some s) × (s.body < length C.bodies)
   start_there None x = absurd x
@@ -195,7 +195,7 @@ module _ (code : Code) (L : Limits) (few : L.steps ≤ 20000000) (Good : Start �
         base_is = p.branch x.stands.state m.world.tree.begun m.tasks
 
         next : Answered k (m.world.steps + turns) halt answer
-        next = answered_known k m.world.steps x.task turns x.stands.made a p.no_end (h.known k x.task x.there) halt x.stands.leg
+        next = answered_known k m.world.steps x.task turns x.stands.made a p.no_end (h.known k x.task x.there) halt x.stands.run_to_action
             (front_counts C k turns x.stands.made x.stands.state) x.stands.tells answer
 
         own_is : goes_on a halt answer ≡ Some next.task
@@ -255,7 +255,7 @@ module _ (code : Code) (L : Limits) (few : L.steps ≤ 20000000) (Good : Start �
         inside = there_is.2
 
         next : Answered k (m.world.steps + turns) halt answer
-        next = answered_known k m.world.steps x.task turns x.stands.made a (λ c e. (cc)) (h.known k x.task x.there) halt x.stands.leg
+        next = answered_known k m.world.steps x.task turns x.stands.made a (λ c e. (cc)) (h.known k x.task x.there) halt x.stands.run_to_action
             (front_counts C k turns x.stands.made x.stands.state) x.stands.tells answer
 
         old_below : k < m.world.tree.begun
@@ -418,8 +418,8 @@ root_compiled P resolved main argument = (_, members_are_compiled P resolved P.m
 pub code_progresses : CodeMakesProgress
 code_progresses code P L argument is resolved main few =
     replay_goes_on code L few (λ b. (t : meaning.Task ℕ (ℕ × ℕ)) × Compiled (plain_code code) P b t)
-    (λ k. subst (λ C. (b : Start ℕ (ℕ × ℕ)) → ((t : meaning.Task ℕ (ℕ × ℕ)) × Compiled C P b t) → LegsEndOf (names_of k) C b) (sym is)
-    (λ b good. legs_end (names_of k) P resolved b good.0 good.1))
+    (λ k. subst (λ C. (b : Start ℕ (ℕ × ℕ)) → ((t : meaning.Task ℕ (ℕ × ℕ)) × Compiled C P b t) → RunsEndOf (names_of k) C b) (sym is)
+    (λ b good. runs_end (names_of k) P resolved b good.0 good.1))
     (λ k. subst (λ C. (b : Start ℕ (ℕ × ℕ)) → ((t : meaning.Task ℕ (ℕ × ℕ)) × Compiled C P b t) → (got : List (meaning.Answer ℕ (ℕ × ℕ))) →
     Solo (names_of k) C b got meaning.Unknown → ⊥) (sym is)
     (λ b good got. never_stuck (names_of k) (compiled P) P (number_in P) (laid_out P) resolved b good.0 good.1 got))

@@ -6,8 +6,8 @@
 //! order. `round` answers how many they are, and `run_rounds` how many rounds there were. Where an event can't be made, and after want of
 //! memory, the machine is where the events before lead.
 //!
-//! What a task does up to its event touches nothing but the task, so the legs of a round are computed side by side before the turns, where
-//! they are long: in at most as many pieces as there may be threads, one leg after the other in each. That can't be told from a round
+//! What a task does up to its event touches nothing but the task, so the tasks of a round run to their actions side by side before the turns, where
+//! that is long: in at most as many pieces as there may be threads, one task after the other in each. That can't be told from a round
 //! without threads: its contract is the same.
 //!
 //! A round takes the time of its events, and memory for the numbers of the ready tasks; and to find these it passes over the tasks that

@@ -4,7 +4,7 @@ use Rattle.std.specs.Prelude.{slice_get}
 use Rattle.lang_meaning.specs.Actions as meaning
 use Rattle.lang_meaning.specs.Actions.{Do, Rest}
 use Rattle.lang_meaning.specs.Asking.{most_turns}
-use Rattle.code_instrs.specs.Legs.{Asks}
+use Rattle.code_instrs.specs.RunsToActions.{Asks}
 use Rattle.code_instrs.specs.Machine.{State, Stand, Goes, Turns, Makes, Waits, Ends, Stuck, exec, exec_line, rested_line, rested_at, enters_block, next}
 use Rattle.code_instrs.specs.Plain.{PlainCode, Line, Site, block_site, fork_site, spread_site, call_site, new_site, array_site, body_at}
 use Rattle.code_instrs.specs.declared.instr.Instr.{Instr}

@@ -3,7 +3,7 @@ use Rattle.std.proofs.Common.{arith, ◌≡◌, ◌<◌, ◌≤◌, ℕ, zero, s
 use Rattle.lang_base.specs.declared.memory.NoMemory.{NoMemory}
 use Rattle.lang_meaning.specs.Actions.{Do, Rest}
 use Rattle.lang_meaning.specs.Asking.{most_turns}
-use Rattle.code_instrs.specs.Legs.{Halt, Asks, Finished, Dead, legged, leg}
+use Rattle.code_instrs.specs.RunsToActions.{Halt, Asks, Finished, Dead, ran_on, run_to_action}
 use Rattle.code_instrs.specs.Machine.{Stand, Goes, Turns, Makes, Waits, Ends, Stuck}
 use Rattle.code_instrs.specs.Plain.{PlainCode}
 use Rattle.exec_task.specs.declared.action.Action.{Action}
@@ -12,7 +12,7 @@ use Rattle.exec_task.specs.declared.action.Own.TheVariants as own
 use Rattle.exec_task.specs.declared.task.Task.{Task}
 use Rattle.exec_task.specs.Advances.{step_at, Advances, StandsAt}
 use Rattle.exec_task.specs.Fuel.{is_well, is_enough, Least, one_least}
-use Rattle.exec_task.specs.Halts.{leg_from, Halts, stands, front_of, Tells, IsAsking, Ends as Ending, Paced, Reaches}
+use Rattle.exec_task.specs.Halts.{run_from, Halts, stands, front_of, Tells, IsAsking, Ends as Ending, Paced, Reaches}
 use Rattle.exec_task.specs.Names.{names_of}
 use Rattle.exec_task.specs.Tasks.{state_of}
 use Rattle.exec_task.proofs.Stepping.{goes_on, one_step}
@@ -35,7 +35,7 @@ module _ (C : PlainCode) where
   -- with no step nothing is known
   nothing_yet : (t : Task) → t.turns < 4096 → is_enough C t 0 ≡ false
   nothing_yet t h =
-      ap (λ b. is_well (if b then Some (Asks t.turns t.made (Do Rest) (λ x. state_of t)) else leg (names_of t.number) C 0 t.turns t.made (state_of t))) (goes_on C t h)
+      ap (λ b. is_well (if b then Some (Asks t.turns t.made (Do Rest) (λ x. state_of t)) else run_to_action (names_of t.number) C 0 t.turns t.made (state_of t))) (goes_on C t h)
 
   pub least_next : (old new : Task) → old.turns < 4096 → Advances C old new → Least C old → Least C new
   least_next old new h adv (zero, (e, f)) = let g = nothing_yet old h in absurd (cc)
@@ -70,7 +70,7 @@ module _ (C : PlainCode) where
   halts_front t a h s = record { fuel = 1; runs = one_step C t (step_at C t) 0 h refl ∙ by_case (step_at C t) s ∙ ap Some (sym (front_is t h)) }
     where
       by_case : (o : Stand ℕ (ℕ × ℕ)) → Tells C a (stands t.turns t.made o)
-          → legged (names_of t.number) (λ n m s. leg (names_of t.number) C 0 n m s) t.turns t.made o ≡ Some (stands t.turns t.made o)
+          → ran_on (names_of t.number) (λ n m s. run_to_action (names_of t.number) C 0 n m s) t.turns t.made o ≡ Some (stands t.turns t.made o)
       by_case (Goes s) x = absurd x
       by_case (Turns s) x = absurd x
       by_case (Makes k) x = absurd x
@@ -89,7 +89,7 @@ module _ (C : PlainCode) where
   pub halts_rest : (t : Task) → 4096 ≤ t.turns → t.turns ≤ 4096 → Halts C t (front_of C t)
   halts_rest t h k = record {
     fuel = 0;
-    runs = ap (λ b. if b then Some (Asks t.turns t.made (Do Rest) (λ x. state_of t)) else leg (names_of t.number) C 0 t.turns t.made (state_of t)) (at_rest t h k)
+    runs = ap (λ b. if b then Some (Asks t.turns t.made (Do Rest) (λ x. state_of t)) else run_to_action (names_of t.number) C 0 t.turns t.made (state_of t)) (at_rest t h k)
         ∙ ap Some (sym (rest_is t h k));
   }
 
@@ -105,7 +105,7 @@ module _ (C : PlainCode) where
     again = λ z. absurd (m (subst IsAsking (front_is b h) (subst (λ t. IsAsking (front_of C t)) (sym (r.again z)) z)));
   }
 
-  -- a leg that ends well has a least number of steps, and the other way round
+  -- a way that ends well has a least number of steps, and the other way round
   pub least_of : (t : Task) → Ending C t → Least C t
   least_of t e = least (is_enough C t) e.halts.fuel (ap is_well e.halts.runs ∙ well e.halt e.alive)
     where
@@ -115,9 +115,9 @@ module _ (C : PlainCode) where
       well Dead d = absurd (d refl)
 
   pub ends_of : (t : Task) → Least C t → Ending C t
-  ends_of t (n, (e, f)) = by_case (leg_from (names_of t.number) C n t.turns t.made (state_of t)) refl e
+  ends_of t (n, (e, f)) = by_case (run_from (names_of t.number) C n t.turns t.made (state_of t)) refl e
     where
-      by_case : (o : Option (Halt ℕ (ℕ × ℕ))) → leg_from (names_of t.number) C n t.turns t.made (state_of t) ≡ o → is_well o ≡ true → Ending C t
+      by_case : (o : Option (Halt ℕ (ℕ × ℕ))) → run_from (names_of t.number) C n t.turns t.made (state_of t) ≡ o → is_well o ≡ true → Ending C t
       by_case None i w = absurd (cc)
       by_case (Some (Asks m x a k)) i w = record { halt = Asks m x a k; halts = record { fuel = n; runs = i }; alive = λ d. cc }
       by_case (Some (Finished m x)) i w = record { halt = Finished m x; halts = record { fuel = n; runs = i }; alive = λ d. cc }

@@ -4,7 +4,7 @@ use Rattle.std.specs.Prelude.{slice_get}
 use Rattle.lang_meaning.specs.Actions.{Do, Rest}
 use Rattle.lang_meaning.specs.Asking.{most_turns}
 use Rattle.code_instrs.specs.Machine.{State, Stand, Goes, Turns, Makes, Waits, Ends, Stuck, exec, exec_line, rested_line, step}
-use Rattle.code_instrs.specs.Legs.{Asks, legged, leg}
+use Rattle.code_instrs.specs.RunsToActions.{Asks, ran_on, run_to_action}
 use Rattle.code_instrs.specs.Machine as machine
 use Rattle.code_instrs.specs.Plain.{PlainCode, Line, body_at}
 use Rattle.exec_task.specs.declared.action.Action.{Action}
@@ -16,7 +16,7 @@ use Rattle.exec_task.specs.declared.task.Level.{Level}
 use Rattle.exec_task.specs.declared.task.Standing.TheVariants as standing
 use Rattle.exec_task.specs.declared.task.Task.{Task}
 use Rattle.exec_task.specs.Advances.{step_at, StepsTo, Advances}
-use Rattle.exec_task.specs.Halts.{leg_from, stands, Tells}
+use Rattle.exec_task.specs.Halts.{run_from, stands, Tells}
 use Rattle.exec_task.specs.Names.{names_of}
 use Rattle.exec_task.specs.Steps.{WaitsFor, Comes, Enters, HasNext, with_local}
 use Rattle.exec_task.specs.Tasks.{plain_level, state_in, state_of, plain_ending}
@@ -106,23 +106,23 @@ module _ (C : PlainCode) where
   goes_on t h = let other : t.turns ≢ 4096 = omega arith in search (rules, other)
 
   pub one_step : (t : Task) (o : Stand ℕ (ℕ × ℕ)) (fuel : ℕ) → t.turns < 4096 → step_at C t ≡ o
-      → leg_from (names_of t.number) C (suc fuel) t.turns t.made (state_of t)
-      ≡ legged (names_of t.number) (λ n m s. leg (names_of t.number) C fuel n m s) t.turns t.made o
+      → run_from (names_of t.number) C (suc fuel) t.turns t.made (state_of t)
+      ≡ ran_on (names_of t.number) (λ n m s. run_to_action (names_of t.number) C fuel n m s) t.turns t.made o
   one_step t o fuel h e =
-      ap (λ b. if b then Some (Asks t.turns t.made (Do Rest) (λ x. state_of t)) else leg (names_of t.number) C (suc fuel) t.turns t.made (state_of t)) (goes_on t h)
-      ∙ ap (legged (names_of t.number) (λ n m s. leg (names_of t.number) C fuel n m s) t.turns t.made) e
+      ap (λ b. if b then Some (Asks t.turns t.made (Do Rest) (λ x. state_of t)) else run_to_action (names_of t.number) C (suc fuel) t.turns t.made (state_of t)) (goes_on t h)
+      ∙ ap (ran_on (names_of t.number) (λ n m s. run_to_action (names_of t.number) C fuel n m s) t.turns t.made) e
 
   from_here : (old new : Task) (n m fuel : ℕ) (s : State ℕ (ℕ × ℕ)) → new.number ≡ old.number → new.turns ≡ n → new.made ≡ m → state_of new ≡ s
-      → leg_from (names_of old.number) C fuel n m s ≡ leg_from (names_of new.number) C fuel new.turns new.made (state_of new)
+      → run_from (names_of old.number) C fuel n m s ≡ run_from (names_of new.number) C fuel new.turns new.made (state_of new)
   from_here old new n m fuel s a b c d =
-      sym (ap (λ i. leg_from (names_of i) C fuel new.turns new.made (state_of new)) a ∙ ap (λ i. leg_from (names_of old.number) C fuel i new.made (state_of new)) b
-      ∙ ap (λ i. leg_from (names_of old.number) C fuel n i (state_of new)) c ∙ ap (leg_from (names_of old.number) C fuel n m) d)
+      sym (ap (λ i. run_from (names_of i) C fuel new.turns new.made (state_of new)) a ∙ ap (λ i. run_from (names_of old.number) C fuel i new.made (state_of new)) b
+      ∙ ap (λ i. run_from (names_of old.number) C fuel n i (state_of new)) c ∙ ap (run_from (names_of old.number) C fuel n m) d)
 
   pub by_going : (old new : Task) → old.turns < 4096 → step_at C old ≡ Goes (state_of new) → new.number ≡ old.number → new.turns ≡ old.turns
       → new.made ≡ old.made → Advances C old new
   by_going old new h e a b c fuel =
       one_step old (Goes (state_of new)) fuel h e
-      ∙ sym (ap (λ x. if x then Some (Asks old.turns old.made (Do Rest) (λ y. state_of new)) else leg (names_of old.number) C fuel old.turns old.made (state_of new)) (goes_on old h))
+      ∙ sym (ap (λ x. if x then Some (Asks old.turns old.made (Do Rest) (λ y. state_of new)) else run_to_action (names_of old.number) C fuel old.turns old.made (state_of new)) (goes_on old h))
       ∙ from_here old new old.turns old.made fuel (state_of new) a b c refl
 
   pub by_turning : (old new : Task) → old.turns < 4096 → step_at C old ≡ Turns (state_of new) → new.number ≡ old.number → new.turns ≡ suc old.turns

@@ -7,7 +7,7 @@ use Rattle.exec_task.specs.declared.step.Step.{Step}
 use Rattle.exec_task.specs.declared.step.Step.TheVariants as step_of
 use Rattle.exec_task.specs.declared.task.Standing.TheVariants as standing
 use Rattle.exec_task.specs.declared.task.Task.{Task}
-use Rattle.exec_task.specs.Halts.{leg_from, stands, Tells}
+use Rattle.exec_task.specs.Halts.{run_from, stands, Tells}
 use Rattle.exec_task.specs.Names.{names_of}
 use Rattle.exec_task.specs.Steps.{with_local, HasNext}
 use Rattle.exec_task.specs.Tasks.{plain_level, plain_ending, state_of}
@@ -31,11 +31,11 @@ StepsTo C old (step_of.Ends e) new = step_at C old ≡ Goes (Off (plain_ending e
 StepsTo C old (step_of.Waits action) new = ((n m : ℕ) → Tells C action (stands n m (step_at C old))) × (new ≡ old)
 StepsTo C old step_of.Stuck new = step_at C old ≡ Stuck
 
--- the leg of a task is one step more than that of another
+-- the way of a task to its action is one step more than that of another
 abbrev pub Advances : PlainCode → Task → Task → Type 0
 Advances C old new =
-    (fuel : ℕ) → leg_from (names_of old.number) C (suc fuel) old.turns old.made (state_of old)
-    ≡ leg_from (names_of new.number) C fuel new.turns new.made (state_of new)
+    (fuel : ℕ) → run_from (names_of old.number) C (suc fuel) old.turns old.made (state_of old)
+    ≡ run_from (names_of new.number) C fuel new.turns new.made (state_of new)
 
 -- the task stands at this action
 abbrev pub StandsAt : PlainCode → Task → Action → Task → Type 0

@@ -1,12 +1,12 @@
--- How many steps a leg takes.
+-- How many steps a task takes to its next action.
 use Rattle.std.specs.Prelude.{◌≡◌, ◌<◌, ℕ, Bool, true, false, Option, Some, None}
 use Rattle.std.proofs.Common.{arith, sym, ◌∙◌}
 use Rattle.std.proofs.Math.Bool.{Bool-set}
 use mathlib.Core.HLevel.{Π_prop, ×_prop, Σ_prop_path}
-use Rattle.code_instrs.specs.Legs.{Halt, Asks, Finished, Dead}
+use Rattle.code_instrs.specs.RunsToActions.{Halt, Asks, Finished, Dead}
 use Rattle.code_instrs.specs.Plain.{PlainCode}
 use Rattle.exec_task.specs.declared.task.Task.{Task}
-use Rattle.exec_task.specs.Halts.{leg_from}
+use Rattle.exec_task.specs.Halts.{run_from}
 use Rattle.exec_task.specs.Names.{names_of}
 use Rattle.exec_task.specs.Tasks.{state_of}
 
@@ -18,7 +18,7 @@ is_well (Some Dead) = false
 
 -- with so many steps it comes to a halt that isn't stuck
 abbrev pub is_enough : PlainCode → Task → ℕ → Bool
-is_enough C t n = is_well (leg_from (names_of t.number) C n t.turns t.made (state_of t))
+is_enough C t n = is_well (run_from (names_of t.number) C n t.turns t.made (state_of t))
 
 -- and with fewer it doesn't
 abbrev pub Least : PlainCode → Task → Type 0

@@ -5,7 +5,7 @@ use Rattle.lang_meaning.specs.Actions.{Do, Rest, End as Ended}
 use Rattle.lang_meaning.specs.Asking.{most_turns}
 use Rattle.code_instrs.specs.declared.code.Site.{Site}
 use Rattle.code_instrs.specs.declared.code.Site.TheVariants as site
-use Rattle.code_instrs.specs.Legs.{Halt, Asks, Finished, Dead, leg}
+use Rattle.code_instrs.specs.RunsToActions.{Halt, Asks, Finished, Dead, run_to_action}
 use Rattle.code_instrs.specs.Machine.{State, Stand, Goes, Turns, Makes, Waits, Ends as Ends_so, Stuck, step}
 use Rattle.code_instrs.specs.Plain.{PlainCode}
 use Rattle.exec_task.specs.declared.action.Action.{Action}
@@ -14,15 +14,15 @@ use Rattle.exec_task.specs.declared.task.Task.{Task}
 use Rattle.exec_task.specs.Names.{names_of}
 use Rattle.exec_task.specs.Tasks.{state_of, plain_answer, Says}
 
--- the leg of a task that has made so many turns since its last answer, and so many local regions; after the last turn that
+-- the way of a task that has made so many turns since its last answer, and so many local regions; after the last turn that
 -- may be made without an event it rests
-abbrev pub leg_from : {N M : Type 0} → Naming N M → PlainCode → ℕ → ℕ → ℕ → State N M → Option (Halt N M)
-leg_from names C fuel turns made s = if turns == most_turns then Some (Asks turns made (Do Rest) (λ x. s)) else leg names C fuel turns made s
+abbrev pub run_from : {N M : Type 0} → Naming N M → PlainCode → ℕ → ℕ → ℕ → State N M → Option (Halt N M)
+run_from names C fuel turns made s = if turns == most_turns then Some (Asks turns made (Do Rest) (λ x. s)) else run_to_action names C fuel turns made s
 
--- from where this task is on its way, its leg halts there
+-- from where this task is on its way, it halts there
 pub record Halts (C : PlainCode) (t : Task) (h : Halt ℕ (ℕ × ℕ)) : Type 0 where
   pub fuel : ℕ
-  pub runs : leg_from (names_of t.number) C fuel t.turns t.made (state_of t) ≡ Some h
+  pub runs : run_from (names_of t.number) C fuel t.turns t.made (state_of t) ≡ Some h
 
 -- one task is on the way of another
 abbrev pub OnTheWay : PlainCode → Task → Task → Type 0
@@ -59,13 +59,13 @@ IsAsking (Asks n m a k) = Unit {0}
 IsAsking (Finished n e) = ⊥
 IsAsking Dead = ⊥
 
--- its leg ends, and isn't stuck there
+-- it comes to an action, and isn't stuck there
 pub record Ends (C : PlainCode) (t : Task) : Type 0 where
   pub halt : Halt ℕ (ℕ × ℕ)
   pub halts : Halts C t halt
   pub alive : halt ≡ Dead → ⊥
 
--- it has turns left, and names for the local regions that its leg may still make
+-- it has turns left, and names for the local regions that it may still make on its way
 pub record Paced (t : Task) : Type 0 where
   pub turns : t.turns ≤ 4096
   pub names : t.made + 4096 < 2 ^ 32 + t.turns

@@ -1,7 +1,7 @@
 //! A task that runs code, executed: what `code_instrs` says of it, step by step.
 //!
-//! `leg` takes a task up to its next action, and `answer` goes on from there. Both are exact against the machine of one task,
-//! whose objects and local regions have numbers for names (`specs/Names.antt`): where a leg halts, what the task does there and
+//! `run_to_action` takes a task up to its next action, and `answer` goes on from there. Both are exact against the machine of one task,
+//! whose objects and local regions have numbers for names (`specs/Names.antt`): where a task halts, what it does there and
 //! how it goes on. A failed growth leaves the task on its way to the same halt.
 //!
 //! A value stays where it is: an instruction works on the top of its level's stack, and a call puts its level on those of
@@ -21,7 +21,6 @@ mod exec;
 mod frames;
 mod going_on;
 mod joins;
-mod leg;
 mod lines;
 mod local;
 mod local_step;
@@ -36,6 +35,7 @@ mod sites;
 mod starts;
 mod step;
 mod task;
+mod to_action;
 
 pub use action::{Action, Answer, Ending, Own};
 pub use lines::line;

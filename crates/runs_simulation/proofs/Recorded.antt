@@ -11,7 +11,7 @@ use Rattle.lang_typed.specs.Plain.{PlainProgram}
 use Rattle.lang_typed.specs.Resolved.{Resolved, HasMain}
 use Rattle.code_instrs.specs.Plain.{PlainCode, plain_code}
 use Rattle.code_instrs.specs.declared.code.Code.{Code}
-use Rattle.code_scheme.proofs.Legs.{legs_are_right}
+use Rattle.code_scheme.proofs.RunsToActions.{runs_are_right}
 use Rattle.code_scheme.specs.Whole.{compiled}
 use Rattle.runs_theory.specs.Actions.{Ending, Program, Rule}
 use Rattle.runs_theory.specs.Blocks.{hold}
@@ -507,7 +507,7 @@ module _ (code : Code) (P : PlainProgram) (arg : ℤ) (L : Limits) (right : Righ
 -- of compiled code
 module _ (code : Code) (P : PlainProgram) (L : Limits) (arg : ℤ) (is : plain_code code ≡ compiled P) (resolved : Resolved P) (main : HasMain P) (few : L.steps ≤ 20000000) where
   pub right : RightFor (plain_code code) P
-  right = subst (λ C. RightFor C P) (sym is) (λ p b t c got h halts. legs_are_right (named_by p) P resolved b t c got h halts)
+  right = subst (λ C. RightFor C P) (sym is) (λ p b t c got h halts. runs_are_right (named_by p) P resolved b t c got h halts)
 
   pub FJ : ForksAreJoined (plain_code code)
   FJ = subst ForksAreJoined (sym is) (forks_are_joined P)

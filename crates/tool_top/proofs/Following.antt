@@ -104,7 +104,7 @@ module _ (keeps : EachKeeps) (going : CodeMakesProgress) (P : PlainProgram) (L :
 
     pub is_ready : IsReady m.world k
     is_ready =
-        ready_there code P arg L (right code P L arg is resolved main few) A.tied A.blocks A.lives (all_rest code L arg goes ks m leads) (λ j t e. (goes ks m leads).legs j t e) k next_run.1 ready_so
+        ready_there code P arg L (right code P L arg is resolved main few) A.tied A.blocks A.lives (all_rest code L arg goes ks m leads) (λ j t e. (goes ks m leads).all_go j t e) k next_run.1 ready_so
 
   finished_run : (code : Code) → plain_code code ≡ compiled P → (ks : List ℕ) (m : Moment) → LeadsTo code L arg ks m → (o : Outcome) → m.outcome ≡ Some o → Records Q L ks (Some o)
   finished_run code is ks m leads o come = subst (λ x. Records Q L ks x) come (recorded code P L arg is resolved main few ks m leads)

@@ -1,6 +1,6 @@
 use exec_machine::Machine;
 
-/// How many steps an event must cost, taken together, for legs to be long.
+/// How many steps an event must cost, taken together, for the tasks' ways to be long.
 const LONG: u64 = 64;
 
 /// How many steps a thread must make to be worth its beginning.

@@ -9,7 +9,7 @@ use Rattle.lang_meaning.specs.Actions.{Frame, Effect, Ending, Own, Rest, Read, W
 use Rattle.lang_meaning.specs.Actions.{Answer, Went, Got, Out, Class, Length, Named, Joined, Fell}
 use Rattle.lang_meaning.specs.Regions.{Around}
 use Rattle.code_instrs.specs.Machine.{Level, Start, State, On, Rested, Off, Nowhere, Stand, Goes, Turns, Makes, Waits, Ends, Stuck}
-use Rattle.code_instrs.specs.Legs.{Halt, Asks, Finished, Dead}
+use Rattle.code_instrs.specs.RunsToActions.{Halt, Asks, Finished, Dead}
 use Rattle.runs_theory.specs.Objects.{Path, Name, LocalRegion}
 use Rattle.runs_elision.proofs.Worlds.{Distinct, Later, later_none, later_then, ValueLike, ValuesLike, values_later, LocalsLike}
 use Rattle.runs_elision.proofs.Worlds.{EndingLike, ending_later}

@@ -7,12 +7,12 @@ use Rattle.lang_typed.specs.Plain.{PlainProgram}
 use Rattle.lang_meaning.specs.Actions.{Own as OwnOver, Ending as EndingOver, Trapped}
 use Rattle.lang_meaning.specs.Asking.{ask}
 use Rattle.lang_meaning.specs.Costs.{own_cells, own_steps}
-use Rattle.code_instrs.specs.Legs.{Halt, Leg, Halts, said, leg, Asks as AsksAt, Finished}
+use Rattle.code_instrs.specs.RunsToActions.{Halt, RunsToAction, Halts, said, run_to_action, Asks as AsksAt, Finished}
 use Rattle.code_instrs.specs.Machine.{Start, Off, step}
 use Rattle.code_instrs.specs.Plain.{PlainCode, plain_code}
 use Rattle.code_instrs.specs.declared.code.Code.{Code}
 use Rattle.code_scheme.specs.Compiled.{Compiled, SameAct, SameReply}
-use Rattle.exec_progress.proofs.Legs.{TellsCounts, front_counts}
+use Rattle.exec_progress.proofs.RunsToActions.{TellsCounts, front_counts}
 use Rattle.runs_theory.specs.Actions.{Task, Own, Answer, Action, Do, Next, Rule}
 use Rattle.runs_theory.specs.Objects.{Path, Name, LocalRegion}
 use Rattle.runs_theory.specs.Runs.{Event, Follows, Run, answers, later, mine, now}
@@ -37,7 +37,7 @@ use Rattle.exec_machine.specs.Running.{Running, answered, front}
 use Rattle.runs_simulation.specs.Alike.{ActionAlike, AnswerAlike, do_alike}
 use Rattle.runs_simulation.proofs.alike.Alikes.{action_later, answer_alike, own_alike}
 use Rattle.runs_simulation.proofs.alike.Sights.{Sight, Wider, OwnLike, AnswerLike, rest_like, read_like, write_like, look_like, new_like, print_like, enter_like, exit_like}
-use Rattle.runs_simulation.proofs.alike.Legs.{HaltOf, StandsAfter, after_answer}
+use Rattle.runs_simulation.proofs.alike.RunsToActions.{HaltOf, StandsAfter, after_answer}
 use Rattle.runs_simulation.proofs.tied.Heaps.{OwnTied}
 use Rattle.runs_simulation.proofs.tied.Ties.{Q, TaskTied, ScopeTied, OriginTied, BranchTied, LiveTied, Tied}
 use Rattle.runs_simulation.proofs.events.Asked.{ActionIn, ActsAt, acts_at, BothAt, both_at, own_like, reply_act, same_do, runs_if, Stood, stood}
@@ -57,11 +57,11 @@ ready_there None h = absurd (cc)
 ready_there (Some x) h = (x, refl)
 
 -- a task that has ended stands at its end
-pub off_leg : (C : PlainCode) (k made : ℕ) (e : EndingOver ℕ) (h : Halt ℕ (ℕ × ℕ)) → Leg (names_of k) C made (Off e) h → h ≡ Finished 0 e
+pub off_run : (C : PlainCode) (k made : ℕ) (e : EndingOver ℕ) (h : Halt ℕ (ℕ × ℕ)) → RunsToAction (names_of k) C made (Off e) h → h ≡ Finished 0 e
 unfolding step
-off_leg C k made e h l = go l.fuel l.runs
+off_run C k made e h l = go l.fuel l.runs
   where
-    go : (fuel : ℕ) → leg (names_of k) C fuel 0 made (Off e) ≡ Some h → h ≡ Finished 0 e
+    go : (fuel : ℕ) → run_to_action (names_of k) C fuel 0 made (Off e) ≡ Some h → h ≡ Finished 0 e
     go zero i = absurd (cc)
     go (suc fuel) i = (let same : Some (Finished 0 e) ≡ Some h = i in cc)
 
@@ -130,11 +130,11 @@ module _ (code : Code) (P : PlainProgram) (arg : ℤ) (rule : Rule) (L : Limits)
     abbrev pub at : Halt ℕ (ℕ × ℕ)
     at = front C k turns x.stands.made x.stands.state
 
-    pub leg_here : Leg (names_of k) C live.runs.made live.runs.state at
-    leg_here = subst (λ (t : Running). Leg (names_of k) C t.made t.state at) same_running x.stands.leg
+    pub run_here : RunsToAction (names_of k) C live.runs.made live.runs.state at
+    run_here = subst (λ (t : Running). RunsToAction (names_of k) C t.made t.state at) same_running x.stands.run_to_action
 
-    pub here : Stood P arg rule C right T.heap.holds.distinct k live.path live.there live.task leg_here
-    here = stood P arg rule C right T.heap.holds.distinct k live.path live.there live.task leg_here
+    pub here : Stood P arg rule C right T.heap.holds.distinct k live.path live.there live.task run_here
+    here = stood P arg rule C right T.heap.holds.distinct k live.path live.there live.task run_here
 
     -- what is asked there
     pub record AskedAt (b : ActionIn) : Type 0 where
@@ -160,7 +160,7 @@ module _ (code : Code) (P : PlainProgram) (arg : ℤ) (rule : Rule) (L : Limits)
     -- it hasn't ended there
     pub not_off : (b : ActionIn) → AskedAt b → (e : EndingOver ℕ) → live.runs.state ≡ Off e → ⊥
     not_off b A e i =
-        let h : at ≡ Finished 0 e = off_leg C k live.runs.made e at (subst (λ s. Leg (names_of k) C live.runs.made s at) i leg_here) in
+        let h : at ≡ Finished 0 e = off_run C k live.runs.made e at (subst (λ s. RunsToAction (names_of k) C live.runs.made s at) i run_here) in
         let both : AsksAt A.both.turns A.both.made b A.both.then_in ≡ Finished 0 e = sym A.both.is_in ∙ h in
         cc
 

@@ -8,7 +8,7 @@ use Rattle.lang_meaning.specs.Actions as meaning
 use Rattle.lang_meaning.specs.Actions.{Action as ActionOver, Answer as AnswerOver, Own as OwnOver, Ending as EndingOver}
 use Rattle.lang_meaning.specs.Asking.{ask}
 use Rattle.lang_meaning.proofs.Tasks.{asks_disciplined}
-use Rattle.code_instrs.specs.Legs.{Halt, Asks as AsksAt, Finished, Dead, Leg, Halts, said}
+use Rattle.code_instrs.specs.RunsToActions.{Halt, Asks as AsksAt, Finished, Dead, RunsToAction, Halts, said}
 use Rattle.code_instrs.specs.Machine.{Start, State}
 use Rattle.code_instrs.specs.Plain.{PlainCode}
 use Rattle.code_scheme.specs.Compiled.{Compiled, AllCompiled, SameAct, SameReply}
@@ -29,7 +29,7 @@ use Rattle.exec_tasks.specs.declared.task.State.TheVariants.{Running as Runs, Fo
 use Rattle.exec_machine.specs.Running.{Running}
 use Rattle.runs_elision.proofs.Worlds.{Distinct}
 use Rattle.runs_simulation.proofs.alike.Sights.{Sight, StartsLike, OwnLike, ActionLike, do_like, fork_like, begin_like, join_like, OnLike, HaltLike, asks_like, finished_like, dead_like}
-use Rattle.runs_simulation.proofs.alike.Legs.{HaltOf, leg_like, halts_next}
+use Rattle.runs_simulation.proofs.alike.RunsToActions.{HaltOf, run_like, halts_next}
 use Rattle.runs_simulation.proofs.tied.Ties.{Q, TaskTied, ForkTied, ScopeTied}
 
 abbrev pub ActionIn : Type 0
@@ -236,7 +236,7 @@ module _ (P : PlainProgram) (arg : ℤ) (rule : Rule) (C : PlainCode)
     (right : (p : Path) (b : Start Name LocalRegion) (t : Task) → Compiled C P b t → (got : List Answer) (h : HaltOf) → Halts (named_by p) C b got h
     → SameReply C P (ask (named_by p) P t got) (said h))
     {w : Sight} (d : Distinct w.names) {R : Run} (k : ℕ) (p : Path) (there : slice_get w.paths k ≡ Some p) {t : Running} (T : TaskTied P arg rule C w R p t)
-    {h : Halt ℕ (ℕ × ℕ)} (leg : Leg (names_of k) C t.made t.state h) where
+    {h : Halt ℕ (ℕ × ℕ)} (run_to_action : RunsToAction (names_of k) C t.made t.state h) where
   pub record Stood : Type 0 where
     pub halt : HaltOf
     pub like : HaltLike w h halt
@@ -246,8 +246,8 @@ module _ (P : PlainProgram) (arg : ℤ) (rule : Rule) (C : PlainCode)
   pub stood : Stood
   stood = record { halt = l.0; like = l.2; halts = halts; same = right p T.start T.task T.compiled (answers (mine R p)) l.0 halts }
     where
-      l : (g : HaltOf) × Leg (named_by p) C t.made T.state g × HaltLike w h g
-      l = leg_like C k p d there t.made T.like leg
+      l : (g : HaltOf) × RunsToAction (named_by p) C t.made T.state g × HaltLike w h g
+      l = run_like C k p d there t.made T.like run_to_action
 
       halts : Halts (named_by p) C T.start (answers (mine R p)) l.0
       halts = halts_next T.stands l.1

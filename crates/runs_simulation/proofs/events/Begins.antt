@@ -7,7 +7,7 @@ use Rattle.lang_base.specs.declared.effect.Effect.{Effect}
 use Rattle.lang_base.specs.declared.outcome.Limits.{Limits}
 use Rattle.lang_typed.specs.Plain.{PlainProgram}
 use Rattle.lang_meaning.specs.Actions as meaning
-use Rattle.code_instrs.specs.Legs.{Asks as AsksAt}
+use Rattle.code_instrs.specs.RunsToActions.{Asks as AsksAt}
 use Rattle.code_instrs.specs.Machine.{Start, State, Stand, Goes, Turns, Makes, Waits, Ends, Stuck, begins_at, step}
 use Rattle.code_instrs.specs.Plain.{PlainCode, plain_code}
 use Rattle.code_instrs.specs.declared.code.Code.{Code}
@@ -41,14 +41,14 @@ use Rattle.runs_elision.proofs.Writes.{last_there}
 use Rattle.runs_simulation.specs.Alike.{begin_alike, went_alike}
 use Rattle.runs_simulation.proofs.alike.Sights.{Sight, Wider, Each, each_none, each_more, on_like, StartLike, starts_later, start_later, went_like}
 use Rattle.runs_simulation.proofs.events.Joins.{ForksAreJoined}
-use Rattle.runs_simulation.proofs.events.Forking.{AtJoin, HasBegun, Kept, step_keeps, join_leg}
+use Rattle.runs_simulation.proofs.events.Forking.{AtJoin, HasBegun, Kept, step_keeps, join_run}
 use Rattle.runs_simulation.proofs.alike.Wrapping.{first_numbers, next_numbers}
-use Rattle.runs_simulation.proofs.alike.Legs.{StandsAfter, at_first}
+use Rattle.runs_simulation.proofs.alike.RunsToActions.{StandsAfter, at_first}
 use Rattle.runs_simulation.proofs.tied.Heaps.{HeapTied, heap_wider, structural, last_cases}
 use Rattle.runs_simulation.proofs.tied.Ties.{Q, EndsTied, ForkTied, ScopeTied, BranchTied, OriginTied, LiveTied, NumbersTied, TaskTied, Tied, ends_later}
 use Rattle.runs_simulation.proofs.events.Asked.{ActionIn, acts_at, beginning_like, same_begin, begins_next, compiled_at, disciplined}
 use Rattle.runs_simulation.proofs.tied.Trees.{placed, beside, changed_own, changed_other, numbered_later, entered_next, costs_next, above_apart, path_one, not_itself, live_with, branch_later, origin_later}
-use Rattle.runs_simulation.proofs.events.Acting.{RightFor, event_of, Matched, Stepped, found, live, at, leg_here, AskedAt, asked_at, goes_to, goes_so, task_next}
+use Rattle.runs_simulation.proofs.events.Acting.{RightFor, event_of, Matched, Stepped, found, live, at, run_here, AskedAt, asked_at, goes_to, goes_so, task_next}
 use Rattle.runs_simulation.proofs.events.Forks.{front_step}
 use Rattle.runs_simulation.proofs.tied.Outs.{BeginsSince, OutLive, OutForks, begins_more, ends_out_later, ends_out_more}
 use Rattle.runs_simulation.proofs.tied.Segments.{Seg, seg_later, seg_none}
@@ -121,8 +121,8 @@ module _ (code : Code) (P : PlainProgram) (arg : ℤ) (rule : Rule) (L : Limits)
       where
         waits : step (names_of k) C V_at.runs.state ≡ Waits (Begin b) then_at
         waits = stands_waits 0 V_at.runs.made (step (names_of k) C V_at.runs.state) A.both.turns A.both.made (Begin b) then_at
-            (join_leg C k V_at.runs.made V_at.runs.state (at code P arg rule L right T k turns wants (action.Begin b) x) F.at_join
-            (leg_here code P arg rule L right T k turns wants (action.Begin b) x) ∙ A.both.is_in)
+            (join_run C k V_at.runs.made V_at.runs.state (at code P arg rule L right T k turns wants (action.Begin b) x) F.at_join
+            (run_here code P arg rule L right T k turns wants (action.Begin b) x) ∙ A.both.is_in)
 
         go : Kept C V_at.runs.state (Waits (Begin b) then_at) → AtJoin C (then_at went_at) × HasBegun C (then_at went_at) × (starts_at C (then_at went_at) ≡ starts_at C V_at.runs.state)
         go h = (let j = h.is.0 F.at_join went_at in (j.0, j.1, h.is.1 went_at j.1 few_at))

@@ -9,7 +9,7 @@ use Rattle.lang_base.specs.declared.effect.Effect.{Effect as PathEffect}
 use Rattle.lang_base.specs.declared.outcome.Limits.{Limits}
 use Rattle.lang_typed.specs.Plain.{PlainProgram}
 use Rattle.lang_meaning.specs.Actions as meaning
-use Rattle.code_instrs.specs.Legs.{Halt, said}
+use Rattle.code_instrs.specs.RunsToActions.{Halt, said}
 use Rattle.code_instrs.specs.Machine.{Start}
 use Rattle.code_instrs.specs.Plain.{PlainCode, plain_code}
 use Rattle.code_instrs.specs.declared.code.Code.{Code}
@@ -59,7 +59,7 @@ use Rattle.runs_simulation.proofs.alike.Sights.{Sight, EffectsLike, OwnLike, Act
 use Rattle.runs_simulation.proofs.events.Asked.{ActionIn, ActionOf, own_like, forking_like, beginning_like, joining_like, same_do, same_fork, same_begin, same_join, same_end, disciplined}
 use Rattle.runs_simulation.proofs.events.Acting.{RightFor, event_of, Stepped, found, live, here}
 use Rattle.runs_simulation.proofs.tied.Inside.{BlocksTied, EffectsIn, PathsStay, StandTied, adopted_other, adopted_own, branch_above, entered_other, effects_on, entered_own, exited_other, exited_own, gone_other, get_there, gone_own, has_opened, lock_entered, lock_exited, paths_stay, stand_branch, stand_entered, stand_exited, stand_same, stands_out, tells_standing, was_adopted}
-use Rattle.runs_simulation.proofs.alike.Legs.{HaltOf}
+use Rattle.runs_simulation.proofs.alike.RunsToActions.{HaltOf}
 use Rattle.runs_simulation.proofs.alike.Noted.{OneNumber, lists_like, lists_swap}
 use Rattle.runs_simulation.proofs.tied.Ties.{BranchTied, ForkTied, LiveTied, OriginTied, Q, ScopeTied, Tied}
 use Rattle.runs_simulation.proofs.tied.Trees.{apart_paths, above_apart, changed_other, changed_own, path_one, removed_other}

@@ -11,7 +11,7 @@ use Rattle.lang_meaning.specs.Actions as meaning
 use Rattle.lang_meaning.specs.Actions.{Ending as EndingOver}
 use Rattle.lang_meaning.specs.Asking.{most_turns}
 use Rattle.lang_meaning.specs.Outcomes.{trap_of, locals_of}
-use Rattle.code_instrs.specs.Legs.{Halt, Leg, Asks as AsksAt, Finished, Dead, said}
+use Rattle.code_instrs.specs.RunsToActions.{Halt, RunsToAction, Asks as AsksAt, Finished, Dead, said}
 use Rattle.code_instrs.specs.Machine.{State, Off, Stand, Goes, Turns, Makes, Waits, Ends, Stuck, step}
 use Rattle.code_instrs.specs.Plain.{PlainCode, plain_code}
 use Rattle.code_instrs.specs.declared.code.Code.{Code}
@@ -42,12 +42,12 @@ use Rattle.runs_elision.proofs.Worlds.{Names, LocalsLike, no_locals, EndingLike,
 use Rattle.runs_simulation.specs.Alike.{end_alike, went_alike}
 use Rattle.runs_simulation.proofs.alike.Alikes.{ending_alike}
 use Rattle.runs_simulation.proofs.alike.Sights.{Sight, wider_none, HaltLike, asks_like, finished_like, dead_like, ActionLike, end_like}
-use Rattle.runs_simulation.proofs.alike.Legs.{HaltOf}
+use Rattle.runs_simulation.proofs.alike.RunsToActions.{HaltOf}
 use Rattle.runs_simulation.proofs.tied.Heaps.{structural}
 use Rattle.runs_simulation.proofs.tied.Ties.{Q, EndTied, EndsTied, ForkTied, ScopeTied, BranchTied, OriginTied, LiveTied, Tied, ends_later, task_later}
 use Rattle.runs_simulation.proofs.events.Asked.{ActionIn, ActionOf, reply_act, same_end, runs_if}
 use Rattle.runs_simulation.proofs.tied.Trees.{beside, changed_own, changed_other, removed_tells, removed_other, numbers_kept, costs_next, apart_paths, above_apart, path_one, not_itself, live_later, live_with, branch_later, origin_later}
-use Rattle.runs_simulation.proofs.events.Acting.{RightFor, event_of, Matched, Stepped, found, live, at, here, leg_here, childless_if, off_leg, out_runs}
+use Rattle.runs_simulation.proofs.events.Acting.{RightFor, event_of, Matched, Stepped, found, live, at, here, run_here, childless_if, off_run, out_runs}
 use Rattle.runs_simulation.proofs.tied.Outs.{BeginsSince, begins_none, begins_more, EndOut, IsFine, OutLive, OutRuns, OutForks, ends_out_later, ends_out_put, seg_with}
 use Rattle.runs_simulation.proofs.tied.Segments.{Seg, seg_later, seg_own}
 use Rattle.runs_simulation.proofs.tied.Sorted.{printed_step, trapped_step}
@@ -218,8 +218,8 @@ module _ (code : Code) (P : PlainProgram) (arg : ℤ) (rule : Rule) (L : Limits)
         let is : ◌≡◌ {A = EndingOver ℕ} (meaning.Trapped f.0 f.1) (plain_ending c) = cc in trapped_ends c f is)
       where
         fell : at code P arg rule L right T k turns wants (action.End c) x ≡ Finished 0 (meaning.Trapped f.0 f.1)
-        fell = off_leg C k V.runs.made (meaning.Trapped f.0 f.1) (at code P arg rule L right T k turns wants (action.End c) x)
-            (subst (λ s. Leg (names_of k) C V.runs.made s (at code P arg rule L right T k turns wants (action.End c) x)) i (leg_here code P arg rule L right T k turns wants (action.End c) x))
+        fell = off_run C k V.runs.made (meaning.Trapped f.0 f.1) (at code P arg rule L right T k turns wants (action.End c) x)
+            (subst (λ s. RunsToAction (names_of k) C V.runs.made s (at code P arg rule L right T k turns wants (action.End c) x)) i (run_here code P arg rule L right T k turns wants (action.End c) x))
 
         ends_so : Tells C (action.End c) (Finished 0 (meaning.Trapped f.0 f.1))
         ends_so = subst (λ h. Tells C (action.End c) h) fell x.stands.tells

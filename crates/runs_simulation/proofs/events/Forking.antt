@@ -15,7 +15,7 @@ use Rattle.lang_meaning.specs.Regions.{around, concrete, is_long, some_long}
 use Rattle.code_instrs.specs.declared.instr.Instr.{Instr}
 use Rattle.code_instrs.specs.declared.instr.Instr.TheVariants as i
 use Rattle.code_instrs.specs.Fit.{site_at}
-use Rattle.code_instrs.specs.Legs.{Halt, legged, leg, Leg}
+use Rattle.code_instrs.specs.RunsToActions.{Halt, ran_on, run_to_action, RunsToAction}
 use Rattle.code_instrs.specs.Machine.{Level, State, On, Rested, Off, Nowhere, Stand, Goes, Turns, Makes, Waits, Ends, Stuck, next, one, two, three, taken, or_trap, cell_read, cell_written, reads, writes, deeper, unless_long, entered, enters, calls, called, held_first, creates, created, array_of, makes_array, below, forked, each_started, waiting, spread, all_copied, joins_fork, joins_spread, joins_site, branch_site, site_of, line_before, joins, ends_branch, in_part, operates, exec, exec_line, enters_block, rested_at, rested_line, step}
 use Rattle.code_instrs.specs.Plain.{Line, Site, fork_site, spread_site, block_site, call_site, new_site, array_site, PlainCode, body_at, class_at, parent_of, constructor_of, fields_of}
 use Rattle.exec_task.specs.Branches.{spread_starts, starts_of, starts_at}
@@ -418,11 +418,11 @@ join_waits C k (On g fs) h = go (slice_get (body_at C g.body).lines g.at) h.0
     go None i = absurd i
     go (Some l) i = subst (λ x. OnlyWaits (exec (names_of k) C l.place x g fs)) (sym i) (joins_wait C (site_of (line_before (body_at C g.body).lines g.at)) g fs)
 
--- so its leg ends there
-pub join_leg : (C : PlainCode) (k made : ℕ) (z : StateIn) (h : Halt ℕ (ℕ × ℕ)) → AtJoin C z → Leg (names_of k) C made z h → stands 0 made (step (names_of k) C z) ≡ h
-join_leg C k made z h at l = go l.fuel l.runs
+-- so its way ends there
+pub join_run : (C : PlainCode) (k made : ℕ) (z : StateIn) (h : Halt ℕ (ℕ × ℕ)) → AtJoin C z → RunsToAction (names_of k) C made z h → stands 0 made (step (names_of k) C z) ≡ h
+join_run C k made z h at l = go l.fuel l.runs
   where
-    stand : (more : ℕ → ℕ → StateIn → Option (Halt ℕ (ℕ × ℕ))) (o : StandIn) → OnlyWaits o → legged (names_of k) more 0 made o ≡ Some h → stands 0 made o ≡ h
+    stand : (more : ℕ → ℕ → StateIn → Option (Halt ℕ (ℕ × ℕ))) (o : StandIn) → OnlyWaits o → ran_on (names_of k) more 0 made o ≡ Some h → stands 0 made o ≡ h
     stand more (Waits a f) w e = cc
     stand more Stuck w e = cc
     stand more (Goes s) w e = absurd w
@@ -430,6 +430,6 @@ join_leg C k made z h at l = go l.fuel l.runs
     stand more (Makes f) w e = absurd w
     stand more (Ends x) w e = absurd w
 
-    go : (fuel : ℕ) → leg (names_of k) C fuel 0 made z ≡ Some h → stands 0 made (step (names_of k) C z) ≡ h
+    go : (fuel : ℕ) → run_to_action (names_of k) C fuel 0 made z ≡ Some h → stands 0 made (step (names_of k) C z) ≡ h
     go zero e = absurd (cc)
-    go (suc fuel) e = stand (λ n m s. leg (names_of k) C fuel n m s) (step (names_of k) C z) (join_waits C k z at) e
+    go (suc fuel) e = stand (λ n m s. run_to_action (names_of k) C fuel n m s) (step (names_of k) C z) (join_waits C k z at) e

@@ -2,7 +2,7 @@
 use Rattle.std.proofs.Common.{◌≡◌, ◌∙◌, ℕ, suc, zero, ◌==◌, if◌then◌else◌, Bool, true, false, map, Some, None, option_map, refl, ap, sym, subst}
 use Rattle.lang_meaning.specs.Actions.{Do, End, Rest}
 use Rattle.lang_meaning.specs.Asking.{most_turns}
-use Rattle.code_instrs.specs.Legs.{Asks, Dead, Halt, Leg, leg, legged}
+use Rattle.code_instrs.specs.RunsToActions.{Asks, Dead, Halt, RunsToAction, run_to_action, ran_on}
 use Rattle.code_instrs.specs.Machine.{Ends, Makes, Stand, State, Stuck, Turns, Waits, step}
 use Rattle.code_instrs.specs.Machine.{Goes as GoesTo}
 use Rattle.code_instrs.specs.Plain.{PlainCode}
@@ -19,7 +19,7 @@ use Rattle.exec_machine.specs.Running.{Goes, Running, front}
 use Rattle.exec_machine.specs.Wants.{WantsRightly, noted, wanted_after}
 use Rattle.runs_simulation.proofs.events.Sayings.{WaitsRight, said_by, step_right}
 
--- where a leg ends, with the action that says so
+-- where a task's way ends, with the action that says so
 record Front (C : PlainCode) (k : ℕ) (h : Halt ℕ (ℕ × ℕ)) : Type 0 where
   turns : ℕ
   made : ℕ
@@ -30,7 +30,7 @@ record Front (C : PlainCode) (k : ℕ) (h : Halt ℕ (ℕ × ℕ)) : Type 0 wher
 
 abbrev Further : PlainCode → ℕ → ℕ → Type 0
 Further C k fuel =
-    (turns made : ℕ) (z : State ℕ (ℕ × ℕ)) (h : Halt ℕ (ℕ × ℕ)) → (turns == most_turns) ≡ false → leg (names_of k) C fuel turns made z ≡ Some h → (h ≡ Dead → ⊥) → Front C k h
+    (turns made : ℕ) (z : State ℕ (ℕ × ℕ)) (h : Halt ℕ (ℕ × ℕ)) → (turns == most_turns) ≡ false → run_to_action (names_of k) C fuel turns made z ≡ Some h → (h ≡ Dead → ⊥) → Front C k h
 
 same_halt : {A : Type 0} {x y : A} → Some x ≡ Some y → x ≡ y
 same_halt e = cc
@@ -38,7 +38,7 @@ same_halt e = cc
 module _ (C : PlainCode) (k fuel : ℕ) (more : Further C k fuel) where
   -- after a turn: the task rests, or goes on
   turned : (turns made : ℕ) (z : State ℕ (ℕ × ℕ)) (h : Halt ℕ (ℕ × ℕ)) (b : Bool) → (turns == most_turns) ≡ b
-      → (if b then Some (Asks turns made (Do Rest) (λ x. z)) else leg (names_of k) C fuel turns made z) ≡ Some h → (h ≡ Dead → ⊥) → Front C k h
+      → (if b then Some (Asks turns made (Do Rest) (λ x. z)) else run_to_action (names_of k) C fuel turns made z) ≡ Some h → (h ≡ Dead → ⊥) → Front C k h
   turned turns count z h true last runs alive = record {
     turns = turns;
     made = count;
@@ -54,7 +54,7 @@ module _ (C : PlainCode) (k fuel : ℕ) (more : Further C k fuel) where
     here s e =
         ap (λ b. if b then Asks turns made (Do Rest) (λ x. z) else stands turns made (step (names_of k) C z)) less ∙ ap (stands turns made) e
 
-    by_stand : (s : Stand ℕ (ℕ × ℕ)) → step (names_of k) C z ≡ s → legged (names_of k) (λ n m t. leg (names_of k) C fuel n m t) turns made s ≡ Some h → Front C k h
+    by_stand : (s : Stand ℕ (ℕ × ℕ)) → step (names_of k) C z ≡ s → ran_on (names_of k) (λ n m t. run_to_action (names_of k) C fuel n m t) turns made s ≡ Some h → Front C k h
     by_stand (GoesTo t) e runs = more turns made t h less runs alive
     by_stand (Turns t) e runs = turned (suc turns) made t h (suc turns == most_turns) refl runs alive
     by_stand (Makes made_so) e runs = turned (suc turns) (suc made) (made_so ((names_of k).made made)) h (suc turns == most_turns) refl runs alive
@@ -102,7 +102,7 @@ next_event C m k goes unfinished ready = (
     stands = record {
       state = F.state;
       made = F.made;
-      leg = subst (λ h. Leg (names_of k) C live.0.made live.0.state h) (sym F.is) G.leg;
+      run_to_action = subst (λ h. RunsToAction (names_of k) C live.0.made live.0.state h) (sym F.is) G.run_to_action;
       tells = subst (Tells C F.action) (sym F.is) F.tells;
       number = refl;
       wants = wants_rightly C F.state F.turns F.action;
@@ -114,7 +114,7 @@ next_event C m k goes unfinished ready = (
     live = goes.live k ready
 
     G : Goes C k live.0
-    G = goes.legs k live.0 live.1
+    G = goes.all_go k live.0 live.1
 
     F : Front C k G.halt
-    F = front_there C k G.leg.fuel 0 live.0.made live.0.state G.halt first_turn G.leg.runs G.alive
+    F = front_there C k G.run_to_action.fuel 0 live.0.made live.0.state G.halt first_turn G.run_to_action.runs G.alive

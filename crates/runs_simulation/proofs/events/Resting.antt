@@ -13,7 +13,7 @@ use Rattle.lang_meaning.specs.Expressions.{none}
 use Rattle.lang_meaning.specs.Regions.{around, concrete, concrete_effect, is_long, some_long}
 use Rattle.code_instrs.specs.declared.instr.Instr.{Instr}
 use Rattle.code_instrs.specs.declared.instr.Instr.TheVariants as i
-use Rattle.code_instrs.specs.Legs.{Halt, Asks, Finished, Dead, legged_turn, legged, leg, Leg}
+use Rattle.code_instrs.specs.RunsToActions.{Halt, Asks, Finished, Dead, ran_on_turn, ran_on, run_to_action, RunsToAction}
 use Rattle.code_instrs.specs.Machine.{Level, Start, State, On, Rested, Off, Nowhere, Stand, Goes, Turns, Makes, Waits, Ends, Stuck, step, next, one, two, three, taken, or_trap, cell_read, cell_written, reads, writes, deeper, unless_long, entered, calls_method, enters, calls, called, creates, created, array_of, makes_array, held_first, returned, left_with, forked, spread, joined, joins_fork, joins_spread, joins_site, joins, all_copied, site_of, line_before, ends_branch, in_part, operates, exec, exec_line, enters_block, rested_at, rested_line}
 use Rattle.code_instrs.specs.Plain.{Line, Site, fork_site, spread_site, block_site, call_site, new_site, array_site, PlainCode, body_at, class_at, parent_of, method_at, Method, constructor_of, fields_of}
 use Rattle.exec_task.specs.Names.{names_of}
@@ -310,7 +310,7 @@ step_leads C k (Rested g fs) = rest_leads C k g fs (slice_get (body_at C g.body)
 step_leads C k (Off e) = record { is = tt }
 step_leads C k Nowhere = record { is = tt }
 
--- a leg that ends in front of nothing but a rest: an entry is that of its start, and after the last turn no entry follows
+-- a way that ends in front of nothing but a rest: an entry is that of its start, and after the last turn no entry follows
 abbrev EndsAt : PlainCode → StateIn → Halt ℕ (ℕ × ℕ) → Type 0
 EndsAt C s (Asks n m a f) = ((E : List (Effect (ℕ × ℕ))) → a ≡ Do (Enter E) → entry_next C s ≡ Some E) × ((n == most_turns) ≡ true → NoEntry C f)
 EndsAt C s (Finished n e) = Unit {0}
@@ -341,21 +341,21 @@ after_others C z Join f h n m = h
 after_others C z (End e) f h n m = absurd (m e refl)
 
 module _ (C : PlainCode) (k : ℕ) where
-  LegsEnd : (ℕ → ℕ → StateIn → Option (Halt ℕ (ℕ × ℕ))) → Type 0
-  LegsEnd more = (turns made : ℕ) (s : StateIn) (h : Halt ℕ (ℕ × ℕ)) → (turns == most_turns) ≡ false → more turns made s ≡ Some h → EndsAt C s h
+  RunsEnd : (ℕ → ℕ → StateIn → Option (Halt ℕ (ℕ × ℕ))) → Type 0
+  RunsEnd more = (turns made : ℕ) (s : StateIn) (h : Halt ℕ (ℕ × ℕ)) → (turns == most_turns) ≡ false → more turns made s ≡ Some h → EndsAt C s h
 
-  turn_ends : (more : ℕ → ℕ → StateIn → Option (Halt ℕ (ℕ × ℕ))) → LegsEnd more → (turns made : ℕ) (s t : StateIn) (h : Halt ℕ (ℕ × ℕ)) → entry_next C t ≡ None
-      → legged_turn more turns made t ≡ Some h → EndsAt C s h
-  unfolding LegsEnd
+  turn_ends : (more : ℕ → ℕ → StateIn → Option (Halt ℕ (ℕ × ℕ))) → RunsEnd more → (turns made : ℕ) (s t : StateIn) (h : Halt ℕ (ℕ × ℕ)) → entry_next C t ≡ None
+      → ran_on_turn more turns made t ≡ Some h → EndsAt C s h
+  unfolding RunsEnd
   turn_ends more rec turns made s t h none e = go (suc turns == most_turns) refl e
     where
       go : (b : Bool) → (suc turns == most_turns) ≡ b → (if b then Some (Asks (suc turns) made (Do Rest) (λ x. t)) else more (suc turns) made t) ≡ Some h → EndsAt C s h
       go true i e = (let same : Asks (suc turns) made (Do Rest) (λ x. t) ≡ h = cc in subst (λ h. EndsAt C s h) same (λ E j. absurd (cc), λ j x. none))
       go false i e = ends_before C s t h none (rec (suc turns) made t h i e)
 
-  stand_ends : (more : ℕ → ℕ → StateIn → Option (Halt ℕ (ℕ × ℕ))) → LegsEnd more → (turns made : ℕ) (s : StateIn) (o : StandIn) (h : Halt ℕ (ℕ × ℕ)) → Leading C s o
-      → (turns == most_turns) ≡ false → legged (names_of k) more turns made o ≡ Some h → EndsAt C s h
-  unfolding LegsEnd
+  stand_ends : (more : ℕ → ℕ → StateIn → Option (Halt ℕ (ℕ × ℕ))) → RunsEnd more → (turns made : ℕ) (s : StateIn) (o : StandIn) (h : Halt ℕ (ℕ × ℕ)) → Leading C s o
+      → (turns == most_turns) ≡ false → ran_on (names_of k) more turns made o ≡ Some h → EndsAt C s h
+  unfolding RunsEnd
   stand_ends more rec turns made s (Goes t) h l n e = ends_before C s t h l.is (rec turns made t h n e)
   stand_ends more rec turns made s (Turns t) h l n e = turn_ends more rec turns made s t h l.is e
   stand_ends more rec turns made s (Makes f) h l n e = turn_ends more rec turns (suc made) s (f ((names_of k).made made)) h (l.is ((names_of k).made made)) e
@@ -365,29 +365,29 @@ module _ (C : PlainCode) (k : ℕ) where
   stand_ends more rec turns made s (Ends x) h l n e = (let same : Finished turns x ≡ h = cc in subst (λ h. EndsAt C s h) same tt)
   stand_ends more rec turns made s Stuck h l n e = (let same : Dead ≡ h = cc in subst (λ h. EndsAt C s h) same tt)
 
-  leg_ends : (fuel : ℕ) → LegsEnd (λ n m s. leg (names_of k) C fuel n m s)
-  unfolding LegsEnd
-  leg_ends zero turns made s h n e = absurd (cc)
-  leg_ends (suc fuel) turns made s h n e =
-      stand_ends (λ n m s. leg (names_of k) C fuel n m s) (leg_ends fuel) turns made s (step (names_of k) C s) h (step_leads C k s) n e
+  run_ends : (fuel : ℕ) → RunsEnd (λ n m s. run_to_action (names_of k) C fuel n m s)
+  unfolding RunsEnd
+  run_ends zero turns made s h n e = absurd (cc)
+  run_ends (suc fuel) turns made s h n e =
+      stand_ends (λ n m s. run_to_action (names_of k) C fuel n m s) (run_ends fuel) turns made s (step (names_of k) C s) h (step_leads C k s) n e
 
   at_first : (0 == most_turns) ≡ false
   unfolding most_turns
   at_first = refl
 
-  ends_leg : (made : ℕ) (s : StateIn) (h : Halt ℕ (ℕ × ℕ)) → Leg (names_of k) C made s h → EndsAt C s h
-  unfolding LegsEnd
-  ends_leg made s h l = leg_ends l.fuel 0 made s h at_first l.runs
+  ends_run : (made : ℕ) (s : StateIn) (h : Halt ℕ (ℕ × ℕ)) → RunsToAction (names_of k) C made s h → EndsAt C s h
+  unfolding RunsEnd
+  ends_run made s h l = run_ends l.fuel 0 made s h at_first l.runs
 
   -- an entry is that in front of which the task has rested
-  pub leg_entry : (made : ℕ) (s : StateIn) (h : Halt ℕ (ℕ × ℕ)) (n m : ℕ) (E : List (Effect (ℕ × ℕ))) (f : ThenIn) → Leg (names_of k) C made s h
+  pub run_entry : (made : ℕ) (s : StateIn) (h : Halt ℕ (ℕ × ℕ)) (n m : ℕ) (E : List (Effect (ℕ × ℕ))) (f : ThenIn) → RunsToAction (names_of k) C made s h
       → h ≡ Asks n m (Do (Enter E)) f → entry_next C s ≡ Some E
-  leg_entry made s h n m E f l e = (subst (λ h. EndsAt C s h) e (ends_leg made s h l)).0 E refl
+  run_entry made s h n m E f l e = (subst (λ h. EndsAt C s h) e (ends_run made s h l)).0 E refl
 
   -- after the last turn no entry follows
-  pub leg_spent : (made : ℕ) (s : StateIn) (h : Halt ℕ (ℕ × ℕ)) (n m : ℕ) (a : ActionIn) (f : ThenIn) → Leg (names_of k) C made s h
+  pub run_spent : (made : ℕ) (s : StateIn) (h : Halt ℕ (ℕ × ℕ)) (n m : ℕ) (a : ActionIn) (f : ThenIn) → RunsToAction (names_of k) C made s h
       → h ≡ Asks n m a f → (n == most_turns) ≡ true → (x : Answer ℕ (ℕ × ℕ)) → entry_next C (f x) ≡ None
-  leg_spent made s h n m a f l e t x = (subst (λ h. EndsAt C s h) e (ends_leg made s h l)).1 t x
+  run_spent made s h n m a f l e t x = (subst (λ h. EndsAt C s h) e (ends_run made s h l)).1 t x
 
 -- a task that has rested in front of an entry makes it next
 module _ (C : PlainCode) (k : ℕ) (g : LevelIn) (fs : List LevelIn) (E : List (Effect (ℕ × ℕ))) where
@@ -420,15 +420,15 @@ step_entry C k (On g fs) E e = absurd (cc)
 step_entry C k (Off x) E e = absurd (cc)
 step_entry C k Nowhere E e = absurd (cc)
 
--- so its leg ends there
-pub leg_rested : (C : PlainCode) (k made : ℕ) (z : StateIn) (h : Halt ℕ (ℕ × ℕ)) (E : List (Effect (ℕ × ℕ))) → entry_next C z ≡ Some E → Leg (names_of k) C made z h
+-- so its way ends there
+pub run_rested : (C : PlainCode) (k made : ℕ) (z : StateIn) (h : Halt ℕ (ℕ × ℕ)) (E : List (Effect (ℕ × ℕ))) → entry_next C z ≡ Some E → RunsToAction (names_of k) C made z h
     → (f : ThenIn) × (h ≡ Asks 0 made (Do (Enter E)) f)
-leg_rested C k made z h E e l = go l.fuel l.runs
+run_rested C k made z h E e l = go l.fuel l.runs
   where
-    go : (fuel : ℕ) → leg (names_of k) C fuel 0 made z ≡ Some h → (f : ThenIn) × (h ≡ Asks 0 made (Do (Enter E)) f)
+    go : (fuel : ℕ) → run_to_action (names_of k) C fuel 0 made z ≡ Some h → (f : ThenIn) × (h ≡ Asks 0 made (Do (Enter E)) f)
     go zero r = absurd (cc)
     go (suc fuel) r =
         let s = step_entry C k z E e in
-        let at : legged (names_of k) (λ n m t. leg (names_of k) C fuel n m t) 0 made (Waits (Do (Enter E)) s.0) ≡ Some h =
-        ap (λ o. legged (names_of k) (λ n m t. leg (names_of k) C fuel n m t) 0 made o) (sym s.1) ∙ r in
+        let at : ran_on (names_of k) (λ n m t. run_to_action (names_of k) C fuel n m t) 0 made (Waits (Do (Enter E)) s.0) ≡ Some h =
+        ap (λ o. ran_on (names_of k) (λ n m t. run_to_action (names_of k) C fuel n m t) 0 made o) (sym s.1) ∙ r in
         (s.0, (let same : Asks 0 made (Do (Enter E)) s.0 ≡ h = cc in sym same))

@@ -1,4 +1,4 @@
--- Each action at which a leg ends is said by an action of the machine.
+-- Each action to which a task comes is said by an action of the machine.
 use Rattle.std.proofs.Common.{◌≡◌, ◌∙◌, ℕ, ℤ, pos, negsuc, suc, zero, Bool, true, false, List, [], ◌∷◌, length, map, reverse, Option, Some, None, slice_get, refl, ap, sym}
 use Rattle.lang_base.specs.declared.elems.Elem.{Elem}
 use Rattle.lang_base.specs.declared.place.Place.{Place}

@@ -52,7 +52,7 @@ module _ (keeps : EachKeeps) (known : NamesAreKnown) (going : CodeMakesProgress)
   pub all_ready : ReadyTasksAreReady
   all_ready code P L arg is resolved main few ks m leads none R ran j f ready =
       ready_there code P arg L (right code P L arg is resolved main few) A.tied A.blocks A.lives (all_rest code L arg goes ks m leads)
-      (λ k t e. (goes ks m leads).legs k t e) j f
+      (λ k t e. (goes ks m leads).all_go k t e) j f
       (subst (λ S. Ready (stepped P arg) S j f) (one_run (stepped P arg) (keeps P arg).disciplined L ks R A.run ran A.ran) ready)
     where
       A : LedTo code P L arg is resolved main few ks m

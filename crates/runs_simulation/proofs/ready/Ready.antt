@@ -8,7 +8,7 @@ use Rattle.lang_base.specs.declared.effect.Effect.{Effect as PathEffect}
 use Rattle.lang_base.specs.declared.outcome.Limits.{Limits}
 use Rattle.lang_typed.specs.Plain.{PlainProgram}
 use Rattle.lang_meaning.specs.Actions as meaning
-use Rattle.code_instrs.specs.Legs.{said, Asks as AsksAt}
+use Rattle.code_instrs.specs.RunsToActions.{said, Asks as AsksAt}
 use Rattle.code_instrs.specs.Plain.{PlainCode, plain_code}
 use Rattle.code_instrs.specs.declared.code.Code.{Code}
 use Rattle.code_scheme.specs.Compiled.{SameAct, SameReply}
@@ -44,10 +44,10 @@ use Rattle.runs_simulation.proofs.events.Blocks.{entry_like, numbered_low, said_
 use Rattle.runs_simulation.proofs.tied.Branching.{Branch}
 use Rattle.runs_simulation.proofs.tied.Inside.{BlocksTied, StandTied, get_there, has_opened, stands_out, was_adopted}
 use Rattle.runs_simulation.proofs.events.Joinings.{not_less}
-use Rattle.runs_simulation.proofs.alike.Legs.{HaltOf}
+use Rattle.runs_simulation.proofs.alike.RunsToActions.{HaltOf}
 use Rattle.runs_simulation.proofs.tied.Lives.{LivesTied}
 use Rattle.runs_simulation.proofs.alike.Noted.{OneNumber, lists_like, lists_swap}
-use Rattle.runs_simulation.proofs.events.Resting.{entry_next, leg_rested}
+use Rattle.runs_simulation.proofs.events.Resting.{entry_next, run_rested}
 use Rattle.runs_simulation.proofs.tied.Ties.{BranchTied, ForkTied, LiveTied, OriginTied, Q, ScopeTied, Tied}
 use Rattle.runs_simulation.proofs.tied.Trees.{path_one}
 use Rattle.runs_simulation.proofs.tied.Waiting.{Rests, RestsAlone}
@@ -67,7 +67,7 @@ module _ (code : Code) (P : PlainProgram) (arg : ℤ) (L : Limits) (right : Righ
   C = plain_code code
 
   module _ {m : Moment} {w : Sight} {R : Run} (T : Tied P arg run.lets C L m w R) (B : BlocksTied w R m.world) (lives : LivesTied w R m) (rests : RestsAlone C m)
-      (legs : (k : ℕ) (t : Running) → m.tasks k ≡ Some t → Goes C k t) (k : ℕ) (e : Event) (ready_so : Ready (Q P arg run.lets C) R k e) where
+      (all_go : (k : ℕ) (t : Running) → m.tasks k ≡ Some t → Goes C k t) (k : ℕ) (e : Event) (ready_so : Ready (Q P arg run.lets C) R k e) where
     follows : Follows (Q P arg run.lets C) R e
     follows = ready_so.allowed.follows
 
@@ -190,13 +190,13 @@ module _ (code : Code) (P : PlainProgram) (arg : ℤ) (L : Limits) (right : Righ
       same = (let both : Some V.runs ≡ Some r.task = sym V.runs_so ∙ r.there in cc)
 
       goes : Goes C k V.runs
-      goes = legs k V.runs V.runs_so
+      goes = all_go k V.runs V.runs_so
 
       halts : (f : ThenIn) × (goes.halt ≡ AsksAt 0 V.runs.made (meaning.Do (meaning.Enter r.entry)) f)
-      halts = leg_rested C k V.runs.made V.runs.state goes.halt r.entry (ap (λ (t : Running). entry_next C t.state) same ∙ r.next) goes.leg
+      halts = run_rested C k V.runs.made V.runs.state goes.halt r.entry (ap (λ (t : Running). entry_next C t.state) same ∙ r.next) goes.run_to_action
 
-      H : Stood P arg run.lets C right T.heap.holds.distinct k V.path V.there V.task goes.leg
-      H = stood P arg run.lets C right T.heap.holds.distinct k V.path V.there V.task goes.leg
+      H : Stood P arg run.lets C right T.heap.holds.distinct k V.path V.there V.task goes.run_to_action
+      H = stood P arg run.lets C right T.heap.holds.distinct k V.path V.there V.task goes.run_to_action
 
       entry : (F : List Effect) × (e.act ≡ Do (Enter F)) × EffectsLike w r.entry F
       entry = go (subst (λ h. HaltLike w h H.halt) halts.1 H.like) (subst (λ q. SameReply C P q (said H.halt)) asks H.same)

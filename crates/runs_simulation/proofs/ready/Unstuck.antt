@@ -9,7 +9,7 @@ use Rattle.lang_base.specs.declared.effect.Effect.{Effect as PathEffect}
 use Rattle.lang_base.specs.declared.outcome.Limits.{Limits}
 use Rattle.lang_typed.specs.Plain.{PlainProgram}
 use Rattle.lang_meaning.specs.Actions as meaning
-use Rattle.code_instrs.specs.Legs.{Asks as AsksAt, Dead, Finished, Halt, said}
+use Rattle.code_instrs.specs.RunsToActions.{Asks as AsksAt, Dead, Finished, Halt, said}
 use Rattle.code_instrs.specs.Machine.{Start}
 use Rattle.code_instrs.specs.Plain.{PlainCode, plain_code}
 use Rattle.code_instrs.specs.declared.code.Code.{Code}
@@ -58,7 +58,7 @@ use Rattle.runs_simulation.proofs.events.Joins.{ForksAreJoined}
 use Rattle.runs_simulation.proofs.events.Asked.{ActionIn, ActionOf, AllLength, acts_at, begins_next, compiled_at, asks_begin, asks_join, asks_one, beginning_like, disciplined, forking_like, joining_like, runs_if, same_begin, same_end, same_fork, same_join}
 use Rattle.runs_simulation.proofs.events.Blocks.{ending_like, leave_like, own_acts, said_same}
 use Rattle.runs_simulation.proofs.tied.Inside.{BlocksTied, EffectsIn, get_there, none_open}
-use Rattle.runs_simulation.proofs.alike.Legs.{HaltOf}
+use Rattle.runs_simulation.proofs.alike.RunsToActions.{HaltOf}
 use Rattle.runs_simulation.proofs.tied.Lives.{LivesTied, NoForkLast}
 use Rattle.runs_simulation.proofs.tied.Ties.{ForkTied, LiveTied, Q, ScopeTied, Tied}
 use Rattle.runs_simulation.proofs.tied.Waiting.{AllNoted, entry_noted}

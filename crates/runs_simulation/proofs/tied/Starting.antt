@@ -58,7 +58,7 @@ use Rattle.runs_elision.proofs.Worlds.{int_like, object_like, no_values, more_va
 use Rattle.runs_elision.proofs.Counts.{padded_like}
 use Rattle.runs_simulation.proofs.alike.Sights.{Sight, each_none, on_like}
 use Rattle.runs_simulation.proofs.alike.Readings.{unmade_from_like}
-use Rattle.runs_simulation.proofs.alike.Legs.{StandsAfter, at_first}
+use Rattle.runs_simulation.proofs.alike.RunsToActions.{StandsAfter, at_first}
 use Rattle.runs_simulation.proofs.tied.Heaps.{HeapTied, Shown}
 use Rattle.runs_simulation.proofs.tied.Ties.{Q, LiveTied, NumbersTied, TaskTied, Tied}
 use Rattle.runs_simulation.proofs.events.Owns.{FieldsFor}

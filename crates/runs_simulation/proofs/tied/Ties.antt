@@ -29,7 +29,7 @@ use Rattle.exec_machine.specs.Replay.{Moment}
 use Rattle.exec_machine.specs.Running.{Running}
 use Rattle.runs_elision.proofs.Worlds.{LocalsLike, locals_later}
 use Rattle.runs_simulation.proofs.alike.Sights.{Sight, Wider, StateLike, state_later, StartsLike, starts_later}
-use Rattle.runs_simulation.proofs.alike.Legs.{StandsAfter}
+use Rattle.runs_simulation.proofs.alike.RunsToActions.{StandsAfter}
 use Rattle.runs_simulation.proofs.events.Forking.{AtJoin}
 use Rattle.runs_simulation.proofs.tied.Heaps.{HeapTied}
 use Rattle.runs_simulation.proofs.tied.Outs.{OutLive}

@@ -10,7 +10,7 @@ use Rattle.lang_base.specs.declared.effect.Effect.{Effect as PathEffect}
 use Rattle.lang_base.specs.declared.outcome.Limits.{Limits}
 use Rattle.lang_meaning.specs.Actions.{Answer, Effect, Ending, Do, End, Enter, Rest}
 use Rattle.lang_meaning.specs.Asking.{most_turns}
-use Rattle.code_instrs.specs.Legs.{Halt, Asks, Finished, Dead, Leg}
+use Rattle.code_instrs.specs.RunsToActions.{Halt, Asks, Finished, Dead, RunsToAction}
 use Rattle.code_instrs.specs.Machine.{root_start, Start, State, Stand, Goes, Turns, Makes, Waits, Ends, Stuck, step}
 use Rattle.code_instrs.specs.Plain.{PlainCode, plain_code}
 use Rattle.code_instrs.specs.declared.code.Code.{Code}
@@ -33,7 +33,7 @@ use Rattle.exec_machine.specs.Running.{Running, answered, at_start, front}
 use Rattle.exec_machine.specs.Wants.{WantsRightly, noted, wants_at}
 use Rattle.runs_simulation.proofs.events.Acting.{event_of}
 use Rattle.runs_simulation.proofs.events.Asked.{ActionIn, ThenIn}
-use Rattle.runs_simulation.proofs.events.Resting.{Following, Leading, after_others, entry_next, leg_entry, leg_rested, leg_spent, step_leads}
+use Rattle.runs_simulation.proofs.events.Resting.{Following, Leading, after_others, entry_next, run_entry, run_rested, run_spent, step_leads}
 use Rattle.runs_simulation.proofs.tied.Trees.{beside, placed}
 
 abbrev EffectsIn : Type 0
@@ -154,9 +154,9 @@ module _ (C : PlainCode) where
             let both : None ≡ Some E = sym none ∙ ap (λ s. entry_next C s) (sym A.state) ∙ i in cc
 
     -- after a rest the entry in front of which the task rests
-    rest_next : {first : ℕ} {s : State ℕ (ℕ × ℕ)} → Leg (names_of k) C first s (front C k turns made z) → Tells C (action.Do own.Rest) (front C k turns made z)
+    rest_next : {first : ℕ} {s : State ℕ (ℕ × ℕ)} → RunsToAction (names_of k) C first s (front C k turns made z) → Tells C (action.Do own.Rest) (front C k turns made z)
         → (wants : Option (List PathEffect)) → WantsRightly C z turns (action.Do own.Rest) wants → answered (front C k turns made z) y ≡ Some t → Noted C (rested waits k wants) k t
-    rest_next {first} {s} leg tells wants right e E i = go (turns == most_turns) refl
+    rest_next {first} {s} run_to_action tells wants right e E i = go (turns == most_turns) refl
       where
         A : At z turns (front C k turns made z) (plain_answer y) t
         A = at_answer k turns made z y t e
@@ -169,7 +169,7 @@ module _ (C : PlainCode) where
 
         go : (b : Bool) → (turns == most_turns) ≡ b → get (rested waits k wants) k ≡ Some (map noted E)
         go true b =
-            absurd (let none = leg_spent C k first s (front C k turns made z) turns A.made A.act A.then_in leg A.is b (plain_answer y) in
+            absurd (let none = run_spent C k first s (front C k turns made z) turns A.made A.act A.then_in run_to_action A.is b (plain_answer y) in
             let both : None ≡ Some E = sym none ∙ entry in cc)
         go false b = subst (λ o. get (rested waits k o) k ≡ Some (map noted E)) (sym so) (inserted_own waits k (map noted E))
           where
@@ -194,7 +194,7 @@ module _ (code : Code) (m : Moment) (k turns : ℕ) (wants : Option (List PathEf
 
   own_noted : (a : DeclaredAction) (x : NextOf C m k (event_of k turns wants a)) → Own a x
   own_noted (action.Do own.Rest) x t e =
-      rest_next C k turns x.stands.made x.stands.state (answer_at m.world k (action.Do own.Rest)) t m.world.waits x.stands.leg x.stands.tells wants x.stands.wants e
+      rest_next C k turns x.stands.made x.stands.state (answer_at m.world k (action.Do own.Rest)) t m.world.waits x.stands.run_to_action x.stands.tells wants x.stands.wants e
   own_noted (action.Fork forking many) x t e = None_next (action.Fork forking many) x (λ b s. passes C s.1 (λ r. (cc), λ x r. (cc))) t e _
   own_noted (action.End c) x t e = absurd (cc)
   own_noted a x t e = None_next a x (λ b s. passes C s (λ r. (cc), λ x r. (cc))) t e _
@@ -241,7 +241,7 @@ entry_noted C m k turns wants effects x all = all k x.task x.there (map plain_ef
     at_front : (h : Halt ℕ (ℕ × ℕ)) → front C k turns x.stands.made x.stands.state ≡ h → Tells C (action.Do (own.Enter effects)) h
         → entry_next C x.task.state ≡ Some (map plain_effect effects)
     at_front (Asks n m a f) e t =
-        leg_entry C k x.task.made x.task.state (front C k turns x.stands.made x.stands.state) n m (map plain_effect effects) f x.stands.leg (e ∙ ap (λ b. Asks n m b f) t)
+        run_entry C k x.task.made x.task.state (front C k turns x.stands.made x.stands.state) n m (map plain_effect effects) f x.stands.run_to_action (e ∙ ap (λ b. Asks n m b f) t)
     at_front (Finished n y) e t = absurd (cc)
     at_front Dead e t = absurd t
 
@@ -283,7 +283,7 @@ module _ (code : Code) (m : Moment) (k turns : ℕ) (wants : Option (List PathEf
       same = (let both : Some x.task ≡ Some r.task = sym x.there ∙ r.there in cc)
 
       at : (f : ThenIn) × (front CA k turns x.stands.made x.stands.state ≡ Asks 0 x.task.made (Do (Enter r.entry)) f)
-      at = leg_rested CA k x.task.made x.task.state (front CA k turns x.stands.made x.stands.state) r.entry (ap (λ (t : Running). entry_next CA t.state) same ∙ r.next) x.stands.leg
+      at = run_rested CA k x.task.made x.task.state (front CA k turns x.stands.made x.stands.state) r.entry (ap (λ (t : Running). entry_next CA t.state) same ∙ r.next) x.stands.run_to_action
 
       says : Says CA a (Do (Enter r.entry))
       says = reported CA a (front CA k turns x.stands.made x.stands.state) 0 x.task.made (Do (Enter r.entry)) at.0 x.stands.tells at.1

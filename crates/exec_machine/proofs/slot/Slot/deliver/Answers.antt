@@ -1,4 +1,4 @@
--- A task that is given its answer begins its next leg.
+-- A task that is given its answer goes on.
 use Rattle.std.proofs.Common.{sym, subst}
 use Rattle.code_instrs.specs.Plain.{plain_code}
 use Rattle.exec_machine.specs.Running.{StandsWith, IsAnswered}

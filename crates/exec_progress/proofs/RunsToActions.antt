@@ -1,13 +1,13 @@
--- The legs of tasks that began at good starts: a start is good where its legs end and it never is stuck.
+-- Tasks that began at good starts: a start is good where the task always comes to a next action, and never is stuck.
 use Rattle.std.proofs.Common.{◌≡◌, ◌≤◌, ℕ, zero, suc, ◌+◌, Bool, true, false, if◌then◌else◌, ◌==◌, List, [], ◌∷◌, refl, Option, Some, arith}
 use Rattle.lang_meaning.specs.Values.{Naming}
 use Rattle.lang_meaning.specs.Actions.{Rest, Action, Do, Answer, Unknown}
 use Rattle.lang_meaning.specs.Asking.{most_turns}
 use Rattle.code_instrs.specs.Plain.{PlainCode}
 use Rattle.code_instrs.specs.Machine.{Start, State, Stand, Goes, Turns, Makes, Waits, Ends, Stuck, step, Solo}
-use Rattle.code_instrs.specs.Legs.{Halt, Asks, Finished, Dead, legged_turn, legged, leg, Leg, Halts}
-use Rattle.code_instrs.proofs.Legs.{legs_are_solo}
-use Rattle.code_scheme.specs.Laws.{LegsEndOf}
+use Rattle.code_instrs.specs.RunsToActions.{Halt, Asks, Finished, Dead, ran_on_turn, ran_on, run_to_action, RunsToAction, Halts}
+use Rattle.code_instrs.proofs.RunsToActions.{runs_are_solo}
+use Rattle.code_scheme.specs.Laws.{RunsEndOf}
 use Rattle.exec_task.specs.Halts.{stands}
 use Rattle.exec_task.specs.Names.{names_of}
 use Rattle.exec_machine.specs.Running.{Running, at_start, front}
@@ -20,7 +20,7 @@ module _ {N M : Type 0} (names : Naming N M) (C : PlainCode) where
       m + turns ≤ made + n
 
   turn_counted : (more : ℕ → ℕ → State N M → Option (Halt N M)) → Counted more → (turns made : ℕ) (s : State N M) (n m : ℕ)
-      (a : Action N M (Start N M)) (k : Answer N M → State N M) → legged_turn more turns made s ≡ Some (Asks n m a k) → m + suc turns ≤ made + n
+      (a : Action N M (Start N M)) (k : Answer N M → State N M) → ran_on_turn more turns made s ≡ Some (Asks n m a k) → m + suc turns ≤ made + n
   turn_counted more rec turns made s n m a k e = go (suc turns == most_turns) e
     where
       go : (b : Bool) → (if b then Some (Asks (suc turns) made (Do Rest) (λ x. s)) else more (suc turns) made s) ≡ Some (Asks n m a k) → m + suc turns ≤ made + n
@@ -28,7 +28,7 @@ module _ {N M : Type 0} (names : Naming N M) (C : PlainCode) where
       go false i = rec (suc turns) made s n m a k i
 
   stand_counted : (more : ℕ → ℕ → State N M → Option (Halt N M)) → Counted more → (turns made : ℕ) (o : Stand N M) (n m : ℕ)
-      (a : Action N M (Start N M)) (k : Answer N M → State N M) → legged names more turns made o ≡ Some (Asks n m a k) → m + turns ≤ made + n
+      (a : Action N M (Start N M)) (k : Answer N M → State N M) → ran_on names more turns made o ≡ Some (Asks n m a k) → m + turns ≤ made + n
   stand_counted more rec turns made (Goes s) n m a k e = rec turns made s n m a k e
   stand_counted more rec turns made (Turns s) n m a k e = let le = turn_counted more rec turns made s n m a k e in omega (arith, le)
   stand_counted more rec turns made (Makes j) n m a k e = let le = turn_counted more rec turns (suc made) (j (names.made made)) n m a k e in omega (arith, le)
@@ -36,9 +36,9 @@ module _ {N M : Type 0} (names : Naming N M) (C : PlainCode) where
   stand_counted more rec turns made (Ends d) n m a k e = absurd (cc)
   stand_counted more rec turns made Stuck n m a k e = absurd (cc)
 
-  pub leg_counted : (fuel : ℕ) → Counted (λ turns made s. leg names C fuel turns made s)
-  leg_counted zero turns made s n m a k e = absurd (cc)
-  leg_counted (suc fuel) turns made s n m a k e = stand_counted (λ t q s. leg names C fuel t q s) (leg_counted fuel) turns made (step names C s) n m a k e
+  pub run_counted : (fuel : ℕ) → Counted (λ turns made s. run_to_action names C fuel turns made s)
+  run_counted zero turns made s n m a k e = absurd (cc)
+  run_counted (suc fuel) turns made s n m a k e = stand_counted (λ t q s. run_to_action names C fuel t q s) (run_counted fuel) turns made (step names C s) n m a k e
 
 -- where a task stands tells its turns and its local regions
 abbrev pub TellsCounts : ℕ → ℕ → Halt ℕ (ℕ × ℕ) → Type 0
@@ -68,17 +68,17 @@ pub data ComesTo (C : PlainCode) (k : ℕ) (b : Start ℕ (ℕ × ℕ)) : Runnin
       Halts (names_of k) C b got (Asks n m a f) → (x : Answer ℕ (ℕ × ℕ)) → ComesTo C k b (record { state = f x; made = m })
 
 module _ (C : PlainCode) (k : ℕ) (b : Start ℕ (ℕ × ℕ)) where
-  pub next_leg : LegsEndOf (names_of k) C b → (t : Running) → ComesTo C k b t → (h : Halt ℕ (ℕ × ℕ)) × Leg (names_of k) C t.made t.state h
-  next_leg ends t at_first = ends.first
-  next_leg ends t (after_answer got n m a f halts x) = ends.later got n m a f halts x
+  pub next_run : RunsEndOf (names_of k) C b → (t : Running) → ComesTo C k b t → (h : Halt ℕ (ℕ × ℕ)) × RunsToAction (names_of k) C t.made t.state h
+  next_run ends t at_first = ends.first
+  next_run ends t (after_answer got n m a f halts x) = ends.later got n m a f halts x
 
   -- after one more answer
   pub comes_on : (t : Running) → ComesTo C k b t → (n m : ℕ) (a : Action ℕ (ℕ × ℕ) (Start ℕ (ℕ × ℕ))) (f : Answer ℕ (ℕ × ℕ) → State ℕ (ℕ × ℕ)) →
-      Leg (names_of k) C t.made t.state (Asks n m a f) → (x : Answer ℕ (ℕ × ℕ)) → ComesTo C k b (record { state = f x; made = m })
-  comes_on t at_first n m a f leg x = after_answer [] n m a f leg x
-  comes_on t (after_answer got n' m' a' f' halts y) n m a f leg x = after_answer (y ∷ got) n m a f (n', m', a', f', halts, leg) x
+      RunsToAction (names_of k) C t.made t.state (Asks n m a f) → (x : Answer ℕ (ℕ × ℕ)) → ComesTo C k b (record { state = f x; made = m })
+  comes_on t at_first n m a f run_to_action x = after_answer [] n m a f run_to_action x
+  comes_on t (after_answer got n' m' a' f' halts y) n m a f run_to_action x = after_answer (y ∷ got) n m a f (n', m', a', f', halts, run_to_action) x
 
   pub never_dead : ((got : List (Answer ℕ (ℕ × ℕ))) → Solo (names_of k) C b got Unknown → ⊥) → (t : Running) → ComesTo C k b t →
-      Leg (names_of k) C t.made t.state Dead → ⊥
-  never_dead never t at_first leg = never [] (legs_are_solo (names_of k) C b [] Dead leg)
-  never_dead never t (after_answer got n m a f halts y) leg = never (y ∷ got) (legs_are_solo (names_of k) C b (y ∷ got) Dead (n, m, a, f, halts, leg))
+      RunsToAction (names_of k) C t.made t.state Dead → ⊥
+  never_dead never t at_first run_to_action = never [] (runs_are_solo (names_of k) C b [] Dead run_to_action)
+  never_dead never t (after_answer got n m a f halts y) run_to_action = never (y ∷ got) (runs_are_solo (names_of k) C b (y ∷ got) Dead (n, m, a, f, halts, run_to_action))

@@ -2,7 +2,7 @@ use Rattle.std.proofs.Common.{sym, subst}
 use Rattle.code_instrs.specs.Plain.{plain_code}
 use Rattle.exec_task.specs.Fuel.{Least}
 use Rattle.exec_task.proofs.RunningToAction.{least_of, ends_of}
-use Rattle.exec_task.proofs.task.Task.leg.Goals as goal
+use Rattle.exec_task.proofs.task.Task.run_to_action.Goals as goal
 
 pub invariant_of-running : goal.invariant_of-running
 invariant_of-running c = record {

@@ -15,7 +15,7 @@ use std::mem;
 impl Task {
     /// Takes the task to its next action. A second call before the answer changes nothing, and gives the same. After want of
     /// memory the task is on its way there.
-    pub fn leg(&mut self, alloc: Global, code: &Code) -> Result<Action, NoMemory>
+    pub fn run_to_action(&mut self, alloc: Global, code: &Code) -> Result<Action, NoMemory>
         requires ends { Ends (plain_code code.now) self.old }
         requires paced { Paced self.old }
         ensures ends { Ends (plain_code code.now) self.new }
