@@ -1,5 +1,5 @@
 -- The lines of summaries, piece by piece.
-use Rattle.std.proofs.Common.{◌≡◌, ◌∙◌, ◌-◌, ◌≤◌, ℕ, List, [], ◌∷◌, ◌++◌, map, codes, refl, ap, sym, append_assoc, ◌⊎◌, inl, inr, length, arith}
+use Rattle.std.proofs.Common.{◌≡◌, ◌∙◌, ◌-◌, ◌≤◌, ℕ, List, [], ◌∷◌, ◌++◌, map, codes, refl, sym, ◌⊎◌, inl, inr, length, arith}
 use Rattle.std.specs.List.{flat_map}
 use Rattle.std.specs.Prelude.{slice_index_or}
 use Rattle.std.proofs.lemmas.List.{get_or_past, length-append, length-map}
@@ -15,15 +15,6 @@ use Rattle.body_infer.specs.Lines.{all_params, listed, lines_from}
 listed_more : (texts : List (List ℕ)) → flat_map (λ more. codes ", " ++ more) texts ≡ listed (codes ", ") texts
 listed_more [] = refl
 listed_more (text ∷ texts) = refl
-
--- one text more
-pub listed_one : (out between text whole : List ℕ) (texts all : List (List ℕ)) → all ≡ text ∷ texts → out ++ listed between all ≡ whole
-    → out ++ between ++ text ++ listed (codes ", ") texts ≡ whole
-listed_one out between text whole texts all is so_far =
-    append_assoc (out ++ between) text (listed (codes ", ") texts) ∙ append_assoc out between (text ++ listed (codes ", ") texts)
-    ∙ ap (λ more. out ++ (between ++ (text ++ more))) (sym (listed_more texts))
-    ∙ ap (λ more. out ++ more) (sym (append_assoc between text (flat_map (λ more. codes ", " ++ more) texts)))
-    ∙ ap (λ ts. out ++ listed between ts) (sym is) ∙ so_far
 
 -- no line is left
 pub no_lines : (names : ProgramNames) (kept : List (List Kept)) (members : List Member) → (length members ≡ 0) ⊎ (length kept ≡ 0)

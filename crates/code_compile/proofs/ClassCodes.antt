@@ -4,7 +4,7 @@ use Rattle.std.proofs.lemmas.Option.{slice_get-map, unwrap_or-slice_get}
 use Rattle.lang_base.specs.declared.value.FirstValue.{FirstValue}
 use Rattle.lang_typed.specs.declared.program.Member.{Member}
 use Rattle.lang_typed.specs.declared.program.Program.{Program}
-use Rattle.lang_typed.specs.Plain.{PlainMember, PlainParent, plain_member, plain_program}
+use Rattle.lang_typed.specs.Plain.{PlainParent, plain_member, plain_program}
 use Rattle.code_instrs.specs.declared.code.MethodCode.{MethodCode}
 use Rattle.code_instrs.specs.Plain.{ClassCode, Method, member_in, member_or_none}
 use Rattle.code_scheme.specs.Scheme.{method_code, owner_of}

@@ -69,12 +69,6 @@ module _ {N M : Type 0} {names : Naming N M} {C : PlainCode} {P : PlainProgram} 
     does = λ b K h r. does_on p (next_of q) K (x.does b (λ x v. after (run (reported names) (next_of q x) v) K) (λ v g i. (y v g i).does b K h r) r);
   }
 
-  -- by the truth of a value
-  pub sim_choose : (A : Bool → State N M) {B : Value N → Frame N M → State N M} {G : Value N → State N M} {p q : Prog N M} → Sim names C P d (A false) B G p →
-      Sim names C P d (A true) B G q → (t : Bool) → Sim names C P d (A t) B G (elim t as (λ x. Prog N M) [ false ↦ p | true ↦ q ])
-  sim_choose A x y false = x
-  sim_choose A x y true = y
-
   pub sim_act : {s : State N M} {B : Value N → Frame N M → State N M} {G : Value N → State N M} {o : Own N M} {k : Answer N M → State N M} {j : Answer N M →
       Prog N M} → step names C s ≡ Waits (Do o) k → ((x : Answer N M) → Sim names C P d (k x) B G (j x)) → Sim names C P d s B G (Act o j)
   sim_act {s} {B} {G} {o} {k} {j} e x = record {

@@ -1,15 +1,11 @@
 -- Rows as keys: what `==` says of two, what the hash of one is fed, and where one stands in a list.
-use Rattle.std.proofs.Common.{◌≡◌, ℕ, suc, ◌+◌, ◌<◌, Bool, true, false, if◌then◌else◌, ◌⊎◌, List, [], ◌∷◌, ◌++◌, length, get_or, take, Some, slice_get, Contains, inl, inr, refl, sym, ap, ◌∙◌, arith}
+use Rattle.std.proofs.Common.{◌≡◌, ℕ, ◌+◌, ◌<◌, Bool, true, false, if◌then◌else◌, ◌⊎◌, List, [], ◌∷◌, ◌++◌, Some, slice_get, Contains, inl, inr, refl, sym, ap, ◌∙◌}
 use Rattle.std.proofs.lemmas.Bool.{false≢true}
 use Rattle.std.proofs.lemmas.Bool.Decides.{Decides-like}
-use Rattle.std.proofs.lemmas.Grind.{flat_map-append}
-use Rattle.std.proofs.lemmas.List.{append-nil}
 use Rattle.std.proofs.lemmas.Map.Views.{list_any-from_Contains}
 use Rattle.std.proofs.lemmas.Slice.Eq.{slice_eq-Decides}
-use Rattle.std.proofs.Math.Seq.{take-suc}
 use Rattle.std.specs.Bool.{Decides}
-use Rattle.std.specs.Hash.{HashWrites, fed_then, fed_along}
-use Rattle.std.specs.List.{flat_map, fold, list_any}
+use Rattle.std.specs.List.{list_any}
 use Rattle.indexmap.specs.IndexSet.{insert_key}
 use Rattle.lang_base.specs.declared.region.Region.{Region}
 use Rattle.lang_base.specs.Keys.{elems_eq}
@@ -32,20 +28,6 @@ same_answer false false d e = refl
 -- what says whether two rows are equal is what `==` says
 pub equal_rows : (a b : List Region) (r : Bool) → Decides r (a ≡ b) → r ≡ row_eq a b
 equal_rows a b r d = same_answer r (row_eq a b) d (row_decides a b)
-
--- the loop that feeds a hasher, at one item more
-pub fed_more : {S T : Type 0} (write : S → List ℕ → S) (F : T → HashWrites) (s t u : S) (xs : List T) (i : ℕ) (x : T)
-    → i < length xs → x ≡ get_or xs i x → t ≡ fold write s (flat_map F (take i xs)) → u ≡ fold write t (F x)
-    → u ≡ fold write s (flat_map F (take (i + 1) xs))
-fed_more write F s t u xs i x lt is before fed =
-    let next : suc i ≡ i + 1 = omega arith in
-    fed_along write s u
-    (sym (ap (λ w. flat_map F (take i xs) ++ w) (append-nil (F x)))
-    ∙ sym (flat_map-append F (take i xs) (x ∷ []))
-    ∙ ap (λ y. flat_map F (take i xs ++ y ∷ [])) is
-    ∙ ap (flat_map F) (sym (take-suc xs i x lt))
-    ∙ ap (λ n. flat_map F (take n xs)) next)
-    (fed_then write s t u (flat_map F (take i xs)) (F x) before fed)
 
 -- where a row stands after it was put in, and which rows there are then
 pub placed : (old new : List (List Region)) (regions stored : List Region) (row : ℕ)

@@ -1,5 +1,5 @@
 -- The least task that hinders, put together from parts of the index.
-use Rattle.std.proofs.Common.{◌≡◌, ℕ, ◌+◌, ◌<◌, ◌≤◌, List, [], ◌∷◌, length, drop, get_or, refl, sym, ap, subst, ◌∙◌, Option, Some, None, Bool, true, false, cond, ◌||◌, nat_lt, IfSome, MatchBool, ◌⊎◌, inl, inr, arith}
+use Rattle.std.proofs.Common.{◌≡◌, ℕ, ◌+◌, ◌<◌, ◌≤◌, List, [], ◌∷◌, length, drop, get_or, refl, sym, ap, subst, ◌∙◌, Option, Some, Bool, true, false, cond, ◌||◌, IfSome, MatchBool, ◌⊎◌, inl, inr, arith}
 use Rattle.std.specs.Prelude.{find, nat_eq}
 use Rattle.std.specs.List.{list_any, AllByRecursion}
 use Rattle.std.specs.List.Sorted.{IsStrictlySortedBy}
@@ -11,11 +11,11 @@ use Rattle.std.specs.HashMap.{hash_map_len}
 use Rattle.std.specs.Map.{lookup}
 use Rattle.std.specs.declared.cmp.Ordering.TheVariants.{Less}
 use Rattle.std.proofs.lemmas.List.{drop_more}
-use Rattle.std.proofs.lemmas.Bool.{ltb-true, ltb-false, false≢true}
+use Rattle.std.proofs.lemmas.Bool.{false≢true}
 use Rattle.lang_base.specs.declared.elems.Elem.{Elem}
 use Rattle.lang_base.specs.Matching.{is_concrete}
 use Rattle.exec_locks.specs.declared.task_set.TaskSet.{TaskSet}
-use Rattle.exec_locks.specs.Index.{Sets, has, has_in, mixed, Met, lesser, AtMost}
+use Rattle.exec_locks.specs.Index.{Sets, has, has_in, mixed, Met, AtMost}
 
 same_number : (q x : ℕ) → is_eq (nat_cmp q x) ≡ true → q ≡ x
 same_number q x e = nat_cmp-IsAntisymmetric q x ((Equal-is (nat_cmp q x)).0 e)
@@ -58,86 +58,10 @@ module _ (p : ℕ → Bool) where
       least_cond x q (find p xs) (p x) (is_eq (nat_cmp q x)) (list_any (is_at (nat_cmp q)) xs) refl refl good there
       (above x q xs sorted.0) (λ later. find_least xs q sorted.1 later good)
 
-  sound_choice : (b : Bool) (x y : ℕ) → p x ≡ true → p y ≡ true → Sound (cond b (Some y) (Some x))
-  sound_choice true x y one other = other
-  sound_choice false x y one other = one
-
-  pub sound_lesser : (a b : Option ℕ) → Sound a → Sound b → Sound (lesser a b)
-  sound_lesser None b sa sb = sb
-  sound_lesser (Some x) None sa sb = sa
-  sound_lesser (Some x) (Some y) sa sb = sound_choice (nat_lt y x) x y sa sb
-
-chosen_left : (b : Bool) (x y q : ℕ) → nat_lt y x ≡ b → x ≤ q → AtMost (cond b (Some y) (Some x)) q
-chosen_left true x y q is le = omega (arith, ltb-true y x is)
-chosen_left false x y q is le = le
-
-chosen_right : (b : Bool) (x y q : ℕ) → nat_lt y x ≡ b → y ≤ q → AtMost (cond b (Some y) (Some x)) q
-chosen_right true x y q is le = le
-chosen_right false x y q is le = omega (arith, ltb-false y x is)
-
-pub most_left : (a b : Option ℕ) (q : ℕ) → AtMost a q → AtMost (lesser a b) q
-most_left None b q le = absurd le
-most_left (Some x) None q le = le
-most_left (Some x) (Some y) q le = chosen_left (nat_lt y x) x y q refl le
-
-pub most_right : (a b : Option ℕ) (q : ℕ) → AtMost b q → AtMost (lesser a b) q
-most_right None b q le = le
-most_right (Some x) None q le = absurd le
-most_right (Some x) (Some y) q le = chosen_right (nat_lt y x) x y q refl le
-
--- the search goes on after a fixed element, looks under an open one, and ends at the end of the path
-met_fixed : (under ending : Sets) (q number : ℕ) (x : Elem) (xs : List Elem) (b : Bool) → is_concrete x ≡ b → b ≡ true
-    → MatchBool b (Met under ending q (mixed number x) xs) (has under number q ≡ true) → Met under ending q (mixed number x) xs
-met_fixed under ending q number x xs true is fixed met = met
-met_fixed under ending q number x xs false is fixed met = cc
-
-met_open : (under ending : Sets) (q number : ℕ) (x : Elem) (xs : List Elem) (b : Bool) → is_concrete x ≡ b → b ≡ false
-    → MatchBool b (Met under ending q (mixed number x) xs) (has under number q ≡ true) → has under number q ≡ true
-met_open under ending q number x xs true is wild met = cc
-met_open under ending q number x xs false is wild met = met
-
 met_at : (under ending : Sets) (q number i : ℕ) (x : Elem) (all : List Elem) → i < length all → x ≡ get_or all i x
     → Met under ending q number (drop i all) → Met under ending q number (x ∷ drop (i + 1) all)
 met_at under ending q number i x all lt at met =
     subst (Met under ending q number) (drop_more all i x lt ∙ ap (λ y. y ∷ drop (i + 1) all) (sym at)) met
-
-pub reach_more : (under ending : Sets) (q number i : ℕ) (x : Elem) (all : List Elem) (least one : Option ℕ) → i < length all → x ≡ get_or all i x
-    → is_concrete x ≡ true
-    → (has ending number q ≡ true → AtMost one q) → AtMost least q ⊎ Met under ending q number (drop i all)
-    → AtMost (lesser least one) q ⊎ Met under ending q (mixed number x) (drop (i + 1) all)
-reach_more under ending q number i x all least one lt at fixed found so_far =
-    elim so_far [
-      | inl le ↦ inl (most_left least one q le)
-      | inr met ↦ elim (met_at under ending q number i x all lt at met) [
-        | inl here ↦ inl (most_right least one q (found here))
-        | inr on ↦ inr (met_fixed under ending q number x (drop (i + 1) all) (is_concrete x) refl fixed on)
-      ]
-    ]
-
-pub reach_open : (under ending : Sets) (q number i : ℕ) (x : Elem) (all : List Elem) (least one two : Option ℕ) → i < length all → x ≡ get_or all i x
-    → is_concrete x ≡ false
-    → (has ending number q ≡ true → AtMost one q) → (has under number q ≡ true → AtMost two q) → AtMost least q ⊎ Met under ending q number (drop i all)
-    → AtMost (lesser (lesser least one) two) q
-reach_open under ending q number i x all least one two lt at wild found below so_far =
-    elim so_far [
-      | inl le ↦ most_left (lesser least one) two q (most_left least one q le)
-      | inr met ↦ elim (met_at under ending q number i x all lt at met) [
-        | inl here ↦ most_left (lesser least one) two q (most_right least one q (found here))
-        | inr on ↦ most_right (lesser least one) two q (below (met_open under ending q number x (drop (i + 1) all) (is_concrete x) refl wild on))
-      ]
-    ]
-
-pub reach_end : (under ending : Sets) (q number : ℕ) (rest : List Elem) (least one two : Option ℕ) → rest ≡ []
-    → (has ending number q ≡ true → AtMost one q) → (has under number q ≡ true → AtMost two q) → AtMost least q ⊎ Met under ending q number rest
-    → AtMost (lesser (lesser least one) two) q
-reach_end under ending q number rest least one two is found below so_far =
-    elim so_far [
-      | inl le ↦ most_left (lesser least one) two q (most_left least one q le)
-      | inr met ↦ elim (subst (Met under ending q number) is met) [
-        | inl here ↦ most_left (lesser least one) two q (most_right least one q (found here))
-        | inr on ↦ most_right (lesser least one) two q (below on)
-      ]
-    ]
 
 none_among : (es : List (ℕ × TaskSet)) (k q : ℕ) → length es ≡ 0 → has_in (lookup (nat_eq k) es) q ≡ false
 none_among [] k q none = refl

@@ -24,7 +24,6 @@ use Rattle.exec_world.specs.World.{got, read_at, has_index, seen, fell_or, answe
 use Rattle.exec_world.specs.declared.world.World.{World}
 use Rattle.exec_machine.specs.Running.{Running, answered}
 use Rattle.exec_machine.specs.Replay.{goes_on, with_branch, outcome_after, HasStart}
-use Rattle.exec_machine.specs.Wants.{WantsRightly}
 
 -- an action that neither begins a branch nor ends its task
 pub record IsOrdinary (a : Action) : Type 0 where
@@ -80,9 +79,3 @@ counted w k wants (action.Do (own.Write n j v)) f = counted_write (has_index (ob
 counted w k wants (action.Do (own.Look n)) f = counted_seen (object_at w.heap n) f.1
 counted w k wants action.Join f = counted_join (first_trap (ends_in (task_at w.tree k))) (all_slots (ends_in (task_at w.tree k)))
 counted w k wants a f = tt
-
--- of a task that doesn't rest nothing is asked that it wants
-pub wants_nothing : (C : PlainCode) (z : State ℕ (ℕ × ℕ)) (turns : ℕ) (a : Action) (wants : Option (List Effect)) → (a ≡ action.Do own.Rest → ⊥)
-    → WantsRightly C z turns a wants
-wants_nothing C z turns (action.Do own.Rest) wants n = absurd (n refl)
-wants_nothing C z turns a wants n = tt

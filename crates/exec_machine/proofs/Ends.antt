@@ -32,20 +32,6 @@ not_ended before after k y apart = elim (eqb_tells k 0) [
 ]
 
 module _ (code : Code) (L : Limits) (old mid new : Run) (e : Event) (x : Answer) (y : Ending) (slots : FinMap nat_cmp Slot) where
-  pub ends_root : Recorded code L old e (Some x) mid → e.action ≡ action.End y → e.task ≡ 0 → slots ≡ remove mid.slots e.task
-      → (came : Came) (out : List ℕ) → came ≡ came_to y → out ≡ out_of (task_at old.world.tree 0)
-      → new ≡ record { world = mid.world; slots = slots; schedule = mid.schedule; outcome = Some (record { ending = came; out = out; steps = mid.world.steps; cells = mid.world.heap.used }) }
-      → Comes code L old e (remove old.slots e.task) (outcome_after old.world (world_after code old.world e) e.task e.action) new
-  ends_root r act zero slots_is came out came_is out_is is =
-      made r.0
-      (is ∙ ap (λ s. run_of mid.world s mid.schedule (Some (outcome_of came out mid.world))) slots_is
-      ∙ ap (λ (q : Run). run_of q.world (remove q.slots e.task) q.schedule (Some (outcome_of came out q.world))) r.2
-      ∙ ap (run_of (world_after code old.world e) (remove old.slots e.task) (old.schedule ++ e.task ∷ []))
-      (ap (λ c. Some (outcome_of c out (world_after code old.world e))) came_is
-      ∙ ap (λ o. Some (outcome_of (came_to y) o (world_after code old.world e))) out_is
-      ∙ ap (λ k. ended old.world (world_after code old.world e) k y) (sym zero)
-      ∙ sym (ap (outcome_after old.world (world_after code old.world e) e.task) act)))
-
   pub ends_other : Recorded code L old e (Some x) mid → e.action ≡ action.End y → e.task ≢ 0 → slots ≡ remove mid.slots e.task → old.outcome ≡ None
       → new ≡ record { world = mid.world; slots = slots; schedule = mid.schedule; outcome = mid.outcome }
       → Comes code L old e (remove old.slots e.task) (outcome_after old.world (world_after code old.world e) e.task e.action) new

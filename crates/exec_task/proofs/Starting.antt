@@ -1,5 +1,5 @@
 -- How a branch starts.
-use Rattle.std.proofs.Common.{arith, ◌≡◌, ℕ, ℤ, zero, suc, ◌+◌, ◌-◌, ◌<◌, pos, List, [], ◌∷◌, map, length, refl, sym, ap, ◌∙◌, Some}
+use Rattle.std.proofs.Common.{arith, ◌≡◌, ℕ, ℤ, zero, suc, ◌+◌, ◌-◌, ◌<◌, pos, List, [], ◌∷◌, map, length, sym, ap, ◌∙◌, Some}
 use Rattle.std.specs.Prelude.{slice_get, slice_set}
 use Rattle.std.specs.Int.{w32, int_wrapping_add, int_wrapping_sub}
 use Rattle.lang_meaning.specs.Actions as meaning
@@ -33,12 +33,6 @@ module _ {N M : Type 0} where
   each_there j x f start n b h =
       let e : 0 + b ≡ b = omega arith in
       each_from j x f start 0 n b h ∙ ap (λ k. Some (record { body = j; frame = below (numbered_frame x start k f) })) e
-
-  pub short_starts : (j x : ℕ) (f : meaning.Frame N M) (st : List (Value N)) → length st < 3 → spread_starts j x f st ≡ []
-  short_starts j x f [] h = refl
-  short_starts j x f (u ∷ []) h = refl
-  short_starts j x f (u ∷ v ∷ []) h = refl
-  short_starts j x f (u ∷ v ∷ w ∷ st) h = absurd (omega arith)
 
 pub numbered_there : (f : Frame) (g : meaning.Frame ℕ (ℕ × ℕ)) (vs : List (Value ℕ)) (x b : ℕ) (start : ℤ) → plain_frame f ≡ below g
     → vs ≡ slice_set (map plain_value f.values) x (Int (int_wrapping_add w32 start (pos b)))

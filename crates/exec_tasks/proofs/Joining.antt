@@ -1,29 +1,20 @@
 -- The steps of putting outputs together and of looking for the first trap.
-use Rattle.std.proofs.Common.{◌≡◌, ℕ, ◌+◌, ◌<◌, List, [], ◌∷◌, ◌++◌, length, drop, get_or, refl, sym, ap, ◌∙◌, Option, Some, None, append_assoc, true, false, is_some}
-use Rattle.std.proofs.lemmas.List.{drop_more, append-nil}
+use Rattle.std.proofs.Common.{◌≡◌, ℕ, ◌+◌, ◌<◌, List, ◌∷◌, ◌++◌, length, drop, get_or, refl, sym, ap, ◌∙◌, Option, Some, None, append_assoc, true, false, is_some}
+use Rattle.std.proofs.lemmas.List.{drop_more}
 use Rattle.lang_base.specs.declared.place.Place.{Place}
 use Rattle.lang_base.specs.declared.value.Trap.{Trap}
-use Rattle.exec_tasks.specs.Join.{joined_out, first_trap, unless_trapped, or_else}
+use Rattle.exec_tasks.specs.Join.{joined_out, unless_trapped, or_else}
 use Rattle.exec_tasks.specs.declared.end.TaskEnd.{TaskEnd}
 
 without_trap : (t : Option (Trap × Place)) (more : List ℕ) → is_some t ≡ false → unless_trapped t more ≡ more
 without_trap None more is = refl
 without_trap (Some t) more is = cc
 
-with_trap : (t : Option (Trap × Place)) (more : List ℕ) → is_some t ≡ true → unless_trapped t more ≡ []
-with_trap None more is = cc
-with_trap (Some t) more is = refl
-
 -- the output from a branch on begins with that branch
 split_out : (out all : List ℕ) (ends : List (Option TaskEnd)) (i : ℕ) (x : Option TaskEnd) → i < length ends → x ≡ get_or ends i x
     → out ++ joined_out (drop i ends) ≡ all → out ++ joined_out (x ∷ drop (i + 1) ends) ≡ all
 split_out out all ends i x lt at inv =
     ap (λ e. out ++ joined_out (e ∷ drop (i + 1) ends)) at ∙ ap (λ es. out ++ joined_out es) (sym (drop_more ends i x lt)) ∙ inv
-
--- a branch that has not ended
-pub out_none : (out all : List ℕ) (ends : List (Option TaskEnd)) (i : ℕ) (x : Option TaskEnd) → i < length ends → x ≡ get_or ends i x → x ≡ None
-    → out ++ joined_out (drop i ends) ≡ all → out ++ joined_out (drop (i + 1) ends) ≡ all
-out_none out all ends i x lt at is inv = ap (λ e. out ++ joined_out (e ∷ drop (i + 1) ends)) (sym is) ∙ split_out out all ends i x lt at inv
 
 step_out : (out all : List ℕ) (ends : List (Option TaskEnd)) (i : ℕ) (x : Option TaskEnd) (e : TaskEnd) → i < length ends → x ≡ get_or ends i x → x ≡ Some e
     → out ++ joined_out (drop i ends) ≡ all → (out ++ e.out) ++ unless_trapped e.trap (joined_out (drop (i + 1) ends)) ≡ all
@@ -36,17 +27,6 @@ pub out_more : (out all : List ℕ) (ends : List (Option TaskEnd)) (i : ℕ) (x 
 out_more out all ends i x e lt at is none inv =
     ap (λ o. (out ++ e.out) ++ o) (sym (without_trap e.trap _ none)) ∙ step_out out all ends i x e lt at is inv
 
--- a branch that trapped
-pub out_last : (out all : List ℕ) (ends : List (Option TaskEnd)) (i : ℕ) (x : Option TaskEnd) (e : TaskEnd) → i < length ends → x ≡ get_or ends i x
-    → x ≡ Some e → is_some e.trap ≡ true → out ++ joined_out (drop i ends) ≡ all → out ++ e.out ≡ all
-out_last out all ends i x e lt at is some inv =
-    sym (append-nil (out ++ e.out)) ∙ ap (λ o. (out ++ e.out) ++ o) (sym (with_trap e.trap (joined_out (drop (i + 1) ends)) some))
-    ∙ step_out out all ends i x e lt at is inv
-
-split_trap : (all : Option (Trap × Place)) (ends : List (Option TaskEnd)) (i : ℕ) (x : Option TaskEnd) → i < length ends → x ≡ get_or ends i x
-    → first_trap (drop i ends) ≡ all → first_trap (x ∷ drop (i + 1) ends) ≡ all
-split_trap all ends i x lt at inv = ap (λ e. first_trap (e ∷ drop (i + 1) ends)) at ∙ ap first_trap (sym (drop_more ends i x lt)) ∙ inv
-
 here : (t other : Option (Trap × Place)) → is_some t ≡ true → t ≡ or_else t other
 here None other is = cc
 here (Some t) other is = refl
@@ -54,17 +34,3 @@ here (Some t) other is = refl
 elsewhere : (t other : Option (Trap × Place)) → is_some t ≡ false → other ≡ or_else t other
 elsewhere None other is = refl
 elsewhere (Some t) other is = cc
-
-pub trap_here : (all : Option (Trap × Place)) (ends : List (Option TaskEnd)) (i : ℕ) (x : Option TaskEnd) (e : TaskEnd) → i < length ends → x ≡ get_or ends i x
-    → x ≡ Some e → is_some e.trap ≡ true → first_trap (drop i ends) ≡ all → e.trap ≡ all
-trap_here all ends i x e lt at is some inv =
-    here e.trap (first_trap (drop (i + 1) ends)) some ∙ ap (λ o. first_trap (o ∷ drop (i + 1) ends)) (sym is) ∙ split_trap all ends i x lt at inv
-
-pub trap_later : (all : Option (Trap × Place)) (ends : List (Option TaskEnd)) (i : ℕ) (x : Option TaskEnd) (e : TaskEnd) → i < length ends → x ≡ get_or ends i x
-    → x ≡ Some e → is_some e.trap ≡ false → first_trap (drop i ends) ≡ all → first_trap (drop (i + 1) ends) ≡ all
-trap_later all ends i x e lt at is none inv =
-    elsewhere e.trap (first_trap (drop (i + 1) ends)) none ∙ ap (λ o. first_trap (o ∷ drop (i + 1) ends)) (sym is) ∙ split_trap all ends i x lt at inv
-
-pub trap_none : (all : Option (Trap × Place)) (ends : List (Option TaskEnd)) (i : ℕ) (x : Option TaskEnd) → i < length ends → x ≡ get_or ends i x
-    → x ≡ None → first_trap (drop i ends) ≡ all → first_trap (drop (i + 1) ends) ≡ all
-trap_none all ends i x lt at is inv = ap (λ o. first_trap (o ∷ drop (i + 1) ends)) (sym is) ∙ split_trap all ends i x lt at inv

@@ -1,11 +1,10 @@
 -- A path put together from a task upwards.
-use Rattle.std.proofs.Common.{◌≡◌, ℕ, ◌<◌, List, [], ◌∷◌, ◌++◌, sym, ap, subst, ◌∙◌, Option, Some, None, append_assoc, append-nil, reverse}
+use Rattle.std.proofs.Common.{◌≡◌, ℕ, ◌<◌, List, [], ◌∷◌, ◌++◌, sym, ap, subst, ◌∙◌, Some, None, append_assoc, append-nil, reverse}
 use Rattle.std.proofs.lemmas.List.{reverse-append}
 use Rattle.std.specs.FinMap.{get}
 use Rattle.lang_base.specs.declared.path.PathStep.{PathStep}
 use Rattle.exec_tasks.specs.declared.task.Origin.{Origin}
-use Rattle.exec_tasks.specs.declared.task.Task.{Task}
-use Rattle.exec_tasks.specs.Tree.{Tasks, OfEach, OfOrigin, IsNumbered, origin_of, IsPath, root, step}
+use Rattle.exec_tasks.specs.Tree.{Tasks, origin_of, IsPath, root, step}
 
 -- whatever path leads to a task, with these steps after it leads to another
 abbrev pub LeadsTo : Tasks → ℕ → ℕ → List PathStep → Type 0
@@ -25,18 +24,3 @@ leads_up tasks at task upwards new origin pushed from leads steps is =
 pub path_made : (tasks : Tasks) (at task : ℕ) (upwards made : List PathStep) → made ≡ reverse upwards → None ≡ origin_of (get tasks at)
     → LeadsTo tasks at task upwards → IsPath tasks task made
 path_made tasks at task upwards made is none leads = subst (IsPath tasks task) (sym is) (leads [] (root at (sym none)))
-
--- a parent's number is below its child's
-pub goes_down : (tasks : Tasks) (begun at : ℕ) (origin : Origin) → IsNumbered tasks begun → Some origin ≡ origin_of (get tasks at) → origin.parent < at
-goes_down tasks begun at origin numbered from = found (get tasks at) (sym from) (numbered.rising at)
-  where
-    risen : (o : Option Origin) → o ≡ Some origin → OfOrigin o (λ above. above.parent < at) → origin.parent < at
-    risen None is h = cc
-    risen (Some above) is h = subst (λ (a : Origin). a.parent < at) (same above is) h
-      where
-        same : (a : Origin) → Some a ≡ Some origin → a ≡ origin
-        same a e = cc
-
-    found : (o : Option Task) → origin_of o ≡ Some origin → OfEach o (λ task. OfOrigin task.origin (λ above. above.parent < at)) → origin.parent < at
-    found None is h = cc
-    found (Some task) is h = risen task.origin is h

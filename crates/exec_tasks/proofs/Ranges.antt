@@ -1,5 +1,5 @@
 -- The last page of a range below a bound.
-use Rattle.std.proofs.Common.{◌≡◌, ℕ, ◌<◌, List, [], ◌∷◌, ◌++◌, refl, sym, ap, ◌∙◌, Option, Some, None, true≢false, IsSome, IfNone}
+use Rattle.std.proofs.Common.{◌≡◌, ℕ, ◌<◌, List, [], ◌∷◌, ◌++◌, refl, sym, ap, ◌∙◌, Option, Some, None, true≢false, IsSome}
 use Rattle.std.specs.Ordering.{nat_cmp, is_lt}
 use Rattle.std.specs.Cmp.{nat_cmp_is, ranked}
 use Rattle.std.specs.BTreeSet.{IsKeyRangeOf}
@@ -28,7 +28,3 @@ module _ {T : Type 0} (s : Pages T) (sound : IsSound s) (bound : ℕ) (r : List 
 
   pub none_in : r ≡ [] → (p : ℕ) → p < bound → page_at s p ≡ None
   none_in is p under = absent (page_at s p) (λ some. true≢false (sym (sound.listed p some) ∙ range.5 is p (tt, less p bound under)))
-
-pub if_none : {T : Type 0} (o : Option T) (Q : Type 0) → Q → IfNone o Q
-if_none None Q q = q
-if_none (Some x) Q q = tt

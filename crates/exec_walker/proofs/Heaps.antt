@@ -9,7 +9,7 @@ use Rattle.exec_heap.specs.Heap.{written as code_written}
 use Rattle.std.proofs.Math.ListN.{set}
 use Rattle.std.proofs.lemmas.List.{map-set, length-set, length-map, set_past}
 use Rattle.std.proofs.lemmas.Bool.{ltb-true, ltb-false, lt-ltb, le-ltb}
-use Rattle.lang_meaning.specs.Values.{Value, Null}
+use Rattle.lang_meaning.specs.Values.{Value}
 use Rattle.lang_meaning.specs.Actions.{Answer, Read, Write, Look, Went, Out, Got, Length}
 use Rattle.lang_meaning.specs.Counts.{value_read, length_seen, is_out, class_seen}
 use Rattle.lang_meaning.specs.Elision.{LocalRegion, Held, seen, at_index, read_of, write_of, look_of, answer, written}
@@ -67,10 +67,6 @@ read_there os hs n i v e l is =
     ap (option_map plain_value) is ∙ sym (at_mapped (values_of (get_or os n no_object)) i) ∙ ap (λ vs. at_index vs i) found.2.values
     ∙ sym (read_held found.0 i) ∙ ap (λ o. value_read {M = LocalRegion} (read_of o i)) (sym found.1)
 
-pub read_nowhere : (os : List Object) (hs : List Held) (n : ℕ) (i : ℤ) → map object_seen os ≡ map held_seen hs → length os ≤ n
-    → Some Null ≡ value_read {M = LocalRegion} (answer hs (Read n i))
-read_nowhere os hs n i e l = ap (λ o. value_read {M = LocalRegion} (read_of o i)) (sym (none_held os hs n e l))
-
 length_held : (o : Object) → length_seen {N = ℕ} {M = LocalRegion} (look_at o) ≡ length_of o
 length_held (instance c rs fs) = refl
 length_held (array p es) = refl
@@ -81,10 +77,6 @@ length_there os hs n e l =
     let found = held_at os hs n e l in
     sym (length_held (get_or os n no_object)) ∙ ap (length_seen {N = ℕ} {M = LocalRegion}) found.2.look
     ∙ ap (λ o. length_seen {N = ℕ} {M = LocalRegion} (look_of o)) (sym found.1)
-
-pub length_nowhere : (os : List Object) (hs : List Held) (n : ℕ) → map object_seen os ≡ map held_seen hs → length os ≤ n
-    → 0 ≡ length_seen {M = LocalRegion} (answer hs (Look n))
-length_nowhere os hs n e l = ap (λ o. length_seen {N = ℕ} {M = LocalRegion} (look_of o)) (sym (none_held os hs n e l))
 
 -- a write to both
 set_seen : (o : Object) (h : Held) (k : ℕ) (v : Constant) → Both o h

@@ -1,5 +1,5 @@
 -- Sets of numbers as words, through a change of one word, and their last numbers.
-use Rattle.std.proofs.Common.{arith, ◌≡◌, ◌≢◌, ◌⊎◌, inl, inr, ◌<◌, ◌≤◌, ◌+◌, ◌-◌, ◌*◌, ◌/◌, ◌%◌, ℕ, max, refl, sym, ap, subst, ◌∙◌, Option, Some, None, IfSome, cond, MatchOption, Result, Ok, Err, OnOk, OnErr}
+use Rattle.std.proofs.Common.{arith, ◌≡◌, ◌≢◌, ◌⊎◌, inl, inr, ◌<◌, ◌≤◌, ◌+◌, ◌-◌, ◌*◌, ◌/◌, ◌%◌, ℕ, refl, sym, ap, subst, ◌∙◌, Option, Some, None, IfSome, cond, Result, Ok, Err, OnOk, OnErr}
 use Rattle.std.proofs.lemmas.Bool.{cases_eq, cases_lt}
 use Rattle.std.specs.Ordering.{nat_cmp, eq_by_cmp}
 use Rattle.std.specs.Cmp.{nat_cmp_total}
@@ -9,7 +9,7 @@ use Rattle.std.proofs.lemmas.Nat.Bits.{bit_at-zero}
 use Rattle.exec_tasks.specs.Numbered.{IsLastBelow as IsLastKey, NoneBelow as NoKeyBelow}
 use Rattle.exec_tasks.proofs.Numbers.{itself, other_number, get_inserted, get_beside}
 use Rattle.exec_world.proofs.Maps.{each_put}
-use Rattle.exec_world.specs.Words.{InWord, Words, InSome, Has, IsWord, IsBounded, IsLastInWord, IsLastIn, IsLastUpTo, NoneUpTo, IsLastBelow, NoneBelow, With, Without}
+use Rattle.exec_world.specs.Words.{InWord, Words, InSome, Has, IsWord, IsBounded, IsLastIn, IsLastUpTo, NoneUpTo, With, Without}
 
 module _ (old new : Words) (n : ℕ) (others : (p : ℕ) → p ≢ n / 64 → get new p ≡ get old p) where
   beside : ((k : ℕ) → k < 64 → k ≢ n % 64 → InSome (get old (n / 64)) k → InSome (get new (n / 64)) k) → (q : ℕ) → q ≢ n → Has old q → Has new q
@@ -101,11 +101,6 @@ module _ (words : Words) (n w v : ℕ) where
       zero_bit : (k : ℕ) → bit_at 0 (63 - k) ≡ 1 → ⊥
       zero_bit k e = let zeros = bit_at-zero (63 - k) in omega (arith, e, zeros)
 
-  pub not_there : get words (n / 64) ≡ None → Without words words n
-  not_there none = record {
-    gone = λ has. subst (λ o. InSome o (n % 64)) none has;
-    kept = λ q apart has. has;
-    others = λ q has. has;
   }
 
 abbrev pub AllFull : Words → Type 0
@@ -166,43 +161,8 @@ module _ (words : Words) (most : ℕ) (none : (k : ℕ) → k ≤ most % 64 → 
       by_case (inl less) = no_word q (below (q / 64) less) has
       by_case (inr from) = not_in_page q under from has
 
-  pub in_page_before : (p w k : ℕ) → IsLastKey words (most / 64) p → Some w ≡ get words p → IsLastInWord w 63 k → IsLastUpTo words most (p * 64 + k)
-  in_page_before p w k key is found =
-      let within = found.within in
-      let below = key.below in
-      let page : (p * 64 + k) / 64 ≡ p = omega (arith, within) in
-      let place : (p * 64 + k) % 64 ≡ k = omega (arith, within) in record {
-        there = subst (λ r. InSome (get words r) ((p * 64 + k) % 64)) (sym page) (subst (λ o. InSome o ((p * 64 + k) % 64)) is (subst (InWord w) (sym place) found.there));
-        within = omega (arith, within, below);
-        last = λ q above under has. by_case q above under has (cases_lt (q / 64) (most / 64)) (cases_eq (q / 64) p);
-      }
-    where
-      by_case : (q : ℕ) → p * 64 + k < q → q ≤ most → Has words q → (q / 64 < most / 64) ⊎ (most / 64 ≤ q / 64) → (q / 64 ≡ p) ⊎ (q / 64 ≢ p) → ⊥
-      by_case q above under has (inr from) at = not_in_page q under from has
-      by_case q above under has (inl less) (inl same) =
-          found.last (q % 64) (omega (arith, above, same)) (omega arith) (subst (λ o. InSome o (q % 64)) (sym is) (subst (λ r. InSome (get words r) (q % 64)) same has))
-      by_case q above under has (inl less) (inr apart) =
-          let within = found.within in
-          no_word q (key.last (q / 64) (omega (arith, above, apart, within)) less) has
-
--- before a number is up to the one before it
-pub before_is : (words : Words) (bound : ℕ) (o : Option ℕ) → 0 < bound → MatchOption o (NoneUpTo words (bound - 1)) (IsLastUpTo words (bound - 1))
-    → MatchOption o (NoneBelow words bound) (IsLastBelow words bound)
-before_is words bound None some none = λ q lt has. none q (omega (arith, lt)) has
-before_is words bound (Some n) some found = let within = found.within in record {
-  there = found.there;
-  below = omega (arith, within, some);
-  last = λ q above under has. found.last q above (omega (arith, under)) has;
 }
 
--- no number is above the greatest
-pub last_of_all : (words : Words) (most bound : ℕ) (o : Option ℕ) → IsBounded words most → most < bound → MatchOption o (NoneUpTo words most) (IsLastUpTo words most)
-    → MatchOption o (NoneBelow words bound) (IsLastBelow words bound)
-last_of_all words most bound None bounded lt none = λ q less has. none q (bounded.within q has) has
-last_of_all words most bound (Some n) bounded lt found = let within = found.within in record {
-  there = found.there;
-  below = omega (arith, within, lt);
-  last = λ q above under has. found.last q above (bounded.within q has) has;
 }
 
 -- the bound through changes of the set
@@ -216,23 +176,6 @@ empty_bounded words is = record {
 }
 
 module _ (old new : Words) (most n : ℕ) (bounded : IsBounded old most) (full : AllFull new) where
-  pub bounded_with : With old new n → IsBounded new (max most n)
-  bounded_with w = record { full = full; within = λ q has. by_case q has (cases_eq q n) }
-    where
-      by_case : (q : ℕ) → Has new q → (q ≡ n) ⊎ (q ≢ n) → q ≤ max most n
-      by_case q has (inl same) = omega (arith, same)
-      by_case q has (inr apart) = let le = bounded.within q (w.others q apart has) in omega (arith, le)
-
-  pub bounded_without : Without old new n → IsBounded new most
-  bounded_without w = record { full = full; within = λ q has. bounded.within q (w.others q has) }
-
-pub bounded_last : (words : Words) (most n : ℕ) → IsBounded words most → IsLastUpTo words most n → IsBounded words n
-bounded_last words most n bounded found = record { full = bounded.full; within = λ q has. by_case q has (cases_lt n q) }
-  where
-    by_case : (q : ℕ) → Has words q → (n < q) ⊎ (q ≤ n) → q ≤ n
-    by_case q has (inl above) = absurd (found.last q above (bounded.within q has) has)
-    by_case q has (inr le) = le
-
 -- a set that comes into another, from its last number down
 module _ (others old new : Words) (rest task : ℕ) (last : IsLastUpTo others rest task) (put : With old new task)
     (moved : (q : ℕ) → rest < q → Has others q → Has old q) where
@@ -243,10 +186,3 @@ module _ (others old new : Words) (rest task : ℕ) (last : IsLastUpTo others re
       by_case (inl same) further = subst (Has new) (sym same) put.there
       by_case (inr apart) (inl above) = put.kept q (moved q above has)
       by_case (inr apart) (inr under) = absurd (last.last q (omega (arith, from, apart)) under has)
-
-pub all_moved : (others new : Words) (rest : ℕ) → NoneUpTo others rest → ((q : ℕ) → rest < q → Has others q → Has new q) → (q : ℕ) → Has others q → Has new q
-all_moved others new rest none moved q has = by_case (cases_lt rest q)
-  where
-    by_case : (rest < q) ⊎ (q ≤ rest) → Has new q
-    by_case (inl above) = moved q above has
-    by_case (inr under) = absurd (none q under has)

@@ -45,13 +45,6 @@ untroubled_more (Some room) now next done count was is then_is used more some sa
     let kept = subst (λ (reported : Option ℕ). IfSome reported (λ room. 0 < room → then_is ≡ is)) used.1 put in
     kept (omega (arith, step.0, some)) ∙ same
 
--- a call that failed left a room that was used up
-pub used_up : (first now next : Option ℕ) (done : ℕ) → UsedRoom first done now → IfSome now (λ room. room ≡ 0) → next ≡ now → IfSome first (λ _. next ≡ Some 0)
-used_up None now next done used full same = tt
-used_up (Some room) now next done used full same =
-    let none = subst (λ (reported : Option ℕ). IfSome reported (λ room. room ≡ 0)) used.1 full in
-    same ∙ used.1 ∙ ap Some none
-
 pub Took-more : (first now next : Option (List ℕ)) (all more after : List ℕ) (count : ℕ) → Took first all now
     → IfSome now (λ left. Fills left after count) → IfSome now (λ left. next ≡ Some (drop count left))
     → more ≡ all ++ take count after → Took first more next

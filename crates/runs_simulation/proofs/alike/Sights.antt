@@ -11,7 +11,7 @@ use Rattle.lang_meaning.specs.Regions.{Around}
 use Rattle.code_instrs.specs.Machine.{Level, Start, State, On, Rested, Off, Nowhere, Stand, Goes, Turns, Makes, Waits, Ends, Stuck}
 use Rattle.code_instrs.specs.RunsToActions.{Halt, Asks, Finished, Dead}
 use Rattle.runs_theory.specs.Objects.{Path, Name, LocalRegion}
-use Rattle.runs_elision.proofs.Worlds.{Distinct, Later, later_none, later_then, ValueLike, ValuesLike, values_later, LocalsLike}
+use Rattle.runs_elision.proofs.Worlds.{Distinct, Later, later_none, ValueLike, ValuesLike, values_later, LocalsLike}
 use Rattle.runs_elision.proofs.Worlds.{EndingLike, ending_later}
 pub use Rattle.runs_simulation.specs.Alike.{Sight, Each, each_none, each_more, LocalLike, made_like, unmade_like, PartLike, a_name, a_number, a_local, own_index, any_index, any_parts, RegionLike, RegionsLike, EffectLike, EffectsLike}
 
@@ -22,9 +22,6 @@ pub record Wider (v w : Sight) : Type 0 where
 
 pub wider_none : {w : Sight} → Distinct w.names → Wider w w
 wider_none d = record { names = later_none d; paths = λ k p h. h }
-
-pub wider_then : {u v w : Sight} → Wider u v → Wider v w → Wider u w
-wider_then h k = record { names = later_then h.names k.names; paths = λ j p e. k.paths j p (h.paths j p e) }
 
 pub each_weaker : {A B : Type 0} {L K : A → B → Type 0} {xs : List A} {ys : List B} → ((x : A) (y : B) → L x y → K x y) → Each L xs ys → Each K xs ys
 each_weaker f each_none = each_none

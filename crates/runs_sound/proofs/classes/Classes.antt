@@ -281,10 +281,6 @@ module _ (P : PlainProgram) (wt : WellTyped P) where
   is_up same e = up e same
   is_up (up f h) e = up f (is_up h e)
 
-  pub is_trans : {d c b : ℕ} {rs qs ps : List Region} → Is P d rs c qs → Is P c qs b ps → Is P d rs b ps
-  is_trans same k = k
-  is_trans (up f h) k = up f (is_trans h k)
-
   -- a field is one of its class
   pub field_good : (c : ℕ) (k : PlainClass) (j : ℕ) (f : PlainField) → class_at P c ≡ Some k → field_at P c j ≡ Some f → GoodField P k f
   field_good c k j f e q = all_get (GoodField P k) k.fields j f (wt.classes c k e).fields

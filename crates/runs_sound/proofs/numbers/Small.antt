@@ -51,10 +51,6 @@ abbrev pub SmallBrought : Brought → Type 0
 SmallBrought (Brings_back ls) = SmallLocals ls
 SmallBrought (Trap_of_branch trap place) = Unit {0}
 
--- a number of a value, as it counts
-pub small_int : (v : Value) → IsSmall v → IsSmall (Int (number v))
-small_int v h = h
-
 pub small_name : (x : Answer) → IsSmall (name_made x)
 small_name (Named n) = zero_fits
 small_name (Got v) = zero_fits

@@ -168,14 +168,6 @@ pub iterations_length : (takes : Option ℕ) (x : ℕ) (s : TypedStmt) (f : Fram
 iterations_length takes x s f start j zero = refl
 iterations_length takes x s f start j (suc n) = ap (λ y. suc y) (iterations_length takes x s f start (suc j) n)
 
-pub iteration_there : (takes : Option ℕ) (x : ℕ) (s : TypedStmt) (f : Frame) (start : ℤ) (j n i : ℕ) → i < n →
-    slice_get (iterations takes x s f start j n) i ≡ Some (branch_of takes [] s (numbered_frame x start (j + i) f))
-iteration_there takes x s f start j zero i l = absurd (omega (arith, l))
-iteration_there takes x s f start j (suc n) zero l = let k : j + 0 ≡ j = omega arith in ap (λ y. Some (branch_of takes [] s (numbered_frame x start y f))) (sym k)
-iteration_there takes x s f start j (suc n) (suc i) l =
-    let k : suc j + i ≡ j + suc i = omega arith in
-    iteration_there takes x s f start (suc j) n i (omega (arith, l)) ∙ ap (λ y. Some (branch_of takes [] s (numbered_frame x start y f))) k
-
 -- a loop copies nothing back
 pub copied_none : (ls : List (ℕ × Value)) (vs : List Value) → copied [] ls vs ≡ vs
 copied_none [] vs = refl

@@ -119,9 +119,6 @@ module _ (k : ℕ) (g : Setting) (n : ℤ) (pl : Places) (a : Access) where
 
 module _ (P : PlainProgram) (b : Bounds) (st : State) (L : Scope) (good : GoodScope L) (g : Setting) (f : Frame) (ff : FrameFits P b.path st g L f)
     (k : ℕ) (t : PlainType) (a : Rpl) (free : (i : ℕ) → i < 5 → IsFree L (k + i)) (s : TypeInScope L 0 (array t a false)) where
-  abbrev branch_scope : Scope
-  branch_scope = with_part k t a (in_loop_branch L)
-
   -- the whole that is cut, how many parts there are, and the part of a number
   abbrev whole : Places
   whole = record { array = slot_value f.values k; first = number (slot_value f.values (k + 1)); len = number (slot_value f.values (k + 2)) }

@@ -51,9 +51,6 @@ module _ (L : Scope) (k : ℕ) (t : PlainType) (a : Rpl) where
   apart_from : (y z : ℕ) → y ≢ z → (y == z) ≡ false
   apart_from y z ne = false_from_ne_true (y == z) (λ h. ne (eqb-true y z h))
 
-  number_local : (with_part k t a L).local (k + 4) ≡ Some (constant int)
-  number_local = cond-true (k + 4 == k + 4) _ _ (eq-eqb (k + 4) (k + 4) refl)
-
   first_local : (with_part k t a L).local (k + 1) ≡ Some reserved
   first_local =
       cond-false (k + 1 == k + 4) _ _ (apart_from (k + 1) (k + 4) (λ e. omega (arith, e))) ∙ cond-false (k + 1 == k + 3) _ _ (apart_from (k + 1) (k + 3) (λ e. omega (arith, e)))

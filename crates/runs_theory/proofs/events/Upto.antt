@@ -22,9 +22,6 @@ pub upto_same : {A : Type 0} {xs ys : List A} → Upto xs ys → length xs ≡ l
 upto_same now e = refl
 upto_same (later h) e = let l = upto_length h in absurd (omega arith)
 
-pub upto_strict : {A : Type 0} {x : A} {xs ys : List A} → Upto (x ∷ xs) ys → length xs < length ys
-upto_strict h = upto_length h
-
 -- two up to a moment of one: the one is up to a moment of the other
 pub upto_two : {A : Type 0} {xs ys zs : List A} → Upto xs zs → Upto ys zs → Upto xs ys ⊎ Upto ys xs
 upto_two now k = inr k

@@ -120,9 +120,6 @@ true_not : (b : Bool) → not b ≡ true → b ≡ false
 true_not true h = cc
 true_not false h = refl
 
-does_no_use : {k : ℕ} {e f : Effect} → does e ≡ uses k f → ⊥
-does_no_use h = cc
-
 -- what an array was cut for is done to it
 handed_to_array : (g : Found) (E : List Done) (k : ℕ) (a : _) → Gathers nothing_found E g → Gathers nothing_found (after_parts k (of_array a) E) (hand_on k None g)
 handed_to_array g E k a h = gathers_by (hand_on k None g) (after_parts k (of_array a) E) to from

@@ -129,7 +129,3 @@ all_gathered f make (e ∷ es) =
 pub gathered_nd : (f g : Found) (E : List Own) (b : Bool) → Gathers f E g → Gathers f E (record g { reaches_nd = b })
 gathered_nd f g E b h (does e) = h (does e)
 gathered_nd f g E b h (uses k e) = h (uses k e)
-
-pub from_nd : (f g : Found) (E : List Own) (b : Bool) → Gathers (record f { reaches_nd = b }) E g → Gathers f E g
-from_nd f g E b h (does e) = h (does e)
-from_nd f g E b h (uses k e) = h (uses k e)

@@ -60,9 +60,6 @@ left_append l (o ∷ D) F = ap (left_onto l o) (left_append l D F) ∙ left_onto
 pub does_same : {e f : Effect} → does e ≡ does f → e ≡ f
 does_same h = cc
 
-pub uses_same : {j k : ℕ} {e f : Effect} → uses j e ≡ uses k f → (j ≡ k) × (e ≡ f)
-uses_same {j} {k} {e} {f} h = let first : j ≡ k = cc in let second : e ≡ f = cc in (first, second)
-
 pub differ : {k : ℕ} {e f : Effect} → uses k e ≡ does f → ⊥
 differ h = cc
 

@@ -288,17 +288,6 @@ local_other env name t is_final x step other = by (has_room env)
     by true = local_pushed env (local_row env name t is_final) step x ∙ ap (λ b. cond b (Some (local_row env name t is_final)) (local_of env x)) other
     by false = refl
 
-pub part_other : (env : Env) (name : ℕ) (t : Ty) (x : ℕ) → InStep env → (name == x) ≡ false → local_of (part_declared env name t) x ≡ local_of env x
-part_other env name t x step other = by (has_room env)
-  where
-    by : (b : Bool) → local_of (cond b (with_part env name t) env) x ≡ local_of env x
-    by true = local_pushed env (part_row env name t) step x ∙ ap (λ b. cond b (Some (part_row env name t)) (local_of env x)) other
-    by false = refl
-
-pub parts_other : (env : Env) (view var : Named) (t : Ty) (x : ℕ) → InStep env → (view.name == x) ≡ false → (var.name == x) ≡ false → local_of (parts_declared env view var t) x ≡ local_of env x
-parts_other env view var t x step other another =
-    local_other (part_declared env view.name t) var.name variant.Int true x (step_part env view.name t step) another ∙ part_other env view.name t x step other
-
 pub region_other : (env : Env) (name x : ℕ) → local_of (region_declared env name) x ≡ local_of env x
 region_other env name x = by (has_room env)
   where

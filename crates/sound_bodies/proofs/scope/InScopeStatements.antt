@@ -25,9 +25,6 @@ use Rattle.sound_bodies.proofs.scope.InScope.{Over, AllOver, elems_more, type_mo
 some_same : {A : Type 0} {x y : A} → Some x ≡ Some y → x ≡ y
 some_same e = cc
 
-part_same : {t u : PlainType} {a b : Rpl} → Some (part t a) ≡ Some (part u b) → a ≡ b
-part_same e = cc
-
 -- how a scope is left: of the index variables one alone goes, and everything else was there
 
 pub record Leaves (L M : Scope) (x : ℕ) : Type 0 where

@@ -13,7 +13,7 @@ use Rattle.syntax_tree.specs.Nd.{program_uses_nd}
 use Rattle.syntax_tree.specs.Plain.{PlainStmt, more_stmts, no_stmts}
 use Rattle.lang_typed.specs.Plain.{TypedStmt}
 use Rattle.lang_typed.specs.Plain as made
-use Rattle.syntax_means.specs.Bodies.{AllMean, BranchesMean, ExprMeans, ExprsMean, PartMeans, SourceMeans, StmtMeans, with_local}
+use Rattle.syntax_means.specs.Bodies.{AllMean, BranchesMean, ExprMeans, ExprsMean, PartMeans, SourceMeans, StmtMeans}
 use Rattle.syntax_means.specs.Declares.{DeclaresField, OwnMethod, all_methods, all_regions, its_own}
 use Rattle.syntax_means.specs.Means.{ClassMeans, FieldMeans, ItemMeans, MemberMeans, Means, SummaryMeans, ParentMeans, ResultMeans, in_class, in_method}
 use Rattle.syntax_means.specs.Paths.{beside, ArgsMean, ArraysMean, Around, BaseMeans, FormMeans, HeadMeans, PathMeans, PathOrRoot, RegionMeans, TypeMeans}
@@ -169,12 +169,6 @@ in_region_means {A = A} name n o l c t e = record {
   goes_on = tt;
   is = refl;
 }
-
-abbrev pub after_x : Around
-after_x = with_local 15 2 in_main
-
-abbrev pub after_a : Around
-after_a = with_local 8 3 after_x
 
 a_node : TypeMeans in_main (plain_kind (base.Class (name_at 0) (path 12 [] ∷ []))) (ty.class 0 (in_region 1 ∷ []))
 a_node = record {
