@@ -8,4 +8,3 @@ pub mod Leading
 pub mod Ending
 pub mod Once
 pub mod Whole
-pub mod Placing

@@ -1,5 +1,5 @@
 -- How the objects, arrays, fields and values of a run are called.
-use Rattle.std.specs.Prelude.{ℕ, zero, suc, ◌-◌, ℤ, pos, negsuc, true, false, cond, List, [], ◌++◌, codes, length, nat_lt, Option, Some, None, slice_get, slice_index_or}
+use Rattle.std.specs.Prelude.{ℕ, zero, suc, ℤ, pos, negsuc, true, false, List, [], ◌∷◌, ◌++◌, codes, length, Option, Some, None, slice_get, slice_index_or}
 use Rattle.std.specs.Fmt.{decimal, signed_decimal}
 use Rattle.std.specs.Option.{option_map_or}
 use Rattle.lang_base.specs.declared.value.Value.{Value}
@@ -8,7 +8,6 @@ use Rattle.lang_typed.specs.Names.{ProgramNames, names_of}
 use Rattle.lang_typed.specs.Plain.{PlainProgram, plain_program}
 use Rattle.lang_typed.specs.Scope.{parent_of}
 use Rattle.lang_typed.specs.declared.program.Program.{Program}
-use Rattle.syntax_means.specs.Declares.{inherited_fields}
 use Rattle.body_infer.specs.Lines.{class_name}
 use Rattle.tool_trace.specs.declared.events.thing.Elements.{Elements}
 use Rattle.tool_trace.specs.declared.events.thing.Elements.TheVariants.{Ints, Booleans, References}
@@ -52,26 +51,19 @@ value_text names things (value.Bool false) = codes "false"
 value_text names things value.Null = codes "null"
 value_text names things (value.Obj number) = name_of names things number
 
--- a field that a class declares itself, by its position among these
-abbrev pub own_field : List (List (List ℕ)) → ℕ → ℕ → List ℕ
-own_field fields class at = slice_index_or (slice_index_or fields class []) at []
+-- a class and those above it, the nearest first, so many at most
+abbrev pub upwards : PlainProgram → ℕ → ℕ → List ℕ
+upwards P zero class = []
+upwards P (suc n) class = class ∷ option_map_or (λ p. upwards P n p.class) (parent_of P class) []
 
--- a slot as it is counted from behind so many; none, where it is one of these
-abbrev pub behind : ℕ → ℕ → Option ℕ
-behind many slot = cond (nat_lt slot many) None (Some (slot - many))
+-- the names of their fields: those of the highest class come first
+abbrev pub names_along : List (List (List ℕ)) → List ℕ → List (List ℕ)
+names_along fields [] = []
+names_along fields (class ∷ above) = names_along fields above ++ slice_index_or fields class []
 
-abbrev pub superclass : PlainProgram → ℕ → ℕ
-superclass P class = option_map_or (λ p. p.class) (parent_of P class) 0
-
--- the name of the field in a slot of a class: in the superclass, where the field is one of those that it has; so far up at most
-abbrev pub field_within : Spelling → ℕ → ℕ → ℕ → List ℕ
-field_within s zero class slot = []
-field_within s (suc up) class slot =
-    cond (nat_lt slot (inherited_fields s.program class)) (field_within s up (superclass s.program class) slot)
-    (own_field s.fields class (slot - inherited_fields s.program class))
-
+-- the name of the field in a slot of a class
 abbrev pub field_name : Spelling → ℕ → ℕ → List ℕ
-field_name s class slot = field_within s (length s.program.classes) class slot
+field_name s class slot = slice_index_or (names_along s.fields (upwards s.program (length s.program.classes) class)) slot []
 
 abbrev pub field_at : Spelling → ℕ → ℤ → List ℕ
 field_at s class (pos slot) = field_name s class slot

@@ -1,15 +1,14 @@
-ghost use Rattle.std.specs.Prelude.{◌≡◌, ◌++◌, [], codes, length, option_map, slice_index_or, OnOk};
+ghost use Rattle.std.specs.Prelude.{◌≡◌, ◌++◌, [], codes, length, option_map, slice_index_or, IfOk, OnOk};
 ghost use Rattle.std.specs.Fmt.{signed_decimal};
 ghost use Rattle.lang_typed.specs.Names.{names_of};
-ghost use Rattle.lang_typed.specs.Plain.{plain_class, plain_program};
+ghost use Rattle.lang_typed.specs.Plain.{plain_program};
 ghost use Rattle.lang_typed.specs.Scope.{parent_of};
-ghost use Rattle.syntax_means.specs.Declares.{inherited_fields};
-ghost use Rattle.tool_trace.specs.events.Names.{behind, field_at, field_name, name_of, own_field, spelling_of, spot_text, superclass, thing_name, value_text};
+ghost use Rattle.tool_trace.specs.events.Names.{field_at, field_name, name_of, spelling_of, spot_text, thing_name, upwards, value_text};
 
 use crate::events::thing::Thing;
 use body_infer::class_name;
 use lang_base::{Bytes, Items, NoMemory, Value};
-use lang_typed::{Class, Program};
+use lang_typed::Program;
 use std::alloc::Global;
 
 /// Puts a value after a text: an object or an array by its name.
@@ -75,7 +74,7 @@ pub fn spot(
     match things.get(number as usize) {
         Some(Thing::Object(class)) => {
             out.extend(b".")?;
-            out.extend(field_at(program, fields, *class, index))
+            field_at(alloc, program, fields, *class, index, out)
         }
         Some(Thing::Array(_)) => element(alloc, index, out),
         None => element(alloc, index, out),
@@ -89,92 +88,60 @@ fn element(alloc: Global, index: i64, out: &mut Bytes) -> Result<(), NoMemory>
     out.extend(format!(in alloc; "[{index}]")?.as_bytes())
 }
 
-fn field_at<'a>(
-    program: &'a Program,
-    fields: &'a [Items<Bytes>],
+/// Puts the name of a field of a class by its index after a text.
+fn field_at(
+    alloc: Global,
+    program: &Program,
+    fields: &[Items<Bytes>],
     class: u32,
     index: i64,
-) -> &'a [u8]
-    ensures { result.now ≡ field_at (spelling_of program.now fields.now) class index }
+    out: &mut Bytes,
+) -> Result<(), NoMemory>
+    ensures { OnOk result (out.new ≡ out.old ++ field_at (spelling_of program.now fields.now) class index) }
 {
     if index < 0 {
-        return b"";
+        return Ok(());
     }
-    field_name(program, fields, class, index as usize)
+    field(alloc, program, fields, class, index as usize, out)
 }
 
-/// The name of a field of a class by its slot. Those of the superclass come before those that the class declares itself.
-fn field_name<'a>(
-    program: &'a Program,
-    fields: &'a [Items<Bytes>],
+/// The same by its slot. The fields of the superclass come before those that the class declares itself.
+fn field(
+    alloc: Global,
+    program: &Program,
+    fields: &[Items<Bytes>],
     class: u32,
     slot: usize,
-) -> &'a [u8]
-    ensures { result.now ≡ field_name (spelling_of program.now fields.now) class slot }
+    out: &mut Bytes,
+) -> Result<(), NoMemory>
+    ensures { OnOk result (out.new ≡ out.old ++ field_name (spelling_of program.now fields.now) class slot) }
 {
-    let mut at = class;
-    let mut up = program.classes.len();
-    while up > 0 {
-        if let Some(position) = own_position(program, at, slot) {
-            return own_field(fields, at, position);
+    let mut left = upwards(alloc, program, class)?;
+    let mut slot = slot;
+    while let Some(at) = left.pop() {
+        let own = own_names(fields, at);
+        if slot < own.len() {
+            return out.extend(name_at(own, slot));
         }
-        at = superclass(program, at);
-        up -= 1;
+        slot -= own.len();
     }
-    b""
+    Ok(())
 }
 
-/// The position of the field in a slot of a class among those that it declares itself. None, where it has it from its superclass.
-fn own_position(program: &Program, class: u32, slot: usize) -> Option<usize>
-    ensures { result ≡ behind (inherited_fields (plain_program program.now) class) slot }
+/// A class and those above it, the nearest first.
+fn upwards(alloc: Global, program: &Program, class: u32) -> Result<Items<u32>, NoMemory>
+    ensures { IfOk result (λ all. all ≡ upwards (plain_program program.now) (length program.now.classes) class) }
 {
-    let Some(above) = parent(program, class) else {
-        return Some(slot);
-    };
-    match program.classes.get(above as usize) {
-        None => Some(slot),
-        Some(above) => behind_fields(program, above, slot),
-    }
-}
-
-/// A slot as it is counted from behind the fields of a class. None, where it is one of these.
-fn behind_fields(program: &Program, class: &Class, slot: usize) -> Option<usize>
-    ensures { result ≡ behind (length (plain_class program.now.classes class.now).fields) slot }
-{
-    let mut left = behind_own(class, slot)?;
-    let mut below = class;
+    let mut all = Items::new(alloc);
+    let mut at = class;
     for _step in 0..program.classes.len() {
-        let Some(parent) = &below.parent else {
-            return Some(left);
+        all.push(at)?;
+        let Some(above) = parent(program, at) else {
+            return Ok(all);
         };
-        let Some(above) = program.classes.get(parent.class.number as usize) else {
-            return Some(left);
-        };
-        left = behind_own(above, left)?;
-        below = above;
+        at = above;
     }
-    Some(left)
-}
-
-/// The same for the fields that the class declares itself.
-fn behind_own(class: &Class, slot: usize) -> Option<usize>
-    ensures { result ≡ behind (length class.now.fields) slot }
-{
-    let own = class.fields.len();
-    if slot < own {
-        return None;
-    }
-    Some(slot - own)
-}
-
-/// The superclass of a class, 0 where it has none.
-fn superclass(program: &Program, class: u32) -> u32
-    ensures { result ≡ superclass (plain_program program.now) class }
-{
-    match parent(program, class) {
-        Some(above) => above,
-        None => 0,
-    }
+    Ok(all)
 }
 
 fn parent(program: &Program, class: u32) -> Option<u32>
@@ -187,13 +154,13 @@ fn parent(program: &Program, class: u32) -> Option<u32>
     }
 }
 
-/// The name of a field that a class declares itself, by its position among these.
-fn own_field(fields: &[Items<Bytes>], class: u32, at: usize) -> &[u8]
-    ensures { result.now ≡ own_field fields.now class at }
+/// The names of the fields that a class declares itself.
+fn own_names(fields: &[Items<Bytes>], class: u32) -> &[Bytes]
+    ensures { result.now ≡ slice_index_or fields.now class [] }
 {
     match fields.get(class as usize) {
-        Some(own) => name_at(own.as_slice(), at),
-        None => b"",
+        Some(own) => own.as_slice(),
+        None => &[],
     }
 }
 
