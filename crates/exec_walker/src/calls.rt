@@ -188,9 +188,7 @@ impl<'p> Walker<'p> {
             return self.fall(Trap::Stack, place);
         }
         let first = FirstValue::of(elem.get());
-        let array = self
-            .store
-            .make_array(region, len as u32, first.value())?;
+        let array = self.store.make_array(region, len as u32, first.value())?;
         self.give(1, array)
     }
 }
