@@ -101,8 +101,6 @@ module _ (words : Words) (n w v : ℕ) where
       zero_bit : (k : ℕ) → bit_at 0 (63 - k) ≡ 1 → ⊥
       zero_bit k e = let zeros = bit_at-zero (63 - k) in omega (arith, e, zeros)
 
-  }
-
 abbrev pub AllFull : Words → Type 0
 AllFull words = (p : ℕ) → IfSome (get words p) IsWord
 
@@ -161,10 +159,6 @@ module _ (words : Words) (most : ℕ) (none : (k : ℕ) → k ≤ most % 64 → 
       by_case (inl less) = no_word q (below (q / 64) less) has
       by_case (inr from) = not_in_page q under from has
 
-}
-
-}
-
 -- the bound through changes of the set
 pub empty_has : (words : Words) → words ≡ empty → (q : ℕ) → Has words q → ⊥
 empty_has words is q has = subst (λ o. InSome o (q % 64)) (ap (λ (ws : Words). get ws (q / 64)) is ∙ get-empty nat_cmp (q / 64)) has
@@ -175,7 +169,6 @@ empty_bounded words is = record {
   within = λ q has. absurd (empty_has words is q has);
 }
 
-module _ (old new : Words) (most n : ℕ) (bounded : IsBounded old most) (full : AllFull new) where
 -- a set that comes into another, from its last number down
 module _ (others old new : Words) (rest task : ℕ) (last : IsLastUpTo others rest task) (put : With old new task)
     (moved : (q : ℕ) → rest < q → Has others q → Has old q) where
