@@ -21,6 +21,7 @@ fn body(alloc: Global, title: Title, listed: &[Instr]) -> Result<Body, NoMemory>
 fn code_of(alloc: Global, bodies: Items<Body>) -> Code {
     Code {
         classes: Items::new(alloc),
+        members: Items::new(alloc),
         bodies,
         sites: Items::new(alloc),
         texts: Items::new(alloc),
