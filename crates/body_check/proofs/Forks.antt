@@ -26,13 +26,10 @@ use Rattle.body_check.specs.Gathering.{taken_in, with_uses}
 use Rattle.body_check.specs.Around.{inside}
 use Rattle.body_check.specs.Leaving.{from_here}
 use Rattle.body_check.specs.Meeting.{branches_interfere}
-use Rattle.body_check.specs.Noting.{fault_of, settled_node, with_fault_if}
 use Rattle.body_check.specs.Touching.{assigned, some_disturb}
 use Rattle.body_check.specs.Walks.{Walk, Verdict, passes, refused, judged, apart_from, walk_of, home_of, ◌>>=◌}
 use Rattle.body_check.proofs.Homes.{branches_at_home}
 use Rattle.body_check.proofs.Orders.{next_is, several}
-use Rattle.body_check.proofs.Parting.{not_not}
-use Rattle.body_check.proofs.Passing.{meeting_first, meeting_then, third_is}
 use Rattle.body_check.proofs.Touched.{AllTouched, TouchedBy}
 
 abbrev pub branches_with : List (List Effect) → List TypedBranch → Branches
@@ -142,35 +139,23 @@ fork_all params around nd all w i effects made u before none =
     ∙ ap (λ (z : List (List Effect)). passes (branches_with z (made ++ [])) u) (append-nil effects)
     ∙ ap (λ (z : List TypedBranch). passes (branches_with effects z) u) (append-nil made)
 
--- what the two tests of a `cobegin` found
-pub record BranchesMet (b o : Body) (around : Around) (node second : Node) (nd clash : Bool) (branches : PlainStmts) (effects : List (List Effect))
-    (made : List TypedBranch) (f out : Found) : Type 0 where
-  pub all : check_branches b.atomic_params (inside around) nd branches (walk_of b f) ≡ passes (branches_with effects made) (walk_of o out)
-  pub clash_is : clash ≡ some_disturb branches
-  pub second_is : second ≡ with_fault_if node kind.Assign clash
+-- what becomes of the construct, by whether its branches interfere
+abbrev pub branches_met : List Bool → Env → Node → Bool → Bool → List (List Effect) → TypedStmt → Walk → Verdict TypedStmt
+branches_met params env node nd clash effects made w = meeting node clash (interference nd) (branches_interfere params nd env effects) made w
 
-forked : {b o : Body} {around : Around} {node second : Node} {nd clash : Bool} {branches : PlainStmts} {effects : List (List Effect)}
-    {made : List TypedBranch} {f out : Found} → BranchesMet b o around node second nd clash branches effects made f out →
-    check_form b.atomic_params around node (form.cobegin nd branches) (walk_of b f)
-    ≡ meeting node clash (interference nd) (branches_interfere b.atomic_params nd b.env effects)
-    (typed.statement node.place (typed.cobegin (forking_of nd) (branches_of made))) (walk_of o (with_nd nd out))
-forked m = rw (m.all, ← m.clash_is)
+abbrev pub branches_made : Node → Bool → List TypedBranch → TypedStmt
+branches_made node nd made = typed.statement node.place (typed.cobegin (forking_of nd) (branches_of made))
 
-pub fork_reported : {b o : Body} {around : Around} {node second : Node} {nd clash : Bool} {branches : PlainStmts} {effects : List (List Effect)}
-    {made : List TypedBranch} {f out : Found} (q : Refusal) → BranchesMet b o around node second nd clash branches effects made f out →
-    fault_of second ≡ Some q → check_form b.atomic_params around node (form.cobegin nd branches) (walk_of b f) ≡ refused q
-fork_reported {node = node} {second} {clash = clash} q m reported = forked m ∙ meeting_first node second clash _ _ _ _ q m.second_is reported
-
-pub fork_is : {b o : Body} {around : Around} {node second settle third : Node} {nd clash pass : Bool} {branches : PlainStmts}
-    {effects read : List (List Effect)} {made : List TypedBranch} {f out : Found} {reason : Kind} →
-    BranchesMet b o around node second nd clash branches effects made f out → fault_of second ≡ None → home_of o ≡ home_of b → read ≡ effects →
-    pass ≡ not (branches_interfere o.atomic_params nd o.env read) → settle ≡ settled_node second → reason ≡ interference nd →
-    third ≡ with_fault_if settle reason (not pass) →
-    check_form b.atomic_params around node (form.cobegin nd branches) (walk_of b f)
-    ≡ judged (fault_of third) (typed.statement node.place (typed.cobegin (forking_of nd) (branches_of made))) (walk_of o (with_nd nd out))
-fork_is {b} {o} {node = node} {second} {settle} {third} {nd} {clash} {pass} {effects = effects} {reason = reason} m clean home read_is pass_is settle_is reason_is
-    third_noted =
-    let pass_so = pass_is ∙ ap (λ (z : List (List Effect)). not (branches_interfere o.atomic_params nd o.env z)) read_is ∙ ap not (branches_at_home b o nd effects home) in
-    forked m
-    ∙ meeting_then node second third clash _ _ _ _ m.second_is clean
-    (third_is second settle third reason (interference nd) (not pass) _ settle_is reason_is (not_not pass _ pass_so) third_noted)
+pub forks_are : (b o : Body) (around : Around) (node : Node) (nd clash : Bool) (branches : PlainStmts) (effects read : List (List Effect))
+    (made : List TypedBranch) (f out : Found) (v : Verdict TypedStmt) →
+    check_branches b.atomic_params (inside around) nd branches (walk_of b f) ≡ passes (branches_with effects made) (walk_of o out) →
+    clash ≡ some_disturb branches → home_of o ≡ home_of b → read ≡ effects →
+    branches_met o.atomic_params o.env node nd clash read (branches_made node nd made) (walk_of o (with_nd nd out)) ≡ v →
+    check_form b.atomic_params around node (form.cobegin nd branches) (walk_of b f) ≡ v
+forks_are b o around node nd clash branches effects read made f out v all clash_is home read_is d =
+    let forked : check_form b.atomic_params around node (form.cobegin nd branches) (walk_of b f)
+    ≡ branches_met b.atomic_params b.env node nd clash effects (branches_made node nd made) (walk_of o (with_nd nd out)) = rw (all, ← clash_is) in
+    forked
+    ∙ ap (λ (z : Bool). meeting node clash (interference nd) z (branches_made node nd made) (walk_of o (with_nd nd out)))
+    (sym (ap (λ (z : List (List Effect)). branches_interfere o.atomic_params nd o.env z) read_is ∙ branches_at_home b o nd effects home))
+    ∙ d

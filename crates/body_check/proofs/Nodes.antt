@@ -46,9 +46,9 @@ foreach_made e d start count t u place nd slot at body whole starts counts slot_
     ∙ ap (λ (z : TypedExpr). statement place (foreach (forking_of nd) at z (plain_node count) body)) (node_made e start t starts)
     ∙ ap (λ (z : TypedExpr). statement place (foreach (forking_of nd) at (node_of (tree.plain_expr e) t) z body)) (node_made d count u counts)
 
-pub parts_made : (e : Tree) (count : Expr) (t : Option TypedExpr) (place : Place) (part at : ℕ) (source : Source) (body whole : TypedStmt) →
+pub parts_formed : (e : Tree) (count : Expr) (t : Option TypedExpr) (place : Place) (part at : ℕ) (source : Source) (body whole : TypedStmt) →
     plain_node count ≡ node_at e.place t → part ≡ at → whole ≡ statement place (foreach_parts part source (plain_node count) body) →
     whole ≡ statement place (foreach_parts at source (node_of (tree.plain_expr e) t) body)
-parts_made e count t place part at source body whole given part_is is =
+parts_formed e count t place part at source body whole given part_is is =
     is ∙ ap (λ (z : ℕ). statement place (foreach_parts z source (plain_node count) body)) part_is
     ∙ ap (λ (z : TypedExpr). statement place (foreach_parts at source z body)) (node_made e count t given)

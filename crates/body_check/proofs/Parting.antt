@@ -30,16 +30,15 @@ use Rattle.body_check.specs.declared.body.Body.{Body}
 use Rattle.body_check.specs.declared.node.Around.{Around}
 use Rattle.body_check.specs.declared.node.Node.{Node}
 use Rattle.body_check.specs.declared.parts.Whole.{Whole as Cut}
-use Rattle.body_check.specs.Checking.{check_form, check_scope, cut, cut_array, meeting, part_slot, part_variable, parts_declared, parts_left, parts_noted, plain_whole, variable_declared, Whole}
+use Rattle.body_check.specs.Checking.{check_form, check_scope, cut, cut_array, meeting, part_slot, parts_declared, parts_left, parts_noted, plain_whole, variable_declared, Whole}
 use Rattle.body_check.specs.Deciding.{whole_fault}
 use Rattle.body_check.specs.Around.{inside}
-use Rattle.body_check.specs.Noting.{fault_of, settled_node, with_fault_if, with_found}
+use Rattle.body_check.specs.Noting.{with_fault_if, with_found}
 use Rattle.body_check.specs.Simple.{declaration_noted, node_of, part_declared}
 use Rattle.body_check.specs.Touching.{assigns_outer}
-use Rattle.body_check.specs.Walks.{Walk, passes, refused, judged, apart_from, scope_so, walk_of, with_env, home_of}
+use Rattle.body_check.specs.Walks.{Verdict, Walk, passes, refused, apart_from, scope_so, walk_of, with_env, home_of}
 use Rattle.body_check.proofs.Homes.{parts_at_home}
 use Rattle.body_check.proofs.Nodes.{node_is, node_made}
-use Rattle.body_check.proofs.Passing.{meeting_first, meeting_then, third_is}
 use Rattle.body_check.proofs.Types.{came_back}
 
 -- the array and the count, and the faults that are noted up to the body
@@ -63,63 +62,43 @@ pub body_refused : {b : Body} (around : Around) {node seen number first : Node} 
 body_refused around body {whole = whole} q k d = rw (k.cuts, k.counts, came_back whole.ty, d)
 
 -- the body of a part that passed, as it was found
-pub record Part (b s : Body) (around : Around) (node seen number first second : Node) (view var : Named) (array count : PlainExpr) (body : PlainStmt)
-    (f g h inner : Found) (whole : Cut) (t : Option TypedExpr) (piece : TypedStmt) (assigns : Bool) : Type 0 where
+pub record Part (b s : Body) (around : Around) (node seen number first : Node) (view var : Named) (array count : PlainExpr) (body : PlainStmt)
+    (f g h inner : Found) (whole : Cut) (t : Option TypedExpr) (piece : TypedStmt) : Type 0 where
   pub opened : Opened b node seen number first view var array count f g h whole t
   pub in_scope : body_in b around view var body h whole s inner piece
-  pub assigns_is : assigns ≡ assigns_outer body
-  pub second_is : second ≡ with_fault_if first kind.Assign assigns
 
-abbrev met_in : Body → ℕ → ℕ → Found → Bool
-met_in b part variable found = parts_interfere (given_in b.env) part variable found.effects found.uses
+-- what becomes of the construct, by whether its branches interfere
+abbrev pub parts_met : Env → Node → ℕ → PlainStmt → Found → TypedStmt → Walk → Verdict TypedStmt
+parts_met env first part body found made w =
+    meeting first (assigns_outer body) kind.Interferes (parts_interfere (given_in env) part (part + 4) found.effects found.uses) made w
 
-parted : {b s : Body} {around : Around} {node seen number first second : Node} {view var : Named} {array count : PlainExpr} {body : PlainStmt}
-    {f g h inner : Found} {whole : Cut} {t : Option TypedExpr} {piece : TypedStmt} {assigns : Bool} →
-    Part b s around node seen number first second view var array count body f g h inner whole t piece assigns →
+abbrev pub parts_made : Body → Node → PlainExpr → Cut → Option TypedExpr → TypedStmt → TypedStmt
+parts_made b node count whole t piece =
+    typed.statement node.place (typed.foreach_parts (part_slot b.env) (plain_source whole.source) (node_of count t) piece)
+
+abbrev pub parts_closed : Body → Body → Found → Cut → Found → Found → Walk
+parts_closed b s f whole h inner = parts_left (part_slot b.env) (walk_of b f) (plain_source whole.source) h (walk_of s inner)
+
+parted : {b s : Body} {around : Around} {node seen number first : Node} {view var : Named} {array count : PlainExpr} {body : PlainStmt}
+    {f g h inner : Found} {whole : Cut} {t : Option TypedExpr} {piece : TypedStmt} →
+    Part b s around node seen number first view var array count body f g h inner whole t piece →
     check_form b.atomic_params around node (form.foreach_parts view var array count body) (walk_of b f)
-    ≡ meeting first assigns kind.Interferes (met_in b (part_slot b.env) (part_variable b.env) inner)
-    (typed.statement node.place (typed.foreach_parts (part_slot b.env) (plain_source whole.source) (node_of count t) piece))
-    (parts_left (part_slot b.env) (walk_of b f) (plain_source whole.source) h (walk_of s inner))
+    ≡ parts_met b.env first (part_slot b.env) body inner (parts_made b node count whole t piece) (parts_closed b s f whole h inner)
 parted {whole = whole} k =
-    rw (k.opened.cuts, k.opened.counts, came_back whole.ty, k.in_scope, ← k.opened.seen_is, ← k.opened.number_is, ← k.opened.first_is, ← k.assigns_is)
+    rw (k.opened.cuts, k.opened.counts, came_back whole.ty, k.in_scope, ← k.opened.seen_is, ← k.opened.number_is, ← k.opened.first_is)
 
-pub part_reported : {b s : Body} {around : Around} {node seen number first second : Node} {view var : Named} {array count : PlainExpr} {body : PlainStmt}
-    {f g h inner : Found} {whole : Cut} {t : Option TypedExpr} {piece : TypedStmt} {assigns : Bool} (q : Refusal) →
-    Part b s around node seen number first second view var array count body f g h inner whole t piece assigns → fault_of second ≡ Some q →
-    check_form b.atomic_params around node (form.foreach_parts view var array count body) (walk_of b f) ≡ refused q
-part_reported {first = first} {second} {assigns = assigns} q k reported = parted k ∙ meeting_first first second assigns _ _ _ _ q k.second_is reported
-
--- what the second test of a `foreach_parts` found
-pub record PartsMet (b s : Body) (second settle third : Node) (pass : Bool) (part : ℕ) (env : Env) (inner : Found) : Type 0 where
-  pub home : home_of s ≡ home_of b
-  pub env_is : bare env ≡ bare s.env
-  pub part_is : part ≡ slots_in b.env
-  pub pass_is : pass ≡ not (parts_interfere (given_in env) part (part + 4) inner.effects inner.uses)
-  pub settle_is : settle ≡ settled_node second
-  pub third_noted : third ≡ with_fault_if settle kind.Interferes (not pass)
-
-pub not_not : (x y : Bool) → x ≡ not y → not x ≡ y
-not_not x true is = ap not is
-not_not x false is = ap not is
-
-pass_at : {b s : Body} {second settle third : Node} {pass : Bool} {part : ℕ} {env : Env} {inner : Found} →
-    PartsMet b s second settle third pass part env inner → pass ≡ not (met_in b (part_slot b.env) (part_variable b.env) inner)
-pass_at {b} {s} {part = part} {env} {inner} m =
-    m.pass_is ∙ ap not (parts_at_home b s env part (part + 4) inner.effects inner.uses m.home m.env_is)
-    ∙ ap (λ (z : ℕ). not (met_in b z (z + 4) inner)) m.part_is
-
-pub parts_is : {b s : Body} {around : Around} {node seen number first second settle third : Node} {view var : Named} {array count : PlainExpr}
-    {body : PlainStmt} {f g h inner : Found} {whole : Cut} {t : Option TypedExpr} {piece : TypedStmt} {assigns pass : Bool} {part : ℕ} {env : Env} →
-    Part b s around node seen number first second view var array count body f g h inner whole t piece assigns →
-    PartsMet b s second settle third pass part env inner → fault_of second ≡ None →
-    check_form b.atomic_params around node (form.foreach_parts view var array count body) (walk_of b f)
-    ≡ judged (fault_of third)
-    (typed.statement node.place (typed.foreach_parts (part_slot b.env) (plain_source whole.source) (node_of count t) piece))
-    (parts_left (part_slot b.env) (walk_of b f) (plain_source whole.source) h (walk_of s inner))
-parts_is {first = first} {second} {settle} {third} {assigns = assigns} {pass} k m clean =
+pub parts_are : {b s : Body} {around : Around} {node seen number first : Node} {view var : Named} {array count : PlainExpr} {body : PlainStmt}
+    {f g h inner : Found} {whole : Cut} {t : Option TypedExpr} {piece : TypedStmt} (part : ℕ) (env : Env) (v : Verdict TypedStmt) →
+    Part b s around node seen number first view var array count body f g h inner whole t piece → home_of s ≡ home_of b → bare env ≡ bare s.env →
+    part ≡ slots_in b.env →
+    parts_met env first part body inner (parts_made b node count whole t piece) (parts_closed b s f whole h inner) ≡ v →
+    check_form b.atomic_params around node (form.foreach_parts view var array count body) (walk_of b f) ≡ v
+parts_are {b} {s} {node = node} {first = first} {count = count} {body} {f} {h = h} {inner} {whole} {t} {piece} part env v k home env_is part_is d =
     parted k
-    ∙ meeting_then first second third assigns _ _ _ _ k.second_is clean
-    (third_is second settle third kind.Interferes kind.Interferes (not pass) _ m.settle_is refl (not_not pass _ (pass_at m)) m.third_noted)
+    ∙ ap (λ (z : Bool). meeting first (assigns_outer body) kind.Interferes z (parts_made b node count whole t piece) (parts_closed b s f whole h inner))
+    (sym (parts_at_home b s env part (part + 4) inner.effects inner.uses home env_is
+    ∙ ap (λ (z : ℕ). parts_interfere (given_in b.env) z (z + 4) inner.effects inner.uses) part_is))
+    ∙ d
 
 -- the part and the variable, one after the other
 pub opens_noted : (view var : Named) (t : Ty) (b p : Body) (node first second : Node) → p ≡ with_env b (part_declared b.env view.name t) →

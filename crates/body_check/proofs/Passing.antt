@@ -1,5 +1,5 @@
 -- What is passed on from a part of a statement to the statement.
-use Rattle.std.proofs.Common.{◌≡◌, ◌∙◌, Bool, Result, Ok, Err, Option, Some, None, sym, ap, subst}
+use Rattle.std.proofs.Common.{◌≡◌, ◌∙◌, Bool, true, false, not, Result, Ok, Err, Option, Some, None, sym, ap, subst}
 use Rattle.std.specs.Result.{IsErrAnd}
 use Rattle.lang_base.specs.declared.refusal.Kind.{Kind}
 use Rattle.lang_base.specs.declared.refusal.Kind.TheVariants as kind
@@ -78,6 +78,24 @@ pub meeting_then : (node second third : Node) (assigns interferes : Bool) (reaso
     second ≡ with_fault_if node kind.Assign assigns → fault_of second ≡ None → third ≡ with_fault_if (settled_node second) reason interferes →
     meeting node assigns reason interferes made w ≡ judged (fault_of third) made w
 meeting_then node second third assigns interferes reason made w second_is clean third_is = rw (← second_is, clean, ← third_is)
+
+-- where the faults of a node are reported at last
+ends : {T : Type 0} (reported : Option Refusal) (v : Verdict T) (made : T) (w : Walk) (r : Result (Unit {0}) Stop) → v ≡ judged reported made w →
+    r ≡ settled reported → Says r (λ _. passes made w) refused (λ z. v ≡ z)
+ends None v made w r is settle = subst (λ (x : Result (Unit {0}) Stop). Says x (λ _. passes made w) refused (λ z. v ≡ z)) (sym settle) is
+ends (Some q) v made w r is settle = subst (λ (x : Result (Unit {0}) Stop). Says x (λ _. passes made w) refused (λ z. v ≡ z)) (sym settle) is
+
+-- both tests, where the first found nothing
+pub meeting_ends : (node second third : Node) (assigns interferes : Bool) (reason : Kind) (made : TypedStmt) (w : Walk) (r : Result (Unit {0}) Stop) →
+    second ≡ with_fault_if node kind.Assign assigns → fault_of second ≡ None → third ≡ with_fault_if (settled_node second) reason interferes →
+    r ≡ settled (fault_of third) → Says r (λ _. passes made w) refused (λ v. meeting node assigns reason interferes made w ≡ v)
+meeting_ends node second third assigns interferes reason made w r second_is clean third_is settle =
+    ends (fault_of third) (meeting node assigns reason interferes made w) made w r
+    (meeting_then node second third assigns interferes reason made w second_is clean third_is) settle
+
+pub not_not : (x y : Bool) → x ≡ not y → not x ≡ y
+not_not x true is = ap not is
+not_not x false is = ap not is
 
 -- the second test, as the code makes it
 pub third_is : (second settle third : Node) (reason reason' : Kind) (there there' : Bool) → settle ≡ settled_node second → reason ≡ reason' →

@@ -2,10 +2,9 @@ ghost use Rattle.std.specs.Prelude.{◌≡◌, ◌++◌, ◌∷◌, [], None, tr
 ghost use Rattle.syntax_tree.specs.Plain.{plain_expr, plain_stmt, plain_stmts};
 ghost use Rattle.syntax_tree.specs.Plain.{StmtForm as form};
 ghost use Rattle.body_check.specs.Checking.{slots_of, check_form};
-ghost use Rattle.body_check.specs.Deciding.{interference, marks_after};
+ghost use Rattle.body_check.specs.Deciding.{marks_after};
 ghost use Rattle.body_check.specs.Around.{inside};
 ghost use Rattle.body_check.specs.Walks.{home_of, passes, refused, walk_of};
-ghost use Rattle.body_check.specs.Touching.{assigns_outer};
 ghost use Rattle.body_exprs.specs.Answer.{Says};
 ghost use Rattle.lang_typed.specs.Plain.{plain_stmt as typed_stmt};
 
@@ -13,26 +12,14 @@ use crate::body::Body;
 use crate::gathered::{all_effects, entered, reach_nd, take_in};
 use crate::leaving::{Leaving, Marks};
 use crate::made;
-use crate::meet::{branches_pass, iterations_interfere};
+use crate::meet::{settle_branches, settle_iterations};
 use crate::node::{Around, Node};
 use crate::statements::{Checked, block, scoped};
 use body_exprs::Found;
 use body_locals::{has_clash, touched};
 use lang_base::{Items, Kind, NoMemory, Stop};
 use lang_typed::{Branch, Slot};
-use std::alloc::Global;
 use syntax_tree::{Expr, Named, Stmt};
-
-/// The fault of a construct whose branches interfere.
-fn interference(nd: bool) -> Kind
-    ensures { result ≡ interference nd }
-{
-    if nd {
-        Kind::InterferesNd
-    } else {
-        Kind::Interferes
-    }
-}
 
 /// After an nd construct marks are kept, and after any other they are dropped.
 fn marks_after(nd: bool) -> Marks
@@ -56,7 +43,6 @@ pub fn cobegin(
     ensures checks { Says result (λ made. passes (typed_stmt made.stmt) (walk_of body.new out.new)) refused (λ v. check_form body.old.atomic_params around node (form.cobegin nd (plain_stmts (map plain_stmt branches.now))) (walk_of body.old out.old) ≡ v) }
 {
     let place = node.place;
-    let mut node = node;
     let mut effects = Items::new(body.alloc);
     let mut locals = Items::new(body.alloc);
     let mut made = Items::new(body.alloc);
@@ -76,11 +62,8 @@ pub fn cobegin(
         take_in(out, inner, leaving)?;
     }
     reach_nd(out, nd);
-    node.note_if(Kind::Assign, has_clash(body.alloc, locals.as_slice())?);
-    node.settle()?;
-    let passes = branches_pass(body, nd, effects.as_slice())?;
-    node.note_if(interference(nd), !passes);
-    node.settle()?;
+    let clash = has_clash(body.alloc, locals.as_slice())?;
+    settle_branches(body, node, nd, clash, effects.as_slice())?;
     Ok(Checked {
         completes: true,
         stmt: made::forked(place, nd, made),
@@ -138,24 +121,13 @@ pub fn foreach(
     let done = scoped(body, around.inside(), iteration, &mut inner)?;
     body.env.leave(scope);
     reach_nd(&mut inner, nd);
-    node.note_if(Kind::Assign, assigns_outer(body.alloc, iteration)?);
-    node.settle()?;
-    let clash = iterations_interfere(body, nd, &inner, slot)?;
-    node.note_if(interference(nd), clash);
-    node.settle()?;
+    settle_iterations(body, node, nd, iteration, &inner, slot)?;
     take_in(out, inner, leaving)?;
     let range = (first.into_node(start.place), number.into_node(count.place));
     Ok(Checked {
         completes: true,
         stmt: made::iterated(place, nd, slot, range, done.stmt),
     })
-}
-
-/// Whether a statement assigns a local that is declared outside of it.
-pub fn assigns_outer(alloc: Global, stmt: &Stmt) -> Result<bool, NoMemory>
-    ensures { IfOk result (λ assigns. assigns ≡ assigns_outer (plain_stmt stmt.now)) }
-{
-    Ok(!touched(alloc, stmt)?.writes.is_empty())
 }
 
 /// `atomic { .. }`

@@ -1,18 +1,105 @@
-ghost use Rattle.std.specs.Prelude.{◌≡◌, ◌<◌, not, length, IfOk};
+ghost use Rattle.std.specs.Prelude.{◌≡◌, ◌+◌, ◌<◌, None, not, length, IfOk};
 ghost use Rattle.lang_base.specs.Branches.{iterations_clash};
 ghost use Rattle.region_interfere.specs.Nd.{plain_nd};
 ghost use Rattle.region_interfere.specs.Uses.{parts_interfere};
 ghost use Rattle.body_exprs.specs.Env.{given_in};
+ghost use Rattle.syntax_tree.specs.Plain.{plain_stmt};
+ghost use Rattle.lang_typed.specs.Plain.{TypedStmt};
+ghost use Rattle.body_exprs.specs.Answer.{Says};
+ghost use Rattle.body_check.specs.Checking.{meeting};
+ghost use Rattle.body_check.specs.Deciding.{interference};
 ghost use Rattle.body_check.specs.Gathering.{with_uses};
 ghost use Rattle.body_check.specs.Meeting.{declared_atomic, branches_interfere, some_interfere};
+ghost use Rattle.body_check.specs.Noting.{fault_of};
+ghost use Rattle.body_check.specs.Touching.{assigns_outer};
+ghost use Rattle.body_check.specs.Walks.{passes, refused, Walk};
 
 use crate::body::Body;
 use crate::gathered::all_effects;
+use crate::node::Node;
 use body_exprs::Found;
-use lang_base::{Constraint, NoMemory};
+use body_locals::touched;
+use lang_base::{Constraint, Kind, NoMemory, Stop};
 use region_effects::EffectSet;
 use region_interfere::{Atomic, check_parts, first_meeting, iterations_clash};
 use std::alloc::Global;
+use syntax_tree::Stmt;
+
+/// Reports the faults of a `cobegin` after its branches: two of them clash over a local, or else two interfere.
+pub fn settle_branches(
+    body: &Body,
+    node: Node,
+    nd: bool,
+    clash: bool,
+    branches: &[EffectSet],
+) -> Result<(), Stop>
+    ensures { (made : TypedStmt) (w : Walk) → Says result (λ _. passes made w) refused (λ v. meeting node clash (interference nd) (branches_interfere body.now.atomic_params nd body.now.env branches.now) made w ≡ v) }
+{
+    let mut node = node;
+    node.note_if(Kind::Assign, clash);
+    node.settle()?;
+    let pass = branches_pass(body, nd, branches)?;
+    node.note_if(interference(nd), !pass);
+    node.settle()
+}
+
+/// Reports the faults of a `foreach` after its body: it assigns outer locals, or else iterations interfere. The loop
+/// variable has the slot.
+pub fn settle_iterations(
+    body: &Body,
+    node: Node,
+    nd: bool,
+    iteration: &Stmt,
+    found: &Found,
+    slot: u32,
+) -> Result<(), Stop>
+    ensures { (made : TypedStmt) (w : Walk) → Says result (λ _. passes made w) refused (λ v. meeting node (assigns_outer (plain_stmt iteration.now)) (interference nd) (iterations_clash (given_in body.now.env) (declared_atomic body.now.atomic_params nd body.now.env) slot (with_uses found.now.effects found.now.uses)) made w ≡ v) }
+{
+    let mut node = node;
+    node.note_if(Kind::Assign, assigns_outer(body.alloc, iteration)?);
+    node.settle()?;
+    let clash = iterations_interfere(body, nd, found, slot)?;
+    node.note_if(interference(nd), clash);
+    node.settle()
+}
+
+/// Reports the faults of a `foreach_parts` after its body: it assigns outer locals, or else branches interfere. The
+/// part has four slots from this one on, and the loop variable the one after them.
+pub fn settle_parts(
+    body: &Body,
+    node: Node,
+    iteration: &Stmt,
+    found: &Found,
+    part: u32,
+) -> Result<(), Stop>
+    requires { fault_of node ≡ None → part + 4 < 4294967296 }
+    ensures { (made : TypedStmt) (w : Walk) → Says result (λ _. passes made w) refused (λ v. meeting node (assigns_outer (plain_stmt iteration.now)) Kind.Interferes (parts_interfere (given_in body.now.env) part (part + 4) found.now.effects found.now.uses) made w ≡ v) }
+{
+    let mut node = node;
+    node.note_if(Kind::Assign, assigns_outer(body.alloc, iteration)?);
+    node.settle()?;
+    let pass = parts_pass(body, found, part, part + 4)?;
+    node.note_if(Kind::Interferes, !pass);
+    node.settle()
+}
+
+/// The fault of a construct whose branches interfere.
+fn interference(nd: bool) -> Kind
+    ensures { result ≡ interference nd }
+{
+    if nd {
+        Kind::InterferesNd
+    } else {
+        Kind::Interferes
+    }
+}
+
+/// Whether a statement assigns a local that is declared outside of it.
+fn assigns_outer(alloc: Global, stmt: &Stmt) -> Result<bool, NoMemory>
+    ensures { IfOk result (λ assigns. assigns ≡ assigns_outer (plain_stmt stmt.now)) }
+{
+    Ok(!touched(alloc, stmt)?.writes.is_empty())
+}
 
 /// Of an nd construct, what is declared atomic.
 fn declared_atomic<'a>(body: &'a Body, nd: bool) -> Option<Atomic<'a>>
@@ -29,7 +116,7 @@ fn declared_atomic<'a>(body: &'a Body, nd: bool) -> Option<Atomic<'a>>
 }
 
 /// Whether no two branches interfere, for nd where the construct is one of nd.
-pub fn branches_pass(body: &Body, nd: bool, branches: &[EffectSet]) -> Result<bool, NoMemory>
+fn branches_pass(body: &Body, nd: bool, branches: &[EffectSet]) -> Result<bool, NoMemory>
     ensures { IfOk result (λ passed. passed ≡ not (branches_interfere body.now.atomic_params nd body.now.env branches.now)) }
 {
     if branches.len() >= 4294967296 {
@@ -53,7 +140,7 @@ fn branches_apart(
 
 /// Whether an iteration of a body interferes with another, for nd where the construct is one of nd. The loop
 /// variable has the slot.
-pub fn iterations_interfere(
+fn iterations_interfere(
     body: &Body,
     nd: bool,
     iteration: &Found,
@@ -80,12 +167,7 @@ fn effects_interfere(
 }
 
 /// Whether no branch of a `foreach_parts` interferes with another. The part and the loop variable have these slots.
-pub fn parts_pass(
-    body: &Body,
-    iteration: &Found,
-    part: u32,
-    variable: u32,
-) -> Result<bool, NoMemory>
+fn parts_pass(body: &Body, iteration: &Found, part: u32, variable: u32) -> Result<bool, NoMemory>
     ensures { IfOk result (λ passed. passed ≡ not (parts_interfere (given_in body.now.env) part variable iteration.now.effects iteration.now.uses)) }
 {
     let given = body.env.given();

@@ -10,17 +10,15 @@ ghost use Rattle.body_check.specs.Deciding.{whole_fault};
 ghost use Rattle.body_check.specs.Around.{inside};
 ghost use Rattle.body_check.specs.Noting.{fault_of};
 ghost use Rattle.body_check.specs.Simple.{has_room};
-ghost use Rattle.body_check.specs.Touching.{assigns_outer};
 ghost use Rattle.body_check.specs.Walks.{home_of, passes, refused, walk_of, with_env};
 ghost use Rattle.body_exprs.specs.Answer.{Says};
 ghost use Rattle.lang_typed.specs.Plain.{plain_stmt as typed_stmt};
 
 use crate::body::Body;
-use crate::constructs::assigns_outer;
 use crate::gathered::{hand_on_uses, take_in};
 use crate::leaving::{Leaving, Marks};
 use crate::made;
-use crate::meet::parts_pass;
+use crate::meet::settle_parts;
 use crate::node::{Around, Node};
 use crate::statements::{Checked, scoped};
 use body_exprs::{Found, Typed};
@@ -68,12 +66,7 @@ pub fn foreach_parts(
     open(body, &mut node, *view, *var, ty)?;
     let done = scoped(body, around.inside(), iteration, &mut inner)?;
     body.env.leave(scope);
-    node.note_if(Kind::Assign, assigns_outer(body.alloc, iteration)?);
-    node.settle()?;
-    // The part has four slots, and the variable the one after them.
-    let passes = parts_pass(body, &inner, part, part + 4)?;
-    node.note_if(Kind::Interferes, !passes);
-    node.settle()?;
+    settle_parts(body, node, iteration, &inner, part)?;
     let inner = hand_on_uses(body.alloc, inner, part, outer_part(&source))?;
     take_in(out, inner, leaving)?;
     let count = given.into_node(count.place);

@@ -15,22 +15,23 @@ use Rattle.body_exprs.specs.Typed.{plain_typed}
 use Rattle.body_exprs.specs.Typing.{Typing}
 use Rattle.body_check.specs.declared.body.Body.{Body}
 use Rattle.body_check.specs.declared.leaving.Marks.TheVariants as marks
-use Rattle.body_check.specs.Checking.{check_stmt, check_form, check_scope, check_block, check_all, cut, outer_part, part_slot, parts_declared, plain_branch, variable_declared, with_nd}
+use Rattle.body_check.specs.Checking.{check_stmt, check_form, check_scope, check_block, check_all, check_branches, cut, outer_part, part_slot, parts_declared, plain_branch, variable_declared, with_nd}
 use Rattle.body_check.specs.Completes.{completes}
 use Rattle.body_check.specs.Deciding.{marks_after}
 use Rattle.body_check.specs.Gathering.{handed_on, taken_in}
 use Rattle.body_check.specs.Around.{inside}
 use Rattle.body_check.specs.Noting.{fault_of}
+use Rattle.body_check.specs.Touching.{some_disturb}
 use Rattle.body_check.specs.Walks.{walk_of, passes}
 use Rattle.body_check.specs.Walks.{Verdict as verdict}
 use Rattle.body_check.proofs.Atomics.{block_in, atomic_is}
-use Rattle.body_check.proofs.Forks.{Branch, BranchesMet, branch_made, fork_all, fork_is, fork_more, fork_refused, fork_reported, taken_so, touched_all, touched_more}
+use Rattle.body_check.proofs.Forks.{Branch, branch_made, branches_made, branches_met, branches_with, fork_all, fork_more, fork_refused, forks_are, taken_so, touched_all, touched_more}
 use Rattle.body_check.proofs.Homes.{home_params, piece_in}
-use Rattle.body_check.proofs.Iterations.{Iterated, IterationsMet, iteration_reported, iterations_is}
-use Rattle.body_check.proofs.Nodes.{choice_made, foreach_made, node_made, parts_made}
+use Rattle.body_check.proofs.Iterations.{Iterated, Left, iterations_are, iterations_left, iterations_made, iterations_met}
+use Rattle.body_check.proofs.Nodes.{choice_made, foreach_made, node_made, parts_formed}
 use Rattle.body_check.proofs.Orders.{map_pushed, order_refused, order_more, order_all, and_then_so, and_else_so, complete_step}
-use Rattle.body_check.proofs.Parting.{Opened, Part, PartsMet, body_refused, part_reported, parts_is}
-use Rattle.body_check.proofs.Passing.{clean_passes, closed_is, judged_some, stopped, settle_stopped, walk_from}
+use Rattle.body_check.proofs.Parting.{Opened, Part, body_refused, parts_are, parts_closed, parts_made, parts_met}
+use Rattle.body_check.proofs.Passing.{clean_passes, closed_is, judged_some, passes_so, stopped, settle_stopped, walk_from}
 use Rattle.body_check.proofs.Stands.{as_said, at_Block, at_Declare, at_AssignLocal, at_AssignField, at_AssignElement, at_Do, at_Print, at_PrintText, at_Region, at_Cobegin, at_Atomic, at_If, at_While, at_Foreach, at_Parts, at_Return}
 use Rattle.body_check.proofs.Touched.{AllTouched, assigned_is, clashing_is}
 use Rattle.body_check.proofs.Walking.{FirstMet, block_stops, block_closes, scope_passes, test_refused, first_refused, either_so, neither_so, either_completes, neither_completes}
@@ -447,12 +448,12 @@ constructs::foreach-returns-in_err-done-clause-checks t c =
     ))
     c.in_err-done.ensures.checks
 
-pub constructs::foreach-returns-in_err-settle-clause-checks : goal.constructs::foreach-returns-in_err-settle-clause-checks
-constructs::foreach-returns-in_err-settle-clause-checks t c =
+pub constructs::foreach-returns-in_err-settle_iterations-clause-checks : goal.constructs::foreach-returns-in_err-settle_iterations-clause-checks
+constructs::foreach-returns-in_err-settle_iterations-clause-checks t c =
     let passed : Iterated c.args.body.now c.scoped.new.body c.args.around c.args.node c.int.new.node c.int-2.new.node c.note_declaration.new.node
-    c.note_if.new.self c.args.var (plain_expr c.args.start.now) (plain_expr c.args.count.now) (plain_stmt c.args.iteration.now) c.args.out.now
+    c.args.var (plain_expr c.args.start.now) (plain_expr c.args.count.now) (plain_stmt c.args.iteration.now) c.args.out.now
     c.int.new.out c.int-2.new.out c.scoped.new.out (plain_typed c.in_ok-first.first) (plain_typed c.in_ok-number.number)
-    (typed_stmt c.in_ok-done.done.stmt) c.in_ok-assigns_outer.field-0 = record {
+    (typed_stmt c.in_ok-done.done.stmt) = record {
       starts = c.in_ok-first.ensures.answer;
       counts = c.in_ok-number.ensures.answer;
       first_is = c.in_ok-first.ensures.node;
@@ -463,55 +464,30 @@ constructs::foreach-returns-in_err-settle-clause-checks t c =
           (plain_stmt c.args.iteration.now) c.new-inner.result (passes (typed_stmt c.in_ok-done.done.stmt) (walk_of c.scoped.new.body c.scoped.new.out))
           (ap (λ (z : Body). z.atomic_params) c.in_ok-declare_variable.ensures.whole) (ap (λ (z : Body). z.env) c.in_ok-declare_variable.ensures.whole)
           c.inside.ensures c.new-inner.ensures c.in_ok-done.ensures.checks;
-      assigns_is = c.in_ok-assigns_outer.ensures;
-      second_is = c.note_if.ensures.node;
     } in
-    settle_stopped (λ v. check_form c.args.body.now.atomic_params c.args.around c.args.node
-    (form.foreach c.args.nd c.args.var (plain_expr c.args.start.now) (plain_expr c.args.count.now) (plain_stmt c.args.iteration.now)) (walk_of c.args.body.now c.args.out.now) ≡ v)
-    (fault_of c.note_if.new.self) c.from_residual-in_err-settle.result c.in_err-settle.field-0.0 _ c.from_residual-in_err-settle.ensures.1
-    c.in_err-settle.ensures.result (λ q reported. iteration_reported c.args.nd q passed reported)
-
-pub constructs::foreach-returns-in_err-settle-2-clause-checks : goal.constructs::foreach-returns-in_err-settle-2-clause-checks
-constructs::foreach-returns-in_err-settle-2-clause-checks t c =
-    let passed : Iterated c.args.body.now c.scoped.new.body c.args.around c.args.node c.int.new.node c.int-2.new.node c.note_declaration.new.node
-    c.note_if.new.self c.args.var (plain_expr c.args.start.now) (plain_expr c.args.count.now) (plain_stmt c.args.iteration.now) c.args.out.now
-    c.int.new.out c.int-2.new.out c.scoped.new.out (plain_typed c.in_ok-first.first) (plain_typed c.in_ok-number.number)
-    (typed_stmt c.in_ok-done.done.stmt) c.in_ok-assigns_outer.field-0 = record {
-      starts = c.in_ok-first.ensures.answer;
-      counts = c.in_ok-number.ensures.answer;
-      first_is = c.in_ok-first.ensures.node;
-      number_is = c.in_ok-number.ensures.node;
-      noted_is = c.note_declaration.ensures.node;
-      in_scope =
-          piece_in c.args.body.now.atomic_params c.declare_variable.new.self (variable_declared c.args.body.now.env c.args.var) c.args.around c.inside.result
-          (plain_stmt c.args.iteration.now) c.new-inner.result (passes (typed_stmt c.in_ok-done.done.stmt) (walk_of c.scoped.new.body c.scoped.new.out))
-          (ap (λ (z : Body). z.atomic_params) c.in_ok-declare_variable.ensures.whole) (ap (λ (z : Body). z.env) c.in_ok-declare_variable.ensures.whole)
-          c.inside.ensures c.new-inner.ensures c.in_ok-done.ensures.checks;
-      assigns_is = c.in_ok-assigns_outer.ensures;
-      second_is = c.note_if.ensures.node;
-    } in
-    let met : IterationsMet c.args.body.now c.scoped.new.body c.note_if.new.self c.settle.new.self c.note_if-2.new.self c.args.nd c.in_ok-clash.clash
-    c.slots-slot.result c.leave.new.self c.scoped.new.out c.reach_nd.new.found c.interference.result = record {
+    let left : Left c.args.body.now c.scoped.new.body c.args.nd c.slots-slot.result c.leave.new.self c.scoped.new.out c.reach_nd.new.found = record {
       home = c.in_ok-done.ensures.home ∙ c.in_ok-declare_variable.ensures.home;
       env_is = ap bare c.leave.ensures.whole;
       slot_is = c.slots-slot.ensures;
       iteration_is = c.reach_nd.ensures;
-      clash_is = c.in_ok-clash.ensures;
-      settle_is = c.settle.ensures.forgotten;
-      reason_is = c.interference.ensures;
-      third_noted = c.note_if-2.ensures.node;
     } in
-    settle_stopped (λ v. check_form c.args.body.now.atomic_params c.args.around c.args.node
+    let made = iterations_made c.args.body.now c.args.node c.args.nd (plain_expr c.args.start.now) (plain_expr c.args.count.now) (plain_typed c.in_ok-first.first)
+    (plain_typed c.in_ok-number.number) (typed_stmt c.in_ok-done.done.stmt) in
+    let after = iterations_left c.args.body.now c.scoped.new.body c.args.nd c.int-2.new.out c.scoped.new.out in
+    stopped
+    (λ q. iterations_met c.scoped.new.body.atomic_params c.leave.new.self c.note_declaration.new.node c.args.nd c.slots-slot.result (plain_stmt c.args.iteration.now)
+    c.reach_nd.new.found made after ≡ verdict.refused q)
+    (λ v. check_form c.args.body.now.atomic_params c.args.around c.args.node
     (form.foreach c.args.nd c.args.var (plain_expr c.args.start.now) (plain_expr c.args.count.now) (plain_stmt c.args.iteration.now)) (walk_of c.args.body.now c.args.out.now) ≡ v)
-    (fault_of c.note_if-2.new.self) c.from_residual-in_err-settle-2.result c.in_err-settle-2.field-0.0 _ c.from_residual-in_err-settle-2.ensures.1
-    c.in_err-settle-2.ensures.result (λ q reported. iterations_is passed met c.in_ok-settle.ensures.clean ∙ judged_some _ _ _ q reported)
+    c.from_residual-in_err-settle_iterations.result _ c.in_err-settle_iterations.field-0.0 c.from_residual-in_err-settle_iterations.ensures.1
+    (λ q d. iterations_are (verdict.refused q) passed left d) (c.in_err-settle_iterations.ensures made after)
 
 pub constructs::foreach-returns-clause-checks : goal.constructs::foreach-returns-clause-checks
 constructs::foreach-returns-clause-checks t c =
     let passed : Iterated c.args.body.now c.scoped.new.body c.args.around c.args.node c.int.new.node c.int-2.new.node c.note_declaration.new.node
-    c.note_if.new.self c.args.var (plain_expr c.args.start.now) (plain_expr c.args.count.now) (plain_stmt c.args.iteration.now) c.args.out.now
+    c.args.var (plain_expr c.args.start.now) (plain_expr c.args.count.now) (plain_stmt c.args.iteration.now) c.args.out.now
     c.int.new.out c.int-2.new.out c.scoped.new.out (plain_typed c.in_ok-first.first) (plain_typed c.in_ok-number.number)
-    (typed_stmt c.in_ok-done.done.stmt) c.in_ok-assigns_outer.field-0 = record {
+    (typed_stmt c.in_ok-done.done.stmt) = record {
       starts = c.in_ok-first.ensures.answer;
       counts = c.in_ok-number.ensures.answer;
       first_is = c.in_ok-first.ensures.node;
@@ -522,22 +498,18 @@ constructs::foreach-returns-clause-checks t c =
           (plain_stmt c.args.iteration.now) c.new-inner.result (passes (typed_stmt c.in_ok-done.done.stmt) (walk_of c.scoped.new.body c.scoped.new.out))
           (ap (λ (z : Body). z.atomic_params) c.in_ok-declare_variable.ensures.whole) (ap (λ (z : Body). z.env) c.in_ok-declare_variable.ensures.whole)
           c.inside.ensures c.new-inner.ensures c.in_ok-done.ensures.checks;
-      assigns_is = c.in_ok-assigns_outer.ensures;
-      second_is = c.note_if.ensures.node;
     } in
-    let met : IterationsMet c.args.body.now c.scoped.new.body c.note_if.new.self c.settle.new.self c.note_if-2.new.self c.args.nd c.in_ok-clash.clash
-    c.slots-slot.result c.leave.new.self c.scoped.new.out c.reach_nd.new.found c.interference.result = record {
+    let left : Left c.args.body.now c.scoped.new.body c.args.nd c.slots-slot.result c.leave.new.self c.scoped.new.out c.reach_nd.new.found = record {
       home = c.in_ok-done.ensures.home ∙ c.in_ok-declare_variable.ensures.home;
       env_is = ap bare c.leave.ensures.whole;
       slot_is = c.slots-slot.ensures;
       iteration_is = c.reach_nd.ensures;
-      clash_is = c.in_ok-clash.ensures;
-      settle_is = c.settle.ensures.forgotten;
-      reason_is = c.interference.ensures;
-      third_noted = c.note_if-2.ensures.node;
     } in
-    iterations_is passed met c.in_ok-settle.ensures.clean
-    ∙ clean_passes _ (typed_stmt c.iterated.result) _ (walk_from c.leave.new.self c.take_in.new.out) _ c.in_ok-settle-2.ensures.clean
+    let made = iterations_made c.args.body.now c.args.node c.args.nd (plain_expr c.args.start.now) (plain_expr c.args.count.now) (plain_typed c.in_ok-first.first)
+    (plain_typed c.in_ok-number.number) (typed_stmt c.in_ok-done.done.stmt) in
+    let after = iterations_left c.args.body.now c.scoped.new.body c.args.nd c.int-2.new.out c.scoped.new.out in
+    iterations_are (passes made after) passed left (c.in_ok-settle_iterations.ensures made after)
+    ∙ passes_so (typed_stmt c.iterated.result) made (walk_from c.leave.new.self c.take_in.new.out) after
     (foreach_made c.args.start.now c.args.count.now c.into_node.result c.into_node-2.result (plain_typed c.in_ok-first.first) (plain_typed c.in_ok-number.number)
     c.args.node.place c.args.nd c.slots-slot.result (slots_in c.args.body.now.env) (typed_stmt c.in_ok-done.done.stmt) (typed_stmt c.iterated.result)
     c.into_node.ensures c.into_node-2.ensures c.slots-slot.ensures c.iterated.ensures)
@@ -581,109 +553,61 @@ parts::foreach_parts-returns-in_err-done-clause-checks t c =
     c.inside.ensures c.new-inner.ensures d))
     c.in_err-done.ensures.checks
 
-pub parts::foreach_parts-returns-in_err-settle-clause-checks : goal.parts::foreach_parts-returns-in_err-settle-clause-checks
-parts::foreach_parts-returns-in_err-settle-clause-checks t c =
-    let opened : Opened c.args.body.now c.args.node c.note_found.new.self c.int.new.node c.open.new.node c.args.view.now c.args.var.now
-    (plain_expr c.args.array.now) (plain_expr c.args.count.now) c.args.out.now c.whole_of.new.out c.int.new.out c.in_ok-whole.whole
-    (plain_typed c.in_ok-given.given) = record {
-      cuts = c.in_ok-whole.ensures.cut;
-      seen_is = c.note_found.ensures.node;
-      counts = c.in_ok-given.ensures.answer;
-      number_is = c.in_ok-given.ensures.node;
-      first_is = c.in_ok-open.ensures.noted;
-    } in
-    let part : Part c.args.body.now c.scoped.new.body c.args.around c.args.node c.note_found.new.self c.int.new.node c.open.new.node c.note_if.new.self
+pub parts::foreach_parts-returns-in_err-settle_parts-clause-checks : goal.parts::foreach_parts-returns-in_err-settle_parts-clause-checks
+parts::foreach_parts-returns-in_err-settle_parts-clause-checks t c =
+    let part : Part c.args.body.now c.scoped.new.body c.args.around c.args.node c.note_found.new.self c.int.new.node c.open.new.node
     c.args.view.now c.args.var.now (plain_expr c.args.array.now) (plain_expr c.args.count.now) (plain_stmt c.args.iteration.now) c.args.out.now
-    c.whole_of.new.out c.int.new.out c.scoped.new.out c.in_ok-whole.whole (plain_typed c.in_ok-given.given) (typed_stmt c.in_ok-done.done.stmt)
-    c.in_ok-assigns_outer.field-0 = record {
-      opened = opened;
+    c.whole_of.new.out c.int.new.out c.scoped.new.out c.in_ok-whole.whole (plain_typed c.in_ok-given.given) (typed_stmt c.in_ok-done.done.stmt) = record {
+      opened = record {
+        cuts = c.in_ok-whole.ensures.cut;
+        seen_is = c.note_found.ensures.node;
+        counts = c.in_ok-given.ensures.answer;
+        number_is = c.in_ok-given.ensures.node;
+        first_is = c.in_ok-open.ensures.noted;
+      };
       in_scope =
           piece_in c.args.body.now.atomic_params c.open.new.body (parts_declared c.args.body.now.env c.args.view.now c.args.var.now c.in_ok-whole.whole.ty) c.args.around c.inside.result
           (plain_stmt c.args.iteration.now) c.new-inner.result (passes (typed_stmt c.in_ok-done.done.stmt) (walk_of c.scoped.new.body c.scoped.new.out))
           (ap (λ (z : Body). z.atomic_params) c.in_ok-open.ensures.whole) (ap (λ (z : Body). z.env) c.in_ok-open.ensures.whole)
           c.inside.ensures c.new-inner.ensures c.in_ok-done.ensures.checks;
-      assigns_is = c.in_ok-assigns_outer.ensures;
-      second_is = c.note_if.ensures.node;
     } in
-    settle_stopped (λ v. check_form c.args.body.now.atomic_params c.args.around c.args.node
+    let made = parts_made c.args.body.now c.args.node (plain_expr c.args.count.now) c.in_ok-whole.whole (plain_typed c.in_ok-given.given)
+    (typed_stmt c.in_ok-done.done.stmt) in
+    let after = parts_closed c.args.body.now c.scoped.new.body c.args.out.now c.in_ok-whole.whole c.int.new.out c.scoped.new.out in
+    stopped
+    (λ q. parts_met c.leave.new.self c.open.new.node c.slots-part.result (plain_stmt c.args.iteration.now) c.scoped.new.out made after ≡ verdict.refused q)
+    (λ v. check_form c.args.body.now.atomic_params c.args.around c.args.node
     (form.foreach_parts c.args.view.now c.args.var.now (plain_expr c.args.array.now) (plain_expr c.args.count.now) (plain_stmt c.args.iteration.now)) (walk_of c.args.body.now c.args.out.now) ≡ v)
-    (fault_of c.note_if.new.self) c.from_residual-in_err-settle.result c.in_err-settle.field-0.0 _ c.from_residual-in_err-settle.ensures.1
-    c.in_err-settle.ensures.result (λ q reported. part_reported q part reported)
-
-pub parts::foreach_parts-returns-in_err-settle-2-clause-checks : goal.parts::foreach_parts-returns-in_err-settle-2-clause-checks
-parts::foreach_parts-returns-in_err-settle-2-clause-checks t c =
-    let opened : Opened c.args.body.now c.args.node c.note_found.new.self c.int.new.node c.open.new.node c.args.view.now c.args.var.now
-    (plain_expr c.args.array.now) (plain_expr c.args.count.now) c.args.out.now c.whole_of.new.out c.int.new.out c.in_ok-whole.whole
-    (plain_typed c.in_ok-given.given) = record {
-      cuts = c.in_ok-whole.ensures.cut;
-      seen_is = c.note_found.ensures.node;
-      counts = c.in_ok-given.ensures.answer;
-      number_is = c.in_ok-given.ensures.node;
-      first_is = c.in_ok-open.ensures.noted;
-    } in
-    let part : Part c.args.body.now c.scoped.new.body c.args.around c.args.node c.note_found.new.self c.int.new.node c.open.new.node c.note_if.new.self
-    c.args.view.now c.args.var.now (plain_expr c.args.array.now) (plain_expr c.args.count.now) (plain_stmt c.args.iteration.now) c.args.out.now
-    c.whole_of.new.out c.int.new.out c.scoped.new.out c.in_ok-whole.whole (plain_typed c.in_ok-given.given) (typed_stmt c.in_ok-done.done.stmt)
-    c.in_ok-assigns_outer.field-0 = record {
-      opened = opened;
-      in_scope =
-          piece_in c.args.body.now.atomic_params c.open.new.body (parts_declared c.args.body.now.env c.args.view.now c.args.var.now c.in_ok-whole.whole.ty) c.args.around c.inside.result
-          (plain_stmt c.args.iteration.now) c.new-inner.result (passes (typed_stmt c.in_ok-done.done.stmt) (walk_of c.scoped.new.body c.scoped.new.out))
-          (ap (λ (z : Body). z.atomic_params) c.in_ok-open.ensures.whole) (ap (λ (z : Body). z.env) c.in_ok-open.ensures.whole)
-          c.inside.ensures c.new-inner.ensures c.in_ok-done.ensures.checks;
-      assigns_is = c.in_ok-assigns_outer.ensures;
-      second_is = c.note_if.ensures.node;
-    } in
-    let met : PartsMet c.args.body.now c.scoped.new.body c.note_if.new.self c.settle.new.self c.note_if-2.new.self c.in_ok-passes.passes c.slots-part.result
-    c.leave.new.self c.scoped.new.out = record {
-      home = c.in_ok-done.ensures.home ∙ c.in_ok-open.ensures.home;
-      env_is = ap bare c.leave.ensures.whole;
-      part_is = c.slots-part.ensures;
-      pass_is = c.in_ok-passes.ensures;
-      settle_is = c.settle.ensures.forgotten;
-      third_noted = c.note_if-2.ensures.node;
-    } in
-    settle_stopped (λ v. check_form c.args.body.now.atomic_params c.args.around c.args.node
-    (form.foreach_parts c.args.view.now c.args.var.now (plain_expr c.args.array.now) (plain_expr c.args.count.now) (plain_stmt c.args.iteration.now)) (walk_of c.args.body.now c.args.out.now) ≡ v)
-    (fault_of c.note_if-2.new.self) c.from_residual-in_err-settle-2.result c.in_err-settle-2.field-0.0 _ c.from_residual-in_err-settle-2.ensures.1
-    c.in_err-settle-2.ensures.result (λ q reported. parts_is part met c.in_ok-settle.ensures.clean ∙ judged_some _ _ _ q reported)
+    c.from_residual-in_err-settle_parts.result _ c.in_err-settle_parts.field-0.0 c.from_residual-in_err-settle_parts.ensures.1
+    (λ q d. parts_are c.slots-part.result c.leave.new.self (verdict.refused q) part (c.in_ok-done.ensures.home ∙ c.in_ok-open.ensures.home)
+    (ap bare c.leave.ensures.whole) c.slots-part.ensures d)
+    (c.in_err-settle_parts.ensures made after)
 
 pub parts::foreach_parts-returns-clause-checks : goal.parts::foreach_parts-returns-clause-checks
 parts::foreach_parts-returns-clause-checks t c =
-    let opened : Opened c.args.body.now c.args.node c.note_found.new.self c.int.new.node c.open.new.node c.args.view.now c.args.var.now
-    (plain_expr c.args.array.now) (plain_expr c.args.count.now) c.args.out.now c.whole_of.new.out c.int.new.out c.in_ok-whole.whole
-    (plain_typed c.in_ok-given.given) = record {
-      cuts = c.in_ok-whole.ensures.cut;
-      seen_is = c.note_found.ensures.node;
-      counts = c.in_ok-given.ensures.answer;
-      number_is = c.in_ok-given.ensures.node;
-      first_is = c.in_ok-open.ensures.noted;
-    } in
-    let part : Part c.args.body.now c.scoped.new.body c.args.around c.args.node c.note_found.new.self c.int.new.node c.open.new.node c.note_if.new.self
+    let part : Part c.args.body.now c.scoped.new.body c.args.around c.args.node c.note_found.new.self c.int.new.node c.open.new.node
     c.args.view.now c.args.var.now (plain_expr c.args.array.now) (plain_expr c.args.count.now) (plain_stmt c.args.iteration.now) c.args.out.now
-    c.whole_of.new.out c.int.new.out c.scoped.new.out c.in_ok-whole.whole (plain_typed c.in_ok-given.given) (typed_stmt c.in_ok-done.done.stmt)
-    c.in_ok-assigns_outer.field-0 = record {
-      opened = opened;
+    c.whole_of.new.out c.int.new.out c.scoped.new.out c.in_ok-whole.whole (plain_typed c.in_ok-given.given) (typed_stmt c.in_ok-done.done.stmt) = record {
+      opened = record {
+        cuts = c.in_ok-whole.ensures.cut;
+        seen_is = c.note_found.ensures.node;
+        counts = c.in_ok-given.ensures.answer;
+        number_is = c.in_ok-given.ensures.node;
+        first_is = c.in_ok-open.ensures.noted;
+      };
       in_scope =
           piece_in c.args.body.now.atomic_params c.open.new.body (parts_declared c.args.body.now.env c.args.view.now c.args.var.now c.in_ok-whole.whole.ty) c.args.around c.inside.result
           (plain_stmt c.args.iteration.now) c.new-inner.result (passes (typed_stmt c.in_ok-done.done.stmt) (walk_of c.scoped.new.body c.scoped.new.out))
           (ap (λ (z : Body). z.atomic_params) c.in_ok-open.ensures.whole) (ap (λ (z : Body). z.env) c.in_ok-open.ensures.whole)
           c.inside.ensures c.new-inner.ensures c.in_ok-done.ensures.checks;
-      assigns_is = c.in_ok-assigns_outer.ensures;
-      second_is = c.note_if.ensures.node;
     } in
-    let met : PartsMet c.args.body.now c.scoped.new.body c.note_if.new.self c.settle.new.self c.note_if-2.new.self c.in_ok-passes.passes c.slots-part.result
-    c.leave.new.self c.scoped.new.out = record {
-      home = c.in_ok-done.ensures.home ∙ c.in_ok-open.ensures.home;
-      env_is = ap bare c.leave.ensures.whole;
-      part_is = c.slots-part.ensures;
-      pass_is = c.in_ok-passes.ensures;
-      settle_is = c.settle.ensures.forgotten;
-      third_noted = c.note_if-2.ensures.node;
-    } in
-    parts_is part met c.in_ok-settle.ensures.clean
-    ∙ clean_passes _ (typed_stmt c.parted.result) _ (walk_from c.leave.new.self c.take_in.new.out) _ c.in_ok-settle-2.ensures.clean
-    (parts_made c.args.count.now c.into_node-count.result (plain_typed c.in_ok-given.given) c.args.node.place c.slots-part.result
+    let made = parts_made c.args.body.now c.args.node (plain_expr c.args.count.now) c.in_ok-whole.whole (plain_typed c.in_ok-given.given)
+    (typed_stmt c.in_ok-done.done.stmt) in
+    let after = parts_closed c.args.body.now c.scoped.new.body c.args.out.now c.in_ok-whole.whole c.int.new.out c.scoped.new.out in
+    parts_are c.slots-part.result c.leave.new.self (passes made after) part (c.in_ok-done.ensures.home ∙ c.in_ok-open.ensures.home)
+    (ap bare c.leave.ensures.whole) c.slots-part.ensures (c.in_ok-settle_parts.ensures made after)
+    ∙ passes_so (typed_stmt c.parted.result) made (walk_from c.leave.new.self c.take_in.new.out) after
+    (parts_formed c.args.count.now c.into_node-count.result (plain_typed c.in_ok-given.given) c.args.node.place c.slots-part.result
     (slots_in c.args.body.now.env) (plain_source c.in_ok-whole.whole.source) (typed_stmt c.in_ok-done.done.stmt) (typed_stmt c.parted.result)
     c.into_node-count.ensures c.slots-part.ensures c.parted.ensures)
     (sym
@@ -746,66 +670,49 @@ constructs::cobegin-loop-branch-preserved t c =
       home = c.in_ok-done.ensures.home ∙ c.loop-branch.invariant.home;
     }
 
-pub constructs::cobegin-returns-in_err-settle-clause-checks : goal.constructs::cobegin-returns-in_err-settle-clause-checks
-constructs::cobegin-returns-in_err-settle-clause-checks t c =
-    let met : BranchesMet c.args.body.now c.loop-branch.body c.args.around c.args.node c.note_if.new.self c.args.nd c.in_ok-has_clash.field-0
-    (plain_stmts (map plain_stmt c.args.branches.now)) c.loop-branch.effects (map plain_branch c.loop-branch.made) c.args.out.now c.loop-branch.out = record {
-      all =
-          fork_all c.args.body.now.atomic_params (inside c.args.around) c.args.nd c.args.branches.now (walk_of c.args.body.now c.args.out.now) c.loop-branch.branch-index c.loop-branch.effects
-          (map plain_branch c.loop-branch.made) (walk_of c.loop-branch.body c.loop-branch.out) c.loop-branch.invariant.forks
-          (drop_all c.loop-branch.branch-index c.args.branches.now c.loop-branch-test.false);
-      clash_is =
-          clashing_is (plain_stmts (map plain_stmt c.args.branches.now)) c.as_slice-2.result.now c.in_ok-has_clash.field-0
-          (subst (AllTouched (plain_stmts (map plain_stmt c.args.branches.now))) (sym c.as_slice-2.ensures)
-          (touched_all c.args.branches.now c.loop-branch.branch-index c.loop-branch.locals
-          (drop_all c.loop-branch.branch-index c.args.branches.now c.loop-branch-test.false) c.loop-branch.invariant.touched))
-          c.in_ok-has_clash.ensures.none c.in_ok-has_clash.ensures.some;
-      second_is = c.note_if.ensures.node;
-    } in
-    settle_stopped (λ v. check_form c.args.body.now.atomic_params c.args.around c.args.node (form.cobegin c.args.nd (plain_stmts (map plain_stmt c.args.branches.now))) (walk_of c.args.body.now c.args.out.now) ≡ v)
-    (fault_of c.note_if.new.self) c.from_residual-in_err-settle.result c.in_err-settle.field-0.0 _ c.from_residual-in_err-settle.ensures.1
-    c.in_err-settle.ensures.result (λ q reported. fork_reported q met reported)
-
-pub constructs::cobegin-returns-in_err-settle-2-clause-checks : goal.constructs::cobegin-returns-in_err-settle-2-clause-checks
-constructs::cobegin-returns-in_err-settle-2-clause-checks t c =
-    let met : BranchesMet c.args.body.now c.loop-branch.body c.args.around c.args.node c.note_if.new.self c.args.nd c.in_ok-has_clash.field-0
-    (plain_stmts (map plain_stmt c.args.branches.now)) c.loop-branch.effects (map plain_branch c.loop-branch.made) c.args.out.now c.loop-branch.out = record {
-      all =
-          fork_all c.args.body.now.atomic_params (inside c.args.around) c.args.nd c.args.branches.now (walk_of c.args.body.now c.args.out.now) c.loop-branch.branch-index c.loop-branch.effects
-          (map plain_branch c.loop-branch.made) (walk_of c.loop-branch.body c.loop-branch.out) c.loop-branch.invariant.forks
-          (drop_all c.loop-branch.branch-index c.args.branches.now c.loop-branch-test.false);
-      clash_is =
-          clashing_is (plain_stmts (map plain_stmt c.args.branches.now)) c.as_slice-2.result.now c.in_ok-has_clash.field-0
-          (subst (AllTouched (plain_stmts (map plain_stmt c.args.branches.now))) (sym c.as_slice-2.ensures)
-          (touched_all c.args.branches.now c.loop-branch.branch-index c.loop-branch.locals
-          (drop_all c.loop-branch.branch-index c.args.branches.now c.loop-branch-test.false) c.loop-branch.invariant.touched))
-          c.in_ok-has_clash.ensures.none c.in_ok-has_clash.ensures.some;
-      second_is = c.note_if.ensures.node;
-    } in
-    settle_stopped (λ v. check_form c.args.body.now.atomic_params c.args.around c.args.node (form.cobegin c.args.nd (plain_stmts (map plain_stmt c.args.branches.now))) (walk_of c.args.body.now c.args.out.now) ≡ v)
-    (fault_of c.note_if-2.new.self) c.from_residual-in_err-settle-2.result c.in_err-settle-2.field-0.0 _ c.from_residual-in_err-settle-2.ensures.1
-    c.in_err-settle-2.ensures.result
-    (λ q reported.
-    fork_is met c.in_ok-settle.ensures.clean c.loop-branch.invariant.home c.as_slice-3.ensures c.in_ok-passes.ensures c.settle.ensures.forgotten
-    c.interference.ensures c.note_if-2.ensures.node ∙ judged_some _ _ _ q reported)
+pub constructs::cobegin-returns-in_err-settle_branches-clause-checks : goal.constructs::cobegin-returns-in_err-settle_branches-clause-checks
+constructs::cobegin-returns-in_err-settle_branches-clause-checks t c =
+    let all : check_branches c.args.body.now.atomic_params (inside c.args.around) c.args.nd (plain_stmts (map plain_stmt c.args.branches.now))
+    (walk_of c.args.body.now c.args.out.now)
+    ≡ passes (branches_with c.loop-branch.effects (map plain_branch c.loop-branch.made)) (walk_of c.loop-branch.body c.loop-branch.out) =
+    fork_all c.args.body.now.atomic_params (inside c.args.around) c.args.nd c.args.branches.now (walk_of c.args.body.now c.args.out.now) c.loop-branch.branch-index c.loop-branch.effects
+    (map plain_branch c.loop-branch.made) (walk_of c.loop-branch.body c.loop-branch.out) c.loop-branch.invariant.forks
+    (drop_all c.loop-branch.branch-index c.args.branches.now c.loop-branch-test.false) in
+    let clash_is : c.in_ok-clash.clash ≡ some_disturb (plain_stmts (map plain_stmt c.args.branches.now)) =
+    clashing_is (plain_stmts (map plain_stmt c.args.branches.now)) c.as_slice-2.result.now c.in_ok-clash.clash
+    (subst (AllTouched (plain_stmts (map plain_stmt c.args.branches.now))) (sym c.as_slice-2.ensures)
+    (touched_all c.args.branches.now c.loop-branch.branch-index c.loop-branch.locals
+    (drop_all c.loop-branch.branch-index c.args.branches.now c.loop-branch-test.false) c.loop-branch.invariant.touched))
+    c.in_ok-clash.ensures.none c.in_ok-clash.ensures.some in
+    let made = branches_made c.args.node c.args.nd (map plain_branch c.loop-branch.made) in
+    let after = walk_of c.loop-branch.body (with_nd c.args.nd c.loop-branch.out) in
+    stopped
+    (λ q. branches_met c.loop-branch.body.atomic_params c.loop-branch.body.env c.args.node c.args.nd c.in_ok-clash.clash c.as_slice-3.result.now made after ≡ verdict.refused q)
+    (λ v. check_form c.args.body.now.atomic_params c.args.around c.args.node (form.cobegin c.args.nd (plain_stmts (map plain_stmt c.args.branches.now))) (walk_of c.args.body.now c.args.out.now) ≡ v)
+    c.from_residual-in_err-settle_branches.result _ c.in_err-settle_branches.field-0.0 c.from_residual-in_err-settle_branches.ensures.1
+    (λ q d. forks_are c.args.body.now c.loop-branch.body c.args.around c.args.node c.args.nd c.in_ok-clash.clash
+    (plain_stmts (map plain_stmt c.args.branches.now)) c.loop-branch.effects c.as_slice-3.result.now (map plain_branch c.loop-branch.made) c.args.out.now
+    c.loop-branch.out (verdict.refused q) all clash_is c.loop-branch.invariant.home c.as_slice-3.ensures d)
+    (c.in_err-settle_branches.ensures made after)
 
 pub constructs::cobegin-returns-clause-checks : goal.constructs::cobegin-returns-clause-checks
 constructs::cobegin-returns-clause-checks t c =
-    let met : BranchesMet c.args.body.now c.loop-branch.body c.args.around c.args.node c.note_if.new.self c.args.nd c.in_ok-has_clash.field-0
-    (plain_stmts (map plain_stmt c.args.branches.now)) c.loop-branch.effects (map plain_branch c.loop-branch.made) c.args.out.now c.loop-branch.out = record {
-      all =
-          fork_all c.args.body.now.atomic_params (inside c.args.around) c.args.nd c.args.branches.now (walk_of c.args.body.now c.args.out.now) c.loop-branch.branch-index c.loop-branch.effects
-          (map plain_branch c.loop-branch.made) (walk_of c.loop-branch.body c.loop-branch.out) c.loop-branch.invariant.forks
-          (drop_all c.loop-branch.branch-index c.args.branches.now c.loop-branch-test.false);
-      clash_is =
-          clashing_is (plain_stmts (map plain_stmt c.args.branches.now)) c.as_slice-2.result.now c.in_ok-has_clash.field-0
-          (subst (AllTouched (plain_stmts (map plain_stmt c.args.branches.now))) (sym c.as_slice-2.ensures)
-          (touched_all c.args.branches.now c.loop-branch.branch-index c.loop-branch.locals
-          (drop_all c.loop-branch.branch-index c.args.branches.now c.loop-branch-test.false) c.loop-branch.invariant.touched))
-          c.in_ok-has_clash.ensures.none c.in_ok-has_clash.ensures.some;
-      second_is = c.note_if.ensures.node;
-    } in
-    fork_is met c.in_ok-settle.ensures.clean c.loop-branch.invariant.home c.as_slice-3.ensures c.in_ok-passes.ensures c.settle.ensures.forgotten
-    c.interference.ensures c.note_if-2.ensures.node
-    ∙ clean_passes _ (typed_stmt c.forked.result) _ (walk_of c.loop-branch.body c.reach_nd.new.found) _ c.in_ok-settle-2.ensures.clean c.forked.ensures
+    let all : check_branches c.args.body.now.atomic_params (inside c.args.around) c.args.nd (plain_stmts (map plain_stmt c.args.branches.now))
+    (walk_of c.args.body.now c.args.out.now)
+    ≡ passes (branches_with c.loop-branch.effects (map plain_branch c.loop-branch.made)) (walk_of c.loop-branch.body c.loop-branch.out) =
+    fork_all c.args.body.now.atomic_params (inside c.args.around) c.args.nd c.args.branches.now (walk_of c.args.body.now c.args.out.now) c.loop-branch.branch-index c.loop-branch.effects
+    (map plain_branch c.loop-branch.made) (walk_of c.loop-branch.body c.loop-branch.out) c.loop-branch.invariant.forks
+    (drop_all c.loop-branch.branch-index c.args.branches.now c.loop-branch-test.false) in
+    let clash_is : c.in_ok-clash.clash ≡ some_disturb (plain_stmts (map plain_stmt c.args.branches.now)) =
+    clashing_is (plain_stmts (map plain_stmt c.args.branches.now)) c.as_slice-2.result.now c.in_ok-clash.clash
+    (subst (AllTouched (plain_stmts (map plain_stmt c.args.branches.now))) (sym c.as_slice-2.ensures)
+    (touched_all c.args.branches.now c.loop-branch.branch-index c.loop-branch.locals
+    (drop_all c.loop-branch.branch-index c.args.branches.now c.loop-branch-test.false) c.loop-branch.invariant.touched))
+    c.in_ok-clash.ensures.none c.in_ok-clash.ensures.some in
+    let made = branches_made c.args.node c.args.nd (map plain_branch c.loop-branch.made) in
+    let after = walk_of c.loop-branch.body (with_nd c.args.nd c.loop-branch.out) in
+    forks_are c.args.body.now c.loop-branch.body c.args.around c.args.node c.args.nd c.in_ok-clash.clash
+    (plain_stmts (map plain_stmt c.args.branches.now)) c.loop-branch.effects c.as_slice-3.result.now (map plain_branch c.loop-branch.made) c.args.out.now
+    c.loop-branch.out (passes made after) all clash_is c.loop-branch.invariant.home c.as_slice-3.ensures (c.in_ok-settle_branches.ensures made after)
+    ∙ passes_so (typed_stmt c.forked.result) made (walk_of c.loop-branch.body c.reach_nd.new.found) after c.forked.ensures
     (ap (λ (z : Found). walk_of c.loop-branch.body z) c.reach_nd.ensures)

@@ -1,6 +1,6 @@
 use Rattle.syntax_tree.specs.Plain.{plain_stmt}
 use Rattle.body_check.proofs.Touched.{assigns_is}
-use Rattle.body_check.proofs.constructs.assigns_outer.Goals as goal
+use Rattle.body_check.proofs.meet.assigns_outer.Goals as goal
 
 pub returns : goal.returns
 returns c =
