@@ -11,43 +11,8 @@ ghost use Rattle.body_exprs.specs.Targeting.{plain_spot};
 ghost use Rattle.body_exprs.specs.Typed.{is_boolean};
 
 use body_exprs::Spot;
-use lang_base::{Boxed, Bytes, Effect, Items, Place, Ty};
+use lang_base::{Boxed, Effect, Items, Place, Ty};
 use lang_typed::{Branch, Expr, Forking, LocalRegion, PartSource, Slot, Stmt, StmtForm};
-
-/// A declaration of a local in a slot.
-#[tactic(auto, using(crate::proofs::Making::made_Declare))]
-pub fn declaration(place: Place, slot: u32, ty: Ty, is_final: bool, value: Expr) -> Stmt
-    ensures { typed_stmt result ≡ statement place (form.declare slot (plain_type ty) is_final (typed_expr value)) }
-{
-    let form = StmtForm::Declare {
-        slot: Slot { number: slot },
-        ty,
-        is_final,
-        value,
-    };
-    Stmt { place, form }
-}
-
-/// An assignment to the local in a slot.
-#[tactic(auto, using(crate::proofs::Making::made_Store))]
-pub fn store(place: Place, slot: u32, value: Expr) -> Stmt
-    ensures { typed_stmt result ≡ statement place (form.store slot (typed_expr value)) }
-{
-    let form = StmtForm::Store {
-        slot: Slot { number: slot },
-        value,
-    };
-    Stmt { place, form }
-}
-
-/// A call or a creation.
-#[tactic(auto, using(crate::proofs::Making::made_Perform))]
-pub fn performed(place: Place, value: Expr) -> Stmt
-    ensures { typed_stmt result ≡ statement place (form.perform (typed_expr value)) }
-{
-    let form = StmtForm::Perform(value);
-    Stmt { place, form }
-}
 
 /// A block.
 #[tactic(auto, using(crate::proofs::Making::made_Block))]
@@ -55,33 +20,6 @@ pub fn blocked(place: Place, stmts: Items<Stmt>) -> Stmt
     ensures { typed_stmt result ≡ statement place (form.block (stmts_of (map typed_stmt stmts))) }
 {
     let form = StmtForm::Block(stmts);
-    Stmt { place, form }
-}
-
-/// `return;`
-#[tactic(auto, using(crate::proofs::Making::made_Return_nothing))]
-pub fn leaving(place: Place) -> Stmt
-    ensures { typed_stmt result ≡ statement place (form.return_nothing) }
-{
-    let form = StmtForm::Return(None);
-    Stmt { place, form }
-}
-
-/// `return value;`
-#[tactic(auto, using(crate::proofs::Making::made_Return_value))]
-pub fn leaving_with(place: Place, value: Expr) -> Stmt
-    ensures { typed_stmt result ≡ statement place (form.return_value (typed_expr value)) }
-{
-    let form = StmtForm::Return(Some(value));
-    Stmt { place, form }
-}
-
-/// `print` of a text.
-#[tactic(auto, using(crate::proofs::Making::made_PrintText))]
-pub fn text(place: Place, text: Bytes) -> Stmt
-    ensures { typed_stmt result ≡ statement place (form.print_text text) }
-{
-    let form = StmtForm::PrintText(text);
     Stmt { place, form }
 }
 

@@ -21,7 +21,7 @@ use body_exprs::{Found, Target, Typed, read_target};
 use decl_headers::Faults;
 use decl_resolve::ty;
 use lang_base::{Bytes, Items, Kind, Place, Plain, Stop, Ty};
-use lang_typed::LocalRegion;
+use lang_typed::{LocalRegion, Slot, Stmt, StmtForm};
 use syntax_tree::{Expr, Named, TypeTree};
 
 /// `ty name = value;`
@@ -50,9 +50,15 @@ pub fn declare(
     let ty = declared.copy(body.alloc)?;
     body.declare(name, ty, is_final)?;
     let value = given.into_node(value.place);
+    let form = StmtForm::Declare {
+        slot: Slot { number: slot },
+        ty: declared,
+        is_final,
+        value,
+    };
     Ok(Checked {
         completes: true,
-        stmt: made::declaration(place, slot, declared, is_final, value),
+        stmt: Stmt { place, form },
     })
 }
 
@@ -87,9 +93,16 @@ pub fn assign_local(
     };
     node.note_found(local_fault(body.fits(&given, &row.ty)?, row.is_final));
     node.settle()?;
+    let form = StmtForm::Store {
+        slot: Slot { number: row.slot },
+        value: given.into_node(value.place),
+    };
     Ok(Checked {
         completes: true,
-        stmt: made::store(target.place, row.slot, given.into_node(value.place)),
+        stmt: Stmt {
+            place: target.place,
+            form,
+        },
     })
 }
 
@@ -154,9 +167,10 @@ fn assign_anything(node: Node, place: Place, given: Typed, value: Place) -> Resu
     let mut node = node;
     node.note_if(Kind::Type, !given.is_value());
     node.settle()?;
+    let form = StmtForm::Perform(given.into_node(value));
     Ok(Checked {
         completes: true,
-        stmt: made::performed(place, given.into_node(value)),
+        stmt: Stmt { place, form },
     })
 }
 
@@ -183,9 +197,10 @@ pub fn perform(body: &Body, node: Node, e: &Expr, out: &mut Found) -> Result<Che
     let mut node = node;
     let given = body.typed(e, out)?;
     node.settle()?;
+    let form = StmtForm::Perform(given.into_node(e.place));
     Ok(Checked {
         completes: true,
-        stmt: made::performed(place, given.into_node(e.place)),
+        stmt: Stmt { place, form },
     })
 }
 
@@ -198,9 +213,10 @@ pub fn leave(body: &Body, around: Around, node: Node) -> Result<Checked, Stop>
     let mut node = node;
     node.note_if(Kind::Return, is_misplaced(around, false));
     node.settle()?;
+    let form = StmtForm::Return(None);
     Ok(Checked {
         completes: false,
-        stmt: made::leaving(place),
+        stmt: Stmt { place, form },
     })
 }
 
@@ -222,9 +238,10 @@ pub fn leave_with(
     let fits = body.is_returned(around, &given)?;
     node.note_if(Kind::Type, !fits);
     node.settle()?;
+    let form = StmtForm::Return(Some(given.into_node(value.place)));
     Ok(Checked {
         completes: false,
-        stmt: made::leaving_with(place, given.into_node(value.place)),
+        stmt: Stmt { place, form },
     })
 }
 
@@ -259,9 +276,10 @@ pub fn print_text(body: &Body, node: Node, text: &Bytes) -> Result<Checked, Stop
     let place = node.place;
     let mut node = node;
     node.settle()?;
+    let form = StmtForm::PrintText(text.copy(body.alloc)?);
     Ok(Checked {
         completes: true,
-        stmt: made::text(place, text.copy(body.alloc)?),
+        stmt: Stmt { place, form },
     })
 }
 

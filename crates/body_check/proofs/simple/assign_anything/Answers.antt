@@ -2,6 +2,7 @@ use Rattle.std.proofs.Common.{◌≡◌, None}
 use Rattle.body_exprs.specs.Typed.{node_at, plain_typed, value_type}
 use Rattle.body_check.specs.Noting.{fault_of}
 use Rattle.body_check.specs.Simple.{put_in_place}
+use Rattle.body_check.proofs.Making.{made_Perform}
 use Rattle.body_check.proofs.Passing.{settle_stopped}
 use Rattle.body_check.proofs.simple.assign_anything.Goals as goal
 
@@ -13,4 +14,4 @@ returns-in_err-settle-clause-checks c w =
 
 pub returns-clause-checks : goal.returns-clause-checks
 returns-clause-checks c w =
-    rw (← c.is_value.ensures, ← c.note_if.ensures.node, c.in_ok-settle.ensures.clean, c.performed.ensures, c.into_node.ensures)
+    rw (← c.is_value.ensures, ← c.note_if.ensures.node, c.in_ok-settle.ensures.clean, made_Perform c.args.place c.into_node.result, c.into_node.ensures)

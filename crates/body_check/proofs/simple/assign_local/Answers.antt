@@ -10,6 +10,7 @@ use Rattle.body_check.specs.Noting.{fault_of, with_fault}
 use Rattle.body_check.specs.Simple.{assign_local}
 use Rattle.body_check.specs.Walks.{walk_of}
 use Rattle.body_check.specs.Walks.{Verdict as verdict}
+use Rattle.body_check.proofs.Making.{made_Store}
 use Rattle.body_check.proofs.Nodes.{node_made}
 use Rattle.body_check.proofs.Noting.{the_reported}
 use Rattle.body_check.proofs.Passing.{said_of, stopped, settle_stopped}
@@ -48,6 +49,6 @@ returns-clause-checks c =
       ← c.local_fault.ensures,
       ← c.note_found.ensures.node,
       c.in_ok-settle.ensures.clean,
-      c.store.ensures,
+      made_Store c.args.target.place (record { number = c.in-Some.row.now.slot }) c.into_node.result,
       node_made c.args.value.now c.into_node.result (plain_typed c.in_ok-given.given) c.into_node.ensures,
     )

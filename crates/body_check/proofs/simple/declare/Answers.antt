@@ -6,6 +6,7 @@ use Rattle.body_exprs.specs.Typing.{Typing}
 use Rattle.body_check.specs.Noting.{fault_of}
 use Rattle.body_check.specs.Simple.{declare, declared_reported}
 use Rattle.body_check.specs.Walks.{walk_of}
+use Rattle.body_check.proofs.Making.{made_Declare}
 use Rattle.body_check.proofs.Nodes.{node_made}
 use Rattle.body_check.proofs.Passing.{stopped, settle_stopped}
 use Rattle.body_check.proofs.Types.{came_back}
@@ -52,7 +53,7 @@ returns-clause-checks c =
       ← c.note_if.ensures.node,
       c.in_ok-settle.ensures.clean,
       came_back c.in_ok-declared.declared,
-      c.declaration.ensures,
+      made_Declare c.args.node.place (record { number = c.slots-slot.result }) c.in_ok-declared.declared c.args.is_final c.into_node-value.result,
       node_made c.args.value.now c.into_node-value.result (plain_typed c.in_ok-given.given) c.into_node-value.ensures,
       c.slots-slot.ensures,
       c.in_ok-declare.ensures.whole,

@@ -2,6 +2,7 @@ use Rattle.std.proofs.Common.{◌≡◌}
 use Rattle.body_check.specs.Noting.{fault_of}
 use Rattle.body_check.specs.Simple.{leave}
 use Rattle.body_check.specs.Walks.{walk_of}
+use Rattle.body_check.proofs.Making.{made_Return_nothing}
 use Rattle.body_check.proofs.Passing.{settle_stopped}
 use Rattle.body_check.proofs.simple.leave.Goals as goal
 
@@ -12,4 +13,4 @@ returns-in_err-settle-clause-checks c found =
     (λ q reported. rw (← c.is_misplaced.ensures, ← c.note_if.ensures.node, reported))
 
 pub returns-clause-checks : goal.returns-clause-checks
-returns-clause-checks c found = rw (← c.is_misplaced.ensures, ← c.note_if.ensures.node, c.in_ok-settle.ensures.clean, c.leaving.ensures)
+returns-clause-checks c found = rw (← c.is_misplaced.ensures, ← c.note_if.ensures.node, c.in_ok-settle.ensures.clean, made_Return_nothing c.args.node.place)

@@ -6,6 +6,7 @@ use Rattle.body_exprs.specs.Typing.{Typing}
 use Rattle.body_check.specs.Noting.{fault_of}
 use Rattle.body_check.specs.Simple.{leave_with}
 use Rattle.body_check.specs.Walks.{walk_of}
+use Rattle.body_check.proofs.Making.{made_Return_value}
 use Rattle.body_check.proofs.Nodes.{node_made}
 use Rattle.body_check.proofs.Passing.{stopped, settle_stopped}
 use Rattle.body_check.proofs.simple.leave_with.Goals as goal
@@ -33,6 +34,6 @@ returns-clause-checks c =
       ← c.note_if.ensures.node,
       ← c.note_if-2.ensures.node,
       c.in_ok-settle.ensures.clean,
-      c.leaving_with.ensures,
+      made_Return_value c.args.node.place c.into_node.result,
       node_made c.args.value.now c.into_node.result (plain_typed c.in_ok-given.given) c.into_node.ensures,
     )

@@ -6,6 +6,7 @@ use Rattle.body_exprs.specs.Typing.{Typing}
 use Rattle.body_check.specs.Noting.{fault_of}
 use Rattle.body_check.specs.Simple.{perform}
 use Rattle.body_check.specs.Walks.{walk_of}
+use Rattle.body_check.proofs.Making.{made_Perform}
 use Rattle.body_check.proofs.Nodes.{node_made}
 use Rattle.body_check.proofs.Passing.{stopped, settle_stopped}
 use Rattle.body_check.proofs.simple.perform.Goals as goal
@@ -24,4 +25,4 @@ returns-in_err-settle-clause-checks c =
 
 pub returns-clause-checks : goal.returns-clause-checks
 returns-clause-checks c =
-    rw (c.in_ok-given.ensures.answer, c.in_ok-settle.ensures.clean, c.performed.ensures, node_made c.args.e.now c.into_node.result (plain_typed c.in_ok-given.given) c.into_node.ensures)
+    rw (c.in_ok-given.ensures.answer, c.in_ok-settle.ensures.clean, made_Perform c.args.node.place c.into_node.result, node_made c.args.e.now c.into_node.result (plain_typed c.in_ok-given.given) c.into_node.ensures)

@@ -2,6 +2,7 @@ use Rattle.std.proofs.Common.{◌≡◌}
 use Rattle.lang_typed.specs.Plain as typed
 use Rattle.body_check.specs.Noting.{fault_of}
 use Rattle.body_check.specs.Walks.{walk_of, judged}
+use Rattle.body_check.proofs.Making.{made_PrintText}
 use Rattle.body_check.proofs.Passing.{settle_stopped}
 use Rattle.body_check.proofs.simple.print_text.Goals as goal
 
@@ -13,4 +14,4 @@ returns-in_err-settle-clause-checks c found =
     (λ q reported. rw reported)
 
 pub returns-clause-checks : goal.returns-clause-checks
-returns-clause-checks c found = rw (c.in_ok-settle.ensures.clean, c.text.ensures, c.in_ok-copy.ensures)
+returns-clause-checks c found = rw (c.in_ok-settle.ensures.clean, made_PrintText c.args.node.place c.in_ok-copy.field-0, c.in_ok-copy.ensures)
