@@ -87,14 +87,14 @@ there (b ∷ before) m after = there before m after
 counted : (before : List MethodCode) (m : MethodCode) → suc (length before) ≡ length (before ++ m ∷ [])
 counted before m = omega (arith, length-append before (m ∷ []))
 
-rows_back : (before : List MethodCode) (ms : List Method) (after : List MethodCode) → map (member_in (before ++ map method_for ms ++ after)) (up_from (length before) ms) ≡ ms
+rows_back : (before : List MethodCode) (ms : List Method) (after : List MethodCode) → map (member_in (before ++ (map method_for ms ++ after))) (up_from (length before) ms) ≡ ms
 rows_back before [] after = refl
 rows_back before (m ∷ ms) after =
     ap₂ ◌∷◌ (ap member_or_none (there before (method_for m) (map method_for ms ++ after)))
     (ap₂ (λ members n. map (member_in members) (up_from n ms)) (sym (append_assoc before (method_for m ∷ []) (map method_for ms ++ after))) (counted before (method_for m))
     ∙ rows_back (before ++ method_for m ∷ []) ms after)
 
-class_back : (before : List MethodCode) (k : ClassCode) (after : List MethodCode) → plain_class (before ++ map method_for k.methods ++ after) (class_for (length before) k) ≡ k
+class_back : (before : List MethodCode) (k : ClassCode) (after : List MethodCode) → plain_class (before ++ (map method_for k.methods ++ after)) (class_for (length before) k) ≡ k
 class_back before k after = λ i. record {
   parent = parent_back k.parent i;
   fields = k.fields;
