@@ -17,7 +17,7 @@ pub trait Run: Ledger {
 impl Run for Brand {
     ghost use Rattle.std.specs.Prelude.{[], pos};
 
-    ghost code = { record { classes = []; bodies = []; sites = []; texts = []; main_class = 0; main_body = 0 } };
+    ghost code = { record { classes = []; members = []; bodies = []; sites = []; texts = []; main_class = 0; main_body = 0 } };
 
     ghost limits = { record { steps = 0; cells = 0 } };
 
