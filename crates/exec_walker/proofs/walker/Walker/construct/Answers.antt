@@ -1,6 +1,7 @@
 use Rattle.std.proofs.Common.{◌∙◌, ◌∷◌, ◌<◌, ◌-◌, ap, subst, map, take, reverse, arith, true}
 use Rattle.std.proofs.lemmas.Result.{err_from_is_err_and}
 use Rattle.lang_base.specs.declared.value.Value.{Value as Constant}
+use Rattle.lang_base.specs.FirstValues.{constant_of}
 use Rattle.lang_typed.specs.Plain.{plain_program, plain_member}
 use Rattle.lang_typed.specs.Scope.{member_at}
 use Rattle.lang_meaning.specs.Actions.{New}
@@ -25,8 +26,8 @@ returns-in_err-object c = λ L w h.
     let ws = map plain_waiting c.args.self.now.waiting in
     let own = map plain_region c.args.own in
     let some : 0 < g.frame.left = omega arith in
-    let x = An_object c.args.class own (map plain_value c.as_slice.result.now) in
-    let thing = ap (An_object c.args.class own) (ap (map plain_value) c.as_slice.ensures ∙ c.in_ok-fields.ensures) in
+    let x = An_object c.args.class own (map plain_value (map constant_of c.as_slice.result.now)) in
+    let thing = ap (An_object c.args.class own) (ap (λ held. map plain_value (map constant_of held)) c.as_slice.ensures ∙ c.in_ok-fields.ensures) in
     let out = err_from_is_err_and c.from_residual-in_err-object.result c.from_residual-in_err-object.ensures.1 in
     rw (out.1, out.2) (refused Constant L c.in_err-object.field-0.0 _ _ (Holds L c.make_object.new.self) (after (New x true) w) (c.in_err-object.ensures.store L w h) (λ over.
     subst (λ s. IsOverAt L s)
@@ -41,8 +42,8 @@ returns-in_default c = λ L w h.
     let ws = map plain_waiting c.args.self.now.waiting in
     let own = map plain_region c.args.own in
     let some : 0 < g.frame.left = omega arith in
-    let x = An_object c.args.class own (map plain_value c.as_slice.result.now) in
-    let thing = ap (An_object c.args.class own) (ap (map plain_value) c.as_slice.ensures ∙ c.in_ok-fields.ensures) in
+    let x = An_object c.args.class own (map plain_value (map constant_of c.as_slice.result.now)) in
+    let thing = ap (An_object c.args.class own) (ap (λ held. map plain_value (map constant_of held)) c.as_slice.ensures ∙ c.in_ok-fields.ensures) in
     let operands = ap (map plain_value) c.drop_top.ensures ∙ map_drop plain_value c.args.actuals level.operands in
     subst (λ s. ComesTo L c.give.result c.give.new.self s)
     (ap (λ vs. At (pushed (plain_value c.in_ok-object.object) (record g { operands = vs })) ws (after (New x true) w)) operands
@@ -59,8 +60,8 @@ returns c = λ L w h.
     let ws = map plain_waiting c.args.self.now.waiting in
     let own = map plain_region c.args.own in
     let some : 0 < g.frame.left = omega arith in
-    let x = An_object c.args.class own (map plain_value c.as_slice.result.now) in
-    let thing = ap (An_object c.args.class own) (ap (map plain_value) c.as_slice.ensures ∙ c.in_ok-fields.ensures) in
+    let x = An_object c.args.class own (map plain_value (map constant_of c.as_slice.result.now)) in
+    let thing = ap (An_object c.args.class own) (ap (λ held. map plain_value (map constant_of held)) c.as_slice.ensures ∙ c.in_ok-fields.ensures) in
     let operands = ap (map plain_value) c.drop_top.ensures ∙ map_drop plain_value c.args.actuals level.operands in
     let m = plain_member c.in-Some.member.now in
     let u = plain_value c.in_ok-object.object in

@@ -1,6 +1,7 @@
 use Rattle.std.proofs.Common.{◌≡◌, ◌∙◌, sym, ap, refl, subst, map, take, reverse, false}
 use Rattle.std.proofs.lemmas.Result.{err_from_is_err_and}
 use Rattle.lang_base.specs.declared.value.Value.{Value as Constant}
+use Rattle.lang_base.specs.FirstValues.{constant_of}
 use Rattle.lang_base.specs.Types.{plain_type}
 use Rattle.lang_typed.specs.Plain.{plain_program}
 use Rattle.lang_typed.specs.Scope.{constructor_of}
@@ -28,8 +29,8 @@ returns-in_err-object-in-None c = λ L w h.
     let class = c.in_ok-class.ensures.class in
     let regions = c.in_ok-class.ensures.own in
     let short : some_long own ≡ false = sym (c.some_long.ensures ∙ ap some_long regions) ∙ c.if-some_long.false in
-    let x = An_object c.in_ok-class.class (map plain_region c.in_ok-class.own) (map plain_value c.as_slice.result.now) in
-    let thing = ap (An_object c.in_ok-class.class (map plain_region c.in_ok-class.own)) (ap (map plain_value) c.as_slice.ensures ∙ c.in_ok-fields-in-None.ensures)
+    let x = An_object c.in_ok-class.class (map plain_region c.in_ok-class.own) (map plain_value (map constant_of c.as_slice.result.now)) in
+    let thing = ap (An_object c.in_ok-class.class (map plain_region c.in_ok-class.own)) (ap (λ held. map plain_value (map constant_of held)) c.as_slice.ensures ∙ c.in_ok-fields-in-None.ensures)
     ∙ ap (λ n. new_object P n (map plain_region c.in_ok-class.own)) class ∙ ap (new_object P k) regions in
     let out = err_from_is_err_and c.from_residual-in_err-object-in-None.result c.from_residual-in_err-object-in-None.ensures.1 in
     rw (out.1, out.2) (refused Constant L c.in_err-object-in-None.field-0.0 _ _ (Holds L c.make_object.new.self) (after (New x false) w)
@@ -49,8 +50,8 @@ returns-in_ok-object-in-None c = λ L w h.
     let class = c.in_ok-class.ensures.class in
     let regions = c.in_ok-class.ensures.own in
     let short : some_long own ≡ false = sym (c.some_long.ensures ∙ ap some_long regions) ∙ c.if-some_long.false in
-    let x = An_object c.in_ok-class.class (map plain_region c.in_ok-class.own) (map plain_value c.as_slice.result.now) in
-    let thing = ap (An_object c.in_ok-class.class (map plain_region c.in_ok-class.own)) (ap (map plain_value) c.as_slice.ensures ∙ c.in_ok-fields-in-None.ensures)
+    let x = An_object c.in_ok-class.class (map plain_region c.in_ok-class.own) (map plain_value (map constant_of c.as_slice.result.now)) in
+    let thing = ap (An_object c.in_ok-class.class (map plain_region c.in_ok-class.own)) (ap (λ held. map plain_value (map constant_of held)) c.as_slice.ensures ∙ c.in_ok-fields-in-None.ensures)
     ∙ ap (λ n. new_object P n (map plain_region c.in_ok-class.own)) class ∙ ap (new_object P k) regions in
     subst (λ s. ComesTo L c.give.result c.give.new.self s)
     (made_without P g.left c.args.place k (constructor_of P k) own (reverse (take c.args.actuals g.operands)) (plain_value c.in_ok-object-in-None.object)
