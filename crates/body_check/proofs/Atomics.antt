@@ -1,12 +1,20 @@
 -- Atomic blocks: what is said of each way through the code that checks one.
-use Rattle.std.proofs.Common.{◌≡◌, Bool, List, subst}
+use Rattle.std.proofs.Common.{◌≡◌, Bool, List, Option, map, subst}
+use Rattle.lang_base.specs.declared.effect.Effect.{Effect}
+use Rattle.lang_base.specs.declared.place.Place.{Place}
+use Rattle.lang_base.specs.declared.refusal.Refusal.{Refusal}
 use Rattle.lang_base.specs.declared.refusal.Kind.TheVariants as kind
 use Rattle.syntax_tree.specs.Plain.{PlainStmts}
 use Rattle.syntax_tree.specs.Plain.{StmtForm as form}
+use Rattle.lang_typed.specs.declared.stmt.Stmt.{Stmt}
+use Rattle.lang_typed.specs.declared.stmt.StmtForm.TheVariants as kinds
 use Rattle.lang_typed.specs.Plain.{TypedStmt, stmts_of}
+use Rattle.lang_typed.specs.Plain.{plain_stmt as typed_stmt}
 use Rattle.lang_typed.specs.Plain as typed
+use Rattle.body_exprs.specs.declared.env.Env.{Env}
 use Rattle.body_exprs.specs.declared.found.Found.{Found}
 use Rattle.body_check.specs.declared.body.Body.{Body}
+use Rattle.body_check.specs.declared.leaving.Leaving.{Leaving}
 use Rattle.body_check.specs.declared.leaving.Marks.TheVariants as marks
 use Rattle.body_check.specs.declared.node.Around.{Around}
 use Rattle.body_check.specs.declared.node.Node.{Node}
@@ -16,6 +24,7 @@ use Rattle.body_check.specs.Around.{inside}
 use Rattle.body_check.specs.Leaving.{from_here}
 use Rattle.body_check.specs.Noting.{fault_of, with_fault_if}
 use Rattle.body_check.specs.Walks.{Verdict, passes, judged, apart_from, nothing_found, walk_of}
+use Rattle.body_check.proofs.Making.{made, made_Atomic}
 
 -- the block, as it was called
 pub block_in : (params : List Bool) (b : Body) (around within : Around) (all : PlainStmts) (out begun : Found) (v : Verdict (List TypedStmt)) →
@@ -31,3 +40,11 @@ pub atomic_is : (params : List Bool) (b c : Body) (around : Around) (node noted 
     check_form params around node (form.atomic all) (walk_of b out)
     ≡ judged (fault_of noted) (typed.statement node.place (typed.atomic (entered inner) (stmts_of ss))) (walk_of c (taken_in (from_here b.env marks.Set) out inner))
 atomic_is params b c around node noted all out inner ss d noted_is = rw (d, ← noted_is)
+
+-- the block as the code made it, and what is found after it
+pub atomic_made : (c : Body) (place : Place) (reported : Option Refusal) (env : Env) (leaving : Leaving) (out inner after : Found) (effects : List Effect)
+    (all : List Stmt) → effects ≡ entered inner → leaving ≡ from_here env marks.Set → after ≡ taken_in leaving out inner →
+    judged reported (typed.statement place (typed.atomic (entered inner) (stmts_of (map typed_stmt all)))) (walk_of c (taken_in (from_here env marks.Set) out inner))
+    ≡ judged reported (typed_stmt (made place (kinds.Atomic effects all))) (walk_of c after)
+atomic_made c place reported env leaving out inner after effects all effects_are leaving_is after_is =
+    rw (made_Atomic place effects all, effects_are, after_is, leaving_is)

@@ -1,8 +1,6 @@
 -- The branches of a `cobegin`: what is said of each way through the code that checks one.
-use Rattle.std.proofs.Common.{◌≡◌, ◌∙◌, ℕ, ◌+◌, ◌<◌, map, length, get_or, drop, append_assoc, append-nil, List, [], ◌∷◌, ◌++◌, Bool, not, None, Some, refl, sym, ap, subst}
+use Rattle.std.proofs.Common.{◌≡◌, ◌∙◌, ℕ, ◌+◌, ◌<◌, map, length, get_or, drop, append_assoc, append-nil, List, [], ◌∷◌, ◌++◌, Bool, refl, sym, ap, subst}
 use Rattle.lang_base.specs.declared.effect.Effect.{Effect}
-use Rattle.lang_base.specs.declared.refusal.Kind.{Kind}
-use Rattle.lang_base.specs.declared.refusal.Kind.TheVariants as kind
 use Rattle.lang_base.specs.declared.refusal.Refusal.{Refusal}
 use Rattle.body_locals.specs.declared.branch.Touched.{Touched}
 use Rattle.syntax_tree.specs.declared.stmt.Stmt.{Stmt}
@@ -27,7 +25,7 @@ use Rattle.body_check.specs.Around.{inside}
 use Rattle.body_check.specs.Leaving.{from_here}
 use Rattle.body_check.specs.Meeting.{branches_interfere}
 use Rattle.body_check.specs.Touching.{assigned, some_disturb}
-use Rattle.body_check.specs.Walks.{Walk, Verdict, passes, refused, judged, apart_from, walk_of, home_of, ◌>>=◌}
+use Rattle.body_check.specs.Walks.{Walk, Verdict, passes, refused, apart_from, walk_of, home_of, ◌>>=◌}
 use Rattle.body_check.proofs.Homes.{branches_at_home}
 use Rattle.body_check.proofs.Orders.{next_is, several}
 use Rattle.body_check.proofs.Touched.{AllTouched, TouchedBy}

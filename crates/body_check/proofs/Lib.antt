@@ -13,6 +13,7 @@ pub mod Orders
 mod Pairs
 pub mod Parting
 pub mod Passing
+mod Regions
 pub mod Slots
 pub mod Stands
 pub mod Touched

@@ -1,5 +1,5 @@
 -- What is passed on from a part of a statement to the statement.
-use Rattle.std.proofs.Common.{◌≡◌, ◌∙◌, Bool, true, false, not, Result, Ok, Err, Option, Some, None, sym, ap, subst}
+use Rattle.std.proofs.Common.{◌≡◌, ◌∙◌, Bool, true, false, not, Result, Ok, Err, Option, Some, None, IfOk, OnOk, sym, ap, subst}
 use Rattle.std.specs.Result.{IsErrAnd}
 use Rattle.lang_base.specs.declared.refusal.Kind.{Kind}
 use Rattle.lang_base.specs.declared.refusal.Kind.TheVariants as kind
@@ -18,6 +18,7 @@ use Rattle.body_check.specs.declared.body.Body.{Body}
 use Rattle.body_check.specs.declared.leaving.Leaving.{Leaving}
 use Rattle.body_check.specs.declared.leaving.Marks.{Marks}
 use Rattle.body_check.specs.declared.node.Node.{Node}
+use Rattle.body_check.specs.declared.statements.Checked.{Checked}
 use Rattle.body_check.specs.Checking.{closed, meeting}
 use Rattle.body_check.specs.Gathering.{taken_in}
 use Rattle.body_check.specs.Leaving.{from_here}
@@ -54,20 +55,27 @@ pub says_all : {T M : Type 0} (P Q : Verdict M → Type 0) (r : Result T Stop) (
 says_all P Q (Ok t) made next h = next (made t) h
 says_all P Q (Err s) made next h = said_of (λ q. P (refused q)) (λ q. Q (refused q)) s (λ q. next (refused q)) h
 
--- the verdict of a node, by what is reported of it
-pub judged_none : {M : Type 0} (reported : Option Refusal) (made : M) (w : Walk) → reported ≡ None → judged reported made w ≡ passes made w
-judged_none reported made w is = ap (λ (z : Option Refusal). judged z made w) is
-
-pub judged_some : {M : Type 0} (reported : Option Refusal) (made : M) (w : Walk) (q : Refusal) → reported ≡ Some q → judged reported made w ≡ refused q
-judged_some reported made w q is = ap (λ (z : Option Refusal). judged z made w) is
-
 -- a piece that passes, as it was made
 pub passes_so : {M : Type 0} (m made : M) (w u : Walk) → m ≡ made → w ≡ u → passes made u ≡ passes m w
 passes_so m made w u m_is w_is = ap (λ (z : Walk). passes made z) (sym w_is) ∙ ap (λ z. passes z w) (sym m_is)
 
--- a node without a fault passes
-pub clean_passes : {M : Type 0} (reported : Option Refusal) (m made : M) (w u : Walk) → reported ≡ None → m ≡ made → w ≡ u → judged reported made u ≡ passes m w
-clean_passes reported m made w u none m_is w_is = judged_none reported made u none ∙ passes_so m made w u m_is w_is
+-- a statement whose node was judged
+pub judged_so : {T : Type 0} (v : Verdict TypedStmt) (reported : Option Refusal) (m : TypedStmt) (w : Walk) (r : Result T Stop)
+    (made : T → Verdict TypedStmt) → v ≡ judged reported m w → Says r made refused (λ z. judged reported m w ≡ z) → Says r made refused (λ z. v ≡ z)
+judged_so v reported m w r made is h = subst (λ (x : Verdict TypedStmt). Says r made refused (λ z. x ≡ z)) (sym is) h
+
+-- the same node, of which the same was made
+pub judged_as : (reported : Option Refusal) (w : Walk) {m made : TypedStmt} → m ≡ made → judged reported made w ≡ judged reported m w
+judged_as reported w is = ap (λ z. judged reported z w) (sym is)
+
+-- whether it completes
+pub completes_so : {b d : Bool} (r : Result Checked Stop) → b ≡ d → IfOk r (λ done. done.completes ≡ b) → IfOk r (λ done. done.completes ≡ d)
+completes_so r is h = subst (λ (z : Bool). IfOk r (λ done. done.completes ≡ z)) is h
+
+-- what holds whatever came of it
+pub anyhow : {T E P : Type 0} (r : Result T E) → P → OnOk r P
+anyhow (Ok x) p = p
+anyhow (Err e) p = tt
 
 -- a construct whose body assigns outer locals, and one of which it is asked whether branches interfere
 pub meeting_first : (node second : Node) (assigns interferes : Bool) (reason : Kind) (made : TypedStmt) (w : Walk) (q : Refusal) →

@@ -18,8 +18,8 @@ use crate::statements::{Checked, block, scoped};
 use body_exprs::Found;
 use body_locals::{has_clash, touched};
 use lang_base::{Items, Kind, NoMemory, Stop};
-use lang_typed::{Branch, Slot};
-use syntax_tree::{Expr, Named, Stmt};
+use lang_typed::{Branch, Slot, Stmt, StmtForm};
+use syntax_tree::{Expr, Named, Stmt as Tree};
 
 /// After an nd construct marks are kept, and after any other they are dropped.
 fn marks_after(nd: bool) -> Marks
@@ -35,7 +35,7 @@ pub fn cobegin(
     around: Around,
     node: Node,
     nd: bool,
-    branches: &[Stmt],
+    branches: &[Tree],
     out: &mut Found,
 ) -> Result<Checked, Stop>
     ensures completes { IfOk result (λ done. done.completes ≡ true) }
@@ -101,7 +101,7 @@ pub fn foreach(
     var: Named,
     start: &Expr,
     count: &Expr,
-    iteration: &Stmt,
+    iteration: &Tree,
     out: &mut Found,
 ) -> Result<Checked, Stop>
     ensures completes { IfOk result (λ done. done.completes ≡ true) }
@@ -136,7 +136,7 @@ pub fn atomic(
     body: &mut Body,
     around: Around,
     node: Node,
-    stmts: &[Stmt],
+    stmts: &[Tree],
     out: &mut Found,
 ) -> Result<Checked, Stop>
     ensures completes { IfOk result (λ done. done.completes ≡ true) }
@@ -149,11 +149,10 @@ pub fn atomic(
     let mut inner = Found::new(body.alloc);
     let done = block(body, around.inside(), stmts, &mut inner)?;
     node.note_if(Kind::AtomicBody, inner.reaches_nd);
-    node.settle()?;
-    let effects = entered(body.alloc, &inner)?;
+    let form = StmtForm::Atomic {
+        effects: entered(body.alloc, &inner)?,
+        body: done.stmts,
+    };
     take_in(out, inner, leaving)?;
-    Ok(Checked {
-        completes: true,
-        stmt: made::entered(place, effects, done.stmts),
-    })
+    Checked::judge(node, true, Stmt { place, form })
 }

@@ -6,7 +6,7 @@ use body_exprs::Env;
 use lang_base::{Effect, Elem, Index, Rpl};
 
 /// What becomes of the marks of effects.
-#[derive(Clone, Copy, Debug, PartialEq, Eq)]
+#[derive(Clone, Copy)]
 pub enum Marks {
     Kept,
     Dropped,
@@ -15,7 +15,7 @@ pub enum Marks {
 
 /// What goes out of scope at the end of a block, of a branch or of an iteration. Later declarations have greater
 /// numbers.
-#[derive(Clone, Copy, Debug, PartialEq, Eq)]
+#[derive(Clone, Copy)]
 pub struct Leaving {
     /// The first slot of the locals that go out of scope.
     pub first_slot: u32,

@@ -1,7 +1,7 @@
 //! Statements of the typed program, each with its plain form in its clause.
-ghost use Rattle.std.specs.Prelude.{◌≡◌, map, option_map};
+ghost use Rattle.std.specs.Prelude.{◌≡◌, map};
 ghost use Rattle.lang_base.specs.Types.{plain_type};
-ghost use Rattle.lang_typed.specs.Plain.{statement, stmts_of, branches_of, choice_form, plain_source};
+ghost use Rattle.lang_typed.specs.Plain.{statement, branches_of, plain_source};
 ghost use Rattle.lang_typed.specs.Plain.{StmtForm as form};
 ghost use Rattle.body_exprs.specs.Typed.{plain_node as typed_expr};
 ghost use Rattle.lang_typed.specs.Plain.{plain_stmt as typed_stmt};
@@ -11,44 +11,8 @@ ghost use Rattle.body_exprs.specs.Targeting.{plain_spot};
 ghost use Rattle.body_exprs.specs.Typed.{is_boolean};
 
 use body_exprs::Spot;
-use lang_base::{Boxed, Effect, Items, Place, Ty};
-use lang_typed::{Branch, Expr, Forking, LocalRegion, PartSource, Slot, Stmt, StmtForm};
-
-/// A block.
-#[tactic(auto, using(crate::proofs::Making::made_Block))]
-pub fn blocked(place: Place, stmts: Items<Stmt>) -> Stmt
-    ensures { typed_stmt result ≡ statement place (form.block (stmts_of (map typed_stmt stmts))) }
-{
-    let form = StmtForm::Block(stmts);
-    Stmt { place, form }
-}
-
-/// An atomic block, with the effects with which it is entered.
-#[tactic(auto, using(crate::proofs::Making::made_Atomic))]
-pub fn entered(place: Place, effects: Items<Effect>, body: Items<Stmt>) -> Stmt
-    ensures { typed_stmt result ≡ statement place (form.atomic effects (stmts_of (map typed_stmt body))) }
-{
-    let form = StmtForm::Atomic { effects, body };
-    Stmt { place, form }
-}
-
-/// `if (test) then`, with an `else` where there is one.
-#[tactic(auto, using(crate::proofs::Making::made_If))]
-pub fn choice(place: Place, test: Expr, then: Boxed<Stmt>, other: Option<Boxed<Stmt>>) -> Stmt
-    ensures { typed_stmt result ≡ statement place (choice_form (typed_expr test) (typed_stmt then) (option_map typed_stmt other)) }
-{
-    let form = StmtForm::If { test, then, other };
-    Stmt { place, form }
-}
-
-/// `while (test) body`
-#[tactic(auto, using(crate::proofs::Making::made_While))]
-pub fn repeated(place: Place, test: Expr, body: Boxed<Stmt>) -> Stmt
-    ensures { typed_stmt result ≡ statement place (form.while_loop (typed_expr test) (typed_stmt body)) }
-{
-    let form = StmtForm::While { test, body };
-    Stmt { place, form }
-}
+use lang_base::{Boxed, Items, Place, Ty};
+use lang_typed::{Branch, Expr, Forking, PartSource, Slot, Stmt, StmtForm};
 
 /// `print` of an int or a boolean.
 #[tactic(auto, using(crate::proofs::Making::printed_boolean, crate::proofs::Making::printed_int))]
@@ -148,14 +112,5 @@ pub fn parted(place: Place, part: u32, source: PartSource, count: Expr, body: Bo
         count,
         body,
     };
-    Stmt { place, form }
-}
-
-/// `region ..;`
-#[tactic(auto, using(crate::proofs::Making::made_Regions))]
-pub fn regions(place: Place, regions: Items<LocalRegion>) -> Stmt
-    ensures { typed_stmt result ≡ statement place (form.local_regions (map (λ region. region.number) regions)) }
-{
-    let form = StmtForm::Regions(regions);
     Stmt { place, form }
 }

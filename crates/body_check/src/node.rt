@@ -3,7 +3,7 @@ use lang_base::{Kind, Place, Stop};
 use syntax_tree::Stmt;
 
 /// What we stand in.
-#[derive(Clone, Copy, Debug, PartialEq, Eq)]
+#[derive(Clone, Copy)]
 pub struct Around {
     /// The method has a result.
     pub has_result: bool,
@@ -43,16 +43,14 @@ pub struct Node {
 }
 
 impl Node {
-    ghost use Rattle.std.specs.Prelude.{◌≡◌, ◌≢◌, None, Some, false, OnOk};
+    ghost use Rattle.std.specs.Prelude.{◌≡◌, ◌≢◌, None, Some, OnOk};
     ghost use Rattle.lang_base.specs.Refused.{IfRefused};
     ghost use Rattle.decl_headers.specs.Faults.{settled};
     ghost use Rattle.body_check.specs.Noting.{fault_of, node_at, settled_node, with_fault, with_fault_if, with_found};
 
     /// A statement after one that doesn't complete is a fault.
-    #[tactic(auto, using(crate::proofs::Noting::noted_reported))]
     pub fn of(stmt: &Stmt, follows: bool) -> Node
-        ensures node { result ≡ node_at stmt.now.place follows }
-        ensures clean { fault_of result ≡ None → follows ≡ false }
+        ensures { result ≡ node_at stmt.now.place follows }
     {
         let mut node = Node {
             place: stmt.place,
@@ -67,7 +65,6 @@ impl Node {
     pub fn note_if(&mut self, kind: Kind, is_there: bool)
         ensures node { self.new ≡ with_fault_if self.old kind is_there }
         ensures clean { fault_of self.new ≡ None → fault_of self.old ≡ None }
-        ensures absent { fault_of self.new ≡ None → is_there ≡ false }
     {
         if is_there {
             self.faults.note(kind, self.place);
@@ -75,11 +72,8 @@ impl Node {
     }
 
     /// Notes a fault at the statement's own place, where one was found.
-    #[tactic(auto, using(crate::proofs::Noting::noted_reported))]
     pub fn note_found(&mut self, kind: Option<Kind>)
-        ensures node { self.new ≡ with_found self.old kind }
-        ensures clean { fault_of self.new ≡ None → fault_of self.old ≡ None }
-        ensures absent { fault_of self.new ≡ None → kind ≡ None }
+        ensures { self.new ≡ with_found self.old kind }
     {
         if let Some(kind) = kind {
             self.faults.note(kind, self.place);

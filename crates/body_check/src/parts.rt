@@ -1,4 +1,4 @@
-ghost use Rattle.std.specs.Prelude.{◌≡◌, None, option_map, true, false, IfOk, OnOk};
+ghost use Rattle.std.specs.Prelude.{◌≡◌, None, option_map, true, IfOk, OnOk};
 ghost use Rattle.lang_base.specs.Types.{plain_type};
 ghost use Rattle.syntax_tree.specs.Plain.{plain_expr, plain_stmt};
 ghost use Rattle.syntax_tree.specs.Plain.{StmtForm as form};

@@ -45,21 +45,16 @@ pub fn declare(
     body.note_declaration(name, place, &mut node);
     let fits = body.fits(&given, &declared)?;
     node.note_if(Kind::Type, !fits);
-    node.settle()?;
     let slot = body.env.slots();
     let ty = declared.copy(body.alloc)?;
     body.declare(name, ty, is_final)?;
-    let value = given.into_node(value.place);
     let form = StmtForm::Declare {
         slot: Slot { number: slot },
         ty: declared,
         is_final,
-        value,
+        value: given.into_node(value.place),
     };
-    Ok(Checked {
-        completes: true,
-        stmt: Stmt { place, form },
-    })
+    Checked::judge(node, true, Stmt { place, form })
 }
 
 /// The type that a declaration names. In a body a type with a fault is refused at once.
@@ -92,18 +87,12 @@ pub fn assign_local(
         return Err(node.refused_at(Kind::Unknown, target.place));
     };
     node.note_found(local_fault(body.fits(&given, &row.ty)?, row.is_final));
-    node.settle()?;
+    let place = target.place;
     let form = StmtForm::Store {
         slot: Slot { number: row.slot },
         value: given.into_node(value.place),
     };
-    Ok(Checked {
-        completes: true,
-        stmt: Stmt {
-            place: target.place,
-            form,
-        },
-    })
+    Checked::judge(node, true, Stmt { place, form })
 }
 
 /// The fault of an assignment to a local: the value doesn't fit, or the local is final.
@@ -151,12 +140,9 @@ fn assign_target(
     let mut node = node;
     let fits = body.fits(&given, &target.ty)?;
     node.note_found(target_fault(fits, target.may_write));
-    node.settle()?;
     let spot = target.write(out)?;
-    Ok(Checked {
-        completes: true,
-        stmt: made::stored(place, spot, given.into_node(value)),
-    })
+    let stmt = made::stored(place, spot, given.into_node(value));
+    Checked::judge(node, true, stmt)
 }
 
 /// An assignment to what comes from a part of what is no array, where every value fits.
@@ -166,12 +152,8 @@ fn assign_anything(node: Node, place: Place, given: Typed, value: Place) -> Resu
 {
     let mut node = node;
     node.note_if(Kind::Type, !given.is_value());
-    node.settle()?;
     let form = StmtForm::Perform(given.into_node(value));
-    Ok(Checked {
-        completes: true,
-        stmt: Stmt { place, form },
-    })
+    Checked::judge(node, true, Stmt { place, form })
 }
 
 /// The fault of an assignment to a field or an element: the value doesn't fit, or the target may not be written.
@@ -194,14 +176,9 @@ pub fn perform(body: &Body, node: Node, e: &Expr, out: &mut Found) -> Result<Che
     ensures checks { Says result (λ made. passes (typed_stmt made.stmt) (walk_of body.now out.new)) refused (λ v. perform node (plain_expr e.now) (walk_of body.now out.old) ≡ v) }
 {
     let place = node.place;
-    let mut node = node;
     let given = body.typed(e, out)?;
-    node.settle()?;
     let form = StmtForm::Perform(given.into_node(e.place));
-    Ok(Checked {
-        completes: true,
-        stmt: Stmt { place, form },
-    })
+    Checked::judge(node, true, Stmt { place, form })
 }
 
 /// `return;`
@@ -212,12 +189,8 @@ pub fn leave(body: &Body, around: Around, node: Node) -> Result<Checked, Stop>
     let place = node.place;
     let mut node = node;
     node.note_if(Kind::Return, is_misplaced(around, false));
-    node.settle()?;
     let form = StmtForm::Return(None);
-    Ok(Checked {
-        completes: false,
-        stmt: Stmt { place, form },
-    })
+    Checked::judge(node, false, Stmt { place, form })
 }
 
 /// `return value;`
@@ -237,12 +210,8 @@ pub fn leave_with(
     let given = body.typed(value, out)?;
     let fits = body.is_returned(around, &given)?;
     node.note_if(Kind::Type, !fits);
-    node.settle()?;
     let form = StmtForm::Return(Some(given.into_node(value.place)));
-    Ok(Checked {
-        completes: false,
-        stmt: Stmt { place, form },
-    })
+    Checked::judge(node, false, Stmt { place, form })
 }
 
 /// A `return`, with or without a value, stands in a branch or an atomic block, or doesn't fit the method.
@@ -261,11 +230,8 @@ pub fn print(body: &Body, node: Node, value: &Expr, out: &mut Found) -> Result<C
     let mut node = node;
     let given = body.typed(value, out)?;
     node.note_if(Kind::Type, !may_print(&given));
-    node.settle()?;
-    Ok(Checked {
-        completes: true,
-        stmt: made::printed(place, given.into_node(value.place)),
-    })
+    let stmt = made::printed(place, given.into_node(value.place));
+    Checked::judge(node, true, stmt)
 }
 
 /// `print` of a text.
@@ -274,13 +240,8 @@ pub fn print_text(body: &Body, node: Node, text: &Bytes) -> Result<Checked, Stop
     ensures checks { (found : Found) → Says result (λ made. passes (typed_stmt made.stmt) (walk_of body.now found)) refused (λ v. judged (fault_of node) (typed.statement node.place (typed.print_text text.now)) (walk_of body.now found) ≡ v) }
 {
     let place = node.place;
-    let mut node = node;
-    node.settle()?;
     let form = StmtForm::PrintText(text.copy(body.alloc)?);
-    Ok(Checked {
-        completes: true,
-        stmt: Stmt { place, form },
-    })
+    Checked::judge(node, true, Stmt { place, form })
 }
 
 /// An int or a boolean is printed, and no reference.
@@ -306,11 +267,8 @@ pub fn declare_regions(body: &mut Body, node: Node, names: &[Named]) -> Result<C
         })?;
         body.declare_region(named.name)?;
     }
-    node.settle()?;
-    Ok(Checked {
-        completes: true,
-        stmt: made::regions(place, regions),
-    })
+    let form = StmtForm::Regions(regions);
+    Checked::judge(node, true, Stmt { place, form })
 }
 
 /// A local region whose name a region in scope has is a fault, and so is one for which there is no room.

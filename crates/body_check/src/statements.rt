@@ -15,7 +15,6 @@ use crate::body::Body;
 use crate::constructs::{atomic, cobegin, foreach};
 use crate::gathered::take_in;
 use crate::leaving::{Leaving, Marks};
-use crate::made;
 use crate::node::{Around, Node};
 use crate::parts::foreach_parts;
 use crate::simple::{
@@ -24,7 +23,7 @@ use crate::simple::{
 };
 use body_exprs::Found;
 use lang_base::{Boxed, Items, Place, Stop};
-use lang_typed::{Expr as TypedExpr, Stmt as TypedStmt};
+use lang_typed::{Expr as TypedExpr, Stmt as TypedStmt, StmtForm};
 use syntax_tree::{Expr, Stmt, StmtKind};
 
 /// A statement that passed: whether it completes, and the typed one.
@@ -32,6 +31,21 @@ use syntax_tree::{Expr, Stmt, StmtKind};
 pub struct Checked {
     pub completes: bool,
     pub stmt: TypedStmt,
+}
+
+impl Checked {
+    ghost use Rattle.body_check.specs.Noting.{fault_of};
+    ghost use Rattle.body_check.specs.Walks.{Walk, judged};
+
+    /// What was made of a statement, unless a fault of its own was noted.
+    pub fn judge(node: Node, completes: bool, stmt: TypedStmt) -> Result<Checked, Stop>
+        ensures completes { IfOk result (λ done. done.completes ≡ completes) }
+        ensures checks { (w : Walk) → Says result (λ made. passes (typed_stmt made.stmt) w) refused (λ v. judged (fault_of node) (typed_stmt stmt) w ≡ v) }
+    {
+        let mut node = node;
+        node.settle()?;
+        Ok(Checked { completes, stmt })
+    }
 }
 
 /// A branch or a body that passed: whether it completes, and the typed one in a box, in which most constructs hold it.
@@ -119,13 +133,9 @@ fn nested(
     ensures checks { Says result (λ made. passes (typed_stmt made.stmt) (walk_of body.new out.new)) refused (λ v. check_form body.old.atomic_params around node (form.block (plain_stmts (map plain_stmt all.now))) (walk_of body.old out.old) ≡ v) }
 {
     let place = node.place;
-    let mut node = node;
     let done = block(body, around, all, out)?;
-    node.settle()?;
-    Ok(Checked {
-        completes: done.completes,
-        stmt: made::blocked(place, done.stmts),
-    })
+    let form = StmtForm::Block(done.stmts);
+    Checked::judge(node, done.completes, TypedStmt { place, form })
 }
 
 /// `if (test) then`, with or without an `else`.
@@ -151,17 +161,18 @@ fn branching(
     match other {
         Some(other) => {
             let second = scoped(body, around, other.get(), out)?;
-            node.settle()?;
-            Ok(choose(place, test, first, Some(second)))
+            let made = choose(place, test, first, Some(second));
+            Checked::judge(node, made.completes, made.stmt)
         }
         None => {
-            node.settle()?;
-            Ok(choose(place, test, first, None))
+            let made = choose(place, test, first, None);
+            Checked::judge(node, made.completes, made.stmt)
         }
     }
 }
 
 /// An `if` whose parts passed.
+#[tactic(auto, using(crate::proofs::Making::made_If))]
 fn choose(place: Place, test: TypedExpr, first: Part, second: Option<Part>) -> Checked
     ensures completes { result.completes ≡ (first.completes || option_map_or (λ part. part.completes) second true) }
     ensures stmt { typed_stmt result.stmt ≡ statement place (choice_form (typed_expr test) (typed_stmt first.stmt) (option_map (λ part. typed_stmt part.stmt) second)) }
@@ -170,9 +181,14 @@ fn choose(place: Place, test: TypedExpr, first: Part, second: Option<Part>) -> C
         Some(part) => (part.completes, Some(part.stmt)),
         None => (true, None),
     };
+    let form = StmtForm::If {
+        test,
+        then: first.stmt,
+        other,
+    };
     Checked {
         completes: first.completes || other_completes,
-        stmt: made::choice(place, test, first.stmt, other),
+        stmt: TypedStmt { place, form },
     }
 }
 
@@ -194,12 +210,11 @@ fn repeat(
     let mut node = node;
     let given = body.boolean(test, out, &mut node)?;
     let done = scoped(body, around, turn, out)?;
-    node.settle()?;
-    let test = given.into_node(test.place);
-    Ok(Checked {
-        completes: true,
-        stmt: made::repeated(place, test, done.stmt),
-    })
+    let form = StmtForm::While {
+        test: given.into_node(test.place),
+        body: done.stmt,
+    };
+    Checked::judge(node, true, TypedStmt { place, form })
 }
 
 /// `return;` or `return value;`

@@ -5,7 +5,7 @@ use Rattle.syntax_tree.specs.Plain.{PlainStmt, choice_form, plain_expr, plain_st
 use Rattle.syntax_tree.specs.Plain.{StmtForm as form}
 use Rattle.syntax_tree.specs.declared.stmt.Stmt.{Stmt}
 use Rattle.syntax_tree.specs.declared.stmt.StmtKind.TheVariants as tree
-use Rattle.lang_typed.specs.Plain.{TypedBranch, statement, stmts_of, plain_source}
+use Rattle.lang_typed.specs.Plain.{TypedBranch, statement, plain_source}
 use Rattle.lang_typed.specs.Plain.{StmtForm as made}
 use Rattle.lang_typed.specs.Plain.{plain_stmt as typed_stmt}
 use Rattle.body_exprs.specs.declared.found.Found.{Found}
@@ -18,20 +18,21 @@ use Rattle.body_check.specs.declared.leaving.Marks.TheVariants as marks
 use Rattle.body_check.specs.Checking.{check_stmt, check_form, check_scope, check_block, check_all, check_branches, cut, outer_part, part_slot, parts_declared, plain_branch, variable_declared, with_nd}
 use Rattle.body_check.specs.Completes.{completes}
 use Rattle.body_check.specs.Deciding.{marks_after}
-use Rattle.body_check.specs.Gathering.{handed_on, taken_in}
+use Rattle.body_check.specs.Gathering.{handed_on}
 use Rattle.body_check.specs.Around.{inside}
 use Rattle.body_check.specs.Noting.{fault_of}
 use Rattle.body_check.specs.Touching.{some_disturb}
 use Rattle.body_check.specs.Walks.{walk_of, passes}
 use Rattle.body_check.specs.Walks.{Verdict as verdict}
-use Rattle.body_check.proofs.Atomics.{block_in, atomic_is}
+use Rattle.body_check.proofs.Atomics.{block_in, atomic_is, atomic_made}
 use Rattle.body_check.proofs.Forks.{Branch, branch_made, branches_made, branches_met, branches_with, fork_all, fork_more, fork_refused, forks_are, taken_so, touched_all, touched_more}
 use Rattle.body_check.proofs.Homes.{home_params, piece_in}
 use Rattle.body_check.proofs.Iterations.{Iterated, Left, iterations_are, iterations_left, iterations_made, iterations_met}
+use Rattle.body_check.proofs.Making.{made_Block, made_While}
 use Rattle.body_check.proofs.Nodes.{choice_made, foreach_made, node_made, parts_formed}
 use Rattle.body_check.proofs.Orders.{map_pushed, order_refused, order_more, order_all, and_then_so, and_else_so, complete_step}
 use Rattle.body_check.proofs.Parting.{Opened, Part, body_refused, parts_are, parts_closed, parts_made, parts_met}
-use Rattle.body_check.proofs.Passing.{clean_passes, closed_is, judged_some, passes_so, stopped, settle_stopped, walk_from}
+use Rattle.body_check.proofs.Passing.{anyhow, closed_is, completes_so, judged_as, judged_so, passes_so, stopped, walk_from}
 use Rattle.body_check.proofs.Stands.{as_said, at_Block, at_Declare, at_AssignLocal, at_AssignField, at_AssignElement, at_Do, at_Print, at_PrintText, at_Region, at_Cobegin, at_Atomic, at_If, at_While, at_Foreach, at_Parts, at_Return}
 use Rattle.body_check.proofs.Touched.{AllTouched, assigned_is, clashing_is}
 use Rattle.body_check.proofs.Walking.{FirstMet, block_stops, block_closes, scope_passes, test_refused, first_refused, either_so, neither_so, either_completes, neither_completes}
@@ -72,37 +73,37 @@ pub statements::statement-returns-in-Block-clause-checks : goal.statements::stat
 statements::statement-returns-in-Block-clause-checks t c =
     as_said c.args.body.now.atomic_params c.args.around c.args.follows c.of-node.result c.args.stmt.now
     (form.block (plain_stmts (map plain_stmt c.as_slice.result.now))) (walk_of c.args.body.now c.args.out.now) c.nested.result _
-    (at_Block c.args.stmt.now c.as_slice.result.now (c.in-Block.is ∙ ap tree.Block (sym c.as_slice.ensures))) c.of-node.ensures.node c.nested.ensures.checks
+    (at_Block c.args.stmt.now c.as_slice.result.now (c.in-Block.is ∙ ap tree.Block (sym c.as_slice.ensures))) c.of-node.ensures c.nested.ensures.checks
 
 pub statements::statement-returns-in-Declare-clause-checks : goal.statements::statement-returns-in-Declare-clause-checks
 statements::statement-returns-in-Declare-clause-checks t c =
     as_said c.args.body.now.atomic_params c.args.around c.args.follows c.of-node.result c.args.stmt.now
     (form.declare c.in-Declare.is_final c.in-Declare.ty c.in-Declare.name (plain_expr c.in-Declare.value)) (walk_of c.args.body.now c.args.out.now) c.declare.result _
-    (at_Declare c.args.stmt.now c.in-Declare.is_final c.in-Declare.ty c.in-Declare.name c.in-Declare.value c.in-Declare.is) c.of-node.ensures.node c.declare.ensures.checks
+    (at_Declare c.args.stmt.now c.in-Declare.is_final c.in-Declare.ty c.in-Declare.name c.in-Declare.value c.in-Declare.is) c.of-node.ensures c.declare.ensures.checks
 
 pub statements::statement-returns-in-AssignLocal-clause-checks : goal.statements::statement-returns-in-AssignLocal-clause-checks
 statements::statement-returns-in-AssignLocal-clause-checks t c =
     as_said c.args.body.now.atomic_params c.args.around c.args.follows c.of-node.result c.args.stmt.now
     (form.assign_local c.in-AssignLocal.target (plain_expr c.in-AssignLocal.value)) (walk_of c.args.body.now c.args.out.now) c.assign_local.result _
-    (at_AssignLocal c.args.stmt.now c.in-AssignLocal.target c.in-AssignLocal.value c.in-AssignLocal.is) c.of-node.ensures.node c.assign_local.ensures.checks
+    (at_AssignLocal c.args.stmt.now c.in-AssignLocal.target c.in-AssignLocal.value c.in-AssignLocal.is) c.of-node.ensures c.assign_local.ensures.checks
 
 pub statements::statement-returns-in-AssignField-clause-checks : goal.statements::statement-returns-in-AssignField-clause-checks
 statements::statement-returns-in-AssignField-clause-checks t c =
     as_said c.args.body.now.atomic_params c.args.around c.args.follows c.of-node.result c.args.stmt.now
     (form.assign_field (plain_expr c.in-AssignField.target) (plain_expr c.in-AssignField.value)) (walk_of c.args.body.now c.args.out.now) c.assign_place.result _
-    (at_AssignField c.args.stmt.now c.in-AssignField.target c.in-AssignField.value c.in-AssignField.is) c.of-node.ensures.node c.assign_place.ensures.checks
+    (at_AssignField c.args.stmt.now c.in-AssignField.target c.in-AssignField.value c.in-AssignField.is) c.of-node.ensures c.assign_place.ensures.checks
 
 pub statements::statement-returns-in-AssignElement-clause-checks : goal.statements::statement-returns-in-AssignElement-clause-checks
 statements::statement-returns-in-AssignElement-clause-checks t c =
     as_said c.args.body.now.atomic_params c.args.around c.args.follows c.of-node.result c.args.stmt.now
     (form.assign_element (plain_expr c.in-AssignElement.target) (plain_expr c.in-AssignElement.value)) (walk_of c.args.body.now c.args.out.now) c.assign_place-in-AssignElement.result _
-    (at_AssignElement c.args.stmt.now c.in-AssignElement.target c.in-AssignElement.value c.in-AssignElement.is) c.of-node.ensures.node c.assign_place-in-AssignElement.ensures.checks
+    (at_AssignElement c.args.stmt.now c.in-AssignElement.target c.in-AssignElement.value c.in-AssignElement.is) c.of-node.ensures c.assign_place-in-AssignElement.ensures.checks
 
 pub statements::statement-returns-in-Do-clause-checks : goal.statements::statement-returns-in-Do-clause-checks
 statements::statement-returns-in-Do-clause-checks t c =
     as_said c.args.body.now.atomic_params c.args.around c.args.follows c.of-node.result c.args.stmt.now
     (form.perform (plain_expr c.in-Do.value)) (walk_of c.args.body.now c.args.out.now) c.perform.result _
-    (at_Do c.args.stmt.now c.in-Do.value c.in-Do.is) c.of-node.ensures.node c.perform.ensures.checks
+    (at_Do c.args.stmt.now c.in-Do.value c.in-Do.is) c.of-node.ensures c.perform.ensures.checks
 
 pub statements::statement-returns-in-If-clause-completes : goal.statements::statement-returns-in-If-clause-completes
 statements::statement-returns-in-If-clause-completes t c =
@@ -118,39 +119,39 @@ statements::statement-returns-in-If-clause-checks t c =
     (choice_form (plain_expr c.in-If.test) (plain_stmt c.get.result.now) (option_map plain_stmt (option_copied c.as_ref.result))) (walk_of c.args.body.now c.args.out.now) c.branching.result _
     (at_If c.args.stmt.now c.in-If.test c.get.result.now (option_copied c.as_ref.result)
     (c.in-If.is ∙ ap (λ (z : Stmt). tree.If c.in-If.test z c.in-If.other) (sym c.get.ensures)
-    ∙ ap (tree.If c.in-If.test c.get.result.now) (sym c.as_ref.ensures.value))) c.of-node.ensures.node c.branching.ensures.checks
+    ∙ ap (tree.If c.in-If.test c.get.result.now) (sym c.as_ref.ensures.value))) c.of-node.ensures c.branching.ensures.checks
 
 pub statements::statement-returns-in-While-clause-checks : goal.statements::statement-returns-in-While-clause-checks
 statements::statement-returns-in-While-clause-checks t c =
     as_said c.args.body.now.atomic_params c.args.around c.args.follows c.of-node.result c.args.stmt.now
     (form.while_loop (plain_expr c.in-While.test) (plain_stmt c.get-in-While.result.now)) (walk_of c.args.body.now c.args.out.now) c.repeat.result _
     (at_While c.args.stmt.now c.in-While.test c.get-in-While.result.now
-    (c.in-While.is ∙ ap (tree.While c.in-While.test) (sym c.get-in-While.ensures))) c.of-node.ensures.node c.repeat.ensures.checks
+    (c.in-While.is ∙ ap (tree.While c.in-While.test) (sym c.get-in-While.ensures))) c.of-node.ensures c.repeat.ensures.checks
 
 pub statements::statement-returns-in-Return-clause-checks : goal.statements::statement-returns-in-Return-clause-checks
 statements::statement-returns-in-Return-clause-checks t c =
     as_said c.args.body.now.atomic_params c.args.around c.args.follows c.of-node.result c.args.stmt.now
     (return_form (option_copied c.as_ref-in-Return.result)) (walk_of c.args.body.now c.args.out.now) c.returning.result _
-    (at_Return c.args.stmt.now (option_copied c.as_ref-in-Return.result) (c.in-Return.is ∙ ap tree.Return (sym c.as_ref-in-Return.ensures.value))) c.of-node.ensures.node (c.returning.ensures.checks c.args.body.now.atomic_params)
+    (at_Return c.args.stmt.now (option_copied c.as_ref-in-Return.result) (c.in-Return.is ∙ ap tree.Return (sym c.as_ref-in-Return.ensures.value))) c.of-node.ensures (c.returning.ensures.checks c.args.body.now.atomic_params)
 
 pub statements::statement-returns-in-Print-clause-checks : goal.statements::statement-returns-in-Print-clause-checks
 statements::statement-returns-in-Print-clause-checks t c =
     as_said c.args.body.now.atomic_params c.args.around c.args.follows c.of-node.result c.args.stmt.now
     (form.print (plain_expr c.in-Print.value)) (walk_of c.args.body.now c.args.out.now) c.print.result _
-    (at_Print c.args.stmt.now c.in-Print.value c.in-Print.is) c.of-node.ensures.node c.print.ensures.checks
+    (at_Print c.args.stmt.now c.in-Print.value c.in-Print.is) c.of-node.ensures c.print.ensures.checks
 
 pub statements::statement-returns-in-PrintText-clause-checks : goal.statements::statement-returns-in-PrintText-clause-checks
 statements::statement-returns-in-PrintText-clause-checks t c =
     as_said c.args.body.now.atomic_params c.args.around c.args.follows c.of-node.result c.args.stmt.now
     (form.print_text c.in-PrintText.text) (walk_of c.args.body.now c.args.out.now) c.print_text.result _
-    (at_PrintText c.args.stmt.now c.in-PrintText.text c.in-PrintText.is) c.of-node.ensures.node (c.print_text.ensures.checks c.args.out.now)
+    (at_PrintText c.args.stmt.now c.in-PrintText.text c.in-PrintText.is) c.of-node.ensures (c.print_text.ensures.checks c.args.out.now)
 
 pub statements::statement-returns-in-Cobegin-clause-checks : goal.statements::statement-returns-in-Cobegin-clause-checks
 statements::statement-returns-in-Cobegin-clause-checks t c =
     as_said c.args.body.now.atomic_params c.args.around c.args.follows c.of-node.result c.args.stmt.now
     (form.cobegin c.in-Cobegin.nd (plain_stmts (map plain_stmt c.as_slice-in-Cobegin.result.now))) (walk_of c.args.body.now c.args.out.now) c.cobegin.result _
     (at_Cobegin c.args.stmt.now c.in-Cobegin.nd c.as_slice-in-Cobegin.result.now
-    (c.in-Cobegin.is ∙ ap (tree.Cobegin c.in-Cobegin.nd) (sym c.as_slice-in-Cobegin.ensures))) c.of-node.ensures.node c.cobegin.ensures.checks
+    (c.in-Cobegin.is ∙ ap (tree.Cobegin c.in-Cobegin.nd) (sym c.as_slice-in-Cobegin.ensures))) c.of-node.ensures c.cobegin.ensures.checks
 
 pub statements::statement-returns-in-Foreach-clause-checks : goal.statements::statement-returns-in-Foreach-clause-checks
 statements::statement-returns-in-Foreach-clause-checks t c =
@@ -158,7 +159,7 @@ statements::statement-returns-in-Foreach-clause-checks t c =
     (form.foreach c.in-Foreach.nd c.in-Foreach.var (plain_expr c.in-Foreach.start) (plain_expr c.in-Foreach.count)
     (plain_stmt c.get-in-Foreach.result.now)) (walk_of c.args.body.now c.args.out.now) c.foreach.result _
     (at_Foreach c.args.stmt.now c.in-Foreach.nd c.in-Foreach.var c.in-Foreach.start c.in-Foreach.count c.get-in-Foreach.result.now
-    (c.in-Foreach.is ∙ ap (tree.Foreach c.in-Foreach.nd c.in-Foreach.var c.in-Foreach.start c.in-Foreach.count) (sym c.get-in-Foreach.ensures))) c.of-node.ensures.node c.foreach.ensures.checks
+    (c.in-Foreach.is ∙ ap (tree.Foreach c.in-Foreach.nd c.in-Foreach.var c.in-Foreach.start c.in-Foreach.count) (sym c.get-in-Foreach.ensures))) c.of-node.ensures c.foreach.ensures.checks
 
 pub statements::statement-returns-in-ForeachParts-clause-checks : goal.statements::statement-returns-in-ForeachParts-clause-checks
 statements::statement-returns-in-ForeachParts-clause-checks t c =
@@ -169,19 +170,19 @@ statements::statement-returns-in-ForeachParts-clause-checks t c =
     c.get-in-ForeachParts.result.now
     (c.in-ForeachParts.is
     ∙ ap (tree.ForeachParts c.in-ForeachParts.view c.in-ForeachParts.var c.in-ForeachParts.array c.in-ForeachParts.count)
-    (sym c.get-in-ForeachParts.ensures))) c.of-node.ensures.node c.foreach_parts.ensures.checks
+    (sym c.get-in-ForeachParts.ensures))) c.of-node.ensures c.foreach_parts.ensures.checks
 
 pub statements::statement-returns-in-Atomic-clause-checks : goal.statements::statement-returns-in-Atomic-clause-checks
 statements::statement-returns-in-Atomic-clause-checks t c =
     as_said c.args.body.now.atomic_params c.args.around c.args.follows c.of-node.result c.args.stmt.now
     (form.atomic (plain_stmts (map plain_stmt c.as_slice-in-Atomic.result.now))) (walk_of c.args.body.now c.args.out.now) c.atomic.result _
-    (at_Atomic c.args.stmt.now c.as_slice-in-Atomic.result.now (c.in-Atomic.is ∙ ap tree.Atomic (sym c.as_slice-in-Atomic.ensures))) c.of-node.ensures.node c.atomic.ensures.checks
+    (at_Atomic c.args.stmt.now c.as_slice-in-Atomic.result.now (c.in-Atomic.is ∙ ap tree.Atomic (sym c.as_slice-in-Atomic.ensures))) c.of-node.ensures c.atomic.ensures.checks
 
 pub statements::statement-returns-in-Region-clause-checks : goal.statements::statement-returns-in-Region-clause-checks
 statements::statement-returns-in-Region-clause-checks t c =
     as_said c.args.body.now.atomic_params c.args.around c.args.follows c.of-node.result c.args.stmt.now
     (form.local_regions c.as_slice-in-Region.result.now) (walk_of c.args.body.now c.args.out.now) c.declare_regions.result _
-    (at_Region c.args.stmt.now c.as_slice-in-Region.result.now (c.in-Region.is ∙ ap tree.Region (sym c.as_slice-in-Region.ensures))) c.of-node.ensures.node (c.declare_regions.ensures.checks c.args.out.now)
+    (at_Region c.args.stmt.now c.as_slice-in-Region.result.now (c.in-Region.is ∙ ap tree.Region (sym c.as_slice-in-Region.ensures))) c.of-node.ensures (c.declare_regions.ensures.checks c.args.out.now)
 
 pub statements::nested-returns-in_err-done-clause-checks : goal.statements::nested-returns-in_err-done-clause-checks
 statements::nested-returns-in_err-done-clause-checks t c =
@@ -189,15 +190,16 @@ statements::nested-returns-in_err-done-clause-checks t c =
     (λ v. check_form c.args.body.now.atomic_params c.args.around c.args.node (form.block (plain_stmts (map plain_stmt c.args.all.now))) (walk_of c.args.body.now c.args.out.now) ≡ v)
     c.from_residual.result _ c.in_err-done.field-0.0 c.from_residual.ensures.1 (λ q d. rw d) c.in_err-done.ensures.checks
 
-pub statements::nested-returns-in_err-settle-clause-checks : goal.statements::nested-returns-in_err-settle-clause-checks
-statements::nested-returns-in_err-settle-clause-checks t c =
-    settle_stopped (λ v. check_form c.args.body.now.atomic_params c.args.around c.args.node (form.block (plain_stmts (map plain_stmt c.args.all.now))) (walk_of c.args.body.now c.args.out.now) ≡ v)
-    (fault_of c.args.node) c.from_residual-in_err-settle.result c.in_err-settle.field-0.0 _ c.from_residual-in_err-settle.ensures.1
-    c.in_err-settle.ensures.result (λ q reported. rw (c.in_ok-done.ensures.checks, reported))
+pub statements::nested-returns-clause-completes : goal.statements::nested-returns-clause-completes
+statements::nested-returns-clause-completes t c = completes_so c.judge.result c.in_ok-done.ensures.completes c.judge.ensures.completes
+
+pub statements::nested-returns-clause-home : goal.statements::nested-returns-clause-home
+statements::nested-returns-clause-home t c = anyhow c.judge.result c.in_ok-done.ensures.home
 
 pub statements::nested-returns-clause-checks : goal.statements::nested-returns-clause-checks
 statements::nested-returns-clause-checks t c =
-    rw (c.in_ok-done.ensures.checks, c.in_ok-settle.ensures.clean, c.blocked.ensures)
+    judged_so (check_form c.args.body.now.atomic_params c.args.around c.args.node (form.block (plain_stmts (map plain_stmt c.args.all.now))) (walk_of c.args.body.now c.args.out.now)) _ _ _ c.judge.result _
+    (rw (c.in_ok-done.ensures.checks, made_Block c.args.node.place c.in_ok-done.done.stmts)) (c.judge.ensures.checks (walk_of c.block.new.body c.block.new.out))
 
 pub statements::branching-returns-in_err-given-clause-checks : goal.statements::branching-returns-in_err-given-clause-checks
 statements::branching-returns-in_err-given-clause-checks t c =
@@ -235,31 +237,19 @@ statements::branching-returns-in_err-second-in-Some-clause-checks t c =
     d)
     c.in_err-second-in-Some.ensures.checks
 
-pub statements::branching-returns-in_err-settle-in-Some-clause-checks : goal.statements::branching-returns-in_err-settle-in-Some-clause-checks
-statements::branching-returns-in_err-settle-in-Some-clause-checks t c =
-    let met : FirstMet c.args.body.now c.scoped.new.body c.args.around c.args.node c.boolean.new.node (plain_expr c.args.test.now)
-    (plain_stmt c.args.then.now) c.args.out.now c.boolean.new.out c.scoped.new.out (plain_typed c.in_ok-given.given)
-    (typed_stmt c.in_ok-first.first.stmt) = record {
-      typing = c.in_ok-given.ensures.answer;
-      noted_is = c.in_ok-given.ensures.node;
-      in_scope = c.in_ok-first.ensures.checks;
-      home = c.in_ok-first.ensures.home;
-    } in
-    settle_stopped (λ v. check_form c.args.body.now.atomic_params c.args.around c.args.node (choice_form (plain_expr c.args.test.now) (plain_stmt c.args.then.now)
-    (option_map plain_stmt (option_copied c.args.other))) (walk_of c.args.body.now c.args.out.now) ≡ v)
-    (fault_of c.boolean.new.node) c.from_residual-in_err-settle-in-Some.result c.in_err-settle-in-Some.field-0.0 _
-    c.from_residual-in_err-settle-in-Some.ensures.1 c.in_err-settle-in-Some.ensures.result
-    (λ q reported. either_so (option_copied c.args.other) c.in-Some.other.now c.get.result.now (passes (typed_stmt c.in_ok-second-in-Some.second.stmt) (walk_of c.scoped-in-Some.new.body c.scoped-in-Some.new.out)) (ap option_copied c.in-Some.is) met c.get.ensures
-    c.in_ok-second-in-Some.ensures.checks ∙ judged_some _ _ _ q reported)
-
-pub statements::branching-returns-in_ok-settle-in-Some-clause-completes : goal.statements::branching-returns-in_ok-settle-in-Some-clause-completes
-statements::branching-returns-in_ok-settle-in-Some-clause-completes t c =
-    either_completes c.choose.result.completes c.in_ok-first.first.completes c.in_ok-second-in-Some.second.completes (plain_expr c.args.test.now)
+pub statements::branching-returns-in_ok-second-in-Some-clause-completes : goal.statements::branching-returns-in_ok-second-in-Some-clause-completes
+statements::branching-returns-in_ok-second-in-Some-clause-completes t c =
+    completes_so c.judge.result
+    (either_completes c.choose-made.result.completes c.in_ok-first.first.completes c.in_ok-second-in-Some.second.completes (plain_expr c.args.test.now)
     (plain_stmt c.args.then.now) (option_copied c.args.other) c.in-Some.other.now c.get.result.now (ap option_copied c.in-Some.is) c.get.ensures
-    c.choose.ensures.completes c.in_ok-first.ensures.completes c.in_ok-second-in-Some.ensures.completes
+    c.choose-made.ensures.completes c.in_ok-first.ensures.completes c.in_ok-second-in-Some.ensures.completes)
+    c.judge.ensures.completes
 
-pub statements::branching-returns-in_ok-settle-in-Some-clause-checks : goal.statements::branching-returns-in_ok-settle-in-Some-clause-checks
-statements::branching-returns-in_ok-settle-in-Some-clause-checks t c =
+pub statements::branching-returns-in_ok-second-in-Some-clause-home : goal.statements::branching-returns-in_ok-second-in-Some-clause-home
+statements::branching-returns-in_ok-second-in-Some-clause-home t c = anyhow c.judge.result (c.in_ok-second-in-Some.ensures.home ∙ c.in_ok-first.ensures.home)
+
+pub statements::branching-returns-in_ok-second-in-Some-clause-checks : goal.statements::branching-returns-in_ok-second-in-Some-clause-checks
+statements::branching-returns-in_ok-second-in-Some-clause-checks t c =
     let met : FirstMet c.args.body.now c.scoped.new.body c.args.around c.args.node c.boolean.new.node (plain_expr c.args.test.now)
     (plain_stmt c.args.then.now) c.args.out.now c.boolean.new.out c.scoped.new.out (plain_typed c.in_ok-given.given)
     (typed_stmt c.in_ok-first.first.stmt) = record {
@@ -268,15 +258,30 @@ statements::branching-returns-in_ok-settle-in-Some-clause-checks t c =
       in_scope = c.in_ok-first.ensures.checks;
       home = c.in_ok-first.ensures.home;
     } in
-    either_so (option_copied c.args.other) c.in-Some.other.now c.get.result.now (passes (typed_stmt c.in_ok-second-in-Some.second.stmt) (walk_of c.scoped-in-Some.new.body c.scoped-in-Some.new.out)) (ap option_copied c.in-Some.is) met c.get.ensures
-    c.in_ok-second-in-Some.ensures.checks
-    ∙ clean_passes _ (typed_stmt c.choose.result.stmt) _ _ _ c.in_ok-settle-in-Some.ensures.clean
+    judged_so
+    (check_form c.args.body.now.atomic_params c.args.around c.args.node (choice_form (plain_expr c.args.test.now) (plain_stmt c.args.then.now)
+    (option_map plain_stmt (option_copied c.args.other))) (walk_of c.args.body.now c.args.out.now)) _ _ _ c.judge.result _
+    (either_so (option_copied c.args.other) c.in-Some.other.now c.get.result.now
+    (passes (typed_stmt c.in_ok-second-in-Some.second.stmt) (walk_of c.scoped-in-Some.new.body c.scoped-in-Some.new.out)) (ap option_copied c.in-Some.is) met
+    c.get.ensures c.in_ok-second-in-Some.ensures.checks
+    ∙ judged_as (fault_of c.boolean.new.node) _
     (choice_made c.args.test.now c.into_node-test.result (plain_typed c.in_ok-given.given) c.args.node.place
-    (typed_stmt c.in_ok-first.first.stmt) (Some (typed_stmt c.in_ok-second-in-Some.second.stmt)) (typed_stmt c.choose.result.stmt)
-    c.into_node-test.ensures c.choose.ensures.stmt) refl
+    (typed_stmt c.in_ok-first.first.stmt) (Some (typed_stmt c.in_ok-second-in-Some.second.stmt)) (typed_stmt c.choose-made.result.stmt)
+    c.into_node-test.ensures c.choose-made.ensures.stmt))
+    (c.judge.ensures.checks (walk_of c.scoped-in-Some.new.body c.scoped-in-Some.new.out))
 
-pub statements::branching-returns-in_err-settle-in-None-clause-checks : goal.statements::branching-returns-in_err-settle-in-None-clause-checks
-statements::branching-returns-in_err-settle-in-None-clause-checks t c =
+pub statements::branching-returns-in-None-clause-completes : goal.statements::branching-returns-in-None-clause-completes
+statements::branching-returns-in-None-clause-completes t c =
+    completes_so c.judge-in-None.result
+    (neither_completes c.choose-made-in-None.result.completes c.in_ok-first.first.completes (plain_expr c.args.test.now) (plain_stmt c.args.then.now)
+    (option_copied c.args.other) (ap option_copied c.in-None.is) c.choose-made-in-None.ensures.completes)
+    c.judge-in-None.ensures.completes
+
+pub statements::branching-returns-in-None-clause-home : goal.statements::branching-returns-in-None-clause-home
+statements::branching-returns-in-None-clause-home t c = anyhow c.judge-in-None.result c.in_ok-first.ensures.home
+
+pub statements::branching-returns-in-None-clause-checks : goal.statements::branching-returns-in-None-clause-checks
+statements::branching-returns-in-None-clause-checks t c =
     let met : FirstMet c.args.body.now c.scoped.new.body c.args.around c.args.node c.boolean.new.node (plain_expr c.args.test.now)
     (plain_stmt c.args.then.now) c.args.out.now c.boolean.new.out c.scoped.new.out (plain_typed c.in_ok-given.given)
     (typed_stmt c.in_ok-first.first.stmt) = record {
@@ -285,31 +290,14 @@ statements::branching-returns-in_err-settle-in-None-clause-checks t c =
       in_scope = c.in_ok-first.ensures.checks;
       home = c.in_ok-first.ensures.home;
     } in
-    settle_stopped (λ v. check_form c.args.body.now.atomic_params c.args.around c.args.node (choice_form (plain_expr c.args.test.now) (plain_stmt c.args.then.now)
-    (option_map plain_stmt (option_copied c.args.other))) (walk_of c.args.body.now c.args.out.now) ≡ v)
-    (fault_of c.boolean.new.node) c.from_residual-in_err-settle-in-None.result c.in_err-settle-in-None.field-0.0 _
-    c.from_residual-in_err-settle-in-None.ensures.1 c.in_err-settle-in-None.ensures.result
-    (λ q reported. neither_so (option_copied c.args.other) (ap option_copied c.in-None.is) met ∙ judged_some _ _ _ q reported)
-
-pub statements::branching-returns-in_ok-settle-in-None-clause-completes : goal.statements::branching-returns-in_ok-settle-in-None-clause-completes
-statements::branching-returns-in_ok-settle-in-None-clause-completes t c =
-    neither_completes c.choose-in-None.result.completes c.in_ok-first.first.completes (plain_expr c.args.test.now) (plain_stmt c.args.then.now)
-    (option_copied c.args.other) (ap option_copied c.in-None.is) c.choose-in-None.ensures.completes
-
-pub statements::branching-returns-in_ok-settle-in-None-clause-checks : goal.statements::branching-returns-in_ok-settle-in-None-clause-checks
-statements::branching-returns-in_ok-settle-in-None-clause-checks t c =
-    let met : FirstMet c.args.body.now c.scoped.new.body c.args.around c.args.node c.boolean.new.node (plain_expr c.args.test.now)
-    (plain_stmt c.args.then.now) c.args.out.now c.boolean.new.out c.scoped.new.out (plain_typed c.in_ok-given.given)
-    (typed_stmt c.in_ok-first.first.stmt) = record {
-      typing = c.in_ok-given.ensures.answer;
-      noted_is = c.in_ok-given.ensures.node;
-      in_scope = c.in_ok-first.ensures.checks;
-      home = c.in_ok-first.ensures.home;
-    } in
-    neither_so (option_copied c.args.other) (ap option_copied c.in-None.is) met
-    ∙ clean_passes _ (typed_stmt c.choose-in-None.result.stmt) _ _ _ c.in_ok-settle-in-None.ensures.clean
+    judged_so
+    (check_form c.args.body.now.atomic_params c.args.around c.args.node (choice_form (plain_expr c.args.test.now) (plain_stmt c.args.then.now)
+    (option_map plain_stmt (option_copied c.args.other))) (walk_of c.args.body.now c.args.out.now)) _ _ _ c.judge-in-None.result _
+    (neither_so (option_copied c.args.other) (ap option_copied c.in-None.is) met
+    ∙ judged_as (fault_of c.boolean.new.node) _
     (choice_made c.args.test.now c.into_node-test.result (plain_typed c.in_ok-given.given) c.args.node.place
-    (typed_stmt c.in_ok-first.first.stmt) None (typed_stmt c.choose-in-None.result.stmt) c.into_node-test.ensures c.choose-in-None.ensures.stmt) refl
+    (typed_stmt c.in_ok-first.first.stmt) None (typed_stmt c.choose-made-in-None.result.stmt) c.into_node-test.ensures c.choose-made-in-None.ensures.stmt))
+    (c.judge-in-None.ensures.checks (walk_of c.scoped.new.body c.scoped.new.out))
 
 pub statements::statements-returns-in_err-done-clause-checks : goal.statements::statements-returns-in_err-done-clause-checks
 statements::statements-returns-in_err-done-clause-checks t c =
@@ -365,23 +353,21 @@ statements::repeat-returns-in_err-done-clause-checks t c =
     (λ v. check_form c.args.body.now.atomic_params c.args.around c.args.node (form.while_loop (plain_expr c.args.test.now) (plain_stmt c.args.turn.now)) (walk_of c.args.body.now c.args.out.now) ≡ v) c.from_residual-in_err-done.result _ c.in_err-done.field-0.0 c.from_residual-in_err-done.ensures.1
     (λ q d. rw (c.in_ok-given.ensures.answer, d)) c.in_err-done.ensures.checks
 
-pub statements::repeat-returns-in_err-settle-clause-checks : goal.statements::repeat-returns-in_err-settle-clause-checks
-statements::repeat-returns-in_err-settle-clause-checks t c =
-    settle_stopped (λ v. check_form c.args.body.now.atomic_params c.args.around c.args.node (form.while_loop (plain_expr c.args.test.now) (plain_stmt c.args.turn.now)) (walk_of c.args.body.now c.args.out.now) ≡ v)
-    (fault_of c.boolean.new.node) c.from_residual-in_err-settle.result c.in_err-settle.field-0.0 _ c.from_residual-in_err-settle.ensures.1
-    c.in_err-settle.ensures.result
-    (λ q reported. rw (c.in_ok-given.ensures.answer, c.in_ok-done.ensures.checks, ← c.in_ok-given.ensures.node, reported))
+pub statements::repeat-returns-clause-home : goal.statements::repeat-returns-clause-home
+statements::repeat-returns-clause-home t c = anyhow c.judge.result c.in_ok-done.ensures.home
 
 pub statements::repeat-returns-clause-checks : goal.statements::repeat-returns-clause-checks
 statements::repeat-returns-clause-checks t c =
-    rw (
+    judged_so
+    (check_form c.args.body.now.atomic_params c.args.around c.args.node (form.while_loop (plain_expr c.args.test.now) (plain_stmt c.args.turn.now)) (walk_of c.args.body.now c.args.out.now)) _ _ _ c.judge.result _
+    (rw (
       c.in_ok-given.ensures.answer,
       c.in_ok-done.ensures.checks,
       ← c.in_ok-given.ensures.node,
-      c.in_ok-settle.ensures.clean,
-      c.repeated.ensures,
-      node_made c.args.test.now c.into_node-test.result (plain_typed c.in_ok-given.given) c.into_node-test.ensures,
-    )
+      made_While c.args.node.place c.into_node.result c.in_ok-done.done.stmt,
+      node_made c.args.test.now c.into_node.result (plain_typed c.in_ok-given.given) c.into_node.ensures,
+    ))
+    (c.judge.ensures.checks (walk_of c.scoped.new.body c.scoped.new.out))
 
 pub constructs::atomic-returns-in_err-done-clause-checks : goal.constructs::atomic-returns-in_err-done-clause-checks
 constructs::atomic-returns-in_err-done-clause-checks t c =
@@ -392,31 +378,21 @@ constructs::atomic-returns-in_err-done-clause-checks t c =
     c.inside.ensures c.new-inner.ensures d))
     c.in_err-done.ensures.checks
 
-pub constructs::atomic-returns-in_err-settle-clause-checks : goal.constructs::atomic-returns-in_err-settle-clause-checks
-constructs::atomic-returns-in_err-settle-clause-checks t c =
-    settle_stopped (λ v. check_form c.args.body.now.atomic_params c.args.around c.args.node (form.atomic (plain_stmts (map plain_stmt c.args.stmts.now))) (walk_of c.args.body.now c.args.out.now) ≡ v)
-    (fault_of c.note_if.new.self) c.from_residual-in_err-settle.result c.in_err-settle.field-0.0 _ c.from_residual-in_err-settle.ensures.1
-    c.in_err-settle.ensures.result
-    (λ q reported.
-    atomic_is c.args.body.now.atomic_params c.args.body.now c.block.new.body c.args.around c.args.node c.note_if.new.self (plain_stmts (map plain_stmt c.args.stmts.now))
-    c.args.out.now c.block.new.out (map typed_stmt c.in_ok-done.done.stmts)
-    (block_in c.args.body.now.atomic_params c.args.body.now c.args.around c.inside.result (plain_stmts (map plain_stmt c.args.stmts.now)) c.args.out.now c.new-inner.result
-    (passes (map typed_stmt c.in_ok-done.done.stmts) (walk_of c.block.new.body c.block.new.out)) c.inside.ensures c.new-inner.ensures
-    c.in_ok-done.ensures.checks) c.note_if.ensures.node
-    ∙ judged_some _ _ _ q reported)
+pub constructs::atomic-returns-clause-home : goal.constructs::atomic-returns-clause-home
+constructs::atomic-returns-clause-home t c = anyhow c.judge.result c.in_ok-done.ensures.home
 
 pub constructs::atomic-returns-clause-checks : goal.constructs::atomic-returns-clause-checks
 constructs::atomic-returns-clause-checks t c =
-    atomic_is c.args.body.now.atomic_params c.args.body.now c.block.new.body c.args.around c.args.node c.note_if.new.self (plain_stmts (map plain_stmt c.args.stmts.now))
+    judged_so
+    (check_form c.args.body.now.atomic_params c.args.around c.args.node (form.atomic (plain_stmts (map plain_stmt c.args.stmts.now))) (walk_of c.args.body.now c.args.out.now)) _ _ _ c.judge.result _
+    (atomic_is c.args.body.now.atomic_params c.args.body.now c.block.new.body c.args.around c.args.node c.note_if.new.self (plain_stmts (map plain_stmt c.args.stmts.now))
     c.args.out.now c.block.new.out (map typed_stmt c.in_ok-done.done.stmts)
     (block_in c.args.body.now.atomic_params c.args.body.now c.args.around c.inside.result (plain_stmts (map plain_stmt c.args.stmts.now)) c.args.out.now c.new-inner.result
     (passes (map typed_stmt c.in_ok-done.done.stmts) (walk_of c.block.new.body c.block.new.out)) c.inside.ensures c.new-inner.ensures
     c.in_ok-done.ensures.checks) c.note_if.ensures.node
-    ∙ clean_passes _ (typed_stmt c.entered-2.result) _ (walk_of c.block.new.body c.take_in.new.out) _ c.in_ok-settle.ensures.clean
-    (c.entered-2.ensures
-    ∙ ap (λ z. statement c.args.node.place (made.atomic z (stmts_of (map typed_stmt c.in_ok-done.done.stmts)))) c.in_ok-effects.ensures)
-    (ap (λ (z : Found). walk_of c.block.new.body z)
-    (c.in_ok-take_in.ensures ∙ ap (λ z. taken_in z c.args.out.now c.block.new.out) c.from_here-leaving.ensures))
+    ∙ atomic_made c.block.new.body c.args.node.place (fault_of c.note_if.new.self) c.args.body.now.env c.from_here-leaving.result c.args.out.now c.block.new.out
+    c.take_in.new.out c.in_ok-entered.field-0 c.in_ok-done.done.stmts c.in_ok-entered.ensures c.from_here-leaving.ensures c.in_ok-take_in.ensures)
+    (c.judge.ensures.checks (walk_of c.block.new.body c.take_in.new.out))
 
 pub constructs::foreach-returns-in_err-first-clause-checks : goal.constructs::foreach-returns-in_err-first-clause-checks
 constructs::foreach-returns-in_err-first-clause-checks t c =
@@ -537,7 +513,7 @@ parts::foreach_parts-returns-in_err-done-clause-checks t c =
     (plain_expr c.args.array.now) (plain_expr c.args.count.now) c.args.out.now c.whole_of.new.out c.int.new.out c.in_ok-whole.whole
     (plain_typed c.in_ok-given.given) = record {
       cuts = c.in_ok-whole.ensures.cut;
-      seen_is = c.note_found.ensures.node;
+      seen_is = c.note_found.ensures;
       counts = c.in_ok-given.ensures.answer;
       number_is = c.in_ok-given.ensures.node;
       first_is = c.in_ok-open.ensures.noted;
@@ -560,7 +536,7 @@ parts::foreach_parts-returns-in_err-settle_parts-clause-checks t c =
     c.whole_of.new.out c.int.new.out c.scoped.new.out c.in_ok-whole.whole (plain_typed c.in_ok-given.given) (typed_stmt c.in_ok-done.done.stmt) = record {
       opened = record {
         cuts = c.in_ok-whole.ensures.cut;
-        seen_is = c.note_found.ensures.node;
+        seen_is = c.note_found.ensures;
         counts = c.in_ok-given.ensures.answer;
         number_is = c.in_ok-given.ensures.node;
         first_is = c.in_ok-open.ensures.noted;
@@ -590,7 +566,7 @@ parts::foreach_parts-returns-clause-checks t c =
     c.whole_of.new.out c.int.new.out c.scoped.new.out c.in_ok-whole.whole (plain_typed c.in_ok-given.given) (typed_stmt c.in_ok-done.done.stmt) = record {
       opened = record {
         cuts = c.in_ok-whole.ensures.cut;
-        seen_is = c.note_found.ensures.node;
+        seen_is = c.note_found.ensures;
         counts = c.in_ok-given.ensures.answer;
         number_is = c.in_ok-given.ensures.node;
         first_is = c.in_ok-open.ensures.noted;

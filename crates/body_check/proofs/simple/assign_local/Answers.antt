@@ -13,7 +13,7 @@ use Rattle.body_check.specs.Walks.{Verdict as verdict}
 use Rattle.body_check.proofs.Making.{made_Store}
 use Rattle.body_check.proofs.Nodes.{node_made}
 use Rattle.body_check.proofs.Noting.{the_reported}
-use Rattle.body_check.proofs.Passing.{said_of, stopped, settle_stopped}
+use Rattle.body_check.proofs.Passing.{judged_so, said_of, stopped}
 use Rattle.body_check.proofs.simple.assign_local.Goals as goal
 
 pub returns-in_err-given-clause-checks : goal.returns-in_err-given-clause-checks
@@ -30,25 +30,17 @@ returns-in_default-clause-checks c =
     (λ q reported. rw (c.in_ok-given.ensures.answer, missing) (ap verdict.refused (the_reported c.args.node kind.Unknown c.args.target.place q reported)))
     c.refused_at.ensures
 
-pub returns-in_err-settle-clause-checks : goal.returns-in_err-settle-clause-checks
-returns-in_err-settle-clause-checks c =
-    let found : local_of c.args.body.now.env c.args.target.name ≡ Some c.in-Some.row.now = sym c.local.ensures ∙ ap option_copied c.in-Some.is in
-    settle_stopped (λ v. assign_local c.args.node c.args.target (plain_expr c.args.value.now) (walk_of c.args.body.now c.args.out.now) ≡ v)
-    (fault_of c.note_found.new.self) c.from_residual-in_err-settle.result c.in_err-settle.field-0.0 _ c.from_residual-in_err-settle.ensures.1
-    c.in_err-settle.ensures.result
-    (λ q reported.
-    rw (c.in_ok-given.ensures.answer, found, ← c.in_ok-fits.ensures, ← c.local_fault.ensures, ← c.note_found.ensures.node, reported))
-
 pub returns-clause-checks : goal.returns-clause-checks
 returns-clause-checks c =
     let found : local_of c.args.body.now.env c.args.target.name ≡ Some c.in-Some.row.now = sym c.local.ensures ∙ ap option_copied c.in-Some.is in
-    rw (
+    judged_so (assign_local c.args.node c.args.target (plain_expr c.args.value.now) (walk_of c.args.body.now c.args.out.now)) _ _ _ c.judge.result _
+    (rw (
       c.in_ok-given.ensures.answer,
       found,
       ← c.in_ok-fits.ensures,
       ← c.local_fault.ensures,
-      ← c.note_found.ensures.node,
-      c.in_ok-settle.ensures.clean,
+      ← c.note_found.ensures,
       made_Store c.args.target.place (record { number = c.in-Some.row.now.slot }) c.into_node.result,
       node_made c.args.value.now c.into_node.result (plain_typed c.in_ok-given.given) c.into_node.ensures,
-    )
+    ))
+    (c.judge.ensures.checks (walk_of c.args.body.now c.typed.new.out))

@@ -3,12 +3,11 @@ use Rattle.syntax_tree.specs.Plain.{plain_expr}
 use Rattle.body_exprs.specs.Answer.{refused}
 use Rattle.body_exprs.specs.Typed.{plain_typed}
 use Rattle.body_exprs.specs.Typing.{Typing}
-use Rattle.body_check.specs.Noting.{fault_of}
 use Rattle.body_check.specs.Simple.{declare, declared_reported}
 use Rattle.body_check.specs.Walks.{walk_of}
 use Rattle.body_check.proofs.Making.{made_Declare}
 use Rattle.body_check.proofs.Nodes.{node_made}
-use Rattle.body_check.proofs.Passing.{stopped, settle_stopped}
+use Rattle.body_check.proofs.Passing.{anyhow, judged_so, stopped}
 use Rattle.body_check.proofs.Types.{came_back}
 use Rattle.body_check.proofs.simple.declare.Goals as goal
 
@@ -25,37 +24,24 @@ returns-in_err-given-clause-checks c =
     c.from_residual-in_err-given.result _ c.in_err-given.field-0.0 c.from_residual-in_err-given.ensures.1
     (λ q d. rw (c.in_ok-declared.ensures.unreported, d)) c.in_err-given.ensures.answer
 
-pub returns-in_err-settle-clause-checks : goal.returns-in_err-settle-clause-checks
-returns-in_err-settle-clause-checks c =
-    settle_stopped
-    (λ v. declare c.args.node c.args.is_final c.args.tree.now c.args.name (plain_expr c.args.value.now) (walk_of c.args.body.now c.args.out.now) ≡ v)
-    (fault_of c.note_if.new.self) c.from_residual-in_err-settle.result c.in_err-settle.field-0.0 _ c.from_residual-in_err-settle.ensures.1
-    c.in_err-settle.ensures.result
-    (λ q reported.
-    rw (
-      c.in_ok-declared.ensures.unreported,
-      c.in_ok-given.ensures.answer,
-      ← c.in_ok-declared.ensures.ty,
-      ← c.in_ok-fits.ensures,
-      ← c.note_declaration.ensures.node,
-      ← c.note_if.ensures.node,
-      reported,
-    ))
-
 pub returns-clause-checks : goal.returns-clause-checks
 returns-clause-checks c =
-    rw (
+    judged_so (declare c.args.node c.args.is_final c.args.tree.now c.args.name (plain_expr c.args.value.now) (walk_of c.args.body.now c.args.out.now)) _ _ _ c.judge.result _
+    (rw (
       c.in_ok-declared.ensures.unreported,
       c.in_ok-given.ensures.answer,
       ← c.in_ok-declared.ensures.ty,
       ← c.in_ok-fits.ensures,
       ← c.note_declaration.ensures.node,
       ← c.note_if.ensures.node,
-      c.in_ok-settle.ensures.clean,
       came_back c.in_ok-declared.declared,
-      made_Declare c.args.node.place (record { number = c.slots-slot.result }) c.in_ok-declared.declared c.args.is_final c.into_node-value.result,
-      node_made c.args.value.now c.into_node-value.result (plain_typed c.in_ok-given.given) c.into_node-value.ensures,
+      made_Declare c.args.node.place (record { number = c.slots-slot.result }) c.in_ok-declared.declared c.args.is_final c.into_node.result,
+      node_made c.args.value.now c.into_node.result (plain_typed c.in_ok-given.given) c.into_node.ensures,
       c.slots-slot.ensures,
       c.in_ok-declare.ensures.whole,
       c.in_ok-ty.ensures,
-    )
+    ))
+    (c.judge.ensures.checks (walk_of c.declare.new.self c.typed.new.out))
+
+pub returns-clause-home : goal.returns-clause-home
+returns-clause-home c = anyhow c.judge.result c.in_ok-declare.ensures.home

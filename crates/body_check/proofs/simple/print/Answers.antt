@@ -1,7 +1,6 @@
-use Rattle.std.proofs.Common.{◌≡◌, ◌∙◌, refl, ap}
+use Rattle.std.proofs.Common.{◌≡◌, ◌∙◌, ap}
 use Rattle.syntax_tree.specs.Plain.{plain_expr}
 use Rattle.lang_typed.specs.Plain.{TypedExpr, statement}
-use Rattle.lang_typed.specs.Plain.{plain_stmt as typed_stmt}
 use Rattle.body_exprs.specs.Answer.{refused}
 use Rattle.body_exprs.specs.Typed.{plain_typed}
 use Rattle.body_exprs.specs.Typing.{Typing}
@@ -9,7 +8,7 @@ use Rattle.body_check.specs.Noting.{fault_of}
 use Rattle.body_check.specs.Simple.{print, printed_form}
 use Rattle.body_check.specs.Walks.{walk_of}
 use Rattle.body_check.proofs.Nodes.{node_made}
-use Rattle.body_check.proofs.Passing.{clean_passes, stopped, settle_stopped}
+use Rattle.body_check.proofs.Passing.{judged_as, judged_so, stopped}
 use Rattle.body_check.proofs.simple.print.Goals as goal
 
 pub returns-in_err-given-clause-checks : goal.returns-in_err-given-clause-checks
@@ -18,16 +17,12 @@ returns-in_err-given-clause-checks c =
     (λ v. print c.args.node (plain_expr c.args.value.now) (walk_of c.args.body.now c.args.out.now) ≡ v)
     c.from_residual.result _ c.in_err-given.field-0.0 c.from_residual.ensures.1 (λ q d. rw d) c.in_err-given.ensures.answer
 
-pub returns-in_err-settle-clause-checks : goal.returns-in_err-settle-clause-checks
-returns-in_err-settle-clause-checks c =
-    settle_stopped (λ v. print c.args.node (plain_expr c.args.value.now) (walk_of c.args.body.now c.args.out.now) ≡ v) (fault_of c.note_if.new.self)
-    c.from_residual-in_err-settle.result c.in_err-settle.field-0.0 _ c.from_residual-in_err-settle.ensures.1 c.in_err-settle.ensures.result
-    (λ q reported. rw (c.in_ok-given.ensures.answer, ← c.may_print.ensures, ← c.note_if.ensures.node, reported))
-
 pub returns-clause-checks : goal.returns-clause-checks
 returns-clause-checks c =
-    rw (c.in_ok-given.ensures.answer, ← c.may_print.ensures, ← c.note_if.ensures.node)
-    (clean_passes _ (typed_stmt c.printed.result) _ _ _ c.in_ok-settle.ensures.clean
-    (c.printed.ensures
+    judged_so (print c.args.node (plain_expr c.args.value.now) (walk_of c.args.body.now c.args.out.now)) _ _ _ c.judge.result _
+    (rw (c.in_ok-given.ensures.answer, ← c.may_print.ensures, ← c.note_if.ensures.node)
+    (judged_as (fault_of c.note_if.new.self) _
+    (c.printed-stmt.ensures
     ∙ ap (λ (z : TypedExpr). statement c.args.node.place (printed_form z))
-    (node_made c.args.value.now c.into_node.result (plain_typed c.in_ok-given.given) c.into_node.ensures)) refl)
+    (node_made c.args.value.now c.into_node.result (plain_typed c.in_ok-given.given) c.into_node.ensures))))
+    (c.judge.ensures.checks (walk_of c.args.body.now c.typed.new.out))
