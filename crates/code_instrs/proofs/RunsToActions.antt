@@ -3,10 +3,10 @@ use Rattle.std.proofs.Common.{◌≡◌, ℕ, zero, suc, Bool, true, false, if�
 use Rattle.std.proofs.lemmas.List.{reverse-append}
 use Rattle.lang_meaning.specs.Values.{Naming}
 use Rattle.lang_meaning.specs.Actions.{Rest, Action, Do, End, Answer, Reply, Next, Over, Unknown}
-use Rattle.lang_meaning.specs.Asking.{most_turns}
+use Rattle.lang_meaning.specs.Asking.{most_ticks}
 use Rattle.code_instrs.specs.Plain.{PlainCode}
-use Rattle.code_instrs.specs.Machine.{Start, State, Stand, Goes, Turns, Makes, Waits, Ends, Stuck, answered, turned, stood, step, solo, begins_at, Solo}
-use Rattle.code_instrs.specs.RunsToActions.{Halt, Asks, Finished, Dead, ran_on_turn, ran_on, run_to_action, Halts, said}
+use Rattle.code_instrs.specs.Machine.{Start, State, Stand, Goes, Ticks, Makes, Waits, Ends, Stuck, answered, ticked, stood, step, solo, begins_at, Solo}
+use Rattle.code_instrs.specs.RunsToActions.{Halt, Asks, Finished, Dead, ran_on_tick, ran_on, run_to_action, Halts, said}
 
 pub record Run {N M : Type 0} (names : Naming N M) (C : PlainCode) (n m : ℕ) (s : State N M) (xs : List (Answer N M)) (r : Reply N M (Start N M)) : Type 0 where
   pub fuel : ℕ
@@ -30,11 +30,11 @@ module _ {N M : Type 0} (names : Naming N M) (C : PlainCode) where
   asks n m a k [] r h = (0, ap Some (sym h))
   asks n m a k (x ∷ xs) r h = (h.fuel, h.stands)
 
-  on_turn : (more : ℕ → ℕ → State N M → Option (Halt N M)) → ((n m : ℕ) (t : State N M) (h : Halt N M) (ys : List (Answer N M)) (r : Reply N M (Start N M)) →
+  on_tick : (more : ℕ → ℕ → State N M → Option (Halt N M)) → ((n m : ℕ) (t : State N M) (h : Halt N M) (ys : List (Answer N M)) (r : Reply N M (Start N M)) →
       more n m t ≡ Some h → Resumes h ys r → Run names C n m t ys r) →
-      (n m : ℕ) (s : State N M) (h : Halt N M) (xs : List (Answer N M)) (r : Reply N M (Start N M)) → ran_on_turn more n m s ≡ Some h → Resumes h xs r →
-      (fuel : ℕ) × (turned (λ n m t ys. solo names C fuel n m t ys) n m s xs ≡ Some r)
-  on_turn more rec n m s h xs r e z = go (suc n == most_turns) e
+      (n m : ℕ) (s : State N M) (h : Halt N M) (xs : List (Answer N M)) (r : Reply N M (Start N M)) → ran_on_tick more n m s ≡ Some h → Resumes h xs r →
+      (fuel : ℕ) × (ticked (λ n m t ys. solo names C fuel n m t ys) n m s xs ≡ Some r)
+  on_tick more rec n m s h xs r e z = go (suc n == most_ticks) e
     where
       go : (b : Bool) → (if b then Some (Asks (suc n) m (Do Rest) (λ x. s)) else more (suc n) m s) ≡ Some h →
           (fuel : ℕ) × ((if b then answered (λ n m t ys. solo names C fuel n m t ys) (suc n) m (Do Rest) (λ x. s) xs else solo names C fuel (suc n) m s xs) ≡
@@ -47,8 +47,8 @@ module _ {N M : Type 0} (names : Naming N M) (C : PlainCode) where
       (n m : ℕ) (o : Stand N M) (h : Halt N M) (xs : List (Answer N M)) (r : Reply N M (Start N M)) → ran_on names more n m o ≡ Some h → Resumes h xs r →
       Stood n m o xs r
   on_stand more rec n m (Goes s) h xs r e z = let x = rec n m s h xs r e z in record { fuel = x.fuel; stands = x.stands }
-  on_stand more rec n m (Turns s) h xs r e z = let x = on_turn more rec n m s h xs r e z in record { fuel = x.0; stands = x.1 }
-  on_stand more rec n m (Makes k) h xs r e z = let x = on_turn more rec n (suc m) (k (names.made m)) h xs r e z in record { fuel = x.0; stands = x.1 }
+  on_stand more rec n m (Ticks s) h xs r e z = let x = on_tick more rec n m s h xs r e z in record { fuel = x.0; stands = x.1 }
+  on_stand more rec n m (Makes k) h xs r e z = let x = on_tick more rec n (suc m) (k (names.made m)) h xs r e z in record { fuel = x.0; stands = x.1 }
   on_stand more rec n m (Waits a k) h xs r e z = let g : Asks n m a k ≡ h = cc in let x = asks n m a k xs r (subst (λ y. Resumes y xs r) (sym g) z) in
       record { fuel = x.0; stands = x.1 }
   on_stand more rec n m (Ends d) h [] r e z = let g : Finished n d ≡ h =
@@ -89,10 +89,10 @@ module _ {N M : Type 0} (names : Naming N M) (C : PlainCode) where
   HasRun more runs = (n m : ℕ) (t : State N M) (ys : List (Answer N M)) (r : Reply N M (Start N M)) → runs n m t ys ≡ Some r →
       (h : Halt N M) × (more n m t ≡ Some h)
 
-  turn_ends : (fuel n m : ℕ) → HasRun (λ n m t. run_to_action names C fuel n m t) (λ n m t ys. solo names C fuel n m t ys) →
-      (s : State N M) (xs : List (Answer N M)) (r : Reply N M (Start N M)) → turned (λ n m t ys. solo names C fuel n m t ys) n m s xs ≡ Some r →
-      (h : Halt N M) × (ran_on_turn (λ n m t. run_to_action names C fuel n m t) n m s ≡ Some h)
-  turn_ends fuel n m rec s xs r e = go (suc n == most_turns) e
+  tick_ends : (fuel n m : ℕ) → HasRun (λ n m t. run_to_action names C fuel n m t) (λ n m t ys. solo names C fuel n m t ys) →
+      (s : State N M) (xs : List (Answer N M)) (r : Reply N M (Start N M)) → ticked (λ n m t ys. solo names C fuel n m t ys) n m s xs ≡ Some r →
+      (h : Halt N M) × (ran_on_tick (λ n m t. run_to_action names C fuel n m t) n m s ≡ Some h)
+  tick_ends fuel n m rec s xs r e = go (suc n == most_ticks) e
     where
       go : (b : Bool) → (if b then answered (λ n m t ys. solo names C fuel n m t ys) (suc n) m (Do Rest) (λ x. s) xs else solo names C fuel (suc n) m s xs) ≡
           Some r → (h : Halt N M) × ((if b then Some (Asks (suc n) m (Do Rest) (λ x. s)) else run_to_action names C fuel (suc n) m s) ≡ Some h)
@@ -103,8 +103,8 @@ module _ {N M : Type 0} (names : Naming N M) (C : PlainCode) where
       (o : Stand N M) (xs : List (Answer N M)) (r : Reply N M (Start N M)) → stood names (λ n m t ys. solo names C fuel n m t ys) n m o xs ≡ Some r →
       (h : Halt N M) × (ran_on names (λ n m t. run_to_action names C fuel n m t) n m o ≡ Some h)
   stand_ends fuel n m rec (Goes s) xs r e = rec n m s xs r e
-  stand_ends fuel n m rec (Turns s) xs r e = turn_ends fuel n m rec s xs r e
-  stand_ends fuel n m rec (Makes k) xs r e = turn_ends fuel n (suc m) rec (k (names.made m)) xs r e
+  stand_ends fuel n m rec (Ticks s) xs r e = tick_ends fuel n m rec s xs r e
+  stand_ends fuel n m rec (Makes k) xs r e = tick_ends fuel n (suc m) rec (k (names.made m)) xs r e
   stand_ends fuel n m rec (Waits a k) xs r e = (_, refl)
   stand_ends fuel n m rec (Ends d) xs r e = (_, refl)
   stand_ends fuel n m rec Stuck xs r e = (_, refl)
@@ -124,9 +124,9 @@ module _ {N M : Type 0} (names : Naming N M) (C : PlainCode) where
   Goes_past f g = (n m : ℕ) (t : State N M) (x : Answer N M) (ys : List (Answer N M)) (r : Reply N M (Start N M)) (h : Halt N M) →
       solo names C f n m t (x ∷ ys) ≡ Some r → run_to_action names C g n m t ≡ Some h → Following h x ys r
 
-  past_turn : (f g n m : ℕ) → Goes_past f g → (s : State N M) (x : Answer N M) (ys : List (Answer N M)) (r : Reply N M (Start N M)) (h : Halt N M) →
-      turned (λ n m t ys. solo names C f n m t ys) n m s (x ∷ ys) ≡ Some r → ran_on_turn (λ n m t. run_to_action names C g n m t) n m s ≡ Some h → Following h x ys r
-  past_turn f g n m rec s x ys r h e i = go (suc n == most_turns) e i
+  past_tick : (f g n m : ℕ) → Goes_past f g → (s : State N M) (x : Answer N M) (ys : List (Answer N M)) (r : Reply N M (Start N M)) (h : Halt N M) →
+      ticked (λ n m t ys. solo names C f n m t ys) n m s (x ∷ ys) ≡ Some r → ran_on_tick (λ n m t. run_to_action names C g n m t) n m s ≡ Some h → Following h x ys r
+  past_tick f g n m rec s x ys r h e i = go (suc n == most_ticks) e i
     where
       go : (b : Bool) → (if b then answered (λ n m t ys. solo names C f n m t ys) (suc n) m (Do Rest) (λ x. s) (x ∷ ys) else solo names C f (suc n) m s
           (x ∷ ys)) ≡ Some r → (if b then Some (Asks (suc n) m (Do Rest) (λ x. s)) else run_to_action names C g (suc n) m s) ≡ Some h → Following h x ys r
@@ -136,8 +136,8 @@ module _ {N M : Type 0} (names : Naming N M) (C : PlainCode) where
   past_stand : (f g n m : ℕ) → Goes_past f g → (o : Stand N M) (x : Answer N M) (ys : List (Answer N M)) (r : Reply N M (Start N M)) (h : Halt N M) →
       stood names (λ n m t ys. solo names C f n m t ys) n m o (x ∷ ys) ≡ Some r → ran_on names (λ n m t. run_to_action names C g n m t) n m o ≡ Some h → Following h x ys r
   past_stand f g n m rec (Goes s) x ys r h e i = rec n m s x ys r h e i
-  past_stand f g n m rec (Turns s) x ys r h e i = past_turn f g n m rec s x ys r h e i
-  past_stand f g n m rec (Makes k) x ys r h e i = past_turn f g n (suc m) rec (k (names.made m)) x ys r h e i
+  past_stand f g n m rec (Ticks s) x ys r h e i = past_tick f g n m rec s x ys r h e i
+  past_stand f g n m rec (Makes k) x ys r h e i = past_tick f g n (suc m) rec (k (names.made m)) x ys r h e i
   past_stand f g n m rec (Waits a k) x ys r h e i = let j : Asks n m a k ≡ h = cc in subst (λ q. Following q x ys r) j (record { fuel = f; stands = e })
   past_stand f g n m rec (Ends d) x ys r h e i = let j : Finished n d ≡ h = cc in subst (λ q. Following q x ys r) j tt
   past_stand f g n m rec Stuck x ys r h e i = let j : Dead ≡ h = cc in subst (λ q. Following q x ys r) j tt

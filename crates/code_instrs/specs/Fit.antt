@@ -11,7 +11,7 @@ use Rattle.code_instrs.specs.Plain.{Line, Title, of_member, of_branch, PlainBody
 use Rattle.code_instrs.specs.Machine.{site_of, line_before}
 
 -- at a place that a path reaches: the height of the stack, how many entries are open, and a rank that falls along each step
--- that isn't out of a turn
+-- that isn't out of a `turn`
 pub record Mark : Type 0 where
   pub height : ℕ
   pub open_entries : ℕ

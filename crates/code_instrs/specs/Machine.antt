@@ -14,7 +14,7 @@ use Rattle.lang_meaning.specs.Counts.{number, truth, reference, value_read, is_o
 use Rattle.lang_meaning.specs.Regions.{around, concrete, concrete_effect, is_long, some_long, unmade_from, regions_above}
 use Rattle.lang_meaning.specs.Expressions.{none}
 use Rattle.lang_meaning.specs.Statements.{with_value, with_values, numbered_frame}
-use Rattle.lang_meaning.specs.Asking.{most_turns}
+use Rattle.lang_meaning.specs.Asking.{most_ticks}
 use Rattle.code_instrs.specs.declared.instr.Instr.{Instr}
 use Rattle.code_instrs.specs.declared.instr.Instr.TheVariants as i
 use Rattle.code_instrs.specs.Plain.{Line, Title, of_member, of_branch, Method, Site, fork_site, spread_site, block_site, call_site, new_site, array_site, PlainCode, body_at, class_at, parent_of, method_at, constructor_of, fields_of}
@@ -39,10 +39,10 @@ pub data State (N M : Type 0) : Type 0 where
   Off : (e : Ending N) → State N M
   Nowhere : State N M
 
--- what a state leads to: a local step, a turn, a new local region, an action with what follows its answer, the end
+-- what a state leads to: a local step, a tick, a new local region, an action with what follows its answer, the end
 pub data Stand (N M : Type 0) : Type 0 where
   Goes : (s : State N M) → Stand N M
-  Turns : (s : State N M) → Stand N M
+  Ticks : (s : State N M) → Stand N M
   Makes : (k : M → State N M) → Stand N M
   Waits : (a : Action N M (Start N M)) (k : Answer N M → State N M) → Stand N M
   Ends : (e : Ending N) → Stand N M
@@ -286,7 +286,7 @@ exec names C at (i.Unary o) g fs = one g.stack (λ v st. Goes (next g (unary o v
 exec names C at (i.Binary o) g fs = operates names at o g fs
 exec names C at (i.Jump l) g fs = Goes (On (record g { at = l }) fs)
 exec names C at (i.Unless l) g fs = one g.stack (λ v st. Goes (On (record g { at = cond (truth v) (suc g.at) l; stack = st }) fs))
-exec names C at i.Turn g fs = Turns (next g g.stack fs)
+exec names C at i.Turn g fs = Ticks (next g g.stack fs)
 exec names C at (i.Get k) g fs = one g.stack (λ v st. reads at v (pos k) g st fs)
 exec names C at (i.Put k) g fs = two g.stack (λ v u st. writes at v (pos k) u g st fs)
 exec names C at i.Elem g fs = two g.stack (λ v j st. reads at v (number j) g st fs)
@@ -334,7 +334,7 @@ step names C (Rested g fs) = rested_line names C (slice_get (body_at C g.body).l
 step names C (Off e) = Ends e
 step names C Nowhere = Stuck
 
--- what a task stands at from a state on, where it has made so many turns since its last answer and so many local regions,
+-- what a task stands at from a state on, where it has made so many ticks since its last answer and so many local regions,
 -- on these answers; none, where that isn't found
 abbrev pub Solos : Type 0 → Type 0 → Type 0
 Solos N M = ℕ → ℕ → State N M → List (Answer N M) → Option (Reply N M (Start N M))
@@ -342,27 +342,27 @@ Solos N M = ℕ → ℕ → State N M → List (Answer N M) → Option (Reply N 
 -- an action, and what follows its answer
 abbrev pub answered : {N M : Type 0} → Solos N M → ℕ → ℕ → Action N M (Start N M) → (Answer N M → State N M) → List (Answer N M) →
     Option (Reply N M (Start N M))
-answered more turns made a k [] = Some (Next turns a)
-answered more turns made a k (x ∷ xs) = more 0 made (k x) xs
+answered more ticks made a k [] = Some (Next ticks a)
+answered more ticks made a k (x ∷ xs) = more 0 made (k x) xs
 
--- one turn; the last that may be made without an event is followed by a rest
-abbrev pub turned : {N M : Type 0} → Solos N M → ℕ → ℕ → State N M → List (Answer N M) → Option (Reply N M (Start N M))
-turned more turns made s xs = if suc turns == most_turns then answered more (suc turns) made (Do Rest) (λ x. s) xs else more (suc turns) made s xs
+-- one tick; the last that may be made without an event is followed by a rest
+abbrev pub ticked : {N M : Type 0} → Solos N M → ℕ → ℕ → State N M → List (Answer N M) → Option (Reply N M (Start N M))
+ticked more ticks made s xs = if suc ticks == most_ticks then answered more (suc ticks) made (Do Rest) (λ x. s) xs else more (suc ticks) made s xs
 
 abbrev pub stood : {N M : Type 0} → Naming N M → Solos N M → ℕ → ℕ → Stand N M → List (Answer N M) → Option (Reply N M (Start N M))
-stood names more turns made (Goes s) xs = more turns made s xs
-stood names more turns made (Turns s) xs = turned more turns made s xs
--- a new local region counts as a turn
-stood names more turns made (Makes k) xs = turned more turns (suc made) (k (names.made made)) xs
-stood names more turns made (Waits a k) xs = answered more turns made a k xs
-stood names more turns made (Ends e) [] = Some (Next turns (End e))
-stood names more turns made (Ends e) (x ∷ xs) = Some Over
-stood names more turns made Stuck xs = Some Unknown
+stood names more ticks made (Goes s) xs = more ticks made s xs
+stood names more ticks made (Ticks s) xs = ticked more ticks made s xs
+-- a new local region counts as a tick
+stood names more ticks made (Makes k) xs = ticked more ticks (suc made) (k (names.made made)) xs
+stood names more ticks made (Waits a k) xs = answered more ticks made a k xs
+stood names more ticks made (Ends e) [] = Some (Next ticks (End e))
+stood names more ticks made (Ends e) (x ∷ xs) = Some Over
+stood names more ticks made Stuck xs = Some Unknown
 
 -- in less than so many steps
 abbrev pub solo : {N M : Type 0} → Naming N M → PlainCode → ℕ → Solos N M
-solo names C zero turns made s xs = None
-solo names C (suc fuel) turns made s xs = stood names (λ n m t ys. solo names C fuel n m t ys) turns made (step names C s) xs
+solo names C zero ticks made s xs = None
+solo names C (suc fuel) ticks made s xs = stood names (λ n m t ys. solo names C fuel n m t ys) ticks made (step names C s) xs
 
 -- at work in a body, at a place
 abbrev pub spot : {N M : Type 0} → ℕ → List (Level N M) → ℕ → List (Value N) → Frame N M → State N M

@@ -15,7 +15,7 @@ pub enum Instr {
     /// To another position of the body; and there where the value is false.
     Jump(usize),
     Unless(usize),
-    /// One turn of a while loop.
+    /// One tick of a while loop.
     Turn,
     /// A field, by its slot in the object; and a value into one.
     Get(u32),

@@ -1,4 +1,4 @@
--- A state of the machine does what a stretch of work does, where less than so many turns are possible.
+-- A state of the machine does what a stretch of work does, where less than so many ticks are possible.
 use Rattle.std.proofs.Common.{◌≡◌, ℕ, zero, suc, ◌+◌, ◌-◌, ◌*◌, ◌<◌, ◌≤◌, Bool, true, false, List, [], ◌∷◌, length, refl, sym, ap, ◌∙◌, subst, arith, Some, if◌then◌else◌, ◌==◌, lit<}
 use Rattle.std.proofs.lemmas.Bool.{eqb-false}
 use Rattle.lang_typed.specs.Plain.{PlainProgram}
@@ -7,10 +7,10 @@ use Rattle.lang_meaning.specs.Actions.{Task, Ending, Trapped, Rest, Action, Do, 
 use Rattle.lang_meaning.specs.Core.{Result, Prog, Ret, Traps, Act, Makes, Again, Split, on, each_from, Out, Done, Stopped, Lost, bind, World, loop, run}
 use Rattle.lang_meaning.specs.Core.{Out as out}
 use Rattle.lang_meaning.specs.Counts.{Brought, brought}
-use Rattle.lang_meaning.specs.Asking.{most_turns, Reported, take_answer, asked, begins_then, reported_join, reported, ending}
-use Rattle.lang_meaning.specs.Asking.{turned as turned_reported}
+use Rattle.lang_meaning.specs.Asking.{most_ticks, Reported, take_answer, asked, begins_then, reported_join, reported, ending}
+use Rattle.lang_meaning.specs.Asking.{ticked as ticked_reported}
 use Rattle.code_instrs.specs.Plain.{PlainCode}
-use Rattle.code_instrs.specs.Machine.{Start, State, Off, Goes, Turns, Waits, step, solo, stood, answered, turned}
+use Rattle.code_instrs.specs.Machine.{Start, State, Off, Goes, Ticks, Waits, step, solo, stood, answered, ticked}
 use Rattle.code_instrs.specs.Machine.{Stand as stand}
 use Rattle.code_scheme.specs.Compiled.{SameAct, SameReply}
 
@@ -21,13 +21,13 @@ after (out.Trapped trap p w) k = ending (Trapped trap p) w.since w.to_come
 after (Stopped n a) k = Next n a
 after (Lost w) k = Unknown
 
-pub most_pos : 0 < most_turns
-unfolding most_turns
+pub most_pos : 0 < most_ticks
+unfolding most_ticks
 most_pos = lit< tt
 
--- the turns that a task can make at most on these answers
+-- the ticks that a task can make at most on these answers
 abbrev pub room : {N M : Type 0} → Reported N M → ℕ
-room w = most_turns * length w.to_come + (most_turns - w.since)
+room w = most_ticks * length w.to_come + (most_ticks - w.since)
 
 bind_through : {N M V U T W : Type 0} (o : Out N M V W) (k : V → W → Out N M U W) (h : V → W → Out N M T W) (m : T → W → Out N M U W) →
     ((v : V) (w : W) → k v w ≡ bind (h v w) m) → bind o k ≡ bind (bind o h) m
@@ -43,7 +43,7 @@ run_on wd (Traps t p) k w = refl
 run_on wd (Act o j) k w = bind_through (wd.act o w) (λ x v. run wd (on (j x) k) v) (λ x v. run wd (j x) v) (λ f v. run wd (k f) v) (λ x v. run_on wd (j x) k v)
 run_on wd (Makes j) k w = bind_through (wd.make w) (λ x v. run wd (on (j x) k) v) (λ x v. run wd (j x) v) (λ f v. run wd (k f) v) (λ x v. run_on wd (j x) k v)
 run_on wd (Again t b f j) k w =
-    bind_through (loop wd.turn (λ g v. run wd (t g) v) (λ g v. run wd (b g) v) (wd.turns w) f w) (λ x v. run wd (on (j x) k) v) (λ x v. run wd (j x) v)
+    bind_through (loop wd.tick (λ g v. run wd (t g) v) (λ g v. run wd (b g) v) (wd.ticks w) f w) (λ x v. run wd (on (j x) k) v) (λ x v. run wd (j x) v)
     (λ f v. run wd (k f) v) (λ x v. run_on wd (j x) k v)
 run_on wd (Split nd ts bs j) k w =
     bind_through (wd.fork nd ts (each_from (λ i v. run wd (bs i) v) 0 ts) w) (λ x v. run wd (on (j x) k) v) (λ x v. run wd (j x) v) (λ f v. run wd (k f) v)
@@ -73,7 +73,7 @@ pub record Replies {N M : Type 0} (names : Naming N M) (C : PlainCode) (P : Plai
 
 pub record Does {N M : Type 0} (names : Naming N M) (C : PlainCode) (P : PlainProgram) (b : ℕ) (s : State N M) (h : Reported N M →
     Reply N M (Task N M)) : Type 0 where
-  pub from : (w : Reported N M) → w.since < most_turns → room w < b → Replies names C P w.since w.made s w.to_come (h w)
+  pub from : (w : Reported N M) → w.since < most_ticks → room w < b → Replies names C P w.since w.made s w.to_come (h w)
 
 -- what an action and its answers lead to
 record Answers {N M : Type 0} (names : Naming N M) (C : PlainCode) (P : PlainProgram) (n m : ℕ) (a : Action N M (Start N M)) (k : Answer N M →
@@ -83,18 +83,18 @@ record Answers {N M : Type 0} (names : Naming N M) (C : PlainCode) (P : PlainPro
   stands : answered (λ n m t ys. solo names C fuel n m t ys) n m a k xs ≡ Some reply
   same : SameReply C P r reply
 
-room_falls : {N M : Type 0} (b n : ℕ) (xs ys : List (Answer N M)) (x : Answer N M) → xs ≡ x ∷ ys → most_turns * length xs + (most_turns - n) < b →
-    most_turns * length ys + (most_turns - 0) < b
+room_falls : {N M : Type 0} (b n : ℕ) (xs ys : List (Answer N M)) (x : Answer N M) → xs ≡ x ∷ ys → most_ticks * length xs + (most_ticks - n) < b →
+    most_ticks * length ys + (most_ticks - 0) < b
 room_falls b n xs ys x e r =
     let l = ap length e in
-    let m : most_turns * length xs ≡ most_turns * length ys + most_turns = rw l (omega arith) in
+    let m : most_ticks * length xs ≡ most_ticks * length ys + most_ticks = rw l (omega arith) in
     omega arith
 
-record Ticks {N M : Type 0} (names : Naming N M) (C : PlainCode) (P : PlainProgram) (n m : ℕ) (s : State N M) (xs : List (Answer N M))
+record Ticking {N M : Type 0} (names : Naming N M) (C : PlainCode) (P : PlainProgram) (n m : ℕ) (s : State N M) (xs : List (Answer N M))
     (r : Reply N M (Task N M)) : Type 0 where
   fuel : ℕ
   reply : Reply N M (Start N M)
-  stands : turned (λ n m t ys. solo names C fuel n m t ys) n m s xs ≡ Some reply
+  stands : ticked (λ n m t ys. solo names C fuel n m t ys) n m s xs ≡ Some reply
   same : SameReply C P r reply
 
 module _ {N M : Type 0} {names : Naming N M} {C : PlainCode} {P : PlainProgram} where
@@ -146,23 +146,23 @@ module _ {N M : Type 0} {names : Naming N M} {C : PlainCode} {P : PlainProgram} 
         });
   }
 
-  -- a turn takes from the number of turns that are possible
+  -- a tick takes from the number of ticks that are possible
   ticks : {b : ℕ} {s : State N M} (m : Reported N M → Out N M (Result N M) (Reported N M)) (K : Result N M → Reported N M → Reply N M (Task N M)) →
-      Does names C P b s (λ w. after (m w) K) → (w : Reported N M) → w.since < most_turns → room w < suc b →
-      Ticks names C P w.since w.made s w.to_come (after (bind (turned_reported w) (λ u v. m v)) K)
-  ticks {b} {s} m K d w l r = go (suc w.since == most_turns) refl
+      Does names C P b s (λ w. after (m w) K) → (w : Reported N M) → w.since < most_ticks → room w < suc b →
+      Ticking names C P w.since w.made s w.to_come (after (bind (ticked_reported w) (λ u v. m v)) K)
+  ticks {b} {s} m K d w l r = go (suc w.since == most_ticks) refl
     where
       later : Reported N M
       later = record w { since = suc w.since }
 
-      room_rest : (xs ys : List (Answer N M)) (x : Answer N M) → xs ≡ x ∷ ys → most_turns * length xs + (most_turns - w.since) < suc b →
-          most_turns * length ys + (most_turns - 0) < b
+      room_rest : (xs ys : List (Answer N M)) (x : Answer N M) → xs ≡ x ∷ ys → most_ticks * length xs + (most_ticks - w.since) < suc b →
+          most_ticks * length ys + (most_ticks - 0) < b
       room_rest xs ys x z h =
           let i = ap length z in
-          let j : most_turns * length xs ≡ most_turns * length ys + most_turns = rw i (omega arith) in
+          let j : most_ticks * length xs ≡ most_ticks * length ys + most_ticks = rw i (omega arith) in
           omega arith
 
-      go : (t : Bool) → (suc w.since == most_turns) ≡ t → Ticks names C P w.since w.made s w.to_come (after (bind (turned_reported w) (λ u v. m v)) K)
+      go : (t : Bool) → (suc w.since == most_ticks) ≡ t → Ticking names C P w.since w.made s w.to_come (after (bind (ticked_reported w) (λ u v. m v)) K)
       go true q =
           let x = answers (record w { since = suc w.since }) (Do Rest) (Do Rest) (λ x. s) (λ a v. m v) K w.to_come refl
           (λ x ys z. d.from (record { since = 0; made = w.made; to_come = ys }) most_pos (room_rest w.to_come ys x z r)) in
@@ -178,8 +178,8 @@ module _ {N M : Type 0} {names : Naming N M} {C : PlainCode} {P : PlainProgram} 
                 bind_assoc (asked (Do Rest) (record w { since = suc w.since })) (λ a v. Done tt v) (λ u v. m v)))) x.same;
           }
       go false q =
-          let ne = eqb-false (suc w.since) most_turns q in
-          let lt : suc w.since < most_turns = grind arith in
+          let ne = eqb-false (suc w.since) most_ticks q in
+          let lt : suc w.since < most_ticks = grind arith in
           let x = d.from (record w { since = suc w.since }) lt (omega arith) in
           record {
             fuel = x.fuel;
@@ -192,9 +192,9 @@ module _ {N M : Type 0} {names : Naming N M} {C : PlainCode} {P : PlainProgram} 
                 (record w { since = suc w.since })) (λ u v. m v)) q))) x.same;
           }
 
-  pub does_turn : {b : ℕ} {s t : State N M} (m : Reported N M → Out N M (Result N M) (Reported N M)) (K : Result N M → Reported N M → Reply N M (Task N M)) →
-      step names C s ≡ Turns t → Does names C P b t (λ w. after (m w) K) → Does names C P (suc b) s (λ w. after (bind (turned_reported w) (λ u v. m v)) K)
-  does_turn {b} {s} {t} m K e d = record {
+  pub does_tick : {b : ℕ} {s t : State N M} (m : Reported N M → Out N M (Result N M) (Reported N M)) (K : Result N M → Reported N M → Reply N M (Task N M)) →
+      step names C s ≡ Ticks t → Does names C P b t (λ w. after (m w) K) → Does names C P (suc b) s (λ w. after (bind (ticked_reported w) (λ u v. m v)) K)
+  does_tick {b} {s} {t} m K e d = record {
     from = λ w l r. (let x = ticks m K d w l r in
         record {
           fuel = suc x.fuel;
@@ -217,7 +217,7 @@ module _ {N M : Type 0} {names : Naming N M} {C : PlainCode} {P : PlainProgram} 
           reply = x.reply;
           stands = ap (λ o. stood names (λ n m t ys. solo names C x.fuel n m t ys) w.since w.made o w.to_come) e ∙ x.stands;
           same = subst (λ y. SameReply C P y x.reply)
-              (sym (ap (λ o. after o K) (bind_assoc (turned_reported (record w { made = suc w.made })) (λ u v. Done (names.made w.made) v) q))) x.same;
+              (sym (ap (λ o. after o K) (bind_assoc (ticked_reported (record w { made = suc w.made })) (λ u v. Done (names.made w.made) v) q))) x.same;
         });
   }
 

@@ -9,19 +9,19 @@ use Rattle.lang_meaning.specs.Actions.{Frame, Task, Trapped, Own, Do, Fork, Begi
 use Rattle.lang_meaning.specs.Core.{Result, Goes_on, Returns, Prog, Ret, Traps, Act, Makes, Again, Split, next_of, and_then, Out, Done, bind, loop, tested, rounded, run}
 use Rattle.lang_meaning.specs.Counts.{truth, Brought, brought}
 use Rattle.lang_meaning.specs.Expressions.{gives}
-use Rattle.lang_meaning.specs.Asking.{Reported, asked, turned, begins_then, reported_join, reported}
+use Rattle.lang_meaning.specs.Asking.{Reported, asked, ticked, begins_then, reported_join, reported}
 use Rattle.code_instrs.specs.Plain.{PlainCode}
-use Rattle.code_instrs.specs.Machine.{Start, State, Off, Goes, Turns, Waits, trapped, step}
+use Rattle.code_instrs.specs.Machine.{Start, State, Off, Goes, Ticks, Waits, trapped, step}
 use Rattle.code_instrs.specs.Machine.{Stand as stand}
 use Rattle.code_scheme.specs.Compiled.{AllCompiled}
-use Rattle.code_scheme.proofs.Does.{after, room, after_assoc, bind_assoc, Replies, Does, does_same, does_less, does_on, does_step, does_act, does_turn, does_make, does_end, does_begins}
+use Rattle.code_scheme.proofs.Does.{after, room, after_assoc, bind_assoc, Replies, Does, does_same, does_less, does_on, does_step, does_act, does_tick, does_make, does_end, does_begins}
 
 -- a loop over what is reported
 abbrev pub again : {N M : Type 0} → Naming N M → (t b : Frame N M → Prog N M) → ℕ → Frame N M → Reported N M → Out N M (Result N M) (Reported N M)
-again names t b m f w = loop turned (λ g v. run (reported names) (t g) v) (λ g v. run (reported names) (b g) v) m f w
+again names t b m f w = loop ticked (λ g v. run (reported names) (t g) v) (λ g v. run (reported names) (b g) v) m f w
 
 abbrev pub past_test : {N M : Type 0} → Naming N M → (t b : Frame N M → Prog N M) → ℕ → Result N M → Reported N M → Out N M (Result N M) (Reported N M)
-past_test names t b m r w = tested turned (λ g v. run (reported names) (b g) v) (λ g u. again names t b m g u) r w
+past_test names t b m r w = tested ticked (λ g v. run (reported names) (b g) v) (λ g u. again names t b m g u) r w
 
 -- s: where it starts; B: where it goes on, with a value and a frame at this depth; G: where it has returned
 pub record Sim {N M : Type 0} (names : Naming N M) (C : PlainCode) (P : PlainProgram) (d : ℕ) (s : State N M) (B : Value N → Frame N M →
@@ -79,12 +79,12 @@ module _ {N M : Type 0} {names : Naming N M} {C : PlainCode} {P : PlainProgram} 
       step names C s ≡ stand.Makes k → ((r : M) → Sim names C P d (k r) B G (j r)) → Sim names C P d s B G (Makes j)
   sim_make {s} {B} {G} {k} {j} e x = record { does = λ b K h r. does_make (λ m v. run (reported names) (j m) v) K e (λ m. (x m).does b K h r) }
 
-  -- a loop. H: its head; T: after the test; L: after the turn; F: after the body
+  -- a loop. H: its head; T: after the test; L: after the tick; F: after the body
   module _ (H L : Frame N M → State N M) (T F B : Value N → Frame N M → State N M) (G : Value N → State N M) (t b : Frame N M →
       Prog N M) (ht : (f : Frame N M) → f.left ≡ d → Sim names C P d (H f) T G (t f)) (hb : (f : Frame N M) → f.left ≡ d →
       Sim names C P d (L f) F G (b f)) (M' : Frame N M → State N M) (leave : (v : Value N) (g : Frame N M) → truth v ≡ false →
       step names C (T v g) ≡ Goes (B v g)) (enter : (v : Value N) (g : Frame N M) → truth v ≡ true →
-      step names C (T v g) ≡ Goes (M' g)) (turn : (g : Frame N M) → step names C (M' g) ≡ Turns (L g)) (back : (v : Value N) (g : Frame N M) →
+      step names C (T v g) ≡ Goes (M' g)) (tick : (g : Frame N M) → step names C (M' g) ≡ Ticks (L g)) (back : (v : Value N) (g : Frame N M) →
       step names C (F v g) ≡ Goes (H g)) where
     at_test : (a m : ℕ) (K : Result N M → Reported N M → Reply N M (Task N M)) →
         ((i : Frame N M) → i.left ≡ d → Does names C P a (H i) (λ w. after (again names t b m i w) K)) →
@@ -95,7 +95,7 @@ module _ {N M : Type 0} {names : Naming N M} {C : PlainCode} {P : PlainProgram} 
         does_same (λ w. ap (λ x. after
         (elim x as (λ y. Out N M (Result N M) (Reported N M)) [
           | false ↦ Done (Goes_on v g) w
-          | true ↦ bind (turned w)
+          | true ↦ bind (ticked w)
               (λ u w'. bind (run (reported names) (b g) w') (λ r w''. rounded (again names t b m) r w''))
         ]) K) (sym e))
         (does_step (leave v g e) (h v g l))
@@ -103,11 +103,11 @@ module _ {N M : Type 0} {names : Naming N M} {C : PlainCode} {P : PlainProgram} 
         does_same (λ w. ap (λ x. after
         (elim x as (λ y. Out N M (Result N M) (Reported N M)) [
           | false ↦ Done (Goes_on v g) w
-          | true ↦ bind (turned w)
+          | true ↦ bind (ticked w)
               (λ u w'. bind (run (reported names) (b g) w') (λ r w''. rounded (again names t b m) r w''))
         ]) K) (sym e))
         (does_step (enter v g e)
-        (does_turn (λ v. bind (run (reported names) (b g) v) (λ r v. rounded (again names t b m) r v)) K (turn g)
+        (does_tick (λ v. bind (run (reported names) (b g) v) (λ r v. rounded (again names t b m) r v)) K (tick g)
         (does_same (λ w. sym (after_assoc (run (reported names) (b g) w) (λ r v. rounded (again names t b m) r v) K))
         ((hb g l).does a (λ r v. after (rounded (again names t b m) r v) K) (λ v i y. does_step (back v i) (more i y))
         (λ j. does_less (omega arith) (r j))))))

@@ -10,9 +10,9 @@ use Rattle.lang_meaning.specs.Core.{Out as out}
 use Rattle.lang_meaning.specs.Counts.{assigned}
 use Rattle.lang_meaning.specs.Expressions.{Deeper, none}
 use Rattle.lang_meaning.specs.Statements.{begun, of_stmts}
-use Rattle.lang_meaning.specs.Asking.{meaning, most_turns, Reported, ended, ending, replied, ask}
+use Rattle.lang_meaning.specs.Asking.{meaning, most_ticks, Reported, ended, ending, replied, ask}
 use Rattle.code_instrs.specs.Plain.{PlainCode, body_at}
-use Rattle.code_instrs.specs.Machine.{State, Off, Start, Stand, Goes, Turns, Makes, Waits, Ends, Stuck, Solos, answered, turned, stood, step, solo, spot, begins_at, Solo}
+use Rattle.code_instrs.specs.Machine.{State, Off, Start, Stand, Goes, Ticks, Makes, Waits, Ends, Stuck, Solos, answered, ticked, stood, step, solo, spot, begins_at, Solo}
 use Rattle.code_scheme.specs.Scheme.{closes, after_stmts}
 use Rattle.code_scheme.specs.Stands.{MemberEnds, EndsAt, StmtsAt, BodyIs, first_place, BeginsAt, LaidOut}
 use Rattle.code_scheme.specs.Compiled.{Compiled, SameReply, Right}
@@ -111,9 +111,9 @@ module _ {N M : Type 0} (names : Naming N M) where
   same_answered A B h n m a k [] r q e f = cc
   same_answered A B h n m a k (x ∷ xs) r q e f = h 0 m (k x) xs r q e f
 
-  same_turned : (A B : Solos N M) → Same A B → (n m : ℕ) (s : State N M) (xs : List (Answer N M)) (r q : Reply N M (Start N M)) → turned A n m s xs ≡ Some r →
-      turned B n m s xs ≡ Some q → r ≡ q
-  same_turned A B h n m s xs r q e f = go (suc n == most_turns) e f
+  same_ticked : (A B : Solos N M) → Same A B → (n m : ℕ) (s : State N M) (xs : List (Answer N M)) (r q : Reply N M (Start N M)) → ticked A n m s xs ≡ Some r →
+      ticked B n m s xs ≡ Some q → r ≡ q
+  same_ticked A B h n m s xs r q e f = go (suc n == most_ticks) e f
     where
       go : (t : Bool) → (if t then answered A (suc n) m (Do Rest) (λ x. s) xs else A (suc n) m s xs) ≡ Some r →
           (if t then answered B (suc n) m (Do Rest) (λ x. s) xs else B (suc n) m s xs) ≡ Some q → r ≡ q
@@ -123,8 +123,8 @@ module _ {N M : Type 0} (names : Naming N M) where
   same_stood : (A B : Solos N M) → Same A B → (n m : ℕ) (o : Stand N M) (xs : List (Answer N M)) (r q : Reply N M (Start N M)) →
       stood names A n m o xs ≡ Some r → stood names B n m o xs ≡ Some q → r ≡ q
   same_stood A B h n m (Goes s) xs r q e f = h n m s xs r q e f
-  same_stood A B h n m (Turns s) xs r q e f = same_turned A B h n m s xs r q e f
-  same_stood A B h n m (Makes k) xs r q e f = same_turned A B h n (suc m) (k (names.made m)) xs r q e f
+  same_stood A B h n m (Ticks s) xs r q e f = same_ticked A B h n m s xs r q e f
+  same_stood A B h n m (Makes k) xs r q e f = same_ticked A B h n (suc m) (k (names.made m)) xs r q e f
   same_stood A B h n m (Waits a k) xs r q e f = same_answered A B h n m a k xs r q e f
   same_stood A B h n m (Ends x) [] r q e f = cc
   same_stood A B h n m (Ends x) (y ∷ ys) r q e f = cc

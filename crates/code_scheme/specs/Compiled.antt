@@ -29,7 +29,7 @@ SameAct C P (Begin b) a = a ≡ Begin b
 SameAct C P Join a = a ≡ Join
 SameAct C P (End e) a = a ≡ End e
 
--- the same action after as many turns; or both are over. Something is known
+-- the same action after as many ticks; or both are over. Something is known
 abbrev pub SameReply : {N M : Type 0} → PlainCode → PlainProgram → Reply N M (Task N M) → Reply N M (Start N M) → Type 0
 SameReply {N} {M} C P (Next n a) r = (b : Action N M (Start N M)) × (r ≡ Next n b) × SameAct C P a b
 SameReply C P Over r = r ≡ Over

@@ -12,7 +12,7 @@ use Rattle.code_instrs.specs.Machine.{Start, State, begins_at, Solo}
 use Rattle.code_scheme.specs.Whole.{number_in, compiled}
 use Rattle.code_scheme.specs.Compiled.{Compiled, SameReply, Right}
 
--- of each task whose start is compiled, whatever it is answered, the solo run stands at the action, after as many turns, that
+-- of each task whose start is compiled, whatever it is answered, the solo run stands at the action, after as many ticks, that
 -- the meaning asks, or is over exactly where that is; and the starts of its branches are compiled again
 abbrev pub CodeIsRight : Type 0 → Type 0 → Type 0
 CodeIsRight N M =

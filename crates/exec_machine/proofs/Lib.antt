@@ -1,5 +1,5 @@
 pub mod Delivering
-pub mod Stretches
+pub mod Bursts
 pub mod Maps
 pub mod Acting
 pub mod Tasks

@@ -40,8 +40,8 @@ next_in C r m e s h there at =
     let stands : StandsForOne C e.task (Some s) (Some live.0) =
     subst (λ o. StandsForOne C e.task o (Some live.0)) there (subst (λ o. StandsForOne C e.task (get r.slots e.task) o) live.1 (h.keeps.stand e.task)) in
     let way : OnItsWay C e.task s.task live.0 = subst (λ o. StandsWith C e.task s.task o live.0) at.stands.given stands in
-    let here : front_of C s.task ≡ front C e.task e.turns s.task.made (state_of s.task) =
-    ap (λ n. front C n s.task.turns s.task.made (state_of s.task)) way.number ∙ ap (λ n. front C e.task n s.task.made (state_of s.task)) (sym at.turns) in
+    let here : front_of C s.task ≡ front C e.task e.ticks s.task.made (state_of s.task) =
+    ap (λ n. front C n s.task.ticks s.task.made (state_of s.task)) way.number ∙ ap (λ n. front C e.task n s.task.made (state_of s.task)) (sym at.ticks) in
     record {
       next = record {
         unfinished = h.unfinished;
@@ -54,24 +54,24 @@ next_in C r m e s h there at =
           run_to_action = subst (λ f. RunsToAction (names_of e.task) C live.0.made live.0.state f) here (way.way (front_of C s.task) at.stands.halts);
           tells = subst (λ f. Tells C e.action f) here at.stands.tells;
           number = refl;
-          wants = subst (λ n. WantsRightly C (state_of s.task) n e.action e.wants) (sym at.turns) at.wants;
+          wants = subst (λ n. WantsRightly C (state_of s.task) n e.action e.wants) (sym at.ticks) at.wants;
         };
       };
       number = way.number;
       state = refl;
       made = refl;
-      turns = at.turns;
+      ticks = at.ticks;
     }
 
 -- it stands for what comes of its answer
 answered_one : (C : PlainCode) (k : ℕ) (s : Slot) (x : Answer) (o : Option Running) → s.task.number ≡ k → IsCounted x
-    → answered (front C k s.task.turns s.task.made (state_of s.task)) x ≡ o → (t : Running) → o ≡ Some t
+    → answered (front C k s.task.ticks s.task.made (state_of s.task)) x ≡ o → (t : Running) → o ≡ Some t
     → StandsForOne C k (Some (record { task = s.task; pending = Some x })) o
 answered_one C k s x o number counted is t some =
     subst (StandsForOne C k (Some (record { task = s.task; pending = Some x }))) (sym some)
     (record {
       number = number;
-      goes_on = ap (λ n. answered (front C n s.task.turns s.task.made (state_of s.task)) x) number ∙ is ∙ some;
+      goes_on = ap (λ n. answered (front C n s.task.ticks s.task.made (state_of s.task)) x) number ∙ is ∙ some;
       counted = counted;
     })
 
@@ -105,20 +105,20 @@ module _ (code : Code) (L : Limits) (old new : Run) (m : Moment) (e : Event) whe
 
   -- the halt that is answered is that of the task as it is kept
   halt_is : (s : Slot) (x : NextIn (plain_code code) m e s)
-      → front (plain_code code) e.task s.task.turns s.task.made (state_of s.task) ≡ front (plain_code code) e.task e.turns x.next.stands.made x.next.stands.state
+      → front (plain_code code) e.task s.task.ticks s.task.made (state_of s.task) ≡ front (plain_code code) e.task e.ticks x.next.stands.made x.next.stands.state
   halt_is s x =
-      ap (λ n. front (plain_code code) e.task n s.task.made (state_of s.task)) (sym x.turns)
-      ∙ ap (λ n. front (plain_code code) e.task e.turns n (state_of s.task)) (sym x.made)
-      ∙ ap (front (plain_code code) e.task e.turns x.next.stands.made) (sym x.state)
+      ap (λ n. front (plain_code code) e.task n s.task.made (state_of s.task)) (sym x.ticks)
+      ∙ ap (λ n. front (plain_code code) e.task e.ticks n (state_of s.task)) (sym x.made)
+      ∙ ap (front (plain_code code) e.task e.ticks x.next.stands.made) (sym x.state)
 
   -- the slot with the answer stands for the task that goes on
   answered_here : (s : Slot) → Keeps (plain_code code) old m → (x : NextIn (plain_code code) m e s) → Fits old.world e
       → ((y : Ending) → e.action ≡ action.End y → ⊥)
       → ((h : Halt ℕ (ℕ × ℕ)) (a : Answer) → goes_on e.action h a ≡ answered h a)
       → StandsForOne (plain_code code) e.task (Some (record { task = s.task; pending = Some (answer_to old.world e) }))
-      (goes_on e.action (front (plain_code code) e.task e.turns x.next.stands.made x.next.stands.state) (answer_to m.world e))
+      (goes_on e.action (front (plain_code code) e.task e.ticks x.next.stands.made x.next.stands.state) (answer_to m.world e))
   answered_here s keeps x fits no_end on =
-      let h : Halt ℕ (ℕ × ℕ) = front (plain_code code) e.task e.turns x.next.stands.made x.next.stands.state in
+      let h : Halt ℕ (ℕ × ℕ) = front (plain_code code) e.task e.ticks x.next.stands.made x.next.stands.state in
       let further = goes_further (plain_code code) e.action h (answer_to m.world e) no_end x.next.stands.tells in
       answered_one (plain_code code) e.task s (answer_to old.world e) (goes_on e.action h (answer_to m.world e)) x.number
       (counted old.world e.task e.wants e.action fits)
@@ -140,10 +140,10 @@ module _ (code : Code) (L : Limits) (old new : Run) (m : Moment) (e : Event) whe
         outcome = ap (λ r. r.outcome) is ∙ h.keeps.outcome ∙ h.unfinished ∙ sym (ord.out m.world (world_after code m.world e) e.task);
         stand = subst (λ slots. AllStand (plain_code code) slots n.tasks) (sym (ap (λ r. r.slots) is))
             (subst (λ tasks. AllStand (plain_code code) (with_answer old.slots e.task s (answer_to old.world e)) (with_task tasks e.task
-            (goes_on e.action (front (plain_code code) e.task e.turns x.next.stands.made x.next.stands.state) (answer_to m.world e))))
+            (goes_on e.action (front (plain_code code) e.task e.ticks x.next.stands.made x.next.stands.state) (answer_to m.world e))))
             (sym (ord.branch (plain_code code) x.next.stands.state m.world.tree.begun m.tasks))
             (stand_put (plain_code code) old.slots m.tasks e.task (record { task = s.task; pending = Some (answer_to old.world e) })
-            (goes_on e.action (front (plain_code code) e.task e.turns x.next.stands.made x.next.stands.state) (answer_to m.world e)) h.keeps.stand
+            (goes_on e.action (front (plain_code code) e.task e.ticks x.next.stands.made x.next.stands.state) (answer_to m.world e)) h.keeps.stand
             (answered_here s h.keeps x fits ord.no_end ord.on)));
       }) (answer_kept old.slots s old.outcome h.keeps is)
 
@@ -163,7 +163,7 @@ module _ (code : Code) (L : Limits) (old new : Run) (m : Moment) (e : Event) whe
         outcome = ap (λ r. r.outcome) is ∙ ap (λ w. outcome_after w (world_after code w e) e.task e.action) h.keeps.world;
         stand = subst (λ slots. AllStand (plain_code code) slots n.tasks) (sym (ap (λ r. r.slots) is))
             (subst (λ a. AllStand (plain_code code) (remove old.slots e.task) (with_task (with_branch (plain_code code) x.next.stands.state a m.world.tree.begun m.tasks)
-            e.task (goes_on a (front (plain_code code) e.task e.turns x.next.stands.made x.next.stands.state) (answer_to m.world e)))) (sym act)
+            e.task (goes_on a (front (plain_code code) e.task e.ticks x.next.stands.made x.next.stands.state) (answer_to m.world e)))) (sym act)
             (stand_taken (plain_code code) old.slots m.tasks e.task h.keeps.stand));
       })
       (ap (λ (r : Run). answer_in (get r.slots e.task)) is ∙ ap answer_in (gone old.slots e.task) ∙ sym (ap (λ a. answer_at m.world e.task a) act))
@@ -174,7 +174,7 @@ module _ (code : Code) (L : Limits) (old new : Run) (m : Moment) (e : Event) whe
       → (after code m e x.next.stands.state x.next.stands.made).tasks m.world.tree.begun ≡ Some (at_start (plain_start start))
   child_there s b start x act starts apart =
       beside (with_branch (plain_code code) x.next.stands.state e.action m.world.tree.begun m.tasks) e.task
-      (goes_on e.action (front (plain_code code) e.task e.turns x.next.stands.made x.next.stands.state) (answer_to m.world e)) m.world.tree.begun (λ same. apart (sym same))
+      (goes_on e.action (front (plain_code code) e.task e.ticks x.next.stands.made x.next.stands.state) (answer_to m.world e)) m.world.tree.begun (λ same. apart (sym same))
       ∙ ap (λ a. with_branch (plain_code code) x.next.stands.state a m.world.tree.begun m.tasks m.world.tree.begun) act
       ∙ ap (λ o. with_task m.tasks m.world.tree.begun (begun o) m.world.tree.begun) starts
       ∙ placed m.tasks m.world.tree.begun (Some (at_start (plain_start start)))
@@ -196,7 +196,7 @@ module _ (code : Code) (L : Limits) (old new : Run) (m : Moment) (e : Event) whe
   began s child b start can x fits act inside starts apart first (made_so within is) =
       let C : PlainCode = plain_code code in
       let keeps : Keeps C old m = can.has_next.keeps in
-      let h : Halt ℕ (ℕ × ℕ) = front C e.task e.turns x.next.stands.made x.next.stands.state in
+      let h : Halt ℕ (ℕ × ℕ) = front C e.task e.ticks x.next.stands.made x.next.stands.state in
       let next_is : old.world.tree.begun ≡ m.world.tree.begun = ap (λ (w : World). w.tree.begun) keeps.world in
       let apart_too : e.task ≢ m.world.tree.begun = subst (λ q. e.task ≢ q) next_is apart in
       let starts_too : slice_get (starts_at C x.next.stands.state) b ≡ Some (plain_start start) =

@@ -45,9 +45,9 @@ pub record CanStep (code : Code) (L : Limits) (r : Run) (m : Moment) (k : ℕ) :
 
 -- a task that is kept stands at this event
 pub record IsAt (C : PlainCode) (e : Event) (s : Slot) : Type 0 where
-  pub turns : e.turns ≡ s.task.turns
+  pub ticks : e.ticks ≡ s.task.ticks
   pub stands : StandsAt C e.action s
-  pub wants : WantsRightly C (state_of s.task) s.task.turns e.action e.wants
+  pub wants : WantsRightly C (state_of s.task) s.task.ticks e.action e.wants
 
 -- a run with other tasks
 abbrev pub with_slots : Run → FinMap nat_cmp Slot → Run

@@ -1,5 +1,5 @@
 pub mod Running
-pub mod Stretches
+pub mod Bursts
 pub mod Wants
 pub mod Replay
 pub mod Premise

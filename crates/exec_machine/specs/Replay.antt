@@ -38,10 +38,10 @@ pub record Moment : Type 0 where
 pub record Standing (C : PlainCode) (k : ℕ) (t : Running) (e : Event) : Type 0 where
   pub state : State ℕ (ℕ × ℕ)
   pub made : ℕ
-  pub run_to_action : RunsToAction (names_of k) C t.made t.state (front C k e.turns made state)
-  pub tells : Tells C e.action (front C k e.turns made state)
+  pub run_to_action : RunsToAction (names_of k) C t.made t.state (front C k e.ticks made state)
+  pub tells : Tells C e.action (front C k e.ticks made state)
   pub number : e.task ≡ k
-  pub wants : WantsRightly C state e.turns e.action e.wants
+  pub wants : WantsRightly C state e.ticks e.action e.wants
 
 -- tasks with one in the place of what was there
 abbrev pub with_task : (ℕ → Option Running) → ℕ → Option Running → ℕ → Option Running
@@ -112,7 +112,7 @@ abbrev pub after : Code → Moment → (e : Event) → State ℕ (ℕ × ℕ) �
 after code m e z made = record {
   world = world_after code m.world e;
   tasks = with_task (with_branch (plain_code code) z e.action m.world.tree.begun m.tasks) e.task
-      (goes_on e.action (front (plain_code code) e.task e.turns made z) (answer_to m.world e));
+      (goes_on e.action (front (plain_code code) e.task e.ticks made z) (answer_to m.world e));
   outcome = outcome_after m.world (world_after code m.world e) e.task e.action;
 }
 

@@ -3,7 +3,7 @@ use Rattle.std.specs.Prelude.{◌≡◌, ◌<◌, ◌+◌, ◌^◌, ℕ, ◌==�
 use Rattle.std.specs.Ordering.{nat_cmp}
 use Rattle.std.specs.FinMap.{FinMap, get}
 use Rattle.lang_meaning.specs.Actions.{Do, Rest}
-use Rattle.lang_meaning.specs.Asking.{most_turns}
+use Rattle.lang_meaning.specs.Asking.{most_ticks}
 use Rattle.code_instrs.specs.RunsToActions.{Halt, Asks, Finished, Dead, RunsToAction}
 use Rattle.code_instrs.specs.Machine.{State, Start, begins_at, step}
 use Rattle.code_instrs.specs.Plain.{PlainCode}
@@ -25,14 +25,14 @@ pub record Running : Type 0 where
 abbrev pub at_start : Start ℕ (ℕ × ℕ) → Running
 at_start b = record { state = begins_at b; made = 0 }
 
--- where a task of this number stands on its way to its next action, that has made so many turns and local regions
+-- where a task of this number stands on its way to its next action, that has made so many ticks and local regions
 abbrev pub front : PlainCode → ℕ → ℕ → ℕ → State ℕ (ℕ × ℕ) → Halt ℕ (ℕ × ℕ)
-front C k turns made z = if turns == most_turns then Asks turns made (Do Rest) (λ x. z) else stands turns made (step (names_of k) C z)
+front C k ticks made z = if ticks == most_ticks then Asks ticks made (Do Rest) (λ x. z) else stands ticks made (step (names_of k) C z)
 
 -- how a task goes on that is answered where it stands
 abbrev pub answered : Halt ℕ (ℕ × ℕ) → Answer → Option Running
-answered (Asks turns made a k) x = Some (record { state = k (plain_answer x); made = made })
-answered (Finished turns e) x = None
+answered (Asks ticks made a k) x = Some (record { state = k (plain_answer x); made = made })
+answered (Finished ticks e) x = None
 answered Dead x = None
 
 -- it comes to a next action, and isn't stuck; and there are names for the local regions that it makes

@@ -30,7 +30,7 @@ pub record NextIn (C : PlainCode) (m : Moment) (e : Event) (s : Slot) : Type 0 w
   pub number : s.task.number ≡ e.task
   pub state : next.stands.state ≡ state_of s.task
   pub made : next.stands.made ≡ s.task.made
-  pub turns : e.turns ≡ s.task.turns
+  pub ticks : e.ticks ≡ s.task.ticks
 
 -- the moment at which a limit has finished the run
 abbrev pub at_limit : Limits → Moment → Moment

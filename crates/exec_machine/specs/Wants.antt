@@ -7,7 +7,7 @@ use Rattle.lang_base.specs.declared.elems.Index.TheVariants as index
 use Rattle.lang_base.specs.declared.region.Head.TheVariants.{Root}
 use Rattle.lang_meaning.specs.Values.{Part, Region_name, Number, Local, Own_index, Any_index, Any_parts}
 use Rattle.lang_meaning.specs.Actions.{Effect as EffectOf}
-use Rattle.lang_meaning.specs.Asking.{most_turns}
+use Rattle.lang_meaning.specs.Asking.{most_ticks}
 use Rattle.lang_meaning.specs.Regions.{around, concrete_effect}
 use Rattle.code_instrs.specs.declared.instr.Instr.{Instr}
 use Rattle.code_instrs.specs.declared.instr.Instr.TheVariants as i
@@ -53,12 +53,12 @@ noted_part Any_parts = elem.Star
 abbrev pub noted : EffectOf (ℕ × ℕ) → Effect
 noted e = record { access = e.access; atomic = false; rpl = record { head = Root; elems = map noted_part e.region } }
 
--- what a task wants that rests here after so many turns. After the last turn that may be made without an event it rests once
+-- what a task wants that rests here after so many ticks. After the last tick that may be made without an event it rests once
 -- more in front of an entry, and wants nothing yet
 abbrev pub wanted_after : PlainCode → ℕ → State ℕ (ℕ × ℕ) → Option (List (EffectOf (ℕ × ℕ)))
-wanted_after C turns z = if turns == most_turns then None else wants_at C z
+wanted_after C ticks z = if ticks == most_ticks then None else wants_at C z
 
 -- a task that rests has noted what it wants
 abbrev pub WantsRightly : PlainCode → State ℕ (ℕ × ℕ) → ℕ → Action → Option (List Effect) → Type 0
-WantsRightly C z turns (action.Do own.Rest) wants = wants ≡ option_map (map noted) (wanted_after C turns z)
-WantsRightly C z turns a wants = Unit {0}
+WantsRightly C z ticks (action.Do own.Rest) wants = wants ≡ option_map (map noted) (wanted_after C ticks z)
+WantsRightly C z ticks a wants = Unit {0}

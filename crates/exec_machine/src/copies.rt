@@ -11,7 +11,7 @@ pub fn copied(alloc: Global, event: &Event) -> Result<Event, NoMemory>
 {
     Ok(Event {
         task: event.task,
-        turns: event.turns,
+        ticks: event.ticks,
         action: copied_action(alloc, &event.action)?,
         wants: copied_wants(alloc, &event.wants)?,
     })

@@ -372,14 +372,14 @@ fn event_of(
     action: Action,
 ) -> Result<Event, NoMemory>
     ensures task { IfOk result (λ event. event.task ≡ number) }
-    ensures turns { IfOk result (λ event. event.turns ≡ task.now.turns) }
+    ensures ticks { IfOk result (λ event. event.ticks ≡ task.now.ticks) }
     ensures action { IfOk result (λ event. event.action ≡ action) }
-    ensures wants { IfOk result (λ event. WantsRightly (plain_code code.now) (state_of task.now) task.now.turns action event.wants) }
+    ensures wants { IfOk result (λ event. WantsRightly (plain_code code.now) (state_of task.now) task.now.ticks action event.wants) }
 {
     let wants = wants_at(alloc, code, task, &action)?;
     Ok(Event {
         task: number,
-        turns: task.turns,
+        ticks: task.ticks,
         action,
         wants,
     })

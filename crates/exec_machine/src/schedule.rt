@@ -1,6 +1,6 @@
 ghost use Rattle.std.specs.Prelude.{◌≡◌, ◌+◌, ◌∷◌, ◌++◌, [], fold, length, max, replicate, IfOk, OnOk, OnErr, MatchOption};
 ghost use Rattle.std.specs.List.{flat_map};
-ghost use Rattle.exec_machine.specs.Stretches.{IsFilled};
+ghost use Rattle.exec_machine.specs.Bursts.{IsFilled};
 
 use lang_base::{Items, NoMemory};
 use std::alloc::Global;
@@ -8,28 +8,28 @@ use std::marker::Model;
 
 /// A task, so many times in a row.
 #[derive(Clone, Copy, Debug, PartialEq, Eq)]
-struct Stretch {
+struct Burst {
     task: u32,
     many: u32,
 }
 
-impl Stretch {
-    /// The stretch with a task after it, where it can have it.
-    fn followed_by(self, task: u32) -> Option<Stretch>
+impl Burst {
+    /// The burst with a task after it, where it can have it.
+    fn followed_by(self, task: u32) -> Option<Burst>
         ensures { MatchOption result (IsFilled self) (λ more. replicate more.many more.task ≡ replicate self.many self.task ++ task ∷ []) }
     {
         if self.many == 0 {
-            return Some(Stretch { task, many: 1 });
+            return Some(Burst { task, many: 1 });
         }
         if self.task != task {
             return None;
         }
         let many = self.many.checked_add(1)?;
-        Some(Stretch { task, many })
+        Some(Burst { task, many })
     }
 
     /// How many tasks there are up to the greatest of so many and this one.
-    #[tactic(auto, using(crate::proofs::Stretches::up_to_stretch))]
+    #[tactic(auto, using(crate::proofs::Bursts::up_to_burst))]
     fn tasks_with(self, tasks: u64) -> u64
         ensures { result ≡ fold (λ most task. max most (task + 1)) tasks (replicate self.many self.task) }
     {
@@ -40,32 +40,32 @@ impl Stretch {
         }
     }
 
-    /// The stretch without its last event.
-    fn shorter(self) -> Stretch
+    /// The burst without its last event.
+    fn shorter(self) -> Burst
         requires { IsFilled self }
         ensures { replicate self.many self.task ≡ replicate result.many result.task ++ self.task ∷ [] }
     {
-        Stretch {
+        Burst {
             task: self.task,
             many: self.many - 1,
         }
     }
 }
 
-/// The tasks of events, in their order. A contract sees the list; it takes memory for each stretch of events of one task.
+/// The tasks of events, in their order. A contract sees the list; it takes memory for each burst of events of one task.
 #[derive(Debug, Drop)]
 pub struct Schedule {
-    /// The stretches before the last.
-    closed: Items<Stretch>,
+    /// The bursts before the last.
+    closed: Items<Burst>,
     /// The last one, which has no event where there are none.
-    open: Stretch,
+    open: Burst,
     len: usize,
 }
 
 impl Model for Schedule {
     ghost use Rattle.std.specs.Prelude.{◌≡◌, ℕ, List, All, length};
     ghost use Rattle.std.specs.List.{flat_map};
-    ghost use Rattle.exec_machine.specs.Stretches.{IsFilled, tasks_in};
+    ghost use Rattle.exec_machine.specs.Bursts.{IsFilled, tasks_in};
 
     ghost Value = { List ℕ };
 
@@ -81,7 +81,7 @@ impl Schedule {
     {
         Schedule {
             closed: Items::new(alloc),
-            open: Stretch { task: 0, many: 0 },
+            open: Burst { task: 0, many: 0 },
             len: 0,
         }
     }
@@ -94,7 +94,7 @@ impl Schedule {
     }
 
     /// How many tasks there are up to the greatest.
-    #[tactic(auto, using(crate::proofs::Stretches::one_by_one))]
+    #[tactic(auto, using(crate::proofs::Bursts::one_by_one))]
     pub fn tasks(&self) -> u64
         ensures { result ≡ fold (λ most task. max most (task + 1)) 0 self.now }
     {
@@ -113,7 +113,7 @@ impl Schedule {
             Some(more) => self.open = more,
             None => {
                 self.closed.push(self.open)?;
-                self.open = Stretch { task, many: 1 };
+                self.open = Burst { task, many: 1 };
             }
         }
         self.len = len;
@@ -144,34 +144,34 @@ impl Schedule {
     }
 }
 
-/// How many tasks there are up to the greatest of stretches.
-#[tactic(auto, using(crate::proofs::Stretches::one_by_one))]
-fn tasks_up_to(stretches: &[Stretch]) -> u64
-    ensures { result ≡ fold (λ most task. max most (task + 1)) 0 (flat_map (λ s. replicate s.many s.task) stretches.now) }
+/// How many tasks there are up to the greatest of bursts.
+#[tactic(auto, using(crate::proofs::Bursts::one_by_one))]
+fn tasks_up_to(bursts: &[Burst]) -> u64
+    ensures { result ≡ fold (λ most task. max most (task + 1)) 0 (flat_map (λ s. replicate s.many s.task) bursts.now) }
 {
     let mut most = 0;
-    for stretch in stretches {
-        most = stretch.tasks_with(most);
+    for burst in bursts {
+        most = burst.tasks_with(most);
     }
     most
 }
 
-/// The tasks of stretches, one by one.
-fn tasks_of(alloc: Global, stretches: &[Stretch]) -> Result<Items<u32>, NoMemory>
-    ensures { IfOk result (λ tasks. tasks ≡ flat_map (λ s. replicate s.many s.task) stretches.now) }
+/// The tasks of bursts, one by one.
+fn tasks_of(alloc: Global, bursts: &[Burst]) -> Result<Items<u32>, NoMemory>
+    ensures { IfOk result (λ tasks. tasks ≡ flat_map (λ s. replicate s.many s.task) bursts.now) }
 {
     let mut tasks = Items::new(alloc);
-    for stretch in stretches {
-        repeat(&mut tasks, *stretch)?;
+    for burst in bursts {
+        repeat(&mut tasks, *burst)?;
     }
     Ok(tasks)
 }
 
-fn repeat(tasks: &mut Items<u32>, stretch: Stretch) -> Result<(), NoMemory>
-    ensures { OnOk result (tasks.new ≡ tasks.old ++ replicate stretch.many stretch.task) }
+fn repeat(tasks: &mut Items<u32>, burst: Burst) -> Result<(), NoMemory>
+    ensures { OnOk result (tasks.new ≡ tasks.old ++ replicate burst.many burst.task) }
 {
-    for _turn in 0..stretch.many {
-        tasks.push(stretch.task)?;
+    for _turn in 0..burst.many {
+        tasks.push(burst.task)?;
     }
     Ok(())
 }

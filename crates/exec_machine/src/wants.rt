@@ -4,7 +4,7 @@ ghost use Rattle.exec_task.specs.Names.{names_of, plain_effect, plain_part};
 ghost use Rattle.exec_task.specs.Tasks.{plain_frame, state_of};
 ghost use Rattle.code_instrs.specs.Machine.{Level};
 ghost use Rattle.code_instrs.specs.Plain.{plain_code, body_at};
-ghost use Rattle.lang_meaning.specs.Asking.{most_turns};
+ghost use Rattle.lang_meaning.specs.Asking.{most_ticks};
 ghost use Rattle.lang_meaning.specs.Regions.{around, concrete_effect};
 ghost use Rattle.exec_machine.specs.Wants.{WantsRightly, wants_at, wanted_after, effects_of, entry_of, entry_by, noted, noted_part};
 
@@ -44,7 +44,7 @@ pub fn wants_at(
     task: &Task,
     action: &Action,
 ) -> Result<Option<Items<Effect>>, NoMemory>
-    ensures { IfOk result (λ wants. WantsRightly (plain_code code.now) (state_of task.now) task.now.turns action.now wants) }
+    ensures { IfOk result (λ wants. WantsRightly (plain_code code.now) (state_of task.now) task.now.ticks action.now wants) }
 {
     match action {
         Action::Do(Own::Rest) => wants_of(alloc, code, task),
@@ -52,9 +52,9 @@ pub fn wants_at(
     }
 }
 
-/// The effects of the entry in front of which a task stands, if it does and hasn't made its last turn without an event.
+/// The effects of the entry in front of which a task stands, if it does and hasn't made its last tick without an event.
 fn wants_of(alloc: Global, code: &Code, task: &Task) -> Result<Option<Items<Effect>>, NoMemory>
-    ensures { IfOk result (λ wants. wants ≡ option_map (map noted) (wanted_after (plain_code code.now) task.now.turns (state_of task.now))) }
+    ensures { IfOk result (λ wants. wants ≡ option_map (map noted) (wanted_after (plain_code code.now) task.now.ticks (state_of task.now))) }
 {
     if is_spent(task) {
         return Ok(None);
@@ -69,11 +69,11 @@ fn wants_of(alloc: Global, code: &Code, task: &Task) -> Result<Option<Items<Effe
     Ok(Some(effects_of(alloc, &level.frame, accesses)?))
 }
 
-/// Whether a task has made all turns that it may make without an event.
+/// Whether a task has made all ticks that it may make without an event.
 fn is_spent(task: &Task) -> bool
-    ensures { result ≡ (task.now.turns == most_turns) }
+    ensures { result ≡ (task.now.ticks == most_ticks) }
 {
-    task.turns == 4096
+    task.ticks == 4096
 }
 
 /// The effects of accesses in a frame, as they are noted.

@@ -147,9 +147,9 @@ module _ (code : Code) (L : Limits) (few : L.steps ≤ 20000000) (Good : Start �
     goes : answered h x ≡ Some task
     known : Known k steps task
 
-  answered_known : (k steps : ℕ) (t : Running) (turns regions : ℕ) (a : Action) → ((c : meaning.Ending ℕ) → Says C a (End c) → ⊥) → Known k steps t →
-      (h : Halt ℕ (ℕ × ℕ)) → RunsToAction (names_of k) C t.made t.state h → TellsCounts turns regions h → Tells C a h → (x : Answer) → Answered k (steps + turns) h x
-  answered_known k steps t turns regions a no_end known (Asks n m b f) run_to_action counts tells x = record {
+  answered_known : (k steps : ℕ) (t : Running) (ticks regions : ℕ) (a : Action) → ((c : meaning.Ending ℕ) → Says C a (End c) → ⊥) → Known k steps t →
+      (h : Halt ℕ (ℕ × ℕ)) → RunsToAction (names_of k) C t.made t.state h → TellsCounts ticks regions h → Tells C a h → (x : Answer) → Answered k (steps + ticks) h x
+  answered_known k steps t ticks regions a no_end known (Asks n m b f) run_to_action counts tells x = record {
     task = record { state = f (plain_answer x); made = m };
     goes = refl;
     known = record {
@@ -160,17 +160,17 @@ module _ (code : Code) (L : Limits) (few : L.steps ≤ 20000000) (Good : Start �
           omega (arith, le, before, n_is));
     };
   }
-  answered_known k steps t turns regions a no_end known (Finished n e) run_to_action counts tells x = absurd (no_end e tells)
-  answered_known k steps t turns regions a no_end known Dead run_to_action counts tells x = absurd tells
+  answered_known k steps t ticks regions a no_end known (Finished n e) run_to_action counts tells x = absurd (no_end e tells)
+  answered_known k steps t ticks regions a no_end known Dead run_to_action counts tells x = absurd tells
 
   start_there : (o : Option (Start ℕ (ℕ × ℕ))) → StartsIn C o → (s : Start ℕ (ℕ × ℕ)) × (o ≡ Some s) × (s.body < length C.bodies)
   start_there None x = absurd x
   start_there (Some s) x = (s, refl, x)
 
   -- the event of a ready task, with what is known of it
-  module _ (m : Moment) (h : Holds m) (k turns : ℕ) (wants : Option (List Effect)) where
+  module _ (m : Moment) (h : Holds m) (k ticks : ℕ) (wants : Option (List Effect)) where
     abbrev event : Action → Event
-    event a = record { task = k; turns = turns; action = a; wants = wants }
+    event a = record { task = k; ticks = ticks; action = a; wants = wants }
 
     abbrev next_world : Action → World
     next_world a = world_after code m.world (event a)
@@ -183,7 +183,7 @@ module _ (code : Code) (L : Limits) (few : L.steps ≤ 20000000) (Good : Start �
         (λ live. (next.task, own_is)) short all
       where
         halt : Halt ℕ (ℕ × ℕ)
-        halt = front C k turns x.stands.made x.stands.state
+        halt = front C k ticks x.stands.made x.stands.state
 
         answer : Answer
         answer = answer_to m.world (event a)
@@ -194,15 +194,15 @@ module _ (code : Code) (L : Limits) (few : L.steps ≤ 20000000) (Good : Start �
         base_is : base ≡ m.tasks
         base_is = p.branch x.stands.state m.world.tree.begun m.tasks
 
-        next : Answered k (m.world.steps + turns) halt answer
-        next = answered_known k m.world.steps x.task turns x.stands.made a p.no_end (h.known k x.task x.there) halt x.stands.run_to_action
-            (front_counts C k turns x.stands.made x.stands.state) x.stands.tells answer
+        next : Answered k (m.world.steps + ticks) halt answer
+        next = answered_known k m.world.steps x.task ticks x.stands.made a p.no_end (h.known k x.task x.there) halt x.stands.run_to_action
+            (front_counts C k ticks x.stands.made x.stands.state) x.stands.tells answer
 
         own_is : goes_on a halt answer ≡ Some next.task
         own_is = p.goes halt answer ∙ next.goes
 
-        steps_are : (next_world a).steps ≡ m.world.steps + (turns + steps_of a)
-        steps_are = ap (λ n. n + (turns + steps_of a)) (p.steps m.world k wants)
+        steps_are : (next_world a).steps ≡ m.world.steps + (ticks + steps_of a)
+        steps_are = ap (λ n. n + (ticks + steps_of a)) (p.steps m.world k wants)
 
         below : k < (next_world a).tree.begun
         below = subst (λ n. k < n) (sym (p.begun m.world k wants)) (live_below m h k x.task x.there)
@@ -215,7 +215,7 @@ module _ (code : Code) (L : Limits) (few : L.steps ≤ 20000000) (Good : Start �
 
         own : (t : Running) → goes_on a halt answer ≡ Some t → Known k (next_world a).steps t
         own t e = (let same : next.task ≡ t = (let i = own_is in cc) in
-            subst (λ t. Known k (next_world a).steps t) same (later k (m.world.steps + turns) (next_world a).steps next.task (omega (arith, steps_are)) next.known))
+            subst (λ t. Known k (next_world a).steps t) same (later k (m.world.steps + ticks) (next_world a).steps next.task (omega (arith, steps_are)) next.known))
 
         all : (next_world a).most_steps ≡ L.steps
         all = p.most m.world k wants ∙ h.most
@@ -234,7 +234,7 @@ module _ (code : Code) (L : Limits) (few : L.steps ≤ 20000000) (Good : Start �
         a = action.Begin b
 
         halt : Halt ℕ (ℕ × ℕ)
-        halt = front C k turns x.stands.made x.stands.state
+        halt = front C k ticks x.stands.made x.stands.state
 
         answer : Answer
         answer = answer_to m.world (event a)
@@ -254,9 +254,9 @@ module _ (code : Code) (L : Limits) (few : L.steps ≤ 20000000) (Good : Start �
         inside : start.body < length C.bodies
         inside = there_is.2
 
-        next : Answered k (m.world.steps + turns) halt answer
-        next = answered_known k m.world.steps x.task turns x.stands.made a (λ c e. (cc)) (h.known k x.task x.there) halt x.stands.run_to_action
-            (front_counts C k turns x.stands.made x.stands.state) x.stands.tells answer
+        next : Answered k (m.world.steps + ticks) halt answer
+        next = answered_known k m.world.steps x.task ticks x.stands.made a (λ c e. (cc)) (h.known k x.task x.there) halt x.stands.run_to_action
+            (front_counts C k ticks x.stands.made x.stands.state) x.stands.tells answer
 
         old_below : k < m.world.tree.begun
         old_below = live_below m h k x.task x.there
@@ -286,7 +286,7 @@ module _ (code : Code) (L : Limits) (few : L.steps ≤ 20000000) (Good : Start �
 
         own : (t : Running) → goes_on a halt answer ≡ Some t → Known k (next_world a).steps t
         own t e = (let same : next.task ≡ t = (let i = next.goes in cc) in
-            subst (λ t. Known k (next_world a).steps t) same (later k (m.world.steps + turns) (next_world a).steps next.task (omega (arith)) next.known))
+            subst (λ t. Known k (next_world a).steps t) same (later k (m.world.steps + ticks) (next_world a).steps next.task (omega (arith)) next.known))
 
         there : (q : ℕ) → IsLive (next_world a).tree.tasks q → q ≢ k → (t : Running) × (base q ≡ Some t)
         there q live apart = elim (begun_live m.world.tree k q live) [
@@ -367,7 +367,7 @@ module _ (code : Code) (L : Limits) (few : L.steps ≤ 20000000) (Good : Start �
   moves_holds : (m : Moment) → Holds m → (k : ℕ) (n : Moment) → Moves code L m k n → Holds n
   moves_holds m h k n (made e x can within is) = subst Holds (sym is)
       (subst (λ j. (y : NextOf C m j e) → CanBeMade C m.world e y.stands.state → Within code m.world e → Holds (after code m e y.stands.state y.stands.made)) x.stands.number
-      (λ y can within. made_holds m h e.task e.turns e.wants e.action y can within) x can within)
+      (λ y can within. made_holds m h e.task e.ticks e.wants e.action y can within) x can within)
   moves_holds m h k n (over e x can beyond is) =
       subst Holds (sym is) (record { beyond = h.beyond; there = h.there; known = h.known; steps = h.steps; most = h.most })
 

@@ -2,62 +2,62 @@
 use Rattle.std.proofs.Common.{◌≡◌, ◌≤◌, ℕ, zero, suc, ◌+◌, Bool, true, false, if◌then◌else◌, ◌==◌, List, [], ◌∷◌, refl, Option, Some, arith}
 use Rattle.lang_meaning.specs.Values.{Naming}
 use Rattle.lang_meaning.specs.Actions.{Rest, Action, Do, Answer, Unknown}
-use Rattle.lang_meaning.specs.Asking.{most_turns}
+use Rattle.lang_meaning.specs.Asking.{most_ticks}
 use Rattle.code_instrs.specs.Plain.{PlainCode}
-use Rattle.code_instrs.specs.Machine.{Start, State, Stand, Goes, Turns, Makes, Waits, Ends, Stuck, step, Solo}
-use Rattle.code_instrs.specs.RunsToActions.{Halt, Asks, Finished, Dead, ran_on_turn, ran_on, run_to_action, RunsToAction, Halts}
+use Rattle.code_instrs.specs.Machine.{Start, State, Stand, Goes, Ticks, Makes, Waits, Ends, Stuck, step, Solo}
+use Rattle.code_instrs.specs.RunsToActions.{Halt, Asks, Finished, Dead, ran_on_tick, ran_on, run_to_action, RunsToAction, Halts}
 use Rattle.code_instrs.proofs.RunsToActions.{runs_are_solo}
 use Rattle.code_scheme.specs.Laws.{RunsEndOf}
 use Rattle.exec_task.specs.Halts.{stands}
 use Rattle.exec_task.specs.Names.{names_of}
 use Rattle.exec_machine.specs.Running.{Running, at_start, front}
 
--- a task makes no more local regions than turns
+-- a task makes no more local regions than ticks
 module _ {N M : Type 0} (names : Naming N M) (C : PlainCode) where
   abbrev Counted : (ℕ → ℕ → State N M → Option (Halt N M)) → Type 0
   Counted more =
-      (turns made : ℕ) (s : State N M) (n m : ℕ) (a : Action N M (Start N M)) (k : Answer N M → State N M) → more turns made s ≡ Some (Asks n m a k) →
-      m + turns ≤ made + n
+      (ticks made : ℕ) (s : State N M) (n m : ℕ) (a : Action N M (Start N M)) (k : Answer N M → State N M) → more ticks made s ≡ Some (Asks n m a k) →
+      m + ticks ≤ made + n
 
-  turn_counted : (more : ℕ → ℕ → State N M → Option (Halt N M)) → Counted more → (turns made : ℕ) (s : State N M) (n m : ℕ)
-      (a : Action N M (Start N M)) (k : Answer N M → State N M) → ran_on_turn more turns made s ≡ Some (Asks n m a k) → m + suc turns ≤ made + n
-  turn_counted more rec turns made s n m a k e = go (suc turns == most_turns) e
+  tick_counted : (more : ℕ → ℕ → State N M → Option (Halt N M)) → Counted more → (ticks made : ℕ) (s : State N M) (n m : ℕ)
+      (a : Action N M (Start N M)) (k : Answer N M → State N M) → ran_on_tick more ticks made s ≡ Some (Asks n m a k) → m + suc ticks ≤ made + n
+  tick_counted more rec ticks made s n m a k e = go (suc ticks == most_ticks) e
     where
-      go : (b : Bool) → (if b then Some (Asks (suc turns) made (Do Rest) (λ x. s)) else more (suc turns) made s) ≡ Some (Asks n m a k) → m + suc turns ≤ made + n
-      go true i = let turns_are : suc turns ≡ n = cc in let made_are : made ≡ m = cc in omega (arith, turns_are, made_are)
-      go false i = rec (suc turns) made s n m a k i
+      go : (b : Bool) → (if b then Some (Asks (suc ticks) made (Do Rest) (λ x. s)) else more (suc ticks) made s) ≡ Some (Asks n m a k) → m + suc ticks ≤ made + n
+      go true i = let ticks_are : suc ticks ≡ n = cc in let made_are : made ≡ m = cc in omega (arith, ticks_are, made_are)
+      go false i = rec (suc ticks) made s n m a k i
 
-  stand_counted : (more : ℕ → ℕ → State N M → Option (Halt N M)) → Counted more → (turns made : ℕ) (o : Stand N M) (n m : ℕ)
-      (a : Action N M (Start N M)) (k : Answer N M → State N M) → ran_on names more turns made o ≡ Some (Asks n m a k) → m + turns ≤ made + n
-  stand_counted more rec turns made (Goes s) n m a k e = rec turns made s n m a k e
-  stand_counted more rec turns made (Turns s) n m a k e = let le = turn_counted more rec turns made s n m a k e in omega (arith, le)
-  stand_counted more rec turns made (Makes j) n m a k e = let le = turn_counted more rec turns (suc made) (j (names.made made)) n m a k e in omega (arith, le)
-  stand_counted more rec turns made (Waits b j) n m a k e = let turns_are : turns ≡ n = cc in let made_are : made ≡ m = cc in omega (arith, turns_are, made_are)
-  stand_counted more rec turns made (Ends d) n m a k e = absurd (cc)
-  stand_counted more rec turns made Stuck n m a k e = absurd (cc)
+  stand_counted : (more : ℕ → ℕ → State N M → Option (Halt N M)) → Counted more → (ticks made : ℕ) (o : Stand N M) (n m : ℕ)
+      (a : Action N M (Start N M)) (k : Answer N M → State N M) → ran_on names more ticks made o ≡ Some (Asks n m a k) → m + ticks ≤ made + n
+  stand_counted more rec ticks made (Goes s) n m a k e = rec ticks made s n m a k e
+  stand_counted more rec ticks made (Ticks s) n m a k e = let le = tick_counted more rec ticks made s n m a k e in omega (arith, le)
+  stand_counted more rec ticks made (Makes j) n m a k e = let le = tick_counted more rec ticks (suc made) (j (names.made made)) n m a k e in omega (arith, le)
+  stand_counted more rec ticks made (Waits b j) n m a k e = let ticks_are : ticks ≡ n = cc in let made_are : made ≡ m = cc in omega (arith, ticks_are, made_are)
+  stand_counted more rec ticks made (Ends d) n m a k e = absurd (cc)
+  stand_counted more rec ticks made Stuck n m a k e = absurd (cc)
 
-  pub run_counted : (fuel : ℕ) → Counted (λ turns made s. run_to_action names C fuel turns made s)
-  run_counted zero turns made s n m a k e = absurd (cc)
-  run_counted (suc fuel) turns made s n m a k e = stand_counted (λ t q s. run_to_action names C fuel t q s) (run_counted fuel) turns made (step names C s) n m a k e
+  pub run_counted : (fuel : ℕ) → Counted (λ ticks made s. run_to_action names C fuel ticks made s)
+  run_counted zero ticks made s n m a k e = absurd (cc)
+  run_counted (suc fuel) ticks made s n m a k e = stand_counted (λ t q s. run_to_action names C fuel t q s) (run_counted fuel) ticks made (step names C s) n m a k e
 
--- where a task stands tells its turns and its local regions
+-- where a task stands tells its ticks and its local regions
 abbrev pub TellsCounts : ℕ → ℕ → Halt ℕ (ℕ × ℕ) → Type 0
-TellsCounts turns made (Asks n m a k) = (n ≡ turns) × (m ≡ made)
-TellsCounts turns made (Finished n e) = Unit {0}
-TellsCounts turns made Dead = Unit {0}
+TellsCounts ticks made (Asks n m a k) = (n ≡ ticks) × (m ≡ made)
+TellsCounts ticks made (Finished n e) = Unit {0}
+TellsCounts ticks made Dead = Unit {0}
 
-pub front_counts : (C : PlainCode) (k turns made : ℕ) (z : State ℕ (ℕ × ℕ)) → TellsCounts turns made (front C k turns made z)
-front_counts C k turns made z = go (turns == most_turns)
+pub front_counts : (C : PlainCode) (k ticks made : ℕ) (z : State ℕ (ℕ × ℕ)) → TellsCounts ticks made (front C k ticks made z)
+front_counts C k ticks made z = go (ticks == most_ticks)
   where
-    at : (o : Stand ℕ (ℕ × ℕ)) → TellsCounts turns made (stands turns made o)
+    at : (o : Stand ℕ (ℕ × ℕ)) → TellsCounts ticks made (stands ticks made o)
     at (Waits a k) = (refl, refl)
     at (Ends e) = tt
     at (Goes s) = tt
-    at (Turns s) = tt
+    at (Ticks s) = tt
     at (Makes k) = tt
     at Stuck = tt
 
-    go : (b : Bool) → TellsCounts turns made (if b then Asks turns made (Do Rest) (λ x. z) else stands turns made (step (names_of k) C z))
+    go : (b : Bool) → TellsCounts ticks made (if b then Asks ticks made (Do Rest) (λ x. z) else stands ticks made (step (names_of k) C z))
     go true = (refl, refl)
     go false = at (step (names_of k) C z)
 

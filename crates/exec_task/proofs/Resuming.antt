@@ -3,9 +3,9 @@ use Rattle.std.proofs.Common.{rules, ◌≡◌, ◌≢◌, ℕ, ◌==◌, eq-eqb
 use Rattle.std.specs.Prelude.{slice_get}
 use Rattle.lang_meaning.specs.Actions as meaning
 use Rattle.lang_meaning.specs.Actions.{Do, Rest}
-use Rattle.lang_meaning.specs.Asking.{most_turns}
+use Rattle.lang_meaning.specs.Asking.{most_ticks}
 use Rattle.code_instrs.specs.RunsToActions.{Asks}
-use Rattle.code_instrs.specs.Machine.{State, Stand, Goes, Turns, Makes, Waits, Ends, Stuck, exec, exec_line, rested_line, rested_at, enters_block, next}
+use Rattle.code_instrs.specs.Machine.{State, Stand, Goes, Ticks, Makes, Waits, Ends, Stuck, exec, exec_line, rested_line, rested_at, enters_block, next}
 use Rattle.code_instrs.specs.Plain.{PlainCode, Line, Site, block_site, fork_site, spread_site, call_site, new_site, array_site, body_at}
 use Rattle.code_instrs.specs.declared.instr.Instr.{Instr}
 use Rattle.code_instrs.specs.declared.instr.Instr.TheVariants as i
@@ -22,31 +22,31 @@ use Rattle.exec_task.specs.Tasks.{plain_level, plain_ending, plain_answer, state
 use Rattle.exec_task.proofs.Stepping.{step_on, step_rested, step_ended, step_nowhere, run_short}
 
 module _ (C : PlainCode) where
-  not_resting : (n : ℕ) → n ≢ 4096 → (n == most_turns) ≡ false
-  unfolding most_turns
+  not_resting : (n : ℕ) → n ≢ 4096 → (n == most_ticks) ≡ false
+  unfolding most_ticks
   not_resting n h = search (rules, h)
 
-  resting : (n : ℕ) → n ≡ 4096 → (n == most_turns) ≡ true
-  unfolding most_turns
+  resting : (n : ℕ) → n ≡ 4096 → (n == most_ticks) ≡ true
+  unfolding most_ticks
   resting n h = eq-eqb n 4096 h
 
-  pub follows_step : (t u : Task) (x : Answer) → t.turns ≢ 4096 → LeadsTo (step_at C t) (plain_answer x) (state_of u) → u.turns ≡ 0 → u.made ≡ t.made
+  pub follows_step : (t u : Task) (x : Answer) → t.ticks ≢ 4096 → LeadsTo (step_at C t) (plain_answer x) (state_of u) → u.ticks ≡ 0 → u.made ≡ t.made
       → Follows (front_of C t) x u
   follows_step t u x h l a b =
-      subst (λ y. Follows (if y then Asks t.turns t.made (Do Rest) (λ z. state_of t) else stands t.turns t.made (step_at C t)) x u) (sym (not_resting t.turns h))
+      subst (λ y. Follows (if y then Asks t.ticks t.made (Do Rest) (λ z. state_of t) else stands t.ticks t.made (step_at C t)) x u) (sym (not_resting t.ticks h))
       (by_case (step_at C t) l)
     where
-      by_case : (o : Stand ℕ (ℕ × ℕ)) → LeadsTo o (plain_answer x) (state_of u) → Follows (stands t.turns t.made o) x u
+      by_case : (o : Stand ℕ (ℕ × ℕ)) → LeadsTo o (plain_answer x) (state_of u) → Follows (stands t.ticks t.made o) x u
       by_case (Goes s) l = tt
-      by_case (Turns s) l = tt
+      by_case (Ticks s) l = tt
       by_case (Makes k) l = tt
       by_case (Waits d k) l = (l, a, b)
       by_case (Ends e) l = tt
       by_case Stuck l = tt
 
-  pub follows_rest : (t u : Task) (x : Answer) → t.turns ≡ 4096 → state_of u ≡ state_of t → u.turns ≡ 0 → u.made ≡ t.made → Follows (front_of C t) x u
+  pub follows_rest : (t u : Task) (x : Answer) → t.ticks ≡ 4096 → state_of u ≡ state_of t → u.ticks ≡ 0 → u.made ≡ t.made → Follows (front_of C t) x u
   follows_rest t u x h l a b =
-      subst (λ y. Follows (if y then Asks t.turns t.made (Do Rest) (λ z. state_of t) else stands t.turns t.made (step_at C t)) x u) (sym (resting t.turns h)) (l, a, b)
+      subst (λ y. Follows (if y then Asks t.ticks t.made (Do Rest) (λ z. state_of t) else stands t.ticks t.made (step_at C t)) x u) (sym (resting t.ticks h)) (l, a, b)
 
   module _ (x : meaning.Answer ℕ (ℕ × ℕ)) (s : State ℕ (ℕ × ℕ)) where
     pub leads_on : (t : Task) (l : Line) → t.standing ≡ standing.At → Some l ≡ slice_get (body_at C t.level.body).lines t.level.at

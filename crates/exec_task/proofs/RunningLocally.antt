@@ -6,7 +6,7 @@ use Rattle.lang_base.specs.declared.value.Trap.TheVariants as trap
 use Rattle.code_instrs.specs.declared.code.Body.{Body}
 use Rattle.code_instrs.specs.declared.code.Code.{Code}
 use Rattle.code_instrs.specs.declared.instr.Instr.{Instr}
-use Rattle.code_instrs.specs.Machine.{Goes, Turns, Stuck, On, Off, exec}
+use Rattle.code_instrs.specs.Machine.{Goes, Ticks, Stuck, On, Off, exec}
 use Rattle.code_instrs.specs.Plain.{PlainCode, Line, plain_code, body_at}
 use Rattle.exec_task.specs.declared.action.Ending.TheVariants as ending
 use Rattle.exec_task.specs.declared.task.Level.{Level}
@@ -19,7 +19,7 @@ use Rattle.exec_task.specs.Names.{names_of}
 use Rattle.exec_task.specs.StepsLocally.{is_own, IsAtOther}
 use Rattle.exec_task.specs.Tasks.{plain_level, plain_ending}
 use Rattle.exec_task.proofs.Bodies.{without_place, with_both}
-use Rattle.exec_task.proofs.Stepping.{run_short, run_at, goes_by_itself, turns_by_itself, by_going, by_turning}
+use Rattle.exec_task.proofs.Stepping.{run_short, run_at, goes_by_itself, ticks_by_itself, by_going, by_ticking}
 use Rattle.exec_task.proofs.RunningToAction.{next_less, least_next, not_stuck, reaches_next}
 
 -- the task after a step, and after none
@@ -38,11 +38,11 @@ same_line k l e = cc
 
 -- the code as the way has it, and as it had it at first
 module _ (K C : Code) (same : K ≡ C) (a t : Task) (r : Reaches (plain_code C) a t) (least : Least (plain_code K) t) where
-  stepped : (new : Task) → t.turns < 4096 → Advances (plain_code K) t new → new.number ≡ t.number → Paced new
-      → (IsAsking (stands t.turns t.made (step_at (plain_code K) t)) → ⊥) → Stepped K C a least.0 new
+  stepped : (new : Task) → t.ticks < 4096 → Advances (plain_code K) t new → new.number ≡ t.number → Paced new
+      → (IsAsking (stands t.ticks t.made (step_at (plain_code K) t)) → ⊥) → Stepped K C a least.0 new
   stepped new h adv number paced m = record {
     reaches = reaches_next (plain_code C) a t new r h (subst (λ D. Advances (plain_code D) t new) same adv) number paced
-        (subst (λ D. IsAsking (stands t.turns t.made (step_at (plain_code D) t)) → ⊥) same m);
+        (subst (λ D. IsAsking (stands t.ticks t.made (step_at (plain_code D) t)) → ⊥) same m);
     least = least_next (plain_code K) t new h adv least;
     less = next_less (plain_code K) t new h adv least;
   }
@@ -54,7 +54,7 @@ module _ (K C : Code) (same : K ≡ C) (a t : Task) (r : Reaches (plain_code C) 
     same = λ k. one_least (plain_code K) t k least;
   })
 
-  module _ (b : Body) (x : Instr) (at : t.standing ≡ standing.At) (going : t.turns < 4096) (within : t.level.body ≡ a.level.body)
+  module _ (b : Body) (x : Instr) (at : t.standing ≡ standing.At) (going : t.ticks < 4096) (within : t.level.body ≡ a.level.body)
       (e : Some b ≡ slice_get C.bodies a.level.body) (f : Some x ≡ slice_get b.instrs t.level.at) where
     found : Some b ≡ slice_get K.bodies t.level.body
     found = e ∙ ap (λ j. slice_get C.bodies j) (sym within) ∙ ap (λ D. slice_get D.bodies t.level.body) (sym same)
@@ -76,18 +76,18 @@ module _ (K C : Code) (same : K ≡ C) (a t : Task) (r : Reaches (plain_code C) 
     goes h is =
         let s = goes_by_itself (plain_code K) t h (record { instr = x; place = placed.0 }) at placed.1 (is placed.0 t.callers) in
         stepped (record t { level = h }) going (by_going (plain_code K) t (record t { level = h }) going s refl refl refl) refl
-        (record { turns = r.paced.turns; names = r.paced.names }) (subst (λ o. IsAsking (stands t.turns t.made o)) s)
+        (record { ticks = r.paced.ticks; names = r.paced.names }) (subst (λ o. IsAsking (stands t.ticks t.made o)) s)
 
-    pub turns : (h : Level) → ((p : Place) (fs : List Level) → exec (names_of t.number) (plain_code K) p x (plain_level t.level) (map plain_level fs) ≡ Turns (On (plain_level h) (map plain_level fs)))
-        → Stepped K C a least.0 (record t { level = h; turns = t.turns + 1 })
-    turns h is =
-        let s = turns_by_itself (plain_code K) t h (record { instr = x; place = placed.0 }) at placed.1 (is placed.0 t.callers) in
+    pub ticks : (h : Level) → ((p : Place) (fs : List Level) → exec (names_of t.number) (plain_code K) p x (plain_level t.level) (map plain_level fs) ≡ Ticks (On (plain_level h) (map plain_level fs)))
+        → Stepped K C a least.0 (record t { level = h; ticks = t.ticks + 1 })
+    ticks h is =
+        let s = ticks_by_itself (plain_code K) t h (record { instr = x; place = placed.0 }) at placed.1 (is placed.0 t.callers) in
         let p = r.paced in
-        let few = p.turns in
+        let few = p.ticks in
         let names = p.names in
-        stepped (record t { level = h; turns = t.turns + 1 }) going
-        (by_turning (plain_code K) t (record t { level = h; turns = t.turns + 1 }) going s refl (omega arith) refl) refl
-        (record { turns = omega (arith, going); names = omega (arith, names) }) (subst (λ o. IsAsking (stands t.turns t.made o)) s)
+        stepped (record t { level = h; ticks = t.ticks + 1 }) going
+        (by_ticking (plain_code K) t (record t { level = h; ticks = t.ticks + 1 }) going s refl (omega arith) refl) refl
+        (record { ticks = omega (arith, going); names = omega (arith, names) }) (subst (λ o. IsAsking (stands t.ticks t.made o)) s)
 
     pub divides : (h : Level) (l : Line) → Some l ≡ slice_get (body_at (plain_code K) t.level.body).lines t.level.at
         → ((p : Place) (fs : List Level) → exec (names_of t.number) (plain_code K) p x (plain_level t.level) (map plain_level fs) ≡ Goes (Off (plain_ending (ending.Trapped trap.Divide p))))
@@ -99,7 +99,7 @@ module _ (K C : Code) (same : K ≡ C) (a t : Task) (r : Reaches (plain_code C) 
         ∙ ap (λ p. Goes (Off (plain_ending (ending.Trapped trap.Divide p)))) one in
         let new = record t { level = h; standing = standing.Ended (ending.Trapped trap.Divide l.place) } in
         stepped new going (by_going (plain_code K) t new going s refl refl refl) refl
-        (record { turns = r.paced.turns; names = r.paced.names }) (subst (λ o. IsAsking (stands t.turns t.made o)) s)
+        (record { ticks = r.paced.ticks; names = r.paced.names }) (subst (λ o. IsAsking (stands t.ticks t.made o)) s)
 
     pub never_stuck : ((p : Place) (fs : List Level) → exec (names_of t.number) (plain_code K) p x (plain_level t.level) (map plain_level fs) ≡ Stuck) → ⊥
     never_stuck is =

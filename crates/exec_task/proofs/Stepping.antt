@@ -2,8 +2,8 @@
 use Rattle.std.proofs.Common.{rules, arith, ◌≡◌, ◌≢◌, ◌<◌, ℕ, suc, ◌==◌, if◌then◌else◌, false, List, map, refl, sym, ap, ◌∙◌, subst, Some, None}
 use Rattle.std.specs.Prelude.{slice_get}
 use Rattle.lang_meaning.specs.Actions.{Do, Rest}
-use Rattle.lang_meaning.specs.Asking.{most_turns}
-use Rattle.code_instrs.specs.Machine.{State, Stand, Goes, Turns, Makes, Waits, Ends, Stuck, exec, exec_line, rested_line, step}
+use Rattle.lang_meaning.specs.Asking.{most_ticks}
+use Rattle.code_instrs.specs.Machine.{State, Stand, Goes, Ticks, Makes, Waits, Ends, Stuck, exec, exec_line, rested_line, step}
 use Rattle.code_instrs.specs.RunsToActions.{Asks, ran_on, run_to_action}
 use Rattle.code_instrs.specs.Machine as machine
 use Rattle.code_instrs.specs.Plain.{PlainCode, Line, body_at}
@@ -52,10 +52,10 @@ module _ (C : PlainCode) where
       → step_at C t ≡ Goes (state_of (record t { level = h }))
   goes_by_itself t h l e f is = run_at t l e f ∙ is ∙ ap (λ s. Goes (state_in s h t.callers)) (sym e)
 
-  pub turns_by_itself : (t : Task) (h : Level) (l : Line) → t.standing ≡ standing.At → Some l ≡ slice_get (body_at C t.level.body).lines t.level.at
-      → exec (names_of t.number) C l.place l.instr (plain_level t.level) (map plain_level t.callers) ≡ Turns (machine.On (plain_level h) (map plain_level t.callers))
-      → step_at C t ≡ Turns (state_of (record t { level = h }))
-  turns_by_itself t h l e f is = run_at t l e f ∙ is ∙ ap (λ s. Turns (state_in s h t.callers)) (sym e)
+  pub ticks_by_itself : (t : Task) (h : Level) (l : Line) → t.standing ≡ standing.At → Some l ≡ slice_get (body_at C t.level.body).lines t.level.at
+      → exec (names_of t.number) C l.place l.instr (plain_level t.level) (map plain_level t.callers) ≡ Ticks (machine.On (plain_level h) (map plain_level t.callers))
+      → step_at C t ≡ Ticks (state_of (record t { level = h }))
+  ticks_by_itself t h l e f is = run_at t l e f ∙ is ∙ ap (λ s. Ticks (state_in s h t.callers)) (sym e)
 
   tells : (o : Stand ℕ (ℕ × ℕ)) (a : Action) → WaitsFor C o a → (n m : ℕ) → Tells C a (stands n m o)
   tells o a w n m = subst (λ o. Tells C a (stands n m o)) (sym w.waits) w.says
@@ -101,39 +101,39 @@ module _ (C : PlainCode) where
   ended_steps t x y e f =
       (λ n m. subst (λ o. Tells C (action.End y) (stands n m o)) (sym (step_ended t x e ∙ ap (λ z. Ends (plain_ending z)) (sym f))) refl, refl)
 
-  pub goes_on : (t : Task) → t.turns < 4096 → (t.turns == most_turns) ≡ false
-  unfolding most_turns
-  goes_on t h = let other : t.turns ≢ 4096 = omega arith in search (rules, other)
+  pub goes_on : (t : Task) → t.ticks < 4096 → (t.ticks == most_ticks) ≡ false
+  unfolding most_ticks
+  goes_on t h = let other : t.ticks ≢ 4096 = omega arith in search (rules, other)
 
-  pub one_step : (t : Task) (o : Stand ℕ (ℕ × ℕ)) (fuel : ℕ) → t.turns < 4096 → step_at C t ≡ o
-      → run_from (names_of t.number) C (suc fuel) t.turns t.made (state_of t)
-      ≡ ran_on (names_of t.number) (λ n m s. run_to_action (names_of t.number) C fuel n m s) t.turns t.made o
+  pub one_step : (t : Task) (o : Stand ℕ (ℕ × ℕ)) (fuel : ℕ) → t.ticks < 4096 → step_at C t ≡ o
+      → run_from (names_of t.number) C (suc fuel) t.ticks t.made (state_of t)
+      ≡ ran_on (names_of t.number) (λ n m s. run_to_action (names_of t.number) C fuel n m s) t.ticks t.made o
   one_step t o fuel h e =
-      ap (λ b. if b then Some (Asks t.turns t.made (Do Rest) (λ x. state_of t)) else run_to_action (names_of t.number) C (suc fuel) t.turns t.made (state_of t)) (goes_on t h)
-      ∙ ap (ran_on (names_of t.number) (λ n m s. run_to_action (names_of t.number) C fuel n m s) t.turns t.made) e
+      ap (λ b. if b then Some (Asks t.ticks t.made (Do Rest) (λ x. state_of t)) else run_to_action (names_of t.number) C (suc fuel) t.ticks t.made (state_of t)) (goes_on t h)
+      ∙ ap (ran_on (names_of t.number) (λ n m s. run_to_action (names_of t.number) C fuel n m s) t.ticks t.made) e
 
-  from_here : (old new : Task) (n m fuel : ℕ) (s : State ℕ (ℕ × ℕ)) → new.number ≡ old.number → new.turns ≡ n → new.made ≡ m → state_of new ≡ s
-      → run_from (names_of old.number) C fuel n m s ≡ run_from (names_of new.number) C fuel new.turns new.made (state_of new)
+  from_here : (old new : Task) (n m fuel : ℕ) (s : State ℕ (ℕ × ℕ)) → new.number ≡ old.number → new.ticks ≡ n → new.made ≡ m → state_of new ≡ s
+      → run_from (names_of old.number) C fuel n m s ≡ run_from (names_of new.number) C fuel new.ticks new.made (state_of new)
   from_here old new n m fuel s a b c d =
-      sym (ap (λ i. run_from (names_of i) C fuel new.turns new.made (state_of new)) a ∙ ap (λ i. run_from (names_of old.number) C fuel i new.made (state_of new)) b
+      sym (ap (λ i. run_from (names_of i) C fuel new.ticks new.made (state_of new)) a ∙ ap (λ i. run_from (names_of old.number) C fuel i new.made (state_of new)) b
       ∙ ap (λ i. run_from (names_of old.number) C fuel n i (state_of new)) c ∙ ap (run_from (names_of old.number) C fuel n m) d)
 
-  pub by_going : (old new : Task) → old.turns < 4096 → step_at C old ≡ Goes (state_of new) → new.number ≡ old.number → new.turns ≡ old.turns
+  pub by_going : (old new : Task) → old.ticks < 4096 → step_at C old ≡ Goes (state_of new) → new.number ≡ old.number → new.ticks ≡ old.ticks
       → new.made ≡ old.made → Advances C old new
   by_going old new h e a b c fuel =
       one_step old (Goes (state_of new)) fuel h e
-      ∙ sym (ap (λ x. if x then Some (Asks old.turns old.made (Do Rest) (λ y. state_of new)) else run_to_action (names_of old.number) C fuel old.turns old.made (state_of new)) (goes_on old h))
-      ∙ from_here old new old.turns old.made fuel (state_of new) a b c refl
+      ∙ sym (ap (λ x. if x then Some (Asks old.ticks old.made (Do Rest) (λ y. state_of new)) else run_to_action (names_of old.number) C fuel old.ticks old.made (state_of new)) (goes_on old h))
+      ∙ from_here old new old.ticks old.made fuel (state_of new) a b c refl
 
-  pub by_turning : (old new : Task) → old.turns < 4096 → step_at C old ≡ Turns (state_of new) → new.number ≡ old.number → new.turns ≡ suc old.turns
+  pub by_ticking : (old new : Task) → old.ticks < 4096 → step_at C old ≡ Ticks (state_of new) → new.number ≡ old.number → new.ticks ≡ suc old.ticks
       → new.made ≡ old.made → Advances C old new
-  by_turning old new h e a b c fuel =
-      one_step old (Turns (state_of new)) fuel h e ∙ from_here old new (suc old.turns) old.made fuel (state_of new) a b c refl
+  by_ticking old new h e a b c fuel =
+      one_step old (Ticks (state_of new)) fuel h e ∙ from_here old new (suc old.ticks) old.made fuel (state_of new) a b c refl
 
-  pub by_making : (old new : Task) (k : (ℕ × ℕ) → State ℕ (ℕ × ℕ)) → old.turns < 4096 → step_at C old ≡ Makes k → new.number ≡ old.number
-      → new.turns ≡ suc old.turns → new.made ≡ suc old.made → state_of new ≡ k (old.number, suc old.made) → Advances C old new
+  pub by_making : (old new : Task) (k : (ℕ × ℕ) → State ℕ (ℕ × ℕ)) → old.ticks < 4096 → step_at C old ≡ Makes k → new.number ≡ old.number
+      → new.ticks ≡ suc old.ticks → new.made ≡ suc old.made → state_of new ≡ k (old.number, suc old.made) → Advances C old new
   by_making old new k h e a b c d fuel =
-      one_step old (Makes k) fuel h e ∙ from_here old new (suc old.turns) (suc old.made) fuel (k (old.number, suc old.made)) a b c d
+      one_step old (Makes k) fuel h e ∙ from_here old new (suc old.ticks) (suc old.made) fuel (k (old.number, suc old.made)) a b c d
 
   -- the state of a task that has made a region
   pub made_here : (mid new : Task) (r n m : ℕ) → mid.standing ≡ standing.At → new.standing ≡ mid.standing → new.callers ≡ mid.callers

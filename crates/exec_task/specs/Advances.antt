@@ -15,10 +15,10 @@ use Rattle.exec_task.specs.Tasks.{plain_level, plain_ending, state_of}
 abbrev pub step_at : PlainCode → Task → Stand ℕ (ℕ × ℕ)
 step_at C t = step (names_of t.number) C (state_of t)
 
--- the task has its number, its turns and what it has made
+-- the task has its number, its ticks and what it has made
 pub record Kept (old new : Task) : Type 0 where
   pub number : new.number ≡ old.number
-  pub turns : new.turns ≡ old.turns
+  pub ticks : new.ticks ≡ old.ticks
   pub made : new.made ≡ old.made
 
 -- what a step comes to
@@ -34,8 +34,8 @@ StepsTo C old step_of.Stuck new = step_at C old ≡ Stuck
 -- the way of a task to its action is one step more than that of another
 abbrev pub Advances : PlainCode → Task → Task → Type 0
 Advances C old new =
-    (fuel : ℕ) → run_from (names_of old.number) C (suc fuel) old.turns old.made (state_of old)
-    ≡ run_from (names_of new.number) C fuel new.turns new.made (state_of new)
+    (fuel : ℕ) → run_from (names_of old.number) C (suc fuel) old.ticks old.made (state_of old)
+    ≡ run_from (names_of new.number) C fuel new.ticks new.made (state_of new)
 
 -- the task stands at this action
 abbrev pub StandsAt : PlainCode → Task → Action → Task → Type 0

@@ -8,7 +8,7 @@ use Rattle.exec_task.specs.Frames.{frame_of}
 use Rattle.exec_task.specs.Names.{names_of}
 use Rattle.lang_meaning.specs.Actions as meaning
 use Rattle.code_instrs.specs.Machine as machine
-use Rattle.code_instrs.specs.Machine.{State, Stand, Goes, Turns, Makes, Waits, Ends, Stuck}
+use Rattle.code_instrs.specs.Machine.{State, Stand, Goes, Ticks, Makes, Waits, Ends, Stuck}
 use Rattle.exec_task.specs.declared.action.Answer.{Answer}
 use Rattle.exec_task.specs.declared.action.Answer.TheVariants as answer
 use Rattle.exec_task.specs.declared.task.Level.{Level}
@@ -19,7 +19,7 @@ use Rattle.exec_task.specs.Tasks.{plain_level, state_in}
 abbrev pub LeadsTo : Stand ℕ (ℕ × ℕ) → meaning.Answer ℕ (ℕ × ℕ) → State ℕ (ℕ × ℕ) → Type 0
 LeadsTo (Waits a k) x s = s ≡ k x
 LeadsTo (Goes t) x s = Unit {0}
-LeadsTo (Turns t) x s = Unit {0}
+LeadsTo (Ticks t) x s = Unit {0}
 LeadsTo (Makes k) x s = Unit {0}
 LeadsTo (Ends e) x s = Unit {0}
 LeadsTo Stuck x s = Unit {0}

@@ -18,7 +18,7 @@ is_well (Some Dead) = false
 
 -- with so many steps it comes to a halt that isn't stuck
 abbrev pub is_enough : PlainCode → Task → ℕ → Bool
-is_enough C t n = is_well (run_from (names_of t.number) C n t.turns t.made (state_of t))
+is_enough C t n = is_well (run_from (names_of t.number) C n t.ticks t.made (state_of t))
 
 -- and with fewer it doesn't
 abbrev pub Least : PlainCode → Task → Type 0

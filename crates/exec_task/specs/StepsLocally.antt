@@ -4,7 +4,7 @@ use Rattle.lang_base.specs.declared.place.Place.{Place}
 use Rattle.lang_base.specs.declared.value.Trap.TheVariants as trap
 use Rattle.code_instrs.specs.declared.instr.Instr.{Instr}
 use Rattle.code_instrs.specs.declared.instr.Instr.TheVariants as i
-use Rattle.code_instrs.specs.Machine.{On, Off, Stand, Goes, Turns, Stuck}
+use Rattle.code_instrs.specs.Machine.{On, Off, Stand, Goes, Ticks, Stuck}
 use Rattle.code_instrs.specs.Machine as machine
 use Rattle.code_instrs.specs.Plain.{PlainCode, Line, body_at}
 use Rattle.exec_task.specs.declared.action.Ending.TheVariants as ending
@@ -18,7 +18,7 @@ use Rattle.exec_task.specs.Tasks.{plain_level, plain_ending}
 -- what it comes to, wherever it stands and whatever the callers are; unless it goes on, the level is as it was
 abbrev pub StepsLocally : (Place → List (machine.Level ℕ (ℕ × ℕ)) → Stand ℕ (ℕ × ℕ)) → Level → LocalStep → Level → Type 0
 StepsLocally o g local_step.Goes h = (at : Place) (fs : List Level) → o at (map plain_level fs) ≡ Goes (On (plain_level h) (map plain_level fs))
-StepsLocally o g local_step.Turns h = (at : Place) (fs : List Level) → o at (map plain_level fs) ≡ Turns (On (plain_level h) (map plain_level fs))
+StepsLocally o g local_step.Ticks h = (at : Place) (fs : List Level) → o at (map plain_level fs) ≡ Ticks (On (plain_level h) (map plain_level fs))
 StepsLocally o g local_step.Divides h = ((at : Place) (fs : List Level) → o at (map plain_level fs) ≡ Goes (Off (plain_ending (ending.Trapped trap.Divide at)))) × (h ≡ g)
 StepsLocally o g local_step.Stuck h = ((at : Place) (fs : List Level) → o at (map plain_level fs) ≡ Stuck) × (h ≡ g)
 StepsLocally o g local_step.Full h = h ≡ g

@@ -51,11 +51,11 @@ impl Task {
     #[inline(never)]
     pub fn advance(&mut self, alloc: Global, code: &Code) -> Result<Option<Action>, NoMemory>
         requires paced { Paced self.old }
-        requires going { self.old.turns < 4096 }
+        requires going { self.old.ticks < 4096 }
         requires alive { step_at (plain_code code.now) self.old ≡ Stuck → ⊥ }
         requires other { IsAtOther (plain_code code.now) self.old }
         ensures ok { IfOk result (λ o. MatchOption o (Advances (plain_code code.now) self.old self.new) (λ action. StandsAt (plain_code code.now) self.old action self.new)) }
-        ensures moved { IfOk result (λ o. MatchOption o (IsAsking (stands self.old.turns self.old.made (step_at (plain_code code.now) self.old)) → ⊥) (λ _. Unit {0})) }
+        ensures moved { IfOk result (λ o. MatchOption o (IsAsking (stands self.old.ticks self.old.made (step_at (plain_code code.now) self.old)) → ⊥) (λ _. Unit {0})) }
         ensures paced { Paced self.new }
         ensures number { self.new.number ≡ self.old.number }
         ensures err { OnErr result (self.new ≡ self.old) }
@@ -78,17 +78,17 @@ impl Task {
     /// A new local region for a declaration.
     fn make_region(&mut self, declaration: u32)
         requires next { HasNext self.old.level }
-        requires turns { self.old.turns + 1 < 2 ^ 32 }
+        requires ticks { self.old.ticks + 1 < 2 ^ 32 }
         requires names { self.old.made + 1 < 2 ^ 32 }
         ensures level { plain_level self.new.level ≡ with_local declaration (self.old.number, suc self.old.made) (plain_level self.old.level) }
         ensures callers { self.new.callers ≡ self.old.callers }
         ensures standing { self.new.standing ≡ self.old.standing }
         ensures number { self.new.number ≡ self.old.number }
-        ensures turns { self.new.turns ≡ suc self.old.turns }
+        ensures ticks { self.new.ticks ≡ suc self.old.ticks }
         ensures made { self.new.made ≡ suc self.old.made }
     {
         self.made += 1;
-        self.turns += 1;
+        self.ticks += 1;
         let made = (self.number, self.made);
         let at = declaration as usize;
         if at < self.level.frame.locals.len() {

@@ -22,13 +22,13 @@ impl Task {
         ensures number { self.new.number ≡ self.old.number }
         ensures err { OnErr result (self.new ≡ self.old) }
     {
-        if self.turns == 4096 {
-            self.turns = 0;
+        if self.ticks == 4096 {
+            self.ticks = 0;
             return Ok(());
         }
         let standing = self.resumed(alloc, code, answer)?;
         self.standing = standing;
-        self.turns = 0;
+        self.ticks = 0;
         Ok(())
     }
 

@@ -35,7 +35,6 @@ mod sites;
 mod starts;
 mod step;
 mod task;
-mod to_action;
 
 pub use action::{Action, Answer, Ending, Own};
 pub use lines::line;

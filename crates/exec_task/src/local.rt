@@ -3,7 +3,7 @@ ghost use Rattle.lang_meaning.specs.Counts.{unary, truth, slot_value, part_taken
 ghost use Rattle.lang_meaning.specs.Statements.{with_value, with_values};
 ghost use Rattle.lang_meaning.specs.Expressions.{none};
 ghost use Rattle.lang_meaning.specs.Values.{Int};
-ghost use Rattle.code_instrs.specs.Machine.{exec, pushes, one, two, next, operates, in_part, returned, left_with, Goes, Turns, On};
+ghost use Rattle.code_instrs.specs.Machine.{exec, pushes, one, two, next, operates, in_part, returned, left_with, Goes, Ticks, On};
 ghost use Rattle.code_instrs.specs.Plain.{PlainCode};
 ghost use Rattle.exec_frames.specs.Names.{plain_value};
 ghost use Rattle.exec_task.specs.Names.{names_of};
@@ -38,7 +38,7 @@ impl Level {
             Instr::Binary(op) => self.operate(op),
             Instr::Jump(to) => self.jump(to),
             Instr::Unless(to) => self.jump_unless(to),
-            Instr::Turn => self.turn(),
+            Instr::Turn => self.tick(),
             _ => LocalStep::Other,
         }
     }
@@ -151,14 +151,14 @@ impl Level {
         LocalStep::Goes
     }
 
-    /// A turn of a loop.
-    fn turn(&mut self) -> LocalStep
+    /// A tick of a loop.
+    fn tick(&mut self) -> LocalStep
         requires { HasNext self.old }
-        ensures local_step { StepsLocally (λ place fs. Turns (next (plain_level self.old) (plain_level self.old).stack fs)) self.old result self.new }
+        ensures local_step { StepsLocally (λ place fs. Ticks (next (plain_level self.old) (plain_level self.old).stack fs)) self.old result self.new }
         ensures own { IsOwn self.old result self.new }
     {
         self.at += 1;
-        LocalStep::Turns
+        LocalStep::Ticks
     }
 
     /// Takes the part of an array that the branch has.

@@ -4,8 +4,8 @@
 pub enum LocalStep {
     /// The next instruction.
     Goes,
-    /// The next instruction, after a turn.
-    Turns,
+    /// The next instruction, after a tick.
+    Ticks,
     /// A division by zero.
     Divides,
     /// It doesn't fit. Fit code never comes to it.

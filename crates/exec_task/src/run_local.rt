@@ -17,7 +17,7 @@ pub fn run_local(running: &mut Running) -> Result<(), NoMemory>
     requires { Paced running.old.task }
     ensures reaches { Reaches (plain_code running.old.code.now) running.old.task running.new.task }
     ensures code { running.new.code.now ≡ running.old.code.now }
-    ensures other { OnOk result (running.new.task.turns < 4096 → IsAtOther (plain_code running.old.code.now) running.new.task) }
+    ensures other { OnOk result (running.new.task.ticks < 4096 → IsAtOther (plain_code running.old.code.now) running.new.task) }
     ensures nearer { running.new.ends.0 ≤ running.old.ends.0 }
 {
     let code = running.code;
@@ -28,7 +28,7 @@ pub fn run_local(running: &mut Running) -> Result<(), NoMemory>
         return Ok(());
     };
     let instrs = body.instrs.as_slice();
-    if running.task.turns >= 4096 {
+    if running.task.ticks >= 4096 {
         return Ok(());
     }
     while running.task.level.at < instrs.len() {
@@ -37,9 +37,9 @@ pub fn run_local(running: &mut Running) -> Result<(), NoMemory>
         };
         match running.task.level.local_step(*instr) {
             LocalStep::Goes => (),
-            LocalStep::Turns => {
-                running.task.turns += 1;
-                if running.task.turns == 4096 {
+            LocalStep::Ticks => {
+                running.task.ticks += 1;
+                if running.task.ticks == 4096 {
                     return Ok(());
                 }
             }

@@ -29,7 +29,7 @@ impl Task {
     pub fn start(alloc: Global, number: u32, start: Start) -> Task
         ensures state { state_of result ≡ begins_at (plain_start start) }
         ensures number { result.number ≡ number }
-        ensures turns { result.turns ≡ 0 }
+        ensures ticks { result.ticks ≡ 0 }
         ensures made { result.made ≡ 0 }
     {
         Task {
@@ -42,7 +42,7 @@ impl Task {
                 stack: Stack::new(alloc),
             },
             callers: Stack::new(alloc),
-            turns: 0,
+            ticks: 0,
             made: 0,
         }
     }

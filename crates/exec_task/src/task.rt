@@ -38,8 +38,8 @@ pub struct Task {
     pub standing: Standing,
     pub level: Level,
     pub callers: Stack<Level>,
-    /// How many turns it has made since its last answer.
-    pub turns: u32,
+    /// How many ticks it has made since its last answer.
+    pub ticks: u32,
     /// How many local regions it has made.
     pub made: u32,
 }

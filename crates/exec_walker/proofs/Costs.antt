@@ -12,7 +12,7 @@ use Rattle.lang_meaning.specs.Elision.{LocalRegion, in_order, Store, one_step, a
 use Rattle.lang_meaning.specs.Expressions.{gives, none, of_expr}
 use Rattle.lang_meaning.specs.Outcomes.{Limited, Came, joined_or, first_trap, all_locals}
 use Rattle.lang_meaning.specs.Statements.{joined, of_stmt, of_stmts, begun}
-use Rattle.exec_walker.specs.Agenda.{Item, evaluate, operate, carry_out, finish, counted, goes_on, test, turn, leave, deeper_at, applied, finished, parted}
+use Rattle.exec_walker.specs.Agenda.{Item, evaluate, operate, carry_out, finish, counted, goes_on, test, tick, leave, deeper_at, applied, finished, parted}
 use Rattle.exec_walker.specs.Walk.{Level, Construct, Waiting, for_value, for_object, for_branch, root_work, value_of, first_or}
 use Rattle.exec_walker.proofs.Runs.{proceeds}
 use Rattle.exec_walker.proofs.Residual.{Ran, again, item_run, stacked, items_run, level_run, with_operand, rest_run, joins_run, whole}
@@ -41,7 +41,7 @@ module _ (P : PlainProgram) where
   item_leaves d (counted s) vs f w = run_leaves (parted P d s vs f) w
   item_leaves d (goes_on ss) vs f w = run_leaves (of_stmts in_order P (deeper_at P d) ss f) w
   item_leaves d (test e s) vs f w = run_leaves (looped d e s f) w
-  item_leaves d (turn e s) vs f w =
+  item_leaves d (tick e s) vs f w =
       tested_leaves (λ g v. run sequential (stmt d s g) v) (λ g v. again P d e s g v) (λ g v. run_leaves (stmt d s g) v) (λ g v. run_leaves (looped d e s g) v)
       (Goes_on (slot_value vs 0) f) w
   item_leaves d leave vs f w = run_leaves (Act Exit (λ c. gives none f)) w

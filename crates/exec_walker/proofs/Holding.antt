@@ -78,7 +78,7 @@ after_write L s t w n i v h same heap small used limit = record {
   steps = omega (arith, same.steps, h.steps);
   cells = omega (arith, used, h.cells);
   cells_within = omega (arith, used, h.cells_within);
-  turns = omega (arith, h.turns);
+  ticks = omega (arith, h.ticks);
 }
 
 pub creation_steps : {N M : Type 0} (t : Thing N M) (c : Bool) → own_steps (New t c) ≡ cond c 2 1
@@ -103,7 +103,7 @@ after_new L s t w x c o h same is room sized seen =
       steps = same.steps ∙ h.steps ∙ ap (λ k. k + w.steps) (sym (creation_steps x c));
       cells = omega (arith, ap (λ (m : Contents). m.used) is, h.cells, sized);
       cells_within = omega (arith, ap (λ (m : Contents). m.used) is, room, h.cells_limit);
-      turns = omega (arith, h.turns, creation_steps x c);
+      ticks = omega (arith, h.ticks, creation_steps x c);
     }
 
 replicated : (n : ℕ) (v : Constant) → map plain_value (replicate n v) ≡ replicate n (plain_value v)

@@ -10,12 +10,12 @@ use Rattle.lang_meaning.specs.Values.{Value, Boolean}
 use Rattle.lang_meaning.specs.Actions.{Frame, Look, Rest, Enter, Exit}
 use Rattle.lang_meaning.specs.Core.{Result, Goes_on, Returns, Prog, Act, Done, bind, rounded, tested, run}
 use Rattle.lang_meaning.specs.Counts.{number, truth, reference, slot_value}
-use Rattle.lang_meaning.specs.Elision.{LocalRegion, in_order, Store, after, one_turn, sequential}
+use Rattle.lang_meaning.specs.Elision.{LocalRegion, in_order, Store, after, one_tick, sequential}
 use Rattle.lang_meaning.specs.Expressions.{gives, none, class_in, of_expr}
 use Rattle.lang_meaning.specs.Regions.{around, concrete, concrete_effect}
 use Rattle.lang_meaning.specs.Statements.{with_value, part_begun, part_taken_over, parts, parts_of_array, of_stmt, of_stmts}
-use Rattle.exec_walker.specs.Agenda.{Item, evaluate, operate, carry_out, finish, counted, goes_on, test, turn, leave, deeper_at, operands_of, count, applied, needs, finished, counts_to}
-use Rattle.exec_walker.specs.Walk.{Level, Waiting, State, At, Off, pushed, without, doing, operates, finishes, parts_at, turns, does_item, next_item, step, walk, lands, with_length}
+use Rattle.exec_walker.specs.Agenda.{Item, evaluate, operate, carry_out, finish, counted, goes_on, test, tick, leave, deeper_at, operands_of, count, applied, needs, finished, counts_to}
+use Rattle.exec_walker.specs.Walk.{Level, Waiting, State, At, Off, pushed, without, doing, operates, finishes, parts_at, ticks, does_item, next_item, step, walk, lands, with_length}
 use Rattle.exec_walker.proofs.Runs.{proceeds, bind_assoc, bind_same, then_run}
 use Rattle.exec_walker.proofs.Residual.{Ran, again, items_run, whole, state_run}
 use Rattle.exec_walker.proofs.WalkEnds.{ends_kept, lost_kept, lands_kept}
@@ -106,7 +106,7 @@ module _ (P : PlainProgram) where
   test_kept e s g ws w =
       ap (whole P ws) (
       ap (λ o. bind o K) (again_is T B g.frame w)
-      ∙ bind_assoc (run sequential (T g.frame) w) (λ r v. tested (λ v. one_turn v.turns v) (λ h u. run sequential (B h) u) (λ h u. again P g.left e s h u) r v) K
+      ∙ bind_assoc (run sequential (T g.frame) w) (λ r v. tested (λ v. one_tick v.ticks v) (λ h u. run sequential (B h) u) (λ h u. again P g.left e s h u) r v) K
       ∙ bind_same (run sequential (T g.frame) w) _ _ each_result)
     where
       T : Frame ℕ LocalRegion → Prog ℕ LocalRegion
@@ -119,23 +119,23 @@ module _ (P : PlainProgram) where
       K r u = proceeds (λ v f x. items_run P g.left g.items g.operands f x) r u
 
       each_result : (r : Result ℕ LocalRegion) (u : Store)
-          → bind (tested (λ v. one_turn v.turns v) (λ h u. run sequential (B h) u) (λ h u. again P g.left e s h u) r u) K
-          ≡ proceeds (λ v f x. items_run P g.left (turn e s ∷ g.items) (v ∷ g.operands) f x) r u
+          → bind (tested (λ v. one_tick v.ticks v) (λ h u. run sequential (B h) u) (λ h u. again P g.left e s h u) r u) K
+          ≡ proceeds (λ v f x. items_run P g.left (tick e s ∷ g.items) (v ∷ g.operands) f x) r u
       each_result (Goes_on v f) u = refl
       each_result (Returns v) u = refl
 
-  turns_kept : (n : ℕ) (e : TypedExpr) (s : TypedStmt) (g : Level) (ws : List Waiting) (w : Store)
-      → whole P ws (bind (bind (one_turn n w) (λ u w'. bind (run sequential (of_stmt in_order P (deeper_at P g.left) s g.frame) w') (λ r w''. rounded (λ h v. again P g.left e s h v) r w'')))
+  ticks_kept : (n : ℕ) (e : TypedExpr) (s : TypedStmt) (g : Level) (ws : List Waiting) (w : Store)
+      → whole P ws (bind (bind (one_tick n w) (λ u w'. bind (run sequential (of_stmt in_order P (deeper_at P g.left) s g.frame) w') (λ r w''. rounded (λ h v. again P g.left e s h v) r w'')))
       (λ r u. proceeds (λ v f x. items_run P g.left g.items g.operands f x) r u))
-      ≡ state_run P (turns n e s g ws w)
-  turns_kept zero e s g ws w = lost_kept P ws w
-  turns_kept (suc n) e s g ws w =
+      ≡ state_run P (ticks n e s g ws w)
+  ticks_kept zero e s g ws w = lost_kept P ws w
+  ticks_kept (suc n) e s g ws w =
       ap (whole P ws) (
       bind_assoc (run sequential (of_stmt in_order P (deeper_at P g.left) s g.frame) v) (λ r u. rounded (λ h v. again P g.left e s h v) r u) K
       ∙ bind_same (run sequential (of_stmt in_order P (deeper_at P g.left) s g.frame) v) _ _ each_result)
     where
       v : Store
-      v = record w { steps = suc w.steps; turns = n }
+      v = record w { steps = suc w.steps; ticks = n }
 
       K : Result ℕ LocalRegion → Store → Ran
       K r u = proceeds (λ v f x. items_run P g.left g.items g.operands f x) r u
@@ -145,14 +145,14 @@ module _ (P : PlainProgram) where
       each_result (Goes_on v f) u = refl
       each_result (Returns v) u = refl
 
-  turn_kept : (b : Bool) (e : TypedExpr) (s : TypedStmt) (g : Level) (ws : List Waiting) (w : Store) (x : Value ℕ)
+  tick_kept : (b : Bool) (e : TypedExpr) (s : TypedStmt) (g : Level) (ws : List Waiting) (w : Store) (x : Value ℕ)
       → whole P ws (bind (elim b as (λ b. Ran) [
         | false ↦ Done (Goes_on x g.frame) w
-        | true ↦ bind (one_turn w.turns w) (λ u w'. bind (run sequential (of_stmt in_order P (deeper_at P g.left) s g.frame) w') (λ r w''. rounded (λ h v. again P g.left e s h v) r w''))
+        | true ↦ bind (one_tick w.ticks w) (λ u w'. bind (run sequential (of_stmt in_order P (deeper_at P g.left) s g.frame) w') (λ r w''. rounded (λ h v. again P g.left e s h v) r w''))
       ]) (λ r u. proceeds (λ v f x. items_run P g.left g.items g.operands f x) r u))
-      ≡ state_run P (cond b (turns w.turns e s g ws w) (At g ws w))
-  turn_kept true e s g ws w x = turns_kept w.turns e s g ws w
-  turn_kept false e s g ws w x = refl
+      ≡ state_run P (cond b (ticks w.ticks e s g ws w) (At g ws w))
+  tick_kept true e s g ws w x = ticks_kept w.ticks e s g ws w
+  tick_kept false e s g ws w x = refl
 
   item_kept : (i : Item) (g : Level) (ws : List Waiting) (w : Store) → Stands i g ws w (does_item P i g ws w)
   item_kept (evaluate e) g ws w = ap (whole P ws) (expands P g.left e g.items g.operands g.frame w)
@@ -165,7 +165,7 @@ module _ (P : PlainProgram) where
       ap (whole P ws) (then_run sequential (of_stmt in_order P (deeper_at P g.left) s g.frame) (λ v f. of_stmts in_order P (deeper_at P g.left) ss f)
       (λ v f x. items_run P g.left g.items g.operands f x) w)
   item_kept (test e s) g ws w = test_kept e s g ws w
-  item_kept (turn e s) g ws w = turn_kept (truth (slot_value g.operands 0)) e s (without 1 g) ws w (slot_value g.operands 0)
+  item_kept (tick e s) g ws w = tick_kept (truth (slot_value g.operands 0)) e s (without 1 g) ws w (slot_value g.operands 0)
   item_kept leave g ws w = refl
 
   next_kept : (is : List Item) (g : Level) (ws : List Waiting) (w : Store)

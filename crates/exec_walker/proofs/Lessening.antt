@@ -19,8 +19,8 @@ use Rattle.lang_meaning.specs.Outcomes.{joined_or}
 use Rattle.lang_meaning.specs.Regions.{around, concrete, some_long}
 use Rattle.lang_meaning.specs.Statements.{all_copies, iterations, tasks_of}
 use Rattle.lang_meaning.specs.Values.{Value, Boolean, Object}
-use Rattle.exec_walker.specs.Agenda.{Item, evaluate, operate, carry_out, finish, counted, goes_on, test, turn, leave, operands_of, count, needs, applied, finished, counts_to}
-use Rattle.exec_walker.specs.Walk.{Level, Construct, Waiting, for_value, for_object, for_branch, State, At, Off, falls, fallen, earlier, noted, branches, rejoins, ends, lands, forks_at, parts_at, or_null, pushed, doing, without, with_length, row_member, seen_at, enters, calls, constructs, creates, each, operates, finishes, counts, turns, does_item, next_item, step}
+use Rattle.exec_walker.specs.Agenda.{Item, evaluate, operate, carry_out, finish, counted, goes_on, test, tick, leave, operands_of, count, needs, applied, finished, counts_to}
+use Rattle.exec_walker.specs.Walk.{Level, Construct, Waiting, for_value, for_object, for_branch, State, At, Off, falls, fallen, earlier, noted, branches, rejoins, ends, lands, forks_at, parts_at, or_null, pushed, doing, without, with_length, row_member, seen_at, enters, calls, constructs, creates, each, operates, finishes, counts, ticks, does_item, next_item, step}
 use Rattle.exec_walker.proofs.Loops.{Leaves, run_leaves}
 use Rattle.exec_walker.specs.declared.walker.Walker.{Walker}
 use Rattle.exec_walker.specs.States.{StandsAt, plain_waiting}
@@ -192,9 +192,9 @@ module _ (P : PlainProgram) where
   counts_less n (statement at (stmt.foreach_parts k (of_part j) many s)) g ws w h = costs_less n w w (parts_at at k s g ws w) (omega arith) (parts_cost at k s g ws w)
   counts_less n s g ws w h = inr (omega arith, h)
 
-  turns_cost : (t : ℕ) (e : TypedExpr) (s : TypedStmt) (g : Level) (ws : List Waiting) (w : Store) → Costs w (turns t e s g ws w)
-  turns_cost zero e s g ws w = tt
-  turns_cost (suc t) e s g ws w = omega arith
+  ticks_cost : (t : ℕ) (e : TypedExpr) (s : TypedStmt) (g : Level) (ws : List Waiting) (w : Store) → Costs w (ticks t e s g ws w)
+  ticks_cost zero e s g ws w = tt
+  ticks_cost (suc t) e s g ws w = omega arith
 
   item_less : (n : ℕ) (i : Item) (g : Level) (ws : List Waiting) (w : Store) → item_work i + (items_work g.items + waiting_work ws) ≤ n → Lessens n w (does_item P i g ws w)
   item_less n (evaluate e) g ws w h =
@@ -207,9 +207,9 @@ module _ (P : PlainProgram) where
   item_less n (goes_on no_stmts) g ws w h = inr (omega arith, omega arith)
   item_less n (goes_on (more_stmts s ss)) g ws w h = inr (omega arith, omega arith)
   item_less n (test e s) g ws w h = inr (omega arith, omega arith)
-  item_less n (turn e s) g ws w h =
-      cond_less n w (truth (slot_value g.operands 0)) (turns w.turns e s (without 1 g) ws w) (At (without 1 g) ws w)
-      (costs_less n w w (turns w.turns e s (without 1 g) ws w) (omega arith) (turns_cost w.turns e s (without 1 g) ws w)) (inr (omega arith, omega arith))
+  item_less n (tick e s) g ws w h =
+      cond_less n w (truth (slot_value g.operands 0)) (ticks w.ticks e s (without 1 g) ws w) (At (without 1 g) ws w)
+      (costs_less n w w (ticks w.ticks e s (without 1 g) ws w) (omega arith) (ticks_cost w.ticks e s (without 1 g) ws w)) (inr (omega arith, omega arith))
   item_less n leave g ws w h = inl (omega arith)
 
   next_less : (n : ℕ) (is : List Item) (g : Level) (ws : List Waiting) (w : Store) → items_work is + waiting_work ws ≤ n → Lessens n w (next_item P is g ws w)

@@ -7,11 +7,11 @@ use Rattle.lang_meaning.specs.Asking.{meaning}
 use Rattle.lang_meaning.specs.Core.{Result, Goes_on, Ret, Act, Again, Done, bind, tested, run}
 use Rattle.lang_meaning.specs.Core.{Out as out}
 use Rattle.lang_meaning.specs.Counts.{slot_value, brought}
-use Rattle.lang_meaning.specs.Elision.{LocalRegion, in_order, Store, one_turn, at_end, one_by_one, one_step, sequential}
+use Rattle.lang_meaning.specs.Elision.{LocalRegion, in_order, Store, one_tick, at_end, one_by_one, one_step, sequential}
 use Rattle.lang_meaning.specs.Expressions.{gives, none, of_expr}
 use Rattle.lang_meaning.specs.Outcomes.{joined_or, first_trap, all_locals}
 use Rattle.lang_meaning.specs.Statements.{joined, of_stmt, of_stmts, begun}
-use Rattle.exec_walker.specs.Agenda.{Item, evaluate, operate, carry_out, finish, counted, goes_on, test, turn, leave, deeper_at, operands_of, count, applied, needs, finished, parted}
+use Rattle.exec_walker.specs.Agenda.{Item, evaluate, operate, carry_out, finish, counted, goes_on, test, tick, leave, deeper_at, operands_of, count, applied, needs, finished, parted}
 use Rattle.exec_walker.specs.Walk.{Level, Construct, Waiting, for_value, for_object, for_branch, State, At, Off, root_work, value_of, first_or}
 use Rattle.exec_walker.proofs.Runs.{proceeds}
 
@@ -30,8 +30,8 @@ item_run P d (finish s) vs f w = run sequential (finished P d s vs f) w
 item_run P d (counted s) vs f w = run sequential (parted P d s vs f) w
 item_run P d (goes_on ss) vs f w = run sequential (of_stmts in_order P (deeper_at P d) ss f) w
 item_run P d (test e s) vs f w = again P d e s f w
-item_run P d (turn e s) vs f w =
-    tested (λ v. one_turn v.turns v) (λ g v. run sequential (of_stmt in_order P (deeper_at P d) s g) v) (λ g v. again P d e s g v) (Goes_on (slot_value vs 0) f) w
+item_run P d (tick e s) vs f w =
+    tested (λ v. one_tick v.ticks v) (λ g v. run sequential (of_stmt in_order P (deeper_at P d) s g) v) (λ g v. again P d e s g v) (Goes_on (slot_value vs 0) f) w
 item_run P d leave vs f w = run sequential (Act Exit (λ c. gives none f)) w
 
 -- the operands after it, where it gives a value
@@ -43,7 +43,7 @@ stacked (finish s) vs v = drop (count (needs s)) vs
 stacked (counted s) vs v = drop 1 vs
 stacked (goes_on ss) vs v = vs
 stacked (test e s) vs v = vs
-stacked (turn e s) vs v = drop 1 vs
+stacked (tick e s) vs v = drop 1 vs
 stacked leave vs v = vs
 
 abbrev pub items_run : PlainProgram → ℕ → List Item → List (Value ℕ) → Frame ℕ LocalRegion → Store → Ran

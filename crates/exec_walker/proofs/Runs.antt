@@ -30,7 +30,7 @@ run_on wd (Traps t p) k w = refl
 run_on wd (Act o j) k w = bind_through (wd.act o w) (λ x v. run wd (on (j x) k) v) (λ x v. run wd (j x) v) (λ f v. run wd (k f) v) (λ x v. run_on wd (j x) k v)
 run_on wd (Makes j) k w = bind_through (wd.make w) (λ x v. run wd (on (j x) k) v) (λ x v. run wd (j x) v) (λ f v. run wd (k f) v) (λ x v. run_on wd (j x) k v)
 run_on wd (Again t b f j) k w =
-    bind_through (loop wd.turn (λ g v. run wd (t g) v) (λ g v. run wd (b g) v) (wd.turns w) f w) (λ x v. run wd (on (j x) k) v) (λ x v. run wd (j x) v)
+    bind_through (loop wd.tick (λ g v. run wd (t g) v) (λ g v. run wd (b g) v) (wd.ticks w) f w) (λ x v. run wd (on (j x) k) v) (λ x v. run wd (j x) v)
     (λ f v. run wd (k f) v) (λ x v. run_on wd (j x) k v)
 run_on wd (Split nd ts bs j) k w =
     bind_through (wd.fork nd ts (each_from (λ i v. run wd (bs i) v) 0 ts) w) (λ x v. run wd (on (j x) k) v) (λ x v. run wd (j x) v) (λ f v. run wd (k f) v)

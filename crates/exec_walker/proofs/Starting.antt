@@ -46,7 +46,7 @@ holds_nothing L s heap output trap steps regions limit cells = record {
   steps = steps;
   cells = ap (λ (h : Contents). h.used) heap;
   cells_within = let none : s.heap.used ≡ 0 = ap (λ (h : Contents). h.used) heap in omega (arith, none);
-  turns = omega arith;
+  ticks = omega arith;
 }
 
 module _ (P : PlainProgram) where

@@ -30,7 +30,7 @@ pub data Item : Type 0 where
   goes_on : TypedStmts → Item
   -- a while loop in front of its test, and after it
   test : TypedExpr → TypedStmt → Item
-  turn : TypedExpr → TypedStmt → Item
+  tick : TypedExpr → TypedStmt → Item
   -- the end of an atomic block
   leave : Item
 

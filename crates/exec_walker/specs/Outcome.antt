@@ -24,9 +24,9 @@ Walked P argument L (Ok o) = IsElided P argument L o
 Walked P argument L (Err halt.Limited) = elided P argument L ≡ Limited L.steps L.cells
 Walked P argument L (Err halt.NoMemory) = Unit {0}
 
--- a store in which nothing was made, with so many turns
+-- a store in which nothing was made, with so many ticks
 abbrev pub nothing : ℕ → Store
-nothing n = record { heap = []; regions = 0; output = []; trap = None; steps = 0; cells = 0; turns = n }
+nothing n = record { heap = []; regions = 0; output = []; trap = None; steps = 0; cells = 0; ticks = n }
 
 -- the walker stands at the start of the walk
 abbrev pub Begun : PlainProgram → ℤ → Limits → Result Walker Halt → Type 0

@@ -16,7 +16,7 @@ use Rattle.lang_meaning.specs.Elision.{Store as Elided}
 use Rattle.lang_meaning.specs.Expressions.{none}
 use Rattle.lang_meaning.specs.Statements.{tasks_of, all_copies, iterations}
 use Rattle.exec_frames.specs.Names.{plain_value, plain_frame}
-use Rattle.exec_walker.specs.Agenda.{Item, evaluate, operate, carry_out, finish, counted, goes_on, test, turn, leave}
+use Rattle.exec_walker.specs.Agenda.{Item, evaluate, operate, carry_out, finish, counted, goes_on, test, tick, leave}
 use Rattle.exec_walker.specs.Walk as walk
 use Rattle.exec_walker.specs.Walk.{Construct, for_value, for_object, for_branch, State, At, Off}
 use Rattle.exec_walker.specs.declared.halt.Halt.{Halt}
@@ -34,7 +34,7 @@ use Rattle.exec_walker.specs.declared.waiting.Awaited.TheVariants as awaited
 use Rattle.exec_walker.specs.declared.item.ExprStage.{ExprStage}
 use Rattle.exec_walker.specs.declared.item.ExprStage.TheVariants.{Evaluate, Operate}
 use Rattle.exec_walker.specs.declared.item.LoopStage.{LoopStage}
-use Rattle.exec_walker.specs.declared.item.LoopStage.TheVariants.{Test, Turn}
+use Rattle.exec_walker.specs.declared.item.LoopStage.TheVariants.{Test, Tick}
 use Rattle.exec_walker.specs.declared.item.PartsLoop.{PartsLoop}
 use Rattle.exec_walker.specs.declared.item.StmtStage.{StmtStage}
 use Rattle.exec_walker.specs.declared.item.StmtStage.TheVariants.{CarryOut, Finish}
@@ -58,7 +58,7 @@ stmt_item Finish s = finish s
 
 abbrev pub loop_item : LoopStage → TypedExpr → TypedStmt → Item
 loop_item Test e s = test e s
-loop_item Turn e s = turn e s
+loop_item Tick e s = tick e s
 
 abbrev pub plain_item : CodeItem → Item
 plain_item (item.Expr stage e) = expr_item stage (plain_expr e.now)

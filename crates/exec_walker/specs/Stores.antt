@@ -29,7 +29,7 @@ held_seen h = (seen h.thing, h.values)
 abbrev pub IsSmall : Object → Type 0
 IsSmall o = length (values_of o) ≤ 16777216
 
--- the two are one, but for the first values of what was made, which nothing sees; within the limits, and there are turns for
+-- the two are one, but for the first values of what was made, which nothing sees; within the limits, and there are ticks for
 -- all steps that are left
 pub record Holds (L : Limits) (s : Store) (w : Elided) : Type 0 where
   pub heap : map object_seen s.heap.objects ≡ map held_seen w.heap
@@ -43,19 +43,19 @@ pub record Holds (L : Limits) (s : Store) (w : Elided) : Type 0 where
   pub steps : s.steps ≡ w.steps
   pub cells : s.heap.used ≡ w.cells
   pub cells_within : s.heap.used ≤ L.cells
-  pub turns : L.steps < w.turns + w.steps
+  pub ticks : L.steps < w.ticks + w.steps
 
 -- the store with so many steps more
 abbrev pub counted : ℕ → Elided → Elided
 counted n w = record w { steps = n + w.steps }
 
--- the store with a turn less, which costs a step
-abbrev pub turned : Elided → Elided
-turned w = record w { steps = suc w.steps; turns = w.turns - 1 }
+-- the store with a tick less, which costs a step
+abbrev pub ticked : Elided → Elided
+ticked w = record w { steps = suc w.steps; ticks = w.ticks - 1 }
 
--- with one local region more, which costs a turn
+-- with one local region more, which costs a tick
 abbrev pub with_region : Elided → Elided
-with_region w = record w { regions = suc w.regions; steps = suc w.steps; turns = w.turns - 1 }
+with_region w = record w { regions = suc w.regions; steps = suc w.steps; ticks = w.ticks - 1 }
 
 -- with a trap noted, of which the first stays
 abbrev pub fallen : Trap → Place → Elided → Elided

@@ -20,7 +20,7 @@ use Rattle.lang_meaning.specs.Expressions.{none, entered, new_object, class_in}
 use Rattle.lang_meaning.specs.Outcomes.{joined_or, trap_of, locals_of}
 use Rattle.lang_meaning.specs.Regions.{around, concrete, concrete_effect, some_long, regions_above}
 use Rattle.lang_meaning.specs.Statements.{with_value, with_values, part_begun, part_taken_over, tasks_of, all_copies, iterations, begun}
-use Rattle.exec_walker.specs.Agenda.{Item, evaluate, operate, carry_out, finish, counted, goes_on, test, turn, leave, operands_of, count, applied, needs, finished, counts_to}
+use Rattle.exec_walker.specs.Agenda.{Item, evaluate, operate, carry_out, finish, counted, goes_on, test, tick, leave, operands_of, count, applied, needs, finished, counts_to}
 
 -- a body at work: what it has to do, its operands, the latest first, its frame, and how many calls deeper it may go
 pub record Level : Type 0 where
@@ -240,10 +240,10 @@ counts (statement at (stmt.foreach_parts k (of_array a) many s)) g ws w =
 counts (statement at (stmt.foreach_parts k (of_part j) many s)) g ws w = parts_at at k s g ws w
 counts s g ws w = At g ws w
 
--- after the test of a while loop: a turn and the body, where it is true
-abbrev pub turns : ℕ → TypedExpr → TypedStmt → Level → List Waiting → Store → State
-turns zero e s g ws w = Off (Lost w)
-turns (suc n) e s g ws w = At (doing (carry_out s) (doing (test e s) g)) ws (record w { steps = suc w.steps; turns = n })
+-- after the test of a while loop: a tick and the body, where it is true
+abbrev pub ticks : ℕ → TypedExpr → TypedStmt → Level → List Waiting → Store → State
+ticks zero e s g ws w = Off (Lost w)
+ticks (suc n) e s g ws w = At (doing (carry_out s) (doing (test e s) g)) ws (record w { steps = suc w.steps; ticks = n })
 
 abbrev pub does_item : PlainProgram → Item → Level → List Waiting → Store → State
 does_item P (evaluate e) g ws w = At (record g { items = each (operands_of e) (operate e ∷ g.items) }) ws w
@@ -253,8 +253,8 @@ does_item P (finish s) g ws w = finishes P s g ws w
 does_item P (counted s) g ws w = counts s (record (without 1 g) { frame = counts_to s (slot_value g.operands 0) g.frame }) ws w
 does_item P (goes_on no_stmts) g ws w = At g ws w
 does_item P (goes_on (more_stmts s ss)) g ws w = At (doing (carry_out s) (doing (goes_on ss) g)) ws w
-does_item P (test e s) g ws w = At (doing (evaluate e) (doing (turn e s) g)) ws w
-does_item P (turn e s) g ws w = cond (truth (slot_value g.operands 0)) (turns w.turns e s (without 1 g) ws w) (At (without 1 g) ws w)
+does_item P (test e s) g ws w = At (doing (evaluate e) (doing (tick e s) g)) ws w
+does_item P (tick e s) g ws w = cond (truth (slot_value g.operands 0)) (ticks w.ticks e s (without 1 g) ws w) (At (without 1 g) ws w)
 does_item P leave g ws w = At g ws (after Exit w)
 
 abbrev pub next_item : PlainProgram → List Item → Level → List Waiting → Store → State
@@ -273,6 +273,6 @@ walk P (suc n) s = walk P n (step P s)
 abbrev pub root_level : Task ℕ LocalRegion → Level
 root_level t = beginning t.work.stmts t.frame t.frame.left
 
--- the start, in a run of at most so many turns
+-- the start, in a run of at most so many ticks
 abbrev pub start : PlainProgram → ℤ → ℕ → State
 start P arg n = At (root_level (root_task in_order P 0 arg)) [] (at_start P n)

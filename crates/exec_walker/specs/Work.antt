@@ -3,7 +3,7 @@ use Rattle.std.specs.Prelude.{ℕ, suc, ◌+◌, List, [], ◌∷◌, map}
 use Rattle.lang_typed.specs.Plain.{of_array, of_part, TypedExpr, typed, TypedExprs, no_exprs, more_exprs, TypedStmt, statement, TypedStmts, no_stmts, more_stmts}
 use Rattle.lang_typed.specs.Plain.{ExprForm as form}
 use Rattle.lang_typed.specs.Plain.{StmtForm as stmt}
-use Rattle.exec_walker.specs.Agenda.{Item, evaluate, operate, carry_out, finish, counted, goes_on, test, turn, leave}
+use Rattle.exec_walker.specs.Agenda.{Item, evaluate, operate, carry_out, finish, counted, goes_on, test, tick, leave}
 use Rattle.exec_walker.specs.Walk.{Waiting, for_value, for_object, for_branch}
 use Rattle.exec_walker.specs.declared.walker.Walker.{Walker}
 use Rattle.exec_walker.specs.States.{plain_item, plain_waiting}
@@ -81,7 +81,7 @@ item_work (finish s) = finish_work s
 item_work (counted s) = 1
 item_work (goes_on ss) = stmts_work ss
 item_work (test e s) = 2 + expr_work e
-item_work (turn e s) = 1
+item_work (tick e s) = 1
 item_work leave = 1
 
 abbrev pub items_work : List Item → ℕ

@@ -22,7 +22,7 @@ pub enum StmtStage {
 #[derive(Clone, Copy, Debug, PartialEq, Eq)]
 pub enum LoopStage {
     Test,
-    Turn,
+    Tick,
 }
 
 /// A loop over the parts of an array, or of a part.

@@ -9,8 +9,8 @@ ghost use Rattle.lang_meaning.specs.Counts.{how_many, number, reference, slot_va
 ghost use Rattle.lang_meaning.specs.Elision.{Made, after, sequential};
 ghost use Rattle.lang_meaning.specs.Actions.{Exit, Look};
 ghost use Rattle.lang_meaning.specs.Statements.{makes, all_copies, tasks_of, iterations};
-ghost use Rattle.exec_walker.specs.Agenda.{evaluate, counted, turn};
-ghost use Rattle.exec_walker.specs.Walk.{At, does_item, doing, ends, finishes, forks_at, or_null, parts_at, lands, turns, with_length, without};
+ghost use Rattle.exec_walker.specs.Agenda.{evaluate, counted, tick};
+ghost use Rattle.exec_walker.specs.Walk.{At, does_item, doing, ends, finishes, forks_at, or_null, parts_at, lands, ticks, with_length, without};
 ghost use Rattle.exec_frames.specs.Names.{plain_local};
 ghost use Rattle.exec_walker.specs.Forms.{parts_from};
 ghost use Rattle.exec_walker.specs.States.{Does, plain_branch, plain_item, plain_parts, tasks_in};
@@ -115,7 +115,7 @@ impl<'p> Walker<'p> {
         Ok(None)
     }
 
-    /// New local regions, each of which costs a turn.
+    /// New local regions, each of which costs a tick.
     fn make_regions(&mut self, made: &Items<LocalRegion>) -> Result<Option<Over>, Halt>
         ensures { Does (λ g ws w. lands g (λ v. g.operands) ws (run sequential (makes (map (λ region. region.number) made.now) g.frame) w)) self.old result self.new }
     {
@@ -128,20 +128,20 @@ impl<'p> Walker<'p> {
 
     /// A while loop in front of its test.
     pub fn test(&mut self, test: &'p Expr, body: &'p Boxed<Stmt>) -> Result<Option<Over>, Halt>
-        ensures { Does (λ g ws w. At (doing (evaluate (plain_expr test.now)) (doing (turn (plain_expr test.now) (plain_stmt body.now)) g)) ws w) self.old result self.new }
+        ensures { Does (λ g ws w. At (doing (evaluate (plain_expr test.now)) (doing (tick (plain_expr test.now) (plain_stmt body.now)) g)) ws w) self.old result self.new }
     {
-        self.level.will(Item::Loop(LoopStage::Turn, test, body))?;
+        self.level.will(Item::Loop(LoopStage::Tick, test, body))?;
         self.next(0, Item::Expr(ExprStage::Evaluate, test))
     }
 
-    /// After the test: a turn and the body, where it is true.
-    pub fn turn(&mut self, test: &'p Expr, body: &'p Boxed<Stmt>) -> Result<Option<Over>, Halt>
-        ensures { Does (λ g ws w. cond (truth (slot_value g.operands 0)) (turns w.turns (plain_expr test.now) (plain_stmt body.now) (without 1 g) ws w) (At (without 1 g) ws w)) self.old result self.new }
+    /// After the test: a tick and the body, where it is true.
+    pub fn tick(&mut self, test: &'p Expr, body: &'p Boxed<Stmt>) -> Result<Option<Over>, Halt>
+        ensures { Does (λ g ws w. cond (truth (slot_value g.operands 0)) (ticks w.ticks (plain_expr test.now) (plain_stmt body.now) (without 1 g) ws w) (At (without 1 g) ws w)) self.old result self.new }
     {
         if !truth(self.level.operand(0)) {
             return self.discard(1);
         }
-        self.store.turn()?;
+        self.store.tick()?;
         self.level.operands.drop_top(1);
         self.level.will(Item::Loop(LoopStage::Test, test, body))?;
         self.next(0, Item::Stmt(StmtStage::CarryOut, body.get()))

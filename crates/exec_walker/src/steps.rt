@@ -63,7 +63,7 @@ impl<'p> Walker<'p> {
                 Ok(None)
             }
             Item::Loop(LoopStage::Test, test, body) => self.test(test, body),
-            Item::Loop(LoopStage::Turn, test, body) => self.turn(test, body),
+            Item::Loop(LoopStage::Tick, test, body) => self.tick(test, body),
             Item::Leave => self.leave(),
         }
     }

@@ -40,7 +40,7 @@ impl Store {
     ghost use Rattle.exec_frames.specs.Classes.{plain_seen};
     ghost use Rattle.exec_walker.specs.Stores.{fallen};
     ghost use Rattle.exec_walker.specs.Halts.{After};
-    ghost use Rattle.exec_walker.specs.Stores.{Holds, counted, turned, with_region};
+    ghost use Rattle.exec_walker.specs.Stores.{Holds, counted, ticked, with_region};
 
     /// Counts a step.
     pub fn count(&mut self) -> Result<(), Halt>
@@ -65,9 +65,9 @@ impl Store {
         Ok(())
     }
 
-    /// A turn, which costs a step.
-    pub fn turn(&mut self) -> Result<(), Halt>
-        ensures { (L : Limits) (w : Elided) → Holds L self.old w → After L result (Holds L self.new) (turned w) }
+    /// A tick, which costs a step.
+    pub fn tick(&mut self) -> Result<(), Halt>
+        ensures { (L : Limits) (w : Elided) → Holds L self.old w → After L result (Holds L self.new) (ticked w) }
     {
         if self.steps == self.limit {
             return Err(Halt::Limited);
@@ -76,7 +76,7 @@ impl Store {
         Ok(())
     }
 
-    /// The number of a new local region, which costs a turn.
+    /// The number of a new local region, which costs a tick.
     pub fn make_region(&mut self) -> Result<u32, Halt>
         ensures store { (L : Limits) (w : Elided) → Holds L self.old w → After L result (Holds L self.new) (with_region w) }
         ensures number { IfOk result (λ r. (L : Limits) (w : Elided) → Holds L self.old w → r ≡ w.regions) }

@@ -14,7 +14,7 @@ use Rattle.exec_world.specs.declared.stop.Stop.{Stop}
 use Rattle.exec_world.specs.declared.stop.Stop.TheVariants as stop
 use Rattle.exec_world.specs.declared.world.World.{World}
 
--- besides the turns. An entry of a method is the look at its receiver, and one of a constructor a second step of the creation
+-- besides the ticks. An entry of a method is the look at its receiver, and one of a constructor a second step of the creation
 abbrev pub own_steps : Own → ℕ
 own_steps own.Rest = 0
 own_steps (own.NewObject c rs constructor) = cond constructor 2 1
@@ -44,9 +44,9 @@ abbrev pub cells_of : Code → Action → ℕ
 cells_of C (action.Do o) = own_cells C o
 cells_of C a = 0
 
--- an event keeps to both limits, with its turns
+-- an event keeps to both limits, with its ticks
 abbrev pub Within : Code → World → Event → Type 0
-Within C w e = (w.steps + (e.turns + steps_of e.action) ≤ w.most_steps) × (w.heap.used + cells_of C e.action ≤ w.heap.limit)
+Within C w e = (w.steps + (e.ticks + steps_of e.action) ≤ w.most_steps) × (w.heap.used + cells_of C e.action ≤ w.heap.limit)
 
 -- it is refused by a limit exactly where it doesn't keep to both
 abbrev pub Stops : Code → World → Event → Stop → Type 0

@@ -160,7 +160,7 @@ with_steps w more = record { heap = w.heap; tree = w.tree; locks = w.locks; wait
 
 -- after an event
 abbrev pub world_after : Code → World → Event → World
-world_after C w e = with_steps (acted C w e) (e.turns + steps_of e.action)
+world_after C w e = with_steps (acted C w e) (e.ticks + steps_of e.action)
 
 -- a task of this number stands in no block
 abbrev pub IsOutside : Standings → ℕ → Type 0

@@ -6,7 +6,7 @@ use code_instrs::Code;
 use exec_task::{Action, Own};
 use lang_base::FirstValue;
 
-/// The steps of an action besides its turns.
+/// The steps of an action besides its ticks.
 pub fn steps_of(action: &Action) -> u64
     ensures { result ≡ steps_of action.now }
 {
@@ -52,11 +52,11 @@ pub fn cells_of(code: &Code, action: &Action) -> u64
     }
 }
 
-/// Whether so many turns and an action of so many steps more are within the limit of steps.
-pub fn has_steps(steps: u64, most: u64, turns: u32, more: u64) -> bool
+/// Whether so many ticks and an action of so many steps more are within the limit of steps.
+pub fn has_steps(steps: u64, most: u64, ticks: u32, more: u64) -> bool
     requires { more ≤ 2 }
-    ensures { IsTrue result ↔ (steps + (turns + more) ≤ most) }
+    ensures { IsTrue result ↔ (steps + (ticks + more) ≤ most) }
 {
-    let cost = u64::from(turns) + more;
+    let cost = u64::from(ticks) + more;
     steps <= most && cost <= most - steps
 }

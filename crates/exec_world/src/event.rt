@@ -5,8 +5,8 @@ use lang_base::{Effect, Items};
 #[derive(Drop)]
 pub struct Event {
     pub task: u32,
-    /// How many turns it has made since its last event.
-    pub turns: u32,
+    /// How many ticks it has made since its last event.
+    pub ticks: u32,
     pub action: Action,
     /// Where it rests in front of an entry: the effects with which it is to enter.
     pub wants: Option<Items<Effect>>,

@@ -58,7 +58,7 @@ impl World {
         if !self.allows(code, &event) {
             return Err(Stop::Limited);
         }
-        let cost = u64::from(event.turns) + steps_of(&event.action);
+        let cost = u64::from(event.ticks) + steps_of(&event.action);
         let answer = self.act(alloc, code, event)?;
         self.steps += cost;
         Ok(answer)
@@ -69,7 +69,7 @@ impl World {
         ensures { IsTrue result ↔ Within code.now self.now event.now }
     {
         let more = steps_of(&event.action);
-        has_steps(self.steps, self.most_steps, event.turns, more)
+        has_steps(self.steps, self.most_steps, event.ticks, more)
             && self.heap.has_room(cells_of(code, &event.action))
     }
 

@@ -4,4 +4,4 @@ mod Meant
 mod Modes
 mod Samples
 pub mod Tasks
-pub mod Turns
+pub mod Ticks

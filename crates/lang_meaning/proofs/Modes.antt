@@ -10,12 +10,12 @@ use Rattle.lang_meaning.specs.Actions.{Ending as ends}
 use Rattle.lang_meaning.specs.Counts.{truth, Brought, brought}
 use Rattle.lang_meaning.specs.Core.{Result, Goes_on, Returns, Prog, Ret, Traps, Act, Makes, Again, Split, Out, Done, Trapped, Stopped, Lost, bind, tested}
 use Rattle.lang_meaning.specs.Core.{rounded, run}
-use Rattle.lang_meaning.specs.Asking.{most_turns, Reported, asked, turned, begins_then, reported_join, reported, ending}
+use Rattle.lang_meaning.specs.Asking.{most_ticks, Reported, asked, ticked, begins_then, reported_join, reported, ending}
 use Rattle.lang_meaning.specs.Tasks.{Replies, again}
-use Rattle.lang_meaning.proofs.Turns.{most_pos, past_test, turned_if, loops_again, bind_done}
+use Rattle.lang_meaning.proofs.Ticks.{most_pos, past_test, ticked_if, loops_again, bind_done}
 use Rattle.lang_meaning.proofs.Entries.{IsEntry, Enters, Steady}
 
--- where a task stands: anywhere; after a fork of these branches, of which so many have begun; after a rest without turns;
+-- where a task stands: anywhere; after a fork of these branches, of which so many have begun; after a rest without ticks;
 -- or at its end
 pub data Mode (N M : Type 0) : Type 0 where
   Free : Mode N M
@@ -27,7 +27,7 @@ pub data Mode (N M : Type 0) : Type 0 where
 abbrev pub Rests : Type 0 → Type 0 → Type 0 → Type 0
 Rests N M V = V → Reported N M → Reply N M (Task N M)
 
-room_falls : (n d t : ℕ) → most_turns * suc d + (most_turns - t) < n → most_turns * d + (most_turns - 0) < n
+room_falls : (n d t : ℕ) → most_ticks * suc d + (most_ticks - t) < n → most_ticks * d + (most_ticks - 0) < n
 room_falls n d t l = omega arith
 
 module _ {N M : Type 0} where
@@ -60,16 +60,16 @@ module _ {N M : Type 0} where
   following g Over = g
   following g Unknown = g
 
-  -- so many turns may stand before it
+  -- so many ticks may stand before it
   abbrev pub InTime : ℕ → Action N M (Task N M) → Type 0
-  InTime n a = (n < most_turns) ⊎ ((n ≡ most_turns) × (a ≡ Do Rest))
+  InTime n a = (n < most_ticks) ⊎ ((n ≡ most_ticks) × (a ≡ Do Rest))
 
   abbrev pub MayFree : Reply N M (Task N M) → Type 0
   MayFree (Next n (Do o)) = InTime n (Do o)
-  MayFree (Next n (Fork ts)) = n < most_turns
+  MayFree (Next n (Fork ts)) = n < most_ticks
   MayFree (Next n (Begin b)) = ⊥
   MayFree (Next n Join) = ⊥
-  MayFree (Next n (End x)) = n < most_turns
+  MayFree (Next n (End x)) = n < most_ticks
   MayFree Over = ⊥
   MayFree Unknown = ⊥
 
@@ -94,16 +94,16 @@ module _ {N M : Type 0} where
   goes_over g e zero = tt
   goes_over g e (suc d) = (subst (λ (h : Mode N M). May h Over) (sym e) refl, λ x. goes_over g e d)
 
-  -- where no turns may have gone by
+  -- where no ticks may have gone by
   abbrev pub Fresh : Mode N M → ℕ → Type 0
   Fresh Free n = Unit {0}
   Fresh (Forked ts b) n = n ≡ 0
   Fresh Rested n = n ≡ 0
   Fresh Ended n = Unit {0}
 
-  -- it goes rightly, however deep, where less than so many turns are possible
+  -- it goes rightly, however deep, where less than so many ticks are possible
   pub record Good (n : ℕ) (g : Mode N M) (k : Reported N M → Reply N M (Task N M)) : Type 0 where
-    pub from : (d since made : ℕ) → since < most_turns → Fresh g since → most_turns * d + (most_turns - since) < n
+    pub from : (d since made : ℕ) → since < most_ticks → Fresh g since → most_ticks * d + (most_ticks - since) < n
         → Goes d g (λ xs. k (record { since = since; made = made; to_come = xs }))
 
   -- an outcome, and what follows it
@@ -127,7 +127,7 @@ module _ {N M : Type 0} where
   bind_bind (Stopped n a) j k = refl
   bind_bind (Lost w) j k = refl
 
-  pub good_same : {n : ℕ} {g : Mode N M} {h k : Reported N M → Reply N M (Task N M)} → ((w : Reported N M) → w.since < most_turns → h w ≡ k w) → Good n g h → Good n g k
+  pub good_same : {n : ℕ} {g : Mode N M} {h k : Reported N M → Reply N M (Task N M)} → ((w : Reported N M) → w.since < most_ticks → h w ≡ k w) → Good n g h → Good n g k
   good_same {n} {g} {h} {k} e s =
       record { from = λ d t m l f r. goes_same d g _ _ (λ xs. e (record { since = t; made = m; to_come = xs }) l) (s.from d t m l f r) }
 
@@ -137,7 +137,7 @@ module _ {N M : Type 0} where
   pub good_end : {n : ℕ} (x : Ending N) → Good n Free (λ w. ending x w.since w.to_come)
   good_end x = record { from = λ d t m l f r. at d t l }
     where
-      at : (d t : ℕ) → t < most_turns → Goes d Free (λ xs. ending x t xs)
+      at : (d t : ℕ) → t < most_ticks → Goes d Free (λ xs. ending x t xs)
       at zero t l = tt
       at (suc d) t l = (l, λ y. goes_over Ended refl d)
 
@@ -148,26 +148,26 @@ module _ {N M : Type 0} where
   fresh_at_first Ended = tt
 
   good_act : {V : Type 0} {n : ℕ} (g : Mode N M) (a : Action N M (Task N M)) (k : Answer N M → Reported N M → Out N M V (Reported N M)) (K : Rests N M V)
-      → ((t : ℕ) → t < most_turns → Fresh g t → May g (Next t a))
+      → ((t : ℕ) → t < most_ticks → Fresh g t → May g (Next t a))
       → ((t : ℕ) (x : Answer N M) → Good n (following g (Next t a)) (λ w. finish (k x w) K)) → Good n g (λ w. finish (bind (asked a w) k) K)
   good_act {V} {n} g a k K ok more = record { from = at }
     where
-      at : (d t m : ℕ) → t < most_turns → Fresh g t → most_turns * d + (most_turns - t) < n
+      at : (d t m : ℕ) → t < most_ticks → Fresh g t → most_ticks * d + (most_ticks - t) < n
           → Goes d g (λ xs. finish (bind (asked a (record { since = t; made = m; to_come = xs })) k) K)
       at zero t m l f r = tt
       at (suc d) t m l f r = (ok t l f, λ x. (more t x).from d 0 m most_pos (fresh_at_first (following g (Next t a))) (room_falls n d t r))
 
-  good_turn : {V : Type 0} {n : ℕ} (k : Reported N M → Out N M V (Reported N M)) (K : Rests N M V) → Good n Free (λ w. finish (k w) K)
-      → Good (suc n) Free (λ w. finish (bind (turned w) (λ u v. k v)) K)
-  good_turn {V} {n} k K s = record { from = λ d t m l f r. at d t m l r (suc t == most_turns) refl }
+  good_tick : {V : Type 0} {n : ℕ} (k : Reported N M → Out N M V (Reported N M)) (K : Rests N M V) → Good n Free (λ w. finish (k w) K)
+      → Good (suc n) Free (λ w. finish (bind (ticked w) (λ u v. k v)) K)
+  good_tick {V} {n} k K s = record { from = λ d t m l f r. at d t m l r (suc t == most_ticks) refl }
     where
-      at : (d t m : ℕ) → t < most_turns → most_turns * d + (most_turns - t) < suc n → (b : Bool) → (suc t == most_turns) ≡ b
-          → Goes d Free (λ xs. finish (bind (turned_if b (record { since = t; made = m; to_come = xs })) (λ u v. k v)) K)
+      at : (d t m : ℕ) → t < most_ticks → most_ticks * d + (most_ticks - t) < suc n → (b : Bool) → (suc t == most_ticks) ≡ b
+          → Goes d Free (λ xs. finish (bind (ticked_if b (record { since = t; made = m; to_come = xs })) (λ u v. k v)) K)
       at zero t m l r true e = tt
-      at (suc d) t m l r true e = (inr (eqb-true (suc t) most_turns e, refl), λ x. s.from d 0 m most_pos tt (omega arith))
+      at (suc d) t m l r true e = (inr (eqb-true (suc t) most_ticks e, refl), λ x. s.from d 0 m most_pos tt (omega arith))
       at d t m l r false e =
-          let ne = eqb-false (suc t) most_turns e in
-          let lt : suc t < most_turns = grind arith in
+          let ne = eqb-false (suc t) most_ticks e in
+          let lt : suc t < most_ticks = grind arith in
           s.from d (suc t) m lt tt (omega arith)
 
   abbrev AllGood : {V : Type 0} → ℕ → (V → Reported N M → Reply N M (Task N M)) → Type 0
@@ -181,7 +181,7 @@ module _ {N M : Type 0} where
   good_entry names (Act (Enter E) k) K h s (suc t) = s
   good_entry {n} names (Act (Enter E) k) K h s zero = record { from = at }
     where
-      at : (d t m : ℕ) → t < most_turns → t ≡ 0 → most_turns * d + (most_turns - t) < n
+      at : (d t m : ℕ) → t < most_ticks → t ≡ 0 → most_ticks * d + (most_ticks - t) < n
           → Goes d Rested (λ xs. finish (bind (asked (Do (Enter E)) (record { since = t; made = m; to_come = xs })) (λ x v. run (reported names) (k x) v)) K)
       at zero t m l f r = tt
       at (suc d) t m l f r = ((E, ap (λ i. Next i (Do (Enter E))) f), (s.from (suc d) t m l tt r).1)
@@ -227,7 +227,7 @@ module _ {N M : Type 0} where
     module _ (t b : Frame N M → Prog N M) (ht : (f : Frame N M) → Fine (t f)) (hb : (f : Frame N M) → Fine (b f)) where
       good_past : (n : ℕ) (K : Rests N M (Result N M)) → AllGood (suc n) K → ((g : Frame N M) → Good n Free (λ w. finish (again names t b g w) K))
           → (r : Result N M)
-          → Good (suc n) Free (λ w. finish (tested turned (λ g u. run (reported names) (b g) u) (λ g u. again names t b g u) r w) K)
+          → Good (suc n) Free (λ w. finish (tested ticked (λ g u. run (reported names) (b g) u) (λ g u. again names t b g u) r w) K)
       good_past n K h more (Returns v) = h (Returns v)
       good_past n K h more (Goes_on v g) = at (truth v)
         where
@@ -238,7 +238,7 @@ module _ {N M : Type 0} where
           at : (c : Bool) → Good (suc n) Free (λ w. finish (past_test (λ g u. run (reported names) (b g) u) (λ g u. again names t b g u) v g w c) K)
           at false = h (Goes_on v g)
           at true =
-              good_turn (λ v. bind (run (reported names) (b g) v) (λ r u. rounded (λ g u. again names t b g u) r u)) K
+              good_tick (λ v. bind (run (reported names) (b g) v) (λ r u. rounded (λ g u. again names t b g u) r u)) K
               (good_same (λ w l. sym (finish_bind (run (reported names) (b g) w) _ K)) ((hb g).good n _ on_round))
 
       good_loop : (n : ℕ) (f : Frame N M) (K : Rests N M (Result N M)) → AllGood n K → Good n Free (λ w. finish (again names t b f w) K)
@@ -257,8 +257,8 @@ module _ {N M : Type 0} where
             → Good n Free (λ w. finish (run (reported names) (Makes k) w) K)
         at n K h = record {
           from = λ d t m l f r.
-              goes_same d Free _ _ (λ xs. ap (λ o. finish o K) (sym (bind_bind (turned (record { since = t; made = suc m; to_come = xs })) _ _)))
-              ((good_turn (λ v. run (reported names) (k (names.made m)) v) K (h (names.made m))).from d t (suc m) l tt (omega arith));
+              goes_same d Free _ _ (λ xs. ap (λ o. finish o K) (sym (bind_bind (ticked (record { since = t; made = suc m; to_come = xs })) _ _)))
+              ((good_tick (λ v. run (reported names) (k (names.made m)) v) K (h (names.made m))).from d t (suc m) l tt (omega arith));
         }
     all_fine (Again t b f k) s = record {
       good = λ n K h.

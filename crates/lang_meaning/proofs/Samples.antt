@@ -1,7 +1,7 @@
 -- What the small programs ask and how they come out, by computing it.
 use Rattle.std.proofs.Common.{refl}
 use Rattle.std.specs.Fmt.{digits}
-use Rattle.lang_meaning.specs.Asking.{ask, meaning, most_turns}
+use Rattle.lang_meaning.specs.Asking.{ask, meaning, most_ticks}
 use Rattle.lang_meaning.specs.Laws.{PrintsSum, RestsOnce, BeginsEach, BranchesInOrder, CountsFromFive, ReadsWritten, RunsLoops}
 use Rattle.lang_meaning.specs.Elision.{ran_through, elided}
 
@@ -10,7 +10,7 @@ unfolding ask meaning
 prints_sum_asks = record { prints = refl; ends = refl; is_over = refl }
 
 pub counts_asks : RestsOnce
-unfolding ask meaning most_turns
+unfolding ask meaning most_ticks
 counts_asks = record { rests = refl; ends = refl }
 
 pub branches_ask : BeginsEach

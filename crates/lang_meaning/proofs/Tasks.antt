@@ -7,10 +7,10 @@ use Rattle.lang_meaning.specs.Actions.{Work, Task, Branches, Own, Rest, Read, Wr
 use Rattle.lang_meaning.specs.Actions.{Answer}
 use Rattle.lang_meaning.specs.Actions.{Reply, Next, Over, Unknown}
 use Rattle.lang_meaning.specs.Core.{Result, Out, Done, Trapped, Stopped, Lost, run}
-use Rattle.lang_meaning.specs.Asking.{most_turns, Reported, reported, ended, ending, replied, meaning, ask}
+use Rattle.lang_meaning.specs.Asking.{most_ticks, Reported, reported, ended, ending, replied, meaning, ask}
 use Rattle.lang_meaning.specs.Statements.{begun}
 use Rattle.lang_meaning.specs.Tasks.{Replies, Asks, Disciplined, AfterFork, Lively, InTurn, Paced, IsDisciplined, IsLively, IsInTurn, IsPaced}
-use Rattle.lang_meaning.proofs.Turns.{most_pos}
+use Rattle.lang_meaning.proofs.Ticks.{most_pos}
 use Rattle.lang_meaning.proofs.Entries.{steady_meaning}
 use Rattle.lang_meaning.proofs.Modes.{Mode, Free, Forked, Rested, Ended, following, May, Goes, Good, good_end, good_same, finish, all_fine}
 
@@ -120,7 +120,7 @@ module _ {N M : Type 0} where
   begin_mode Rested n b h = let e = h.1 in absurd (cc)
   begin_mode Ended n b h = absurd (cc)
 
-  few_of : (g : Mode N M) (n : ℕ) (a : Action N M (Task N M)) → May g (Next n a) → n ≤ most_turns
+  few_of : (g : Mode N M) (n : ℕ) (a : Action N M (Task N M)) → May g (Next n a) → n ≤ most_ticks
   few_of Free n (Do o) (inl l) = omega arith
   few_of Free n (Do o) (inr h) = omega (arith, h.0)
   few_of Free n (Fork ts) l = omega arith
@@ -132,16 +132,16 @@ module _ {N M : Type 0} where
   few_of Rested n a h = let e = h.1 in let i : n ≡ 0 = cc in omega arith
   few_of Ended n a h = absurd (cc)
 
-  rest_of : (g : Mode N M) (a : Action N M (Task N M)) → May g (Next most_turns a) → a ≡ Do Rest
+  rest_of : (g : Mode N M) (a : Action N M (Task N M)) → May g (Next most_ticks a) → a ≡ Do Rest
   rest_of Free (Do o) (inl l) = absurd (omega arith)
   rest_of Free (Do o) (inr h) = h.1
   rest_of Free (Fork ts) l = absurd (omega arith)
   rest_of Free (Begin b) h = absurd h
   rest_of Free Join h = absurd h
   rest_of Free (End x) l = absurd (omega arith)
-  rest_of (Forked ts b) a (inl h) = let e = h.1 in let i : most_turns ≡ 0 = cc in let p = most_pos in absurd (omega arith)
-  rest_of (Forked ts b) a (inr h) = let e = h.1 in let i : most_turns ≡ 0 = cc in let p = most_pos in absurd (omega arith)
-  rest_of Rested a h = let e = h.1 in let i : most_turns ≡ 0 = cc in let p = most_pos in absurd (omega arith)
+  rest_of (Forked ts b) a (inl h) = let e = h.1 in let i : most_ticks ≡ 0 = cc in let p = most_pos in absurd (omega arith)
+  rest_of (Forked ts b) a (inr h) = let e = h.1 in let i : most_ticks ≡ 0 = cc in let p = most_pos in absurd (omega arith)
+  rest_of Rested a h = let e = h.1 in let i : most_ticks ≡ 0 = cc in let p = most_pos in absurd (omega arith)
   rest_of Ended a h = absurd (cc)
 
   module _ (m : Replies N M) (may : Keeps m) where
@@ -234,7 +234,7 @@ module _ {N M : Type 0} where
     paced = record {
       enters = λ got a e. then_may got a (Next 0 (Do Rest)) e;
       few = λ got n a e. few_of (mode m got) n a (asked_at got (Next n a) e);
-      rests = λ got a e. rest_of (mode m got) a (asked_at got (Next most_turns a) e);
+      rests = λ got a e. rest_of (mode m got) a (asked_at got (Next most_ticks a) e);
     }
 
   replied_is : (k : Work) (o : Out N M (Result N M) (Reported N M)) → finish o (λ r w. ending (ended k r) w.since w.to_come) ≡ replied k o
@@ -259,7 +259,7 @@ module _ {N M : Type 0} where
         let fine =
         all_fine names (meaning names P t.frame.left t.work.stmts (begun t.work.takes t.frame))
         (steady_meaning names P t.frame.left t.work.stmts (begun t.work.takes t.frame)) in
-        let good : Good (suc (most_turns * d + most_turns)) Free
+        let good : Good (suc (most_ticks * d + most_ticks)) Free
         (λ w. replied t.work (run (reported names) (meaning names P t.frame.left t.work.stmts (begun t.work.takes t.frame)) w)) =
         good_same (λ w l. replied_is t.work _) (fine.good _ (λ r w. ending (ended t.work r) w.since w.to_come) (λ r. good_end (ended t.work r))) in
         good.from d 0 0 p tt (omega arith))

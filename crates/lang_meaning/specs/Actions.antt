@@ -75,9 +75,9 @@ pub data Answer (N M : Type 0) : Type 0 where
   Joined : (locals : List (ℕ × Value N)) → Answer N M
   Fell : (trap : Trap) (place : Place) → Answer N M
 
--- what a task does after some answers: its next action, after so many while turns; or nothing, since it ended before the
+-- what a task does after some answers: its next action, after so many while ticks; or nothing, since it ended before the
 -- last of them; or nothing is known of it
 pub data Reply (N M T : Type 0) : Type 0 where
-  Next : (turns : ℕ) (action : Action N M T) → Reply N M T
+  Next : (ticks : ℕ) (action : Action N M T) → Reply N M T
   Over : Reply N M T
   Unknown : Reply N M T

@@ -16,11 +16,11 @@ unfoldable pub meaning : {N M : Type 0} → Naming N M → PlainProgram → ℕ 
 meaning names P zero ss f = of_stmts names P None ss f
 meaning names P (suc d) ss f = of_stmts names P (Some (meaning names P d)) ss f
 
--- the most while turns and made local regions without an event
-unfoldable pub most_turns : ℕ
-most_turns = 4096
+-- the most while ticks and made local regions without an event
+unfoldable pub most_ticks : ℕ
+most_ticks = 4096
 
--- a task that knows its answers alone: the turns since the last one, how many local regions it has made, and the answers to
+-- a task that knows its answers alone: the ticks since the last one, how many local regions it has made, and the answers to
 -- come
 pub record Reported (N M : Type 0) : Type 0 where
   pub since : ℕ
@@ -34,15 +34,15 @@ take_answer a w (x ∷ xs) = Done x (record { since = 0; made = w.made; to_come 
 abbrev pub asked : {N M : Type 0} → Action N M (Task N M) → Reported N M → Out N M (Answer N M) (Reported N M)
 asked a w = take_answer a w w.to_come
 
--- a turn; the last that may be made without an event is followed by a rest
-abbrev pub turned : {N M : Type 0} → Reported N M → Out N M (Unit {0}) (Reported N M)
-turned w =
-    if suc w.since == most_turns then bind (asked (Do Rest) (record w { since = suc w.since })) (λ a v. Done tt v)
+-- a tick; the last that may be made without an event is followed by a rest
+abbrev pub ticked : {N M : Type 0} → Reported N M → Out N M (Unit {0}) (Reported N M)
+ticked w =
+    if suc w.since == most_ticks then bind (asked (Do Rest) (record w { since = suc w.since })) (λ a v. Done tt v)
     else Done tt (record w { since = suc w.since })
 
--- a new local region counts as a turn
+-- a new local region counts as a tick
 abbrev pub made_region : {N M : Type 0} → Naming N M → Reported N M → Out N M M (Reported N M)
-made_region names w = bind (turned (record w { made = suc w.made })) (λ u v. Done (names.made w.made) v)
+made_region names w = bind (ticked (record w { made = suc w.made })) (λ u v. Done (names.made w.made) v)
 
 -- one begin for each branch, and what is done then
 abbrev pub begins_then : {N M V : Type 0} → ℕ → ℕ → (Reported N M → Out N M V (Reported N M)) → Reported N M → Out N M V (Reported N M)
@@ -57,9 +57,9 @@ reported_fork forking ts w = bind (asked (Fork (record { kind = forking; tasks =
 
 abbrev pub reported : {N M : Type 0} → Naming N M → World N M (Reported N M)
 reported names = record {
-  turns = λ w. suc (most_turns * length w.to_come + (most_turns - w.since));
+  ticks = λ w. suc (most_ticks * length w.to_come + (most_ticks - w.since));
   act = λ o w. asked (Do o) w;
-  turn = turned;
+  tick = ticked;
   make = made_region names;
   fork = λ forking ts bodies w. reported_fork forking ts w;
 }

@@ -39,11 +39,11 @@ next_of j (Returns v) = Ret (Returns v)
 abbrev pub and_then : {N M : Type 0} → Prog N M → (Value N → Frame N M → Prog N M) → Prog N M
 and_then p j = on p (next_of j)
 
--- the outcome of a stretch of work: a value, a trap, an action that has no answer with the turns before it, or a bound ran out
+-- the outcome of a stretch of work: a value, a trap, an action that has no answer with the ticks before it, or a bound ran out
 pub data Out (N M V W : Type 0) : Type 0 where
   Done : (v : V) (w : W) → Out N M V W
   Trapped : (trap : Trap) (place : Place) (w : W) → Out N M V W
-  Stopped : (turns : ℕ) (a : Action N M (Task N M)) → Out N M V W
+  Stopped : (ticks : ℕ) (a : Action N M (Task N M)) → Out N M V W
   Lost : (w : W) → Out N M V W
 
 abbrev pub bind : {N M V U W : Type 0} → Out N M V W → (V → W → Out N M U W) → Out N M U W
@@ -52,12 +52,12 @@ bind (Trapped trap p w) k = Trapped trap p w
 bind (Stopped n a) k = Stopped n a
 bind (Lost w) k = Lost w
 
--- how a world answers: how many turns a loop may have at most, an action of a task's own, one turn, a new local region, and
+-- how a world answers: how many ticks a loop may have at most, an action of a task's own, one tick, a new local region, and
 -- branches that run side by side
 pub record World (N M W : Type 0) : Type 0 where
-  pub turns : W → ℕ
+  pub ticks : W → ℕ
   pub act : Own N M → W → Out N M (Answer N M) W
-  pub turn : W → Out N M (Unit {0}) W
+  pub tick : W → Out N M (Unit {0}) W
   pub make : W → Out N M M W
   pub fork : Forking → List (Task N M) → List (W → Out N M (Result N M) W) → W → Out N M (Brought N) W
 
@@ -69,15 +69,15 @@ rounded again (Goes_on v f) w = again f w
 -- after its test
 abbrev pub tested : {N M W : Type 0} → (W → Out N M (Unit {0}) W) → (Frame N M → W → Out N M (Result N M) W) → (Frame N M → W → Out N M (Result N M) W) →
     Result N M → W → Out N M (Result N M) W
-tested turn body again (Returns v) w = Done (Returns v) w
-tested turn body again (Goes_on v f) w =
-    elim (truth v) [ false ↦ Done (Goes_on v f) w | true ↦ bind (turn w) (λ u w'. bind (body f w') (λ r w''. rounded again r w'')) ]
+tested tick body again (Returns v) w = Done (Returns v) w
+tested tick body again (Goes_on v f) w =
+    elim (truth v) [ false ↦ Done (Goes_on v f) w | true ↦ bind (tick w) (λ u w'. bind (body f w') (λ r w''. rounded again r w'')) ]
 
--- a loop of at most so many turns
+-- a loop of at most so many ticks
 abbrev pub loop : {N M W : Type 0} → (W → Out N M (Unit {0}) W) → (Frame N M → W → Out N M (Result N M) W) → (Frame N M → W → Out N M (Result N M) W) →
     ℕ → Frame N M → W → Out N M (Result N M) W
-loop turn test body zero f w = Lost w
-loop turn test body (suc n) f w = bind (test f w) (λ r w'. tested turn body (λ g u. loop turn test body n g u) r w')
+loop tick test body zero f w = Lost w
+loop tick test body (suc n) f w = bind (test f w) (λ r w'. tested tick body (λ g u. loop tick test body n g u) r w')
 
 abbrev pub each_from : {A B : Type 0} → (ℕ → B) → ℕ → List A → List B
 each_from f i [] = []
@@ -88,5 +88,5 @@ run wd (Ret r) w = Done r w
 run wd (Traps trap p) w = Trapped trap p w
 run wd (Act o k) w = bind (wd.act o w) (λ x v. run wd (k x) v)
 run wd (Makes k) w = bind (wd.make w) (λ m v. run wd (k m) v)
-run wd (Again t b f k) w = bind (loop wd.turn (λ g v. run wd (t g) v) (λ g v. run wd (b g) v) (wd.turns w) f w) (λ r v. run wd (k r) v)
+run wd (Again t b f k) w = bind (loop wd.tick (λ g v. run wd (t g) v) (λ g v. run wd (b g) v) (wd.ticks w) f w) (λ r v. run wd (k r) v)
 run wd (Split nd ts bs k) w = bind (wd.fork nd ts (each_from (λ i v. run wd (bs i) v) 0 ts) w) (λ x v. run wd (k x) v)

@@ -48,8 +48,8 @@ pub record Store : Type 0 where
   pub trap : Option (Trap × Place)
   pub steps : ℕ
   pub cells : ℕ
-  -- how many turns may still be made
-  pub turns : ℕ
+  -- how many ticks may still be made
+  pub ticks : ℕ
 
 -- what stands at an index, or nothing where it is negative or out of bounds
 abbrev pub at_index : {A : Type 0} → List A → ℤ → Option A
@@ -125,14 +125,14 @@ after o w = record w {
 abbrev pub Steps : Type 0 → Type 0
 Steps V = Store → out ℕ LocalRegion V Store
 
--- a turn costs a step
-abbrev pub one_turn : ℕ → Steps (Unit {0})
-one_turn zero w = Lost w
-one_turn (suc n) w = Done tt (record w { steps = suc w.steps; turns = n })
+-- a tick costs a step
+abbrev pub one_tick : ℕ → Steps (Unit {0})
+one_tick zero w = Lost w
+one_tick (suc n) w = Done tt (record w { steps = suc w.steps; ticks = n })
 
--- a new local region counts as a turn
+-- a new local region counts as a tick
 abbrev pub new_region : Steps LocalRegion
-new_region w = bind (one_turn w.turns w) (λ u v. Done (Made v.regions) (record v { regions = suc v.regions }))
+new_region w = bind (one_tick w.ticks w) (λ u v. Done (Made v.regions) (record v { regions = suc v.regions }))
 
 abbrev pub one_step : Store → Store
 one_step w = record w { steps = suc w.steps }
@@ -158,9 +158,9 @@ one_by_one (t ∷ ts) (m ∷ ms) w = bind (at_end t.work (m (one_step w))) (λ x
 -- a fork and a join each cost a step
 abbrev pub sequential : World ℕ LocalRegion Store
 sequential = record {
-  turns = λ w. suc w.turns;
+  ticks = λ w. suc w.ticks;
   act = λ o w. Done (answer w.heap o) (after o w);
-  turn = λ w. one_turn w.turns w;
+  tick = λ w. one_tick w.ticks w;
   make = new_region;
   fork = λ forking ts bodies w. bind (one_by_one ts bodies (one_step w)) (λ xs v. Done (brought {M = LocalRegion} (joined xs)) (one_step v));
 }
@@ -183,7 +183,7 @@ root_task names P first arg = enters_main names first arg (member_at P P.main_me
 abbrev pub main_object : {N M : Type 0} → PlainProgram → Thing N M
 main_object P = new_object P P.main_class []
 
--- with so many turns: the entry of `main` costs a step, and the object its cells
+-- with so many ticks: the entry of `main` costs a step, and the object its cells
 abbrev pub at_start : PlainProgram → ℕ → Store
 at_start P n = record {
   heap = held (main_object P) ∷ [];
@@ -192,10 +192,10 @@ at_start P n = record {
   trap = None;
   steps = 1;
   cells = suc (size (main_object {N = ℕ} {M = LocalRegion} P));
-  turns = n;
+  ticks = n;
 }
 
--- how the elision ends in at most so many turns, and what it leaves
+-- how the elision ends in at most so many ticks, and what it leaves
 unfoldable pub ran_through : PlainProgram → ℤ → ℕ → out ℕ LocalRegion (Ending ℕ) Store
 ran_through P arg n = (let t : Task ℕ LocalRegion = root_task in_order P 0 arg in
     at_end t.work (run sequential (does in_order P t) (at_start P n)))
@@ -206,7 +206,7 @@ judged L (out.Trapped trap p w) = Limited L.steps L.cells
 judged L (Stopped n a) = Limited L.steps L.cells
 judged L (Lost w) = Limited L.steps L.cells
 
--- the outcome: where the elision ends within both limits at full cost. Each turn costs a step, so one turn more than the limit of
+-- the outcome: where the elision ends within both limits at full cost. Each tick costs a step, so one tick more than the limit of
 -- steps is enough
 unfoldable pub elided : PlainProgram → ℤ → Limits → Outcome ℕ
 elided P arg L = judged L (ran_through P arg (suc L.steps))

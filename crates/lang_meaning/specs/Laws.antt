@@ -17,7 +17,7 @@ pub record PrintsSum : Type 0 where
   pub ends : asks 2 prints_sum (Went ∷ []) ≡ Next 0 (End (Returned (Int (pos 7))))
   pub is_over : asks 2 prints_sum (Went ∷ Went ∷ []) ≡ Over
 
--- a loop of 5000 turns rests once, after 4096 of them, and then ends after the others
+-- a loop of 5000 ticks rests once, after 4096 of them, and then ends after the others
 pub record RestsOnce : Type 0 where
   pub rests : asks 3 counts [] ≡ Next 4096 (Do Rest)
   pub ends : asks 3 counts (Went ∷ []) ≡ Next 904 (End (Returned (Int (pos 5000))))
@@ -57,7 +57,7 @@ pub record ReadsWritten : Type 0 where
   pub three : elided fills_and_reads (pos 3) roomy ≡ Came (Returned (Int (pos 2))) [] 11 5
   pub too_short : elided fills_and_reads (pos 2) roomy ≡ Came (Trapped Index here) [] 9 4
 
--- 5000 turns cost 5000 steps; of two traps the first in order counts, however long its branch takes; and a loop without an end
+-- 5000 ticks cost 5000 steps; of two traps the first in order counts, however long its branch takes; and a loop without an end
 -- is over the limit
 pub record RunsLoops : Type 0 where
   pub counts : elided (program_of [] [] 3 counts) (pos 0) roomy ≡ Came (Returned (Int (pos 5000))) [] 5001 1

@@ -21,7 +21,7 @@ pub fn law_elision()
 
 /// What each task of each program keeps to, whatever it is answered and whatever names objects (N) and local regions (M):
 /// nothing comes after its end, and after a fork come its begins and its join; something comes next until it has ended; and
-/// no more than so many turns go by without an event. A loop is its test, a turn, its body and the loop again.
+/// no more than so many ticks go by without an event. A loop is its test, a tick, its body and the loop again.
 /// Each branch of a fork does what its task is to do.
 pub fn law_tasks<N, M>()
     ensures disciplined { IsDisciplined N M }

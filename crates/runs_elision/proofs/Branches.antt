@@ -29,7 +29,7 @@ use Rattle.runs_elision.proofs.Worlds.{more_endings, ResultLike}
 use Rattle.runs_elision.proofs.Counts.{ended_alike}
 use Rattle.runs_elision.proofs.Memory.{Holds}
 use Rattle.runs_elision.proofs.Doing.{structure_step}
-use Rattle.lang_meaning.proofs.Turns.{most_pos, bind_done}
+use Rattle.lang_meaning.proofs.Ticks.{most_pos, bind_done}
 use Rattle.runs_theory.proofs.order.Working.{Working, greatest_now, not_begun, goes_up, goes_into, in_order_after}
 use Rattle.runs_elision.proofs.Simulation.{ReportedOf, ResultOf, ResultIn, OutOf, OutIn, reported_on, Ghost, D}
 use Rattle.runs_elision.proofs.Simulation.{Ready, RanOut, After, Post, Sim, allowed_next, resid_next}
@@ -90,8 +90,8 @@ module _ (P : PlainProgram) (arg : ℤ) where
     pub kept : (r : Path) → (r ≡ q → ⊥) → length r ≤ length q → mine (event ∷ before) r ≡ mine R r
     pub later : Later ns names
     pub holds : Holds Q (event ∷ before) names 0 v
-    pub turns : v.turns ≤ w.turns
-    pub spent : w.steps + w.turns ≤ v.steps + v.turns
+    pub ticks : v.ticks ≤ w.ticks
+    pub spent : w.steps + w.ticks ≤ v.steps + v.ticks
     pub trap : v.trap ≡ fallen x w.trap
 
   abbrev pub PostOne : Path → Run → Names → Store → OutIn (EndingOver ℕ) → Type 0
@@ -103,7 +103,7 @@ module _ (P : PlainProgram) (arg : ℤ) where
   end_one : (q : Path) (R : Run) (ns : Names) (w v v' : Store) (s : Task) (h : Ghost) (m : ReportedOf → OutOf ResultOf) (x : EndingOver ℕ) (y : Ending)
       → After P arg (begun_at q R ns) h w v → Ready P arg h v s m → replied s.work (m (reported_on h.since h.made [])) ≡ Next h.since (End y)
       → EndingLike h.names x y
-      → v'.heap ≡ v.heap → v'.output ≡ v.output → v'.trap ≡ trap_in (End y) v.trap → v'.cells ≡ v.cells → v'.steps ≡ v.steps → v'.turns ≡ v.turns
+      → v'.heap ≡ v.heap → v'.output ≡ v.output → v'.trap ≡ trap_in (End y) v.trap → v'.cells ≡ v.cells → v'.steps ≡ v.steps → v'.ticks ≡ v.ticks
       → v'.trap ≡ fallen x w.trap → One q R ns w v' x
   end_one q R ns w v v' s h m x y a r e like h1 h2 h3 h4 h5 h6 h7 = record {
     before = h.log;
@@ -121,13 +121,13 @@ module _ (P : PlainProgram) (arg : ℤ) where
     kept = λ p n l. mine_other ev h.log p (λ k. n (sym k ∙ a.path)) ∙ a.kept p n l;
     later = a.names;
     holds = structure_step Q r.holds h.path ev refl (λ c. refl) (λ f. end_prints f) refl v' h1 h2 h3 h4 (omega (arith, h5));
-    turns = (let z = a.turns in omega arith);
+    ticks = (let z = a.ticks in omega arith);
     spent = (let z = a.spent in omega arith);
     trap = h7;
   }
     where
       ev : Event
-      ev = record { path = h.path; turns = h.since; act = End y; ans = Went }
+      ev = record { path = h.path; ticks = h.since; act = End y; ans = Went }
 
       end_prints : (f : Option (Trap × Place)) → printed_by (End y) f ≡ []
       end_prints f = refl
@@ -159,7 +159,7 @@ module _ (P : PlainProgram) (arg : ℤ) where
       → BranchSim t m
       → Legal Q R → InOrder R → Greedy Q R → Working Q R q → Begun Q R q s → mine R q ≡ [] → Holds Q R ns 0 w → PostOne q R ns w (at_end t.work (m w))
   one_branch q R ns w t s m tl sim legal order greedy working begun none_yet holds =
-      go (m w) ((sim ns s q tl (suc w.turns)).from (begun_at q R ns) w s (λ v u. Done v u) (later_none holds.distinct) (omega arith) start)
+      go (m w) ((sim ns s q tl (suc w.ticks)).from (begun_at q R ns) w s (λ v u. Done v u) (later_none holds.distinct) (omega arith) start)
     where
       start : Ready P arg (begun_at q R ns) w s (λ u. bind (run (reported (named_by q)) (does (named_by q) P s) u) (λ v u. Done v u))
       start = record {
@@ -202,8 +202,8 @@ module _ (P : PlainProgram) (arg : ℤ) where
     pub each : length ends ≡ n
     pub ended : (k : ℕ) (x : Ending) → slice_get ends k ≡ Some x → Ended log ((i, b + k) ∷ p) x
     pub later : Later ns names
-    pub turns : v.turns ≤ w.turns
-    pub spent : w.steps + w.turns ≤ v.steps + v.turns
+    pub ticks : v.ticks ≤ w.ticks
+    pub spent : w.steps + w.ticks ≤ v.steps + v.ticks
     pub trap : v.trap ≡ all_fallen xs w.trap
 
   abbrev pub PostBranches : Task → (Brought Name → ReportedOf → OutOf ResultOf) → Path → ℕ → ℕ → ℕ → Run → Names → Store → ℕ → OutIn (List (EndingOver ℕ)) → Type 0
@@ -231,7 +231,7 @@ module _ (P : PlainProgram) (arg : ℤ) where
         (st : Upto (f ∷ F) R)
         (s : Task) (there : slice_get all.tasks b ≡ Some s) (num : count R p ≡ suc (i + b)) where
       abbrev begin : Event
-      begin = record { path = p; turns = 0; act = Begin b; ans = Went }
+      begin = record { path = p; ticks = 0; act = Begin b; ans = Went }
 
       abbrev child : Path
       child = (i, b) ∷ p
@@ -296,7 +296,7 @@ module _ (P : PlainProgram) (arg : ℤ) where
         each = ap (λ k. suc k) h.each;
         ended = all_ended;
         later = later_then o.later h.later;
-        turns = (let a = o.turns in let c = h.turns in omega arith);
+        ticks = (let a = o.ticks in let c = h.ticks in omega arith);
         spent = (let a = o.spent in let c = h.spent in omega arith);
         trap = h.trap ∙ ap (λ f. all_fallen xs f) o.trap;
       }
@@ -343,7 +343,7 @@ module _ (P : PlainProgram) (arg : ℤ) where
 
     -- the branch of this number has been begun and has ended
     abbrev First : ℕ → Run → Names → Store → Store → EndingOver ℕ → Type 0
-    First b R ns w v x = One ((i, b) ∷ p) (record { path = p; turns = 0; act = Begin b; ans = Went } ∷ R) ns (one_step w) v x
+    First b R ns w v x = One ((i, b) ∷ p) (record { path = p; ticks = 0; act = Begin b; ans = Went } ∷ R) ns (one_step w) v x
 
     pub sim_branches : {ks : Names} {ts : List (TaskOver ℕ Counted)} {ss : List Task} → TasksLike ks ts ss → (ms : List (Store → OutIn ResultIn))
         → AllSim ts ms → (b : ℕ) (R : Run)
@@ -364,7 +364,7 @@ module _ (P : PlainProgram) (arg : ℤ) where
       each = refl;
       ended = λ k x e. absurd (let z : None ≡ Some x = e in cc);
       later = later_none r.holds.distinct;
-      turns = omega arith;
+      ticks = omega arith;
       spent = omega arith;
       trap = refl;
     }
@@ -372,7 +372,7 @@ module _ (P : PlainProgram) (arg : ℤ) where
     sim_branches (more_tasks h hs) [] sims b R ns w l r st at num = absurd sims
     sim_branches (more_tasks {t = t'} {s = s} {ts = ts} {ss = ss} h hs) (m ∷ ms) sims b R ns w l r st at num =
         go (at_end t'.work (m (one_step w)))
-        (one_branch ((i, b) ∷ p) (record { path = p; turns = 0; act = Begin b; ans = Went } ∷ R) ns (one_step w) t' s m (task_later l h) sims.0
+        (one_branch ((i, b) ∷ p) (record { path = p; ticks = 0; act = Begin b; ans = Went } ∷ R) ns (one_step w) t' s m (task_later l h) sims.0
         (begin_legal b (length ss) R ns w r st s there num) (begin_order b (length ss) R ns w r st s there num) (begin_greedy b
         (length ss) R ns w r st s there num) (begin_working b (length ss) R ns w r st s there num)
         (begin_begun b (length ss) R ns w r st s there num) (begin_none b (length ss) R ns w r st s there num) (begin_holds b
@@ -397,7 +397,7 @@ module _ (P : PlainProgram) (arg : ℤ) where
         rest v x o (Stopped k a) g = g
         rest v x o (Lost u) g = out_later b (length ss) R ns w r st s there num o g
 
-        go : (o : OutIn (EndingOver ℕ)) → PostOne ((i, b) ∷ p) (record { path = p; turns = 0; act = Begin b; ans = Went } ∷ R) ns (one_step w) o
+        go : (o : OutIn (EndingOver ℕ)) → PostOne ((i, b) ∷ p) (record { path = p; ticks = 0; act = Begin b; ans = Went } ∷ R) ns (one_step w) o
             → ((v : Store) (x : EndingOver ℕ) (o : First b R ns w v x)
             → PostBranches t K p i (suc b) made (o.event ∷ o.before) o.names v (length ss) (one_by_one ts ms v))
             → PostBranches t K p i b made R ns w (suc (length ss)) (bind o (λ x v. bind (one_by_one ts ms v) (λ xs u. Done (x ∷ xs) u)))

@@ -77,12 +77,12 @@ pub record Answered (P : Program) (R : Run) (ns : Names) (since : ℕ) (w : Stor
   pub later : Later ns names
   pub replies : reply P R p q ≡ Some answer
   pub like : AnswerLike names (elided_answer w.heap o) answer
-  pub holds : Holds P (record { path = p; turns = since; act = Do q; ans = answer } ∷ R) names 0 (after o w)
+  pub holds : Holds P (record { path = p; ticks = since; act = Do q; ans = answer } ∷ R) names 0 (after o w)
 
 module _ (P : Program) {R : Run} {ns : Names} {since : ℕ} {w : Store} (h : Holds P R ns since w) (p : Path) where
   -- where nothing is written or made
   abbrev event : Own → Answer → Event
-  event q a = record { path = p; turns = since; act = Do q; ans = a }
+  event q a = record { path = p; ticks = since; act = Do q; ans = a }
 
   holds_own : {o : OwnOver ℕ Counted} {q : Own} (ms : Names) → OwnLike ns o q → (a : Answer) → length ms ≡ length (heap_after o w.heap) → Distinct ms
       → ((n : ℕ) (x : Name) → slice_get ms n ≡ Some x → Stands P (event q a ∷ R) ms (heap_after o w.heap) n x)
@@ -174,7 +174,7 @@ module _ (P : Program) {R : Run} {ns : Names} {since : ℕ} {w : Store} (h : Hol
       }
 
   -- an event of which the heap knows nothing
-  module _ (e : Event) (turns : e.turns ≡ since) (writes : (c : Cell) → written_by c e.act ≡ None) (prints : (f : Option (Trap × Place))
+  module _ (e : Event) (ticks : e.ticks ≡ since) (writes : (c : Cell) → written_by c e.act ≡ None) (prints : (f : Option (Trap × Place))
       → printed_by e.act f ≡ [])
       (free : cells e.act ≡ 0) where
     pub structure_step : (v : Store) → v.heap ≡ w.heap → v.output ≡ w.output → v.trap ≡ trap_in e.act w.trap → v.cells ≡ w.cells
@@ -190,9 +190,9 @@ module _ (P : Program) {R : Run} {ns : Names} {since : ℕ} {w : Store} (h : Hol
       cells = (let x = h.cells in let z = total_step event_cells e R in omega arith);
     }
 
-  -- a turn without an event
-  pub turn_step : (v : Store) → v.heap ≡ w.heap → v.output ≡ w.output → v.trap ≡ w.trap → v.cells ≡ w.cells → v.steps ≡ suc w.steps → Holds P R ns (suc since) v
-  turn_step v heap output trap cells steps = record {
+  -- a tick without an event
+  pub tick_step : (v : Store) → v.heap ≡ w.heap → v.output ≡ w.output → v.trap ≡ w.trap → v.cells ≡ w.cells → v.steps ≡ suc w.steps → Holds P R ns (suc since) v
+  tick_step v heap output trap cells steps = record {
     many = h.many ∙ ap length (sym heap);
     distinct = h.distinct;
     there = λ n x a. subst (λ (l : Heap). Stands P R ns l n x) (sym heap) (h.there n x a);

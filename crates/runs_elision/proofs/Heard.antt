@@ -5,8 +5,8 @@ use Rattle.std.proofs.lemmas.List.{reverse-append}
 use Rattle.lang_typed.specs.declared.stmt.Forking.{Forking}
 use Rattle.lang_typed.specs.Plain.{PlainProgram}
 use Rattle.lang_meaning.specs.Actions.{Answer as AnswerOver, Ending as EndingOver, Frame as FrameOver, Own as OwnOver, Task as TaskOver, Work}
-use Rattle.lang_meaning.specs.Asking.{most_turns, ask, asked, begins_then, does, ended, ending, made_region, replied, take_answer, reported, reported_fork, reported_join}
-use Rattle.lang_meaning.specs.Asking.{turned}
+use Rattle.lang_meaning.specs.Asking.{most_ticks, ask, asked, begins_then, does, ended, ending, made_region, replied, take_answer, reported, reported_fork, reported_join}
+use Rattle.lang_meaning.specs.Asking.{ticked}
 use Rattle.lang_meaning.specs.Core.{Done, Goes_on, Lost, Prog, Returns, Stopped, bind, loop, rounded, run, tested}
 use Rattle.lang_meaning.specs.Core.{Out as out}
 use Rattle.lang_meaning.specs.Counts.{Brought, brought, truth}
@@ -21,7 +21,7 @@ use Rattle.runs_elision.proofs.Worlds.{alike_split}
 use Rattle.runs_elision.proofs.Counts.{brought_alike, ended_alike}
 use Rattle.runs_elision.proofs.Meaning.{does_alike}
 use Rattle.runs_elision.proofs.Simulation.{ReportedOf, OutOf, ResultOf, ResultIn, reported_on}
-use Rattle.lang_meaning.proofs.Turns.{turned_if}
+use Rattle.lang_meaning.proofs.Ticks.{ticked_if}
 
 -- these names alone occur in it
 abbrev pub ActionHas : Names → Action → Type 0
@@ -77,18 +77,18 @@ module _ (P : PlainProgram) (ns : Names) (d : Distinct ns) where
   abbrev Any : {X : Type 0} → X → Type 0
   Any x = Unit {0}
 
-  heard_turn : (w : ReportedOf) → AnswersHave ns w.to_come → Heard (Any {X = Unit {0}}) (turned w)
-  heard_turn w h = go (suc w.since == most_turns)
+  heard_tick : (w : ReportedOf) → AnswersHave ns w.to_come → Heard (Any {X = Unit {0}}) (ticked w)
+  heard_tick w h = go (suc w.since == most_ticks)
     where
-      go : (b : Bool) → Heard (Any {X = Unit {0}}) (turned_if b w)
+      go : (b : Bool) → Heard (Any {X = Unit {0}}) (ticked_if b w)
       go true = heard_bind (AnswerHas ns) (Any {X = Unit {0}}) (asked (Do Rest) (reported_on (suc w.since) w.made w.to_come)) (λ a v. Done tt v)
           (heard_ask (Do Rest) (reported_on (suc w.since) w.made w.to_come) (Rest, rest_like) h) (λ a v k l. (tt, l))
       go false = (tt, h)
 
   heard_region : (path : Path) (w : ReportedOf) → AnswersHave ns w.to_come → Heard (Any {X = LocalRegion}) (made_region (named_by path) w)
   heard_region path w h =
-      heard_bind (Any {X = Unit {0}}) (Any {X = LocalRegion}) (turned (reported_on w.since (suc w.made) w.to_come)) (λ u v. Done ((named_by path).made w.made) v)
-      (heard_turn (reported_on w.since (suc w.made) w.to_come) h) (λ u v k l. (tt, l))
+      heard_bind (Any {X = Unit {0}}) (Any {X = LocalRegion}) (ticked (reported_on w.since (suc w.made) w.to_come)) (λ u v. Done ((named_by path).made w.made) v)
+      (heard_tick (reported_on w.since (suc w.made) w.to_come) h) (λ u v k l. (tt, l))
 
   abbrev ResultHas : ℕ → ResultOf → Type 0
   ResultHas c r = (x : ResultIn) × ResultLike c ns x r
@@ -111,22 +111,22 @@ module _ (P : PlainProgram) (ns : Names) (d : Distinct ns) where
     heard_round m hm x _ (goes_on_like {f = f} {g = g} z h) w k = hm f g h w k
 
     heard_test : (m : Body) → BodyHeard c m → (x : ResultIn) (r : ResultOf) → ResultLike c ns x r → (w : ReportedOf) → AnswersHave ns w.to_come
-        → Heard (ResultHas c) (tested turned a m r w)
+        → Heard (ResultHas c) (tested ticked a m r w)
     heard_test m hm x _ (returns_like {v = v} {u = u} e z) w k = ((Returns v, returns_like e z), k)
     heard_test m hm x _ (goes_on_like {v = v} {u = u} {f = f} {g = g} z h) w k = go (truth u)
       where
         go : (b : Bool) → Heard (ResultHas c) (elim b as (λ b. OutOf ResultOf) [
           | false ↦ Done (Goes_on u g) w
-          | true ↦ bind (turned w) (λ u w'. bind (a g w') (λ r w''. rounded m r w''))
+          | true ↦ bind (ticked w) (λ u w'. bind (a g w') (λ r w''. rounded m r w''))
         ])
         go false = ((Goes_on v f, goes_on_like z h), k)
-        go true = heard_bind (Any {X = Unit {0}}) (ResultHas c) (turned w) _ (heard_turn w k) (λ y v' i l.
+        go true = heard_bind (Any {X = Unit {0}}) (ResultHas c) (ticked w) _ (heard_tick w k) (λ y v' i l.
             heard_bind (ResultHas c) (ResultHas c) (a g v') _ (ha f g h v' l) (λ r z' rr l'. heard_round m hm rr.0 r rr.1 z' l'))
 
-    heard_loop : (n : ℕ) → BodyHeard c (λ g w. loop turned s a n g w)
+    heard_loop : (n : ℕ) → BodyHeard c (λ g w. loop ticked s a n g w)
     heard_loop zero f g h w k = tt
     heard_loop (suc n) f g h w k =
-        heard_bind (ResultHas c) (ResultHas c) (s g w) _ (hs f g h w k) (λ r u rr l. heard_test (λ g w. loop turned s a n g w) (heard_loop n) rr.0 r rr.1 u l)
+        heard_bind (ResultHas c) (ResultHas c) (s g w) _ (hs f g h w k) (λ r u rr l. heard_test (λ g w. loop ticked s a n g w) (heard_loop n) rr.0 r rr.1 u l)
 
   -- a fork
   heard_join : (w : ReportedOf) → AnswersHave ns w.to_come → Heard BroughtHas (reported_join w)
@@ -156,11 +156,11 @@ module _ (P : PlainProgram) (ns : Names) (d : Distinct ns) where
       heard_bind (Any {X = LocalRegion}) (ResultHas c) (made_region (named_by path) w) _ (heard_region path w k) (λ m u a l. heard_run path (h
       (Counted.Unmade 0) m) u l)
   heard_run path {c} (alike_again e {s = s} {a = z} {f = f} {g = g} {j = j} ht hb hf h) w k =
-      heard_bind (ResultHas e) (ResultHas c) (loop turned (λ x v. run (reported (named_by path)) (s x) v) (λ x v. run (reported (named_by path)) (z x) v) ((reported
-      (named_by path)).turns w) g w) _
+      heard_bind (ResultHas e) (ResultHas c) (loop ticked (λ x v. run (reported (named_by path)) (s x) v) (λ x v. run (reported (named_by path)) (z x) v) ((reported
+      (named_by path)).ticks w) g w) _
       (heard_loop e (λ x v. run (reported (named_by path)) (s x) v) (λ x v. run (reported (named_by path)) (z x) v)
       (λ x y i v l. heard_run path (ht ns x y (later_none d) i) v l) (λ x y i v l. heard_run path (hb ns x y (later_none d) i) v l) ((reported
-      (named_by path)).turns w) f g hf w k)
+      (named_by path)).ticks w) f g hf w k)
       (λ r u a l. heard_run path (h ns a.0 r (later_none d) a.1) u l)
   heard_run path {c} (alike_split forking {ts = ts} {ss = ss} {j = j} tl coh falls h) w k =
       heard_bind BroughtHas (ResultHas c) (reported_fork forking ss w) _ (heard_fork forking ts ss tl w k) (λ y u a l. heard_run path (h ns a.0 y

@@ -222,7 +222,7 @@ module _ (P : PlainProgram) (arg : ℤ) where
             (λ b. (t, subst (λ (y : Name). thing_of Q (e ∷ R) y ≡ Some t) b.1 has_one, (u, like_later now_later h))) (snoc_cases ns name x n i)
 
     sane_next : (e : Event) → Follows Q R e → (ms : Names) × Sane (e ∷ R) ms
-    sane_next e a = go e.act refl (asked_has e.path a.task a.begun e.turns e.act a.asks) a.right
+    sane_next e a = go e.act refl (asked_has e.path a.task a.begun e.ticks e.act a.asks) a.right
       where
         went : ActionHas ns e.act → e.ans ≡ Went → (ms : Names) × Sane (e ∷ R) ms
         went h k = (ns, sane_same e h (subst (λ (x : Answer). AnswerHas ns x) (sym k) (_, went_like)))

@@ -73,12 +73,12 @@ things_step e es = refl
 
 module _ (P : Program) {R : Run} {ns : Names} {since : ℕ} {w : Store} (h : Holds P R ns since w) (p : Path) {t : ThingIn} {s : Thing} (c : Bool)
     (like : ThingLike ns t s)
-    (turns : ℕ) where
+    (ticks : ℕ) where
   abbrev pub name : Name
   name = record { maker = p; count = length (made P R p) }
 
   abbrev pub newly : Event
-  newly = record { path = p; turns = turns; act = Do (New s c); ans = Named name }
+  newly = record { path = p; ticks = ticks; act = Do (New s c); ans = Named name }
 
   abbrev pub names_now : Names
   names_now = ns ++ name ∷ []

@@ -26,7 +26,7 @@ use Rattle.runs_elision.proofs.Worlds.{alike_again, alike_split}
 use Rattle.runs_elision.proofs.Counts.{joined_alike}
 use Rattle.runs_elision.proofs.Meaning.{does_alike}
 use Rattle.runs_elision.proofs.Doing.{structure_step}
-use Rattle.lang_meaning.proofs.Turns.{bind_done}
+use Rattle.lang_meaning.proofs.Ticks.{bind_done}
 use Rattle.runs_elision.proofs.Simulation.{ReportedOf, ResultOf, ResultIn, OutOf, OutIn, reported_on, Ghost, noted, bind_assoc, fork_stays, join_stays}
 use Rattle.runs_elision.proofs.Simulation.{Ready, After, after_then, Post, Sim, ready_same, ready_next, after_noted, out_after, post_after, sim_done, sim_trapped}
 use Rattle.runs_elision.proofs.Simulation.{sim_later, sim_same, sim_bind, sim_act, sim_make}
@@ -51,7 +51,7 @@ module _ (P : PlainProgram) (arg : ℤ) where
     -- after the join, where the branches brought this
     following : (g h : Ghost) (w v : Store) (t : Task) (K : ResultOf → ReportedOf → OutOf ResultOf) (x : Brought ℕ) (y : Brought Name) → Later ns h.names
         → BroughtLike h.names x y
-        → v.turns < b → After P arg g h w v → v.trap ≡ brought_down x w.trap → Ready P arg h v t (λ u. bind (then_reported y u) K)
+        → v.ticks < b → After P arg g h w v → v.trap ≡ brought_down x w.trap → Ready P arg h v t (λ u. bind (then_reported y u) K)
         → Post P arg (ResultLike c) g w t K (run sequential (k x) v)
     following g h w v t K (Back ls) y l like lt a e r =
         post_after P arg (ResultLike c) t K (run sequential (k (Back ls)) v) a e ((hk h.names (Back ls) y l like).from h v t K
@@ -90,7 +90,7 @@ module _ (P : PlainProgram) (arg : ℤ) where
           (reported_on g.since g.made xs)) then_reported K)));
     }
       where
-        at : (g : Ghost) (w : Store) (t : Task) (K : ResultOf → ReportedOf → OutOf ResultOf) → Later ns g.names → w.turns < b
+        at : (g : Ghost) (w : Store) (t : Task) (K : ResultOf → ReportedOf → OutOf ResultOf) → Later ns g.names → w.ticks < b
             → Ready P arg g w t (λ u. bind (reported_fork forking ss u) (λ y v. bind (then_reported y v) K))
             → Post P arg (ResultLike c) g w t K (bind (bind (one_by_one ts ms (one_step w)) (λ xs v. Done (brought {M = Counted} (joined_in xs)) (one_step v)))
             (λ x v. run sequential (k x) v))
@@ -104,12 +104,12 @@ module _ (P : PlainProgram) (arg : ℤ) where
             next y v = bind (then_reported y v) K
 
             fork : Event
-            fork = record { path = g.path; turns = g.since; act = Fork (record { kind = forking; tasks = ss }); ans = Went }
+            fork = record { path = g.path; ticks = g.since; act = Fork (record { kind = forking; tasks = ss }); ans = Went }
 
             fork_prints : (f : Option (Trap × Place)) → printed_by (Fork all_forked) f ≡ []
             fork_prints f = refl
 
-            r1 : Ready P arg (forked_at g.path g.made (record { path = g.path; turns = g.since; act = Fork all_forked; ans = Went } ∷ g.log) g.names)
+            r1 : Ready P arg (forked_at g.path g.made (record { path = g.path; ticks = g.since; act = Fork all_forked; ans = Went } ∷ g.log) g.names)
                 (one_step w) t
                 (λ u. bind (begins_then 0 (length ss) reported_join u) (λ y v. bind (then_reported y v) K))
             r1 = ready_next P arg (λ u. bind (begins_then 0 (length ss) reported_join u) (λ y v. bind (then_reported y v) K)) g.since (Fork all_forked) Went g.made
@@ -119,7 +119,7 @@ module _ (P : PlainProgram) (arg : ℤ) where
             join_prints : (f : Option (Trap × Place)) → printed_by Join f ≡ []
             join_prints f = refl
 
-            a1 : After P arg g (forked_at g.path g.made (record { path = g.path; turns = g.since; act = Fork all_forked; ans = Went } ∷ g.log) g.names) w
+            a1 : After P arg g (forked_at g.path g.made (record { path = g.path; ticks = g.since; act = Fork all_forked; ans = Went } ∷ g.log) g.names) w
                 (one_step w)
             a1 = after_noted P arg g w (one_step w) g.made g.since (Fork all_forked) Went g.names (later_none r.holds.distinct) (omega arith) (omega arith)
 
@@ -153,16 +153,16 @@ module _ (P : PlainProgram) (arg : ℤ) where
             go (Done xs v) h =
                 following g (noted (forked_at g.path g.made h.log h.names) g.made 0 Join (joined h.ends) h.names) w (one_step v) t K
                 (brought {M = Counted} (joined_in xs)) (brought {M = LocalRegion} (joined h.ends)) (later_then l h.later) (joined_alike h.like)
-                (let z = h.turns in omega arith)
+                (let z = h.ticks in omega arith)
                 (after_then P arg a1 (after_then P arg a2 a3)) (h.trap ∙ falls_joined xs w.trap)
                 (ready_next P arg (λ v. bind (then_reported (brought {M = LocalRegion} (joined h.ends)) v) K) 0 Join (joined h.ends) g.made
                 (one_step v) h.names join_stays h.ready refl (joins h)
-                (structure_step Q h.ready.holds g.path (record { path = g.path; turns = 0; act = Join; ans = joined h.ends }) refl
+                (structure_step Q h.ready.holds g.path (record { path = g.path; ticks = 0; act = Join; ans = joined h.ends }) refl
                 (λ c. refl) join_prints refl (one_step v) refl refl refl refl (omega arith))
                 (λ ys. refl))
               where
                 a2 : After P arg (forked_at g.path g.made (fork ∷ g.log) g.names) (forked_at g.path g.made h.log h.names) (one_step w) v
-                a2 = record { path = refl; grown = h.grown; kept = h.kept; names = h.later; turns = h.turns; spent = h.spent }
+                a2 = record { path = refl; grown = h.grown; kept = h.kept; names = h.later; ticks = h.ticks; spent = h.spent }
 
                 a3 : After P arg (forked_at g.path g.made h.log h.names) (noted (forked_at g.path g.made h.log h.names) g.made 0 Join
                     (joined h.ends) h.names) v (one_step v)

@@ -88,8 +88,8 @@ never_forked F f ts a fp fa = go a.begun
   where
     go : Begun Sum F f.path a.task → ⊥
     go (root h k) =
-        let e : Sum.meaning [] Sum.root (answers (mine F [])) ≡ Next f.turns (Fork ts) =
-        (λ z. Sum.meaning (sym fp z) (sym k z) (answers (mine F (sym fp z)))) ∙ a.asks ∙ ap (λ c. Next f.turns c) fa in
+        let e : Sum.meaning [] Sum.root (answers (mine F [])) ≡ Next f.ticks (Fork ts) =
+        (λ z. Sum.meaning (sym fp z) (sym k z) (answers (mine F (sym fp z)))) ∙ a.asks ∙ ap (λ c. Next f.ticks c) fa in
         subst NotFork e (no_fork (answers (mine F [])))
     go (branch q u G g us B b h g1 g2 g3 g4 g5 b1 b2 b3 b4) = let k : [] ≡ u ∷ q = sym fp ∙ h in cc
 

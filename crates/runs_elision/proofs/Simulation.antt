@@ -9,10 +9,10 @@ use Rattle.lang_base.specs.declared.place.Place.{Place}
 use Rattle.lang_base.specs.declared.value.Trap.{Trap}
 use Rattle.lang_typed.specs.Plain.{PlainProgram}
 use Rattle.lang_meaning.specs.Actions.{Own as OwnOver}
-use Rattle.lang_meaning.specs.Asking.{most_turns, Reported, asked, turned, made_region, reported, replied, does, ask}
+use Rattle.lang_meaning.specs.Asking.{most_ticks, Reported, asked, ticked, made_region, reported, replied, does, ask}
 use Rattle.lang_meaning.specs.Core.{Result, Done, Stopped, Lost, bind, run}
 use Rattle.lang_meaning.specs.Core.{Out as out}
-use Rattle.lang_meaning.specs.Elision.{LocalRegion as Counted, Store, answer, after, one_turn, new_region, first_of}
+use Rattle.lang_meaning.specs.Elision.{LocalRegion as Counted, Store, answer, after, one_tick, new_region, first_of}
 use Rattle.lang_meaning.proofs.Tasks.{asks_disciplined}
 use Rattle.runs_theory.specs.Actions.{Action, Answer, Begin, Branches, Do, End, Ending, Fork, Join, Next, Own, Program, Rest, Task, Went}
 use Rattle.runs_theory.specs.Blocks.{Allowed, Legal}
@@ -29,8 +29,8 @@ use Rattle.runs_program.specs.Steps.{named_by, stepped}
 use Rattle.runs_elision.proofs.Worlds.{Names, Distinct, Later, later_none, later_then}
 use Rattle.runs_elision.proofs.Worlds.{OwnLike, own_later, AnswerLike}
 use Rattle.runs_elision.proofs.Memory.{Holds}
-use Rattle.runs_elision.proofs.Doing.{own_step, structure_step, turn_step}
-use Rattle.lang_meaning.proofs.Turns.{most_pos, turned_if}
+use Rattle.runs_elision.proofs.Doing.{own_step, structure_step, tick_step}
+use Rattle.lang_meaning.proofs.Ticks.{most_pos, ticked_if}
 use Rattle.runs_theory.proofs.order.Working.{Working, greatest_now, may, stays, in_order_after}
 
 abbrev pub ReportedOf : Type 0
@@ -51,7 +51,7 @@ OutIn V = out ℕ Counted V Store
 abbrev pub reported_on : ℕ → ℕ → List Answer → ReportedOf
 reported_on since made xs = record { since = since; made = made; to_come = xs }
 
--- the run so far: the task at work, the events, its turns since the last of them, how many local regions it has made, and the names
+-- the run so far: the task at work, the events, its ticks since the last of them, how many local regions it has made, and the names
 -- of all objects in order
 pub record Ghost : Type 0 where
   pub path : Path
@@ -100,10 +100,10 @@ pub join_stays : Stays Join
 join_stays = record { no_end = λ x e. cc; no_begin = λ b e. cc }
 
 abbrev pub noted : Ghost → ℕ → ℕ → Action → Answer → Names → Ghost
-noted g made n a x ns = record { path = g.path; log = record { path = g.path; turns = n; act = a; ans = x } ∷ g.log; since = 0; made = made; names = ns }
+noted g made n a x ns = record { path = g.path; log = record { path = g.path; ticks = n; act = a; ans = x } ∷ g.log; since = 0; made = made; names = ns }
 
-abbrev pub turn_now : Store → ℕ → Store
-turn_now w n = record w { steps = suc w.steps; turns = n }
+abbrev pub tick_now : Store → ℕ → Store
+tick_now w n = record w { steps = suc w.steps; ticks = n }
 
 abbrev pub AnyRegion : Names → Counted → LocalRegion → Type 0
 AnyRegion ns m l = Unit {0}
@@ -131,11 +131,11 @@ module _ (P : PlainProgram) (arg : ℤ) where
     pub greedy : Greedy Q g.log
     pub working : Working Q g.log g.path
     pub begun : Begun Q g.log g.path t
-    pub low : g.since < most_turns
+    pub low : g.since < most_ticks
     pub resid : Residual g.path t (answers (mine g.log g.path)) m g.since g.made
     pub holds : Holds Q g.log g.names g.since w
 
-  -- a legal run in which the turns ran out
+  -- a legal run in which the ticks ran out
   pub record RanOut (R : Run) (w v : Store) : Type 0 where
     pub log : Run
     pub names : Names
@@ -143,11 +143,11 @@ module _ (P : PlainProgram) (arg : ℤ) where
     pub legal : Legal Q log
     pub order : InOrder log
     pub greedy : Greedy Q log
-    pub low : since < most_turns
-    pub empty : v.turns ≡ 0
+    pub low : since < most_ticks
+    pub empty : v.ticks ≡ 0
     pub grown : Upto R log
     pub holds : Holds Q log names since v
-    pub spent : w.steps + w.turns ≤ v.steps + v.turns
+    pub spent : w.steps + w.ticks ≤ v.steps + v.ticks
 
   -- the run has grown, by events of this task and those below alone
   pub record After (g h : Ghost) (w v : Store) : Type 0 where
@@ -155,8 +155,8 @@ module _ (P : PlainProgram) (arg : ℤ) where
     pub grown : Upto g.log h.log
     pub kept : (q : Path) → (q ≡ g.path → ⊥) → length q ≤ length g.path → mine h.log q ≡ mine g.log q
     pub names : Later g.names h.names
-    pub turns : v.turns ≤ w.turns
-    pub spent : w.steps + w.turns ≤ v.steps + v.turns
+    pub ticks : v.ticks ≤ w.ticks
+    pub spent : w.steps + w.ticks ≤ v.steps + v.ticks
 
   pub after_then : {g h k : Ghost} {w v u : Store} → After g h w v → After h k v u → After g k w u
   after_then {g} {h} {k} a b = record {
@@ -164,7 +164,7 @@ module _ (P : PlainProgram) (arg : ℤ) where
     grown = upto_trans a.grown b.grown;
     kept = λ q n l. b.kept q (λ e. n (e ∙ a.path)) (subst (λ p. length q ≤ length p) (sym a.path) l) ∙ a.kept q n l;
     names = later_then a.names b.names;
-    turns = (let x = a.turns in let y = b.turns in omega arith);
+    ticks = (let x = a.ticks in let y = b.ticks in omega arith);
     spent = (let x = a.spent in let y = b.spent in omega arith);
   }
 
@@ -175,9 +175,9 @@ module _ (P : PlainProgram) (arg : ℤ) where
   Post VR g w t K (Stopped n a) = ⊥
   Post VR g w t K (Lost u) = RanOut g.log w u
 
-  -- the one is what a task does on its answers, the other what the elision does with less than b turns left
+  -- the one is what a task does on its answers, the other what the elision does with less than b ticks left
   pub record Sim {V X : Type 0} (VR : Names → V → X → Type 0) (b : ℕ) (ns : Names) (m : ReportedOf → OutOf X) (n : Store → OutIn V) : Type 0 where
-    pub from : (g : Ghost) (w : Store) (t : Task) (K : X → ReportedOf → OutOf ResultOf) → Later ns g.names → w.turns < b → Ready g w t (λ u. bind (m u) K)
+    pub from : (g : Ghost) (w : Store) (t : Task) (K : X → ReportedOf → OutOf ResultOf) → Later ns g.names → w.ticks < b → Ready g w t (λ u. bind (m u) K)
         → Post VR g w t K (n w)
 
   pub ready_same : {g : Ghost} {w : Store} {t : Task} {m m' : ReportedOf → OutOf ResultOf} → Ready g w t m
@@ -196,9 +196,9 @@ module _ (P : PlainProgram) (arg : ℤ) where
   -- the next event is legal
   pub allowed_next : {g : Ghost} {w : Store} {t : Task} {m : ReportedOf → OutOf ResultOf} (n : ℕ) (a : Action) (x : Answer) → Ready g w t m
       → replied t.work (m (reported_on g.since g.made [])) ≡ Next n a → Right Q g.log g.path a x
-      → Allowed Q g.log (record { path = g.path; turns = n; act = a; ans = x })
+      → Allowed Q g.log (record { path = g.path; ticks = n; act = a; ans = x })
   allowed_next {g} {w} {t} {m} n a x r e h =
-      allowed_from Q D g.log (record { path = g.path; turns = n; act = a; ans = x }) (legal_faithful Q g.log r.legal) (record {
+      allowed_from Q D g.log (record { path = g.path; ticks = n; act = a; ans = x }) (legal_faithful Q g.log r.legal) (record {
         follows = record {
           task = t;
           begun = r.begun;
@@ -215,27 +215,27 @@ module _ (P : PlainProgram) (arg : ℤ) where
   pub resid_next : (p : Path) (t : Task) (R : Run) (m m' : ReportedOf → OutOf ResultOf) (n k k' i : ℕ) (a : Action) (x : Answer)
       → Residual p t (answers (mine R p)) m n k
       → ((xs : List Answer) → replied t.work (m (reported_on n k (x ∷ xs))) ≡ replied t.work (m' (reported_on 0 k' xs)))
-      → Residual p t (answers (mine (record { path = p; turns = i; act = a; ans = x } ∷ R) p)) m' 0 k'
+      → Residual p t (answers (mine (record { path = p; ticks = i; act = a; ans = x } ∷ R) p)) m' 0 k'
   resid_next p t R m m' n k k' i a x r h xs =
       ap (λ l. replied t.work (run (reported (named_by p)) (does (named_by p) P t) (reported_on 0 0 l))) list ∙ r (x ∷ xs) ∙ h xs
     where
       got : List Answer
       got = answers (mine R p)
 
-      list : reverse (answers (mine (record { path = p; turns = i; act = a; ans = x } ∷ R) p)) ++ xs ≡ reverse (answers (mine R p)) ++ x ∷ xs
-      list = ap (λ l. reverse (answers l) ++ xs) (mine_same (record { path = p; turns = i; act = a; ans = x }) R p refl)
+      list : reverse (answers (mine (record { path = p; ticks = i; act = a; ans = x } ∷ R) p)) ++ xs ≡ reverse (answers (mine R p)) ++ x ∷ xs
+      list = ap (λ l. reverse (answers l) ++ xs) (mine_same (record { path = p; ticks = i; act = a; ans = x }) R p refl)
           ∙ ap (λ l. l ++ xs) (reverse-append (x ∷ []) got) ∙ append_assoc (reverse got) (x ∷ []) xs
 
   pub ready_next : {g : Ghost} {w : Store} {t : Task} {m : ReportedOf → OutOf ResultOf} (m' : ReportedOf
       → OutOf ResultOf) (n : ℕ) (a : Action) (x : Answer) (made : ℕ) (v : Store)
       (ns : Names) → Stays a → Ready g w t m → replied t.work (m (reported_on g.since g.made [])) ≡ Next n a → Right Q g.log g.path a x
-      → Holds Q (record { path = g.path; turns = n; act = a; ans = x } ∷ g.log) ns 0 v
+      → Holds Q (record { path = g.path; ticks = n; act = a; ans = x } ∷ g.log) ns 0 v
       → ((xs : List Answer) → replied t.work (m (reported_on g.since g.made (x ∷ xs))) ≡ replied t.work (m' (reported_on 0 made xs)))
       → Ready (noted g made n a x ns) v t m'
   ready_next {g} {w} {t} {m} m' n a x made v ns st r e h hd nx = record {
     legal = legal;
     order = in_order_after Q D legal r.working refl r.order;
-    greedy = (greatest_now Q D r.legal r.working (record { path = g.path; turns = n; act = a; ans = x }) refl, r.greedy);
+    greedy = (greatest_now Q D r.legal r.working (record { path = g.path; ticks = n; act = a; ans = x }) refl, r.greedy);
     working = stays Q D legal r.working refl st.no_end st.no_begin;
     begun = begun_upto (later now) r.begun;
     low = most_pos;
@@ -243,22 +243,22 @@ module _ (P : PlainProgram) (arg : ℤ) where
     holds = hd;
   }
     where
-      legal : Legal Q (record { path = g.path; turns = n; act = a; ans = x } ∷ g.log)
+      legal : Legal Q (record { path = g.path; ticks = n; act = a; ans = x } ∷ g.log)
       legal = (allowed_next n a x r e h, r.legal)
 
-  pub after_noted : (g : Ghost) (w v : Store) (made n : ℕ) (a : Action) (x : Answer) (ns : Names) → Later g.names ns → v.turns ≤ w.turns
-      → w.steps + w.turns ≤ v.steps + v.turns → After g (noted g made n a x ns) w v
+  pub after_noted : (g : Ghost) (w v : Store) (made n : ℕ) (a : Action) (x : Answer) (ns : Names) → Later g.names ns → v.ticks ≤ w.ticks
+      → w.steps + w.ticks ≤ v.steps + v.ticks → After g (noted g made n a x ns) w v
   after_noted g w v made n a x ns l t s = record {
     path = refl;
     grown = later now;
-    kept = λ q n' l. mine_other (record { path = g.path; turns = n; act = a; ans = x }) g.log q (λ e. n' (sym e));
+    kept = λ q n' l. mine_other (record { path = g.path; ticks = n; act = a; ans = x }) g.log q (λ e. n' (sym e));
     names = l;
-    turns = t;
+    ticks = t;
     spent = s;
   }
 
   pub after_none : (g : Ghost) (w : Store) → Distinct g.names → After g g w w
-  after_none g w d = record { path = refl; grown = now; kept = λ q n l. refl; names = later_none d; turns = omega arith; spent = omega arith }
+  after_none g w d = record { path = refl; grown = now; kept = λ q n l. refl; names = later_none d; ticks = omega arith; spent = omega arith }
 
   pub out_after : {g h : Ghost} {w v u : Store} → After g h w v → RanOut h.log v u → RanOut g.log w u
   out_after a o = record {
@@ -296,7 +296,7 @@ module _ (P : PlainProgram) (arg : ℤ) where
   sim_later l s = record { from = λ g w t K h lt r. s.from g w t K (later_then l h) lt r }
 
   pub sim_same : {V X : Type 0} {VR : Names → V → X → Type 0} {b : ℕ} {ns : Names} {m m' : ReportedOf → OutOf X} {n : Store → OutIn V}
-      → ((u : ReportedOf) → u.since < most_turns → m' u ≡ m u) → Sim VR b ns m n → Sim VR b ns m' n
+      → ((u : ReportedOf) → u.since < most_ticks → m' u ≡ m u) → Sim VR b ns m n → Sim VR b ns m' n
   sim_same h s = record {
     from = λ g w t K l lt r. s.from g w t K l lt
         (ready_same r (λ xs. ap (λ o. replied t.work (bind o K)) (h (reported_on g.since g.made xs) r.low)));
@@ -311,10 +311,10 @@ module _ (P : PlainProgram) (arg : ℤ) where
         (s.from g w t (λ x u. bind (j x u) K) l lt (ready_same r (λ xs. ap (replied t.work) (bind_assoc (m (reported_on g.since g.made xs)) j K))));
   }
     where
-      go : (g : Ghost) (w : Store) (t : Task) (K : Y → ReportedOf → OutOf ResultOf) → Later ns g.names → w.turns < b → (o : OutIn V)
+      go : (g : Ghost) (w : Store) (t : Task) (K : Y → ReportedOf → OutOf ResultOf) → Later ns g.names → w.ticks < b → (o : OutIn V)
           → Post VR g w t (λ x u. bind (j x u) K) o → Post UR g w t K (bind o k)
       go g w t K l lt (Done v u) p =
-          let a = p.3.turns in
+          let a = p.3.ticks in
           post_after UR t K (k v u) p.3 p.5 ((h p.0.names v p.1 (later_then l p.3.names) p.2).from p.0 u t K (later_none p.4.holds.distinct) (omega arith) p.4)
       go g w t K l lt (out.Trapped trap q u) p = p
       go g w t K l lt (Stopped i a) p = p
@@ -324,7 +324,7 @@ module _ (P : PlainProgram) (arg : ℤ) where
       → Sim AnswerLike b ns (λ u. asked (Do q) u) (λ w. Done (answer w.heap o) (after o w))
   sim_act {b} {ns} {o} {q} like = record { from = from }
     where
-      from : (g : Ghost) (w : Store) (t : Task) (K : Answer → ReportedOf → OutOf ResultOf) → Later ns g.names → w.turns < b
+      from : (g : Ghost) (w : Store) (t : Task) (K : Answer → ReportedOf → OutOf ResultOf) → Later ns g.names → w.ticks < b
           → Ready g w t (λ u. bind (asked (Do q) u) K)
           → Post AnswerLike g w t K (Done (answer w.heap o) (after o w))
       from g w t K l lt r =
@@ -337,21 +337,21 @@ module _ (P : PlainProgram) (arg : ℤ) where
             refl,
           )
 
-  pub turn_from : (g : Ghost) (w : Store) (t : Task) (made : ℕ) (m next : ReportedOf → OutOf ResultOf) → Ready g w t m
-      → ((xs : List Answer) → replied t.work (m (reported_on g.since g.made xs)) ≡ replied t.work (bind (turned (reported_on g.since made xs)) (λ a v. next v)))
-      → (n : ℕ) → w.turns ≡ suc n → (h : Ghost) × (h.made ≡ made) × After g h w (turn_now w n) × Ready h (turn_now w n) t next
-  turn_from g w t made m next r h n e = go (suc g.since == most_turns) refl (λ xs. r.resid xs ∙ h xs)
+  pub tick_from : (g : Ghost) (w : Store) (t : Task) (made : ℕ) (m next : ReportedOf → OutOf ResultOf) → Ready g w t m
+      → ((xs : List Answer) → replied t.work (m (reported_on g.since g.made xs)) ≡ replied t.work (bind (ticked (reported_on g.since made xs)) (λ a v. next v)))
+      → (n : ℕ) → w.ticks ≡ suc n → (h : Ghost) × (h.made ≡ made) × After g h w (tick_now w n) × Ready h (tick_now w n) t next
+  tick_from g w t made m next r h n e = go (suc g.since == most_ticks) refl (λ xs. r.resid xs ∙ h xs)
     where
-      go : (d : Bool) → (suc g.since == most_turns) ≡ d → ((xs : List Answer)
+      go : (d : Bool) → (suc g.since == most_ticks) ≡ d → ((xs : List Answer)
           → replied t.work (run (reported (named_by g.path)) (does (named_by g.path) P t) (reported_on 0 0 (reverse (answers (mine g.log g.path)) ++ xs)))
-          ≡ replied t.work (bind (turned_if d (reported_on g.since made xs)) (λ a v. next v)))
-          → (h : Ghost) × (h.made ≡ made) × After g h w (turn_now w n) × Ready h (turn_now w n) t next
+          ≡ replied t.work (bind (ticked_if d (reported_on g.since made xs)) (λ a v. next v)))
+          → (h : Ghost) × (h.made ≡ made) × After g h w (tick_now w n) × Ready h (tick_now w n) t next
       go true q k =
-          let ev : Event = record { path = g.path; turns = suc g.since; act = Do Rest; ans = Went } in
-          let k0 : Holds Q g.log g.names (suc g.since) (turn_now w n) = turn_step Q r.holds g.path (turn_now w n) refl refl refl refl refl in
-          let k1 : Holds Q (ev ∷ g.log) g.names 0 (turn_now w n) =
-          structure_step Q k0 g.path ev refl (λ c. refl) (λ f. rest_prints f) refl (turn_now w n) refl refl refl refl (omega arith) in
-          let mm : ReportedOf → OutOf ResultOf = (λ u. bind (turned_if true (reported_on g.since made u.to_come)) (λ a v. next v)) in
+          let ev : Event = record { path = g.path; ticks = suc g.since; act = Do Rest; ans = Went } in
+          let k0 : Holds Q g.log g.names (suc g.since) (tick_now w n) = tick_step Q r.holds g.path (tick_now w n) refl refl refl refl refl in
+          let k1 : Holds Q (ev ∷ g.log) g.names 0 (tick_now w n) =
+          structure_step Q k0 g.path ev refl (λ c. refl) (λ f. rest_prints f) refl (tick_now w n) refl refl refl refl (omega arith) in
+          let mm : ReportedOf → OutOf ResultOf = (λ u. bind (ticked_if true (reported_on g.since made u.to_come)) (λ a v. next v)) in
           let r1 : Ready g w t mm = record {
             legal = r.legal;
             order = r.order;
@@ -364,21 +364,21 @@ module _ (P : PlainProgram) (arg : ℤ) where
           } in (
             noted g made (suc g.since) (Do Rest) Went g.names,
             refl,
-            after_noted g w (turn_now w n) made (suc g.since) (Do Rest) Went g.names (later_none r.holds.distinct) (omega arith) (omega arith),
-            ready_next next (suc g.since) (Do Rest) Went made (turn_now w n) g.names (do_stays Rest) r1 refl refl k1 (λ xs. refl),
+            after_noted g w (tick_now w n) made (suc g.since) (Do Rest) Went g.names (later_none r.holds.distinct) (omega arith) (omega arith),
+            ready_next next (suc g.since) (Do Rest) Went made (tick_now w n) g.names (do_stays Rest) r1 refl refl k1 (λ xs. refl),
           )
         where
           rest_prints : (f : Option (Trap × Place)) → printed_by (Do Rest) f ≡ []
           rest_prints None = refl
           rest_prints (Some f) = refl
       go false q k =
-          let ne = eqb-false (suc g.since) most_turns q in
+          let ne = eqb-false (suc g.since) most_ticks q in
           let lw = r.low in
-          let lt : suc g.since < most_turns = grind arith in
+          let lt : suc g.since < most_ticks = grind arith in
           let g1 : Ghost = record { path = g.path; log = g.log; since = suc g.since; made = made; names = g.names } in (
             g1,
             refl,
-            record { path = refl; grown = now; kept = λ q n l. refl; names = later_none r.holds.distinct; turns = omega arith; spent = omega arith },
+            record { path = refl; grown = now; kept = λ q n l. refl; names = later_none r.holds.distinct; ticks = omega arith; spent = omega arith },
             record {
               legal = r.legal;
               order = r.order;
@@ -387,11 +387,11 @@ module _ (P : PlainProgram) (arg : ℤ) where
               begun = r.begun;
               low = lt;
               resid = k;
-              holds = turn_step Q r.holds g.path (turn_now w n) refl refl refl refl refl;
+              holds = tick_step Q r.holds g.path (tick_now w n) refl refl refl refl refl;
             },
           )
 
-  pub ran_out : (g : Ghost) (w : Store) (t : Task) (m : ReportedOf → OutOf ResultOf) → Ready g w t m → w.turns ≡ 0 → RanOut g.log w w
+  pub ran_out : (g : Ghost) (w : Store) (t : Task) (m : ReportedOf → OutOf ResultOf) → Ready g w t m → w.ticks ≡ 0 → RanOut g.log w w
   ran_out g w t m r e = record {
     log = g.log;
     names = g.names;
@@ -406,35 +406,35 @@ module _ (P : PlainProgram) (arg : ℤ) where
     spent = omega arith;
   }
 
-  pub sim_turn : {V X : Type 0} {VR : Names → V → X → Type 0} {b : ℕ} {ns : Names} {j : ReportedOf → OutOf X} {k : Store → OutIn V} → Sim VR b ns j k
-      → Sim VR (suc b) ns (λ u. bind (turned u) (λ a v. j v)) (λ w. bind (one_turn w.turns w) (λ a v. k v))
-  sim_turn {V} {X} {VR} {b} {ns} {j} {k} s = record { from = λ g w t K l lt r. go g w t K l lt r w.turns refl }
+  pub sim_tick : {V X : Type 0} {VR : Names → V → X → Type 0} {b : ℕ} {ns : Names} {j : ReportedOf → OutOf X} {k : Store → OutIn V} → Sim VR b ns j k
+      → Sim VR (suc b) ns (λ u. bind (ticked u) (λ a v. j v)) (λ w. bind (one_tick w.ticks w) (λ a v. k v))
+  sim_tick {V} {X} {VR} {b} {ns} {j} {k} s = record { from = λ g w t K l lt r. go g w t K l lt r w.ticks refl }
     where
-      go : (g : Ghost) (w : Store) (t : Task) (K : X → ReportedOf → OutOf ResultOf) → Later ns g.names → w.turns < suc b
-          → Ready g w t (λ u. bind (bind (turned u) (λ a v. j v)) K) → (n : ℕ) → w.turns ≡ n → Post VR g w t K (bind (one_turn n w) (λ a v. k v))
-      go g w t K l lt r zero e = ran_out g w t (λ u. bind (bind (turned u) (λ a v. j v)) K) r e
+      go : (g : Ghost) (w : Store) (t : Task) (K : X → ReportedOf → OutOf ResultOf) → Later ns g.names → w.ticks < suc b
+          → Ready g w t (λ u. bind (bind (ticked u) (λ a v. j v)) K) → (n : ℕ) → w.ticks ≡ n → Post VR g w t K (bind (one_tick n w) (λ a v. k v))
+      go g w t K l lt r zero e = ran_out g w t (λ u. bind (bind (ticked u) (λ a v. j v)) K) r e
       go g w t K l lt r (suc n) e =
-          let z = turn_from g w t g.made (λ u. bind (bind (turned u) (λ a v. j v)) K) (λ v. bind (j v) K) r
-          (λ xs. ap (replied t.work) (bind_assoc (turned (reported_on g.since g.made xs)) (λ a v. j v) K)) n e in
-          post_after VR t K (k (turn_now w n)) z.2 refl (s.from z.0 (turn_now w n) t K (later_then l z.2.names) (omega arith) z.3)
+          let z = tick_from g w t g.made (λ u. bind (bind (ticked u) (λ a v. j v)) K) (λ v. bind (j v) K) r
+          (λ xs. ap (replied t.work) (bind_assoc (ticked (reported_on g.since g.made xs)) (λ a v. j v) K)) n e in
+          post_after VR t K (k (tick_now w n)) z.2 refl (s.from z.0 (tick_now w n) t K (later_then l z.2.names) (omega arith) z.3)
 
   pub sim_make : (path : Path) {b : ℕ} {ns : Names} → Sim AnyRegion b ns (λ u. made_region (named_by path) u) new_region
-  sim_make path {b} {ns} = record { from = λ g w t K l lt r. go g w t K r w.turns refl }
+  sim_make path {b} {ns} = record { from = λ g w t K l lt r. go g w t K r w.ticks refl }
     where
       go : (g : Ghost) (w : Store) (t : Task) (K : LocalRegion → ReportedOf → OutOf ResultOf) → Ready g w t (λ u. bind (made_region (named_by path) u) K) → (n : ℕ)
-          → w.turns ≡ n → Post AnyRegion g w t K (bind (one_turn n w) (λ u v. Done (Counted.Made v.regions) (record v { regions = suc v.regions })))
+          → w.ticks ≡ n → Post AnyRegion g w t K (bind (one_tick n w) (λ u v. Done (Counted.Made v.regions) (record v { regions = suc v.regions })))
       go g w t K r zero e = ran_out g w t (λ u. bind (made_region (named_by path) u) K) r e
       go g w t K r (suc n) e =
           let x : LocalRegion = (named_by path).made g.made in
-          let z = turn_from g w t (suc g.made) (λ u. bind (made_region (named_by path) u) K) (K x) r
-          (λ xs. ap (replied t.work) (bind_assoc (turned (reported_on g.since (suc g.made) xs)) (λ u v. Done x v) K)) n e in
+          let z = tick_from g w t (suc g.made) (λ u. bind (made_region (named_by path) u) K) (K x) r
+          (λ xs. ap (replied t.work) (bind_assoc (ticked (reported_on g.since (suc g.made) xs)) (λ u v. Done x v) K)) n e in
           (z.0, x, tt, other_regions z.2, ready_regions z.3, refl)
         where
-          other_regions : {h : Ghost} → After g h w (turn_now w n) → After g h w (record (turn_now w n) { regions = suc w.regions })
-          other_regions a = record { path = a.path; grown = a.grown; kept = a.kept; names = a.names; turns = a.turns; spent = a.spent }
+          other_regions : {h : Ghost} → After g h w (tick_now w n) → After g h w (record (tick_now w n) { regions = suc w.regions })
+          other_regions a = record { path = a.path; grown = a.grown; kept = a.kept; names = a.names; ticks = a.ticks; spent = a.spent }
 
-          ready_regions : {h : Ghost} {m : ReportedOf → OutOf ResultOf} → Ready h (turn_now w n) t m
-              → Ready h (record (turn_now w n) { regions = suc w.regions }) t m
+          ready_regions : {h : Ghost} {m : ReportedOf → OutOf ResultOf} → Ready h (tick_now w n) t m
+              → Ready h (record (tick_now w n) { regions = suc w.regions }) t m
           ready_regions r = record {
             legal = r.legal;
             order = r.order;

@@ -6,7 +6,7 @@ use Rattle.std.proofs.lemmas.Bool.{ltb-true, lt-ltb, cases_lt}
 use Rattle.lang_typed.specs.Plain.{PlainMember, PlainProgram}
 use Rattle.lang_typed.specs.Scope.{member_at}
 use Rattle.lang_meaning.specs.Actions.{Ending as EndingOver, Task as TaskOver}
-use Rattle.lang_meaning.specs.Asking.{does, most_turns}
+use Rattle.lang_meaning.specs.Asking.{does, most_ticks}
 use Rattle.lang_meaning.specs.Core.{Done, Stopped, Lost, run}
 use Rattle.lang_meaning.specs.Core.{Out as out}
 use Rattle.lang_meaning.specs.Elision.{LocalRegion as Counted, Store, at_start, elided, enters_main, held, in_order, judged, main_object, ran_through, root_task}
@@ -229,9 +229,9 @@ module _ (P : PlainProgram) (arg : ℤ) where
   abbrev Result_of : Limits → Type 0
   Result_of L = (R : Run) × Legal QP R × InOrder R × Greedy QP R × ComesOutAsElided P arg L R
 
-  -- it comes to its end, or its turns run out and with more of them it is over the limit of steps
-  comes_out : (L : Limits) (o q : out ℕ Counted (EndingOver ℕ) Store) → elided P arg L ≡ judged L o → Same most_turns (suc L.steps) o q
-      → PostOne P arg [] [] first_names (at_start P (suc L.steps)) o → PostOne P arg [] [] first_names (at_start P (suc L.steps + most_turns)) q → Result_of L
+  -- it comes to its end, or its ticks run out and with more of them it is over the limit of steps
+  comes_out : (L : Limits) (o q : out ℕ Counted (EndingOver ℕ) Store) → elided P arg L ≡ judged L o → Same most_ticks (suc L.steps) o q
+      → PostOne P arg [] [] first_names (at_start P (suc L.steps)) o → PostOne P arg [] [] first_names (at_start P (suc L.steps + most_ticks)) q → Result_of L
   comes_out L (Done x v) q e s a b = (a.event ∷ a.before, a.legal, a.order, a.greedy, done_judged (suc L.steps) a L e)
   comes_out L (out.Trapped trap p v) q e s a b = absurd a
   comes_out L (Stopped n c) q e s a b = absurd a
@@ -241,7 +241,7 @@ module _ (P : PlainProgram) (arg : ℤ) where
     b.order,
     b.greedy,
     over_limits (λ w. (let i = w.steps in let j = steps_are
-        (suc L.steps + most_turns) b in let k = b.spent in let m = s in omega arith)) e,
+        (suc L.steps + most_ticks) b in let k = b.spent in let m = s in omega arith)) e,
   )
   comes_out L (Lost v) (out.Trapped trap p u) e s a b = absurd b
   comes_out L (Lost v) (Stopped n c) e s a b = absurd b
@@ -255,8 +255,8 @@ module _ (P : PlainProgram) (arg : ℤ) where
 
 pub elision_is_legal : ElisionIsLegal
 elision_is_legal P arg L =
-    comes_out P arg L (ran_through P arg (suc L.steps)) (ran_through P arg (suc L.steps + most_turns)) (elided_is P arg L)
-    (same_through P arg (suc L.steps) most_turns) (made_run P arg (suc L.steps)) (made_run P arg (suc L.steps + most_turns))
+    comes_out P arg L (ran_through P arg (suc L.steps)) (ran_through P arg (suc L.steps + most_ticks)) (elided_is P arg L)
+    (same_through P arg (suc L.steps) most_ticks) (made_run P arg (suc L.steps)) (made_run P arg (suc L.steps + most_ticks))
 
 -- within the limits, or not
 pub within_cases : (P : Program) (L : Limits) (R : Run) → Within P L R ⊎ (Within P L R → ⊥)

@@ -59,9 +59,9 @@ is_its_cell c = and_from _ _ (and_from _ _ (test_same c.object.maker c.object.ma
 
 -- a write
 module _ (P : Program) {R : Run} {ns : Names} {heap : Heap} (d : Distinct ns) {n : ℕ} {x : Name} (at : slice_get ns n ≡ Some x) (h : Stands P R ns heap n x)
-    (i : ℤ) {v : ValueIn} {u : Value} (like : ValueLike ns v u) (p : Path) (turns : ℕ) where
+    (i : ℤ) {v : ValueIn} {u : Value} (like : ValueLike ns v u) (p : Path) (ticks : ℕ) where
   abbrev wrote : Event
-  wrote = record { path = p; turns = turns; act = Do (Write x i u); ans = wrote_at (slot_of i (size h.thing)) }
+  wrote = record { path = p; ticks = ticks; act = Do (Write x i u); ans = wrote_at (slot_of i (size h.thing)) }
 
   abbrev heap_now : Heap
   heap_now = slice_set heap n (record h.held { values = set_at h.held.values i v })

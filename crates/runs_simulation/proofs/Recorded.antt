@@ -85,14 +85,14 @@ use Rattle.runs_simulation.proofs.tied.Starting.{fields_for, first_tied, first_s
 use Rattle.lang_meaning.specs.Reported.{reported, reported_ending}
 
 -- what an event costs a machine
-record Charged (code : Code) (w n : World) (turns : ℕ) (a : DeclaredAction) : Type 0 where
-  steps : n.steps ≡ w.steps + (turns + machine_steps a)
+record Charged (code : Code) (w n : World) (ticks : ℕ) (a : DeclaredAction) : Type 0 where
+  steps : n.steps ≡ w.steps + (ticks + machine_steps a)
   cells : n.heap.used ≡ w.heap.used + machine_cells code a
 
-charged : (code : Code) (w : World) (k turns : ℕ) (wants : Option (List PathEffect)) (a : DeclaredAction) → Charged code w (world_after code w (event_of k turns wants a)) turns a
-charged code w k turns wants (action.Do (own.Write n j v)) = record { steps = refl; cells = (let u = write_used w.heap n j v in omega (arith, u)) }
-charged code w k turns wants (action.Do (own.NewArray region len first)) = record { steps = refl; cells = (let a = length_replicate len first in omega (arith, a)) }
-charged code w k turns wants a = record { steps = refl; cells = omega arith }
+charged : (code : Code) (w : World) (k ticks : ℕ) (wants : Option (List PathEffect)) (a : DeclaredAction) → Charged code w (world_after code w (event_of k ticks wants a)) ticks a
+charged code w k ticks wants (action.Do (own.Write n j v)) = record { steps = refl; cells = (let u = write_used w.heap n j v in omega (arith, u)) }
+charged code w k ticks wants (action.Do (own.NewArray region len first)) = record { steps = refl; cells = (let a = length_replicate len first in omega (arith, a)) }
+charged code w k ticks wants a = record { steps = refl; cells = omega arith }
 
 if_reported : {A : Type 0} (b : Bool) (x o : A) → (if b then Some x else None) ≡ Some o → b ≡ true
 if_reported true x o e = refl
@@ -161,20 +161,20 @@ module _ (code : Code) (P : PlainProgram) (arg : ℤ) (L : Limits) (right : Righ
   abbrev Matched_of : Moment → DeclaredEvent → Sight → Run → ℕ → Moment → Type 0
   Matched_of m e w R k n = Matched code P arg rule L right m e w R k n
 
-  step_any : {m : Moment} {w : Sight} {R : Run} (T : Tied P arg rule C L m w R) → m.world.steps ≤ 20000001 → (k turns : ℕ) (wants : Option (List PathEffect)) (a : DeclaredAction)
-      (x : NextOf C m k (event_of k turns wants a)) → (IsScoped a → CanBeMade C m.world (event_of k turns wants a) x.stands.state)
-      → Matched_of m (event_of k turns wants a) w R k (after code m (event_of k turns wants a) x.stands.state x.stands.made)
-  step_any T short k turns wants (action.Do o) x can = does_next code P arg rule L right fields T k turns wants o x
-  step_any T short k turns wants (action.Fork forking many) x can = forks_next code P arg rule L right FJ T k turns wants forking many x
-  step_any T short k turns wants (action.Begin b) x can = begins_branch code P arg rule L right FJ T short k turns wants b x (can tt)
-  step_any T short k turns wants action.Join x can = joins_next code P arg rule L right FJ T k turns wants x (can tt)
-  step_any T short k turns wants (action.End c) x can = ends_next code P arg rule L right T k turns wants c x
+  step_any : {m : Moment} {w : Sight} {R : Run} (T : Tied P arg rule C L m w R) → m.world.steps ≤ 20000001 → (k ticks : ℕ) (wants : Option (List PathEffect)) (a : DeclaredAction)
+      (x : NextOf C m k (event_of k ticks wants a)) → (IsScoped a → CanBeMade C m.world (event_of k ticks wants a) x.stands.state)
+      → Matched_of m (event_of k ticks wants a) w R k (after code m (event_of k ticks wants a) x.stands.state x.stands.made)
+  step_any T short k ticks wants (action.Do o) x can = does_next code P arg rule L right fields T k ticks wants o x
+  step_any T short k ticks wants (action.Fork forking many) x can = forks_next code P arg rule L right FJ T k ticks wants forking many x
+  step_any T short k ticks wants (action.Begin b) x can = begins_branch code P arg rule L right FJ T short k ticks wants b x (can tt)
+  step_any T short k ticks wants action.Join x can = joins_next code P arg rule L right FJ T k ticks wants x (can tt)
+  step_any T short k ticks wants (action.End c) x can = ends_next code P arg rule L right T k ticks wants c x
 
   any_event : {m : Moment} {w : Sight} {R : Run} (T : Tied P arg rule C L m w R) → m.world.steps ≤ 20000001 → (k : ℕ) (e : DeclaredEvent) (x : NextOf C m k e)
       → (IsScoped e.action → CanBeMade C m.world e x.stands.state) → Matched_of m e w R k (after code m e x.stands.state x.stands.made)
   any_event {m} {w} {R} T short k e x can =
       subst (λ j. (y : NextOf C m j e) → (IsScoped e.action → CanBeMade C m.world e y.stands.state) → Matched_of m e w R j (after code m e y.stands.state y.stands.made)) x.stands.number
-      (λ y can. step_any T short e.task e.turns e.wants e.action y can) x can
+      (λ y can. step_any T short e.task e.ticks e.wants e.action y can) x can
 
   -- the limits are those of the run
   within_next : {m n : Moment} {w v : Sight} {R : Run} {e : Event} (d : DeclaredEvent) → Tied P arg rule C L m w R → Tied P arg rule C L n v (e ∷ R) → Follows QR R e
@@ -193,8 +193,8 @@ module _ (code : Code) (P : PlainProgram) (arg : ℤ) (L : Limits) (right : Righ
       entered : entry_step (mine (e ∷ R) []) ≡ 1
       entered = entered_next {P = QR} e follows T.numbers.entered
 
-      costs : Charged code m.world n.world d.turns d.action
-      costs = subst (λ (u : World). Charged code m.world u d.turns d.action) (sym is) (charged code m.world d.task d.turns d.wants d.action)
+      costs : Charged code m.world n.world d.ticks d.action
+      costs = subst (λ (u : World). Charged code m.world u d.ticks d.action) (sym is) (charged code m.world d.task d.ticks d.wants d.action)
 
   -- a run up to a moment
   pub record Led (ks : List ℕ) (m : Moment) : Type 0 where
@@ -246,7 +246,7 @@ module _ (code : Code) (P : PlainProgram) (arg : ℤ) (L : Limits) (right : Righ
       tied = S.tied;
       blocks = blocks_next code P arg rule L right A.tied A.short A.blocks (all_noted code L arg ks m leads) k e x S;
       lives = lives_next code P arg rule L right A.tied A.short A.blocks (all_noted code L arg ks m leads) A.lives k e x can S;
-      short = (let a = within.0 in let b = A.tied.costs.most_steps in let c = (charged code m.world e.task e.turns e.wants e.action).steps in omega (arith, a, b, c, few));
+      short = (let a = within.0 in let b = A.tied.costs.most_steps in let c = (charged code m.world e.task e.ticks e.wants e.action).steps in omega (arith, a, b, c, few));
     }
 
     led_next : {ks : List ℕ} {m : Moment} {k : ℕ} (leads : LeadsTo code L arg ks m) (A : Led ks m) (e : DeclaredEvent) (x : NextOf C m k e)
@@ -348,7 +348,7 @@ module _ (code : Code) (P : PlainProgram) (arg : ℤ) (L : Limits) (right : Righ
         here = record {
           task = D.wider.paths x.event.task D.stepped.event.path
               (subst (λ j. slice_get A.led.sight.paths j ≡ Some D.stepped.event.path) (sym y.next.stands.number) D.stepped.there);
-          turns = D.turns;
+          ticks = D.ticks;
           action = D.action;
           answer = subst (λ a. AnswerAlike D.stepped.sight a D.stepped.event.ans) (sym y.answer) D.answer;
         }
@@ -405,23 +405,23 @@ module _ (code : Code) (P : PlainProgram) (arg : ℤ) (L : Limits) (right : Righ
     all_alike ks xs m made room = (let A = alike_made made room in (A.run, A.sight, A.ran, A.sight_of, A.alike))
 
     -- the root has ended
-    at_end : {ks : List ℕ} {m : Moment} {k : ℕ} (leads : LeadsTo code L arg ks m) (A : Led ks m) (turns : ℕ) (wants : Option (List PathEffect)) (c : DeclaredEnding)
-        (x : NextOf C m k (event_of k turns wants (action.End c))) (can : CanBeMade C m.world (event_of k turns wants (action.End c)) x.stands.state)
-        → MachineWithin code m.world (event_of k turns wants (action.End c)) → (o : DeclaredOutcome) → k ≡ 0
-        → (after code m (event_of k turns wants (action.End c)) x.stands.state x.stands.made).outcome ≡ Some o → Records QR L (k ∷ ks) (Some o)
-    at_end {ks} {m} {k} leads A turns wants c x can within o is_root is = (come, ended (S.event ∷ A.run) ran comes, reported_so)
+    at_end : {ks : List ℕ} {m : Moment} {k : ℕ} (leads : LeadsTo code L arg ks m) (A : Led ks m) (ticks : ℕ) (wants : Option (List PathEffect)) (c : DeclaredEnding)
+        (x : NextOf C m k (event_of k ticks wants (action.End c))) (can : CanBeMade C m.world (event_of k ticks wants (action.End c)) x.stands.state)
+        → MachineWithin code m.world (event_of k ticks wants (action.End c)) → (o : DeclaredOutcome) → k ≡ 0
+        → (after code m (event_of k ticks wants (action.End c)) x.stands.state x.stands.made).outcome ≡ Some o → Records QR L (k ∷ ks) (Some o)
+    at_end {ks} {m} {k} leads A ticks wants c x can within o is_root is = (come, ended (S.event ∷ A.run) ran comes, reported_so)
       where
         n : Moment
-        n = after code m (event_of k turns wants (action.End c)) x.stands.state x.stands.made
+        n = after code m (event_of k ticks wants (action.End c)) x.stands.state x.stands.made
 
-        B : EndReported code P arg rule L right A.sight A.run k (after code m (event_of k turns wants (action.End c)) x.stands.state x.stands.made) c (out_of (task_at m.world.tree k))
-        B = end_reported code P arg rule L right A.tied k turns wants c x
+        B : EndReported code P arg rule L right A.sight A.run k (after code m (event_of k ticks wants (action.End c)) x.stands.state x.stands.made) c (out_of (task_at m.world.tree k))
+        B = end_reported code P arg rule L right A.tied k ticks wants c x
 
-        S : Next_of A.sight A.run k (after code m (event_of k turns wants (action.End c)) x.stands.state x.stands.made)
+        S : Next_of A.sight A.run k (after code m (event_of k ticks wants (action.End c)) x.stands.state x.stands.made)
         S = B.stepped
 
         ran : Ran QR L (k ∷ ks) (S.event ∷ A.run)
-        ran = next_ran leads A (event_of k turns wants (action.End c)) x within S
+        ran = next_ran leads A (event_of k ticks wants (action.End c)) x within S
 
         path : S.event.path ≡ []
         path = zero_path (A.tied.numbers.numbered k S.event.path S.there) is_root
@@ -446,7 +446,7 @@ module _ (code : Code) (P : PlainProgram) (arg : ℤ) (L : Limits) (right : Righ
         entered = entered_next {P = QR} S.event S.follows A.tied.numbers.entered
 
         reported_so : o ≡ reported come
-        reported_so = sym (end_outcome m.world (world_after code m.world (event_of k turns wants (action.End c))) k c o is) ∙ (λ z. record { ending = ending_so z; out = out_so z; steps = steps_so z; cells = cells_so z })
+        reported_so = sym (end_outcome m.world (world_after code m.world (event_of k ticks wants (action.End c))) k c o is) ∙ (λ z. record { ending = ending_so z; out = out_so z; steps = steps_so z; cells = cells_so z })
           where
             ending_so : came_to c ≡ reported_ending (ending_of (trapped B.segment) B.ending)
             ending_so = came_like c B.ending B.like (trapped B.segment) B.trap
@@ -466,7 +466,7 @@ module _ (code : Code) (P : PlainProgram) (arg : ℤ) (L : Limits) (right : Righ
     root_ended {ks} {m} {k} leads A e x can within o is =
         subst (λ e. (x : NextOf C m k e) → CanBeMade C m.world e x.stands.state → MachineWithin code m.world e
         → (after code m e x.stands.state x.stands.made).outcome ≡ Some o → Records QR L (k ∷ ks) (Some o)) (sym event_so)
-        (λ x can within is. at_end leads A e.turns e.wants ends.ending x can within o (sym number ∙ ends.root) is) x can within is
+        (λ x can within is. at_end leads A e.ticks e.wants ends.ending x can within o (sym number ∙ ends.root) is) x can within is
       where
         ends : RootEnds e.task e.action
         ends = root_ends m.world (world_after code m.world e) e.task e.action o is
@@ -474,8 +474,8 @@ module _ (code : Code) (P : PlainProgram) (arg : ℤ) (L : Limits) (right : Righ
         number : e.task ≡ k
         number = x.stands.number
 
-        event_so : e ≡ event_of k e.turns e.wants (action.End ends.ending)
-        event_so = λ z. record { task = x.stands.number z; turns = e.turns; wants = e.wants; action = ends.ends z }
+        event_so : e ≡ event_of k e.ticks e.wants (action.End ends.ending)
+        event_so = λ z. record { task = x.stands.number z; ticks = e.ticks; wants = e.wants; action = ends.ends z }
 
     finished : (ks : List ℕ) (m : Moment) → LeadsTo code L arg ks m → (o : DeclaredOutcome) → m.outcome ≡ Some o → Records QR L ks (Some o)
     finished [] m (opened room is) o some = absurd (let both : None ≡ Some o = sym (ap (λ (n : Moment). n.outcome) is) ∙ some in cc)

@@ -124,7 +124,7 @@ pub data AnswerAlike (w : Sight) : DeclaredAnswer → Answer → Type 0 where
 -- an event that a machine has made, and one of a run
 pub record EventAlike (w : Sight) (x : MadeEvent) (e : Event) : Type 0 where
   pub task : slice_get w.paths x.event.task ≡ Some e.path
-  pub turns : x.event.turns ≡ e.turns
+  pub ticks : x.event.ticks ≡ e.ticks
   pub action : ActionAlike w x.event.action e.act
   pub answer : AnswerAlike w x.answer e.ans
 

@@ -39,7 +39,7 @@ MachinesRecord =
     (code : Code) (P : PlainProgram) (L : Limits) (argument : ℤ) → plain_code code ≡ compiled P → Resolved P → HasMain P → L.steps ≤ 20000000
     → AllRecord (stepped P argument) code L argument
 
--- and the events that it makes are those of this run, event for event: of the same task, after as many turns, with like actions and
+-- and the events that it makes are those of this run, event for event: of the same task, after as many ticks, with like actions and
 -- like answers. Of a schedule that has made none, as far as there was room for the object that stands at the start
 abbrev pub EventForEvent : Type 0
 EventForEvent =

@@ -7,7 +7,7 @@ use Rattle.lang_meaning.specs.Asking.{Reported, take_answer, reported, replied, 
 use Rattle.lang_meaning.specs.Core.{Out, Stopped, World, run}
 use Rattle.lang_meaning.specs.Values.{Naming}
 
--- an action of its own that has no answer yet stops a task with how many local regions it has made, and not with its turns
+-- an action of its own that has no answer yet stops a task with how many local regions it has made, and not with its ticks
 abbrev pub acts_counting : {N M : Type 0} → Own N M → Reported N M → List (Answer N M) → Out N M (Answer N M) (Reported N M)
 acts_counting o w [] = Stopped w.made (Do o)
 acts_counting o w (x ∷ xs) = take_answer (Do o) w (x ∷ xs)
@@ -15,9 +15,9 @@ acts_counting o w (x ∷ xs) = take_answer (Do o) w (x ∷ xs)
 -- a task that knows its answers alone, and counts its local regions
 abbrev pub counting : {N M : Type 0} → Naming N M → World N M (Reported N M)
 counting names = record {
-  turns = (reported names).turns;
+  ticks = (reported names).ticks;
   act = λ o w. acts_counting o w w.to_come;
-  turn = (reported names).turn;
+  tick = (reported names).tick;
   make = (reported names).make;
   fork = (reported names).fork;
 }

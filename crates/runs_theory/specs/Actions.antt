@@ -52,11 +52,11 @@ pub record Program : Type 0 where
   pub object : Thing
   pub rule : Rule
 
--- after these answers the task does this next, after some turns
+-- after these answers the task does this next, after some ticks
 abbrev pub Asks : Program → Path → Task → List Answer → Action → Type 0
-Asks P p t got a = (turns : ℕ) × (P.meaning p t got ≡ Next turns a)
+Asks P p t got a = (ticks : ℕ) × (P.meaning p t got ≡ Next ticks a)
 
--- the steps of an action, besides its turns
+-- the steps of an action, besides its ticks
 abbrev pub steps : Action → ℕ
 steps (Do o) = own_steps o
 steps (Fork ts) = 1

@@ -34,7 +34,7 @@ Present = (P : Program) → Disciplined P → (R S W : Run) (w f : Event) → Le
     → Before w.path (count W w.path) f.path (count S f.path) → (B : Run) × Upto (w ∷ B) S × (mine B w.path ≡ mine W w.path)
 
 -- of two legal runs without unordered conflicts each task's events in the one are a beginning of those in the other, or the
--- other way round, with the same turns, actions and answers
+-- other way round, with the same ticks, actions and answers
 abbrev pub Comparison : Type 0
 Comparison = (P : Program) → Disciplined P → (R S : Run) → Legal P R → Legal P S → Free R → Free S → Agree R S
 

@@ -35,7 +35,7 @@ pub record InTurn (P : Program) : Type 0 where
   pub begins_forked : (p : Path) (t : Task) (got : List Answer) (b : ℕ) → Asks P p t got (Begin b) → (ts : Branches) × (b < length ts.tasks)
       × AfterFork P p t got ts b
 
--- a rest that no turns stand before stands in front of an entry
+-- a rest that no ticks stand before stands in front of an entry
 pub record Paced (P : Program) : Type 0 where
   pub enters : (p : Path) (t : Task) (got : List Answer) (a : Answer) → P.meaning p t got ≡ Next 0 (Do Rest) → (E : List Effect)
       × Asks P p t (a ∷ got) (Do (Enter E))

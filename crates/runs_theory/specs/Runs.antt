@@ -7,8 +7,8 @@ pub use Rattle.lang_meaning.specs.Outcomes.{trap_of, first_trap, locals_of, all_
 
 pub record Event : Type 0 where
   pub path : Path
-  -- the while turns of the task since its last event
-  pub turns : ℕ
+  -- the while ticks of the task since its last event
+  pub ticks : ℕ
   pub act : Action
   pub ans : Answer
 
@@ -184,7 +184,7 @@ Right P R p (End x) a = a ≡ Went
 pub record Follows (P : Program) (R : Run) (e : Event) : Type 0 where
   pub task : Task
   pub begun : Begun P R e.path task
-  pub asks : P.meaning e.path task (answers (mine R e.path)) ≡ Next e.turns e.act
+  pub asks : P.meaning e.path task (answers (mine R e.path)) ≡ Next e.ticks e.act
   pub right : Right P R e.path e.act e.ans
 
 -- blocks aside, each event came rightly
@@ -197,9 +197,9 @@ unfoldable pub total : (Event → ℕ) → Run → ℕ
 total w [] = 0
 total w (e ∷ R) = w e + total w R
 
--- each while turn costs one step
+-- each while tick costs one step
 abbrev pub event_steps : Event → ℕ
-event_steps e = e.turns + steps e.act
+event_steps e = e.ticks + steps e.act
 
 abbrev pub event_cells : Event → ℕ
 event_cells e = cells e.act

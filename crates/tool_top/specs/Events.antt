@@ -14,7 +14,7 @@ recorded_run (ended R ran comes) = R
 recorded_run (over k ks R e ran ready beyond) = R
 recorded_run (no_room beyond) = []
 
--- these are the events of a run, one by one and no others: of the same tasks, after as many turns, with like actions and like answers. Tasks and
+-- these are the events of a run, one by one and no others: of the same tasks, after as many ticks, with like actions and like answers. Tasks and
 -- objects have numbers here, and paths and names there
 pub record AreEventsOf (R : Run) (events : List MadeEvent) : Type 0 where
   pub sight : Sight

@@ -116,11 +116,11 @@ start_so C z a = unit_so
 
 within_or : (code : Code) (w : World) (e : Event) → Within code w e ⊎ (Within code w e → ⊥)
 within_or code w e =
-    ⊎_elim (λ (h : w.most_steps < w.steps + (e.turns + steps_of e.action)). inr (λ both. (let fits = both.0 in omega (arith, h, fits))))
-    (λ (h : w.steps + (e.turns + steps_of e.action) ≤ w.most_steps).
+    ⊎_elim (λ (h : w.most_steps < w.steps + (e.ticks + steps_of e.action)). inr (λ both. (let fits = both.0 in omega (arith, h, fits))))
+    (λ (h : w.steps + (e.ticks + steps_of e.action) ≤ w.most_steps).
     ⊎_elim (λ (g : w.heap.limit < w.heap.used + cells_of code e.action). inr (λ both. (let fits = both.1 in omega (arith, g, fits))))
     (λ (g : w.heap.used + cells_of code e.action ≤ w.heap.limit). inl (h, g)) (cases_lt w.heap.limit (w.heap.used + cells_of code e.action)))
-    (cases_lt w.most_steps (w.steps + (e.turns + steps_of e.action)))
+    (cases_lt w.most_steps (w.steps + (e.ticks + steps_of e.action)))
 
 module _ (code : Code) (L : Limits) (m : Moment) (k : ℕ) (ready : IsReady m.world k) (unstuck : IsStuck (plain_code code) m k → ⊥) (e : Event) (x : NextOf (plain_code code) m k e) where
   no_less : (CanBeMade (plain_code code) m.world e x.stands.state → ⊥) → ⊥

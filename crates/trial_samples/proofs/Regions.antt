@@ -1,7 +1,7 @@
 -- Of two local regions of the root the one that it made before its block isn't made inside.
 use Rattle.std.proofs.Common.{◌≡◌, ◌∙◌, ◌≤◌, inl, inr, ℕ, [], ◌∷◌, ◌++◌, refl, sym, subst, arith}
 use Rattle.lang_base.specs.declared.elems.Elem.TheVariants.{Local}
-use Rattle.lang_meaning.specs.Asking.{ask, meaning, most_turns}
+use Rattle.lang_meaning.specs.Asking.{ask, meaning, most_ticks}
 use Rattle.runs_sound.specs.Counting.{regions_made}
 use Rattle.runs_sound.specs.Settings.{local_code}
 use Rattle.runs_sound.specs.Soundness.{InBlockRegion}
@@ -12,15 +12,15 @@ use Rattle.runs_program.specs.Steps.{named_by}
 use Rattle.trial_samples.specs.Regions.{OnlyLaterAreInside, entered, made_by_root, makes_two, region_of_root, root}
 
 one_made : made_by_root (Went ∷ []) ≡ 1
-unfolding regions_made meaning most_turns
+unfolding regions_made meaning most_ticks
 one_made = refl
 
 rests : ask (named_by []) makes_two root [] ≡ Next 1 (Do Rest)
-unfolding ask meaning most_turns
+unfolding ask meaning most_ticks
 rests = refl
 
 enters : ask (named_by []) makes_two root (Went ∷ []) ≡ Next 0 (Do (Enter []))
-unfolding ask meaning most_turns
+unfolding ask meaning most_ticks
 enters = refl
 
 not_below : (below : Path) (u : ℕ × ℕ) → [] ≡ below ++ u ∷ [] → ⊥

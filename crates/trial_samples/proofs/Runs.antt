@@ -2,7 +2,7 @@
 use Rattle.std.proofs.Common.{◌≡◌, ◌≢◌, ℕ, pos, zero, suc, Bool, true, false, true≢false, List, [], ◌∷◌, refl, sym, ap, arith, Option, Some, None, slice_get}
 use Rattle.std.specs.Fmt.{digits}
 use Rattle.lang_typed.specs.WellTyped.{WellTyped}
-use Rattle.lang_meaning.specs.Asking.{ask, meaning, most_turns}
+use Rattle.lang_meaning.specs.Asking.{ask, meaning, most_ticks}
 use Rattle.lang_meaning.specs.Elision.{elided, ran_through}
 use Rattle.lang_meaning.specs.Values.{Int}
 use Rattle.runs_reduction.specs.Gathered.{gather}
@@ -51,14 +51,14 @@ abbrev pub a_run : Run
 a_run = run_of (play P schedule)
 
 is_played : play P schedule ≡ Some a_run
-unfolding ask meaning most_turns digits mine last_written things above first_of total
+unfolding ask meaning most_ticks digits mine last_written things above first_of total
 is_played = refl
 
 legal : Disciplined P → Legal P a_run
 legal D = legal_from P D a_run (played P schedule a_run is_played)
 
 has_ended : Ended a_run [] (Returned (Int (pos 4)))
-unfolding ask meaning most_turns digits mine last_written things above first_of total
+unfolding ask meaning most_ticks digits mine last_written things above first_of total
 has_ended = has_ended_with a_run [] (Returned (Int (pos 4))) refl
 
 -- in its block the first branch writes the count, and then the second one reads it in its own
@@ -66,25 +66,25 @@ abbrev counter : Name
 counter = record { maker = []; count = 6 }
 
 abbrev first_writes : Event
-first_writes = record { path = fork 33 0 []; turns = 0; act = Do (Write counter (pos 0) (Int (pos 1))); ans = Went }
+first_writes = record { path = fork 33 0 []; ticks = 0; act = Do (Write counter (pos 0) (Int (pos 1))); ans = Went }
 
 abbrev second_reads : Event
-second_reads = record { path = fork 33 1 []; turns = 0; act = Do (Read counter (pos 0)); ans = Got (Int (pos 1)) }
+second_reads = record { path = fork 33 1 []; ticks = 0; act = Do (Read counter (pos 0)); ans = Got (Int (pos 1)) }
 
 second_stands : Upto (second_reads ∷ without 29 a_run) a_run
-unfolding ask meaning most_turns digits mine last_written things above first_of total
+unfolding ask meaning most_ticks digits mine last_written things above first_of total
 second_stands = upto_without 28 a_run
 
 first_stands : Upto (first_writes ∷ without 36 a_run) (without 29 a_run)
-unfolding ask meaning most_turns digits mine last_written things above first_of total
+unfolding ask meaning most_ticks digits mine last_written things above first_of total
 first_stands = upto_without 6 (without 29 a_run)
 
 first_inside : InBlock (without 36 a_run) (fork 33 0 [])
-unfolding ask meaning most_turns digits mine last_written things above first_of total
+unfolding ask meaning most_ticks digits mine last_written things above first_of total
 first_inside = record { opener = fork 33 0 []; effects = _; stands = refl }
 
 second_inside : InBlock (without 29 a_run) (fork 33 1 [])
-unfolding ask meaning most_turns digits mine last_written things above first_of total
+unfolding ask meaning most_ticks digits mine last_written things above first_of total
 second_inside = record { opener = fork 33 1 []; effects = _; stands = refl }
 
 conflict : ConflictInBlocks a_run
@@ -123,7 +123,7 @@ is_path p None = false
 is_path p (Some e) = same_path e.path p
 
 gather_changes : gather a_run ≡ a_run → ⊥
-unfolding ask meaning most_turns digits mine last_written things above first_of total rearranged
+unfolding ask meaning most_ticks digits mine last_written things above first_of total rearranged
 gather_changes e = let k : false ≡ true = ap (λ R. is_path (fork 33 1 []) (slice_get R 42)) e in true≢false (sym k)
 
 -- with what the laws say of every legal run

@@ -26,9 +26,9 @@ makes_two = record (program_of [] [] 2 two_regions) { members = record (main_mem
 abbrev pub root : Task
 root = root_task (named_by []) makes_two first_name (pos 0)
 
--- its first events, the latest first: after a turn a rest, and the entry
+-- its first events, the latest first: after a tick a rest, and the entry
 abbrev pub entered : Run
-entered = record { path = []; turns = 0; act = Do (Enter []); ans = Went } ∷ record { path = []; turns = 1; act = Do Rest; ans = Went } ∷ []
+entered = record { path = []; ticks = 0; act = Do (Enter []); ans = Went } ∷ record { path = []; ticks = 1; act = Do Rest; ans = Went } ∷ []
 
 abbrev pub made_by_root : List Answer → ℕ
 made_by_root got = regions_made (named_by []) makes_two root got

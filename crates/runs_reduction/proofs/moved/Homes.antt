@@ -237,7 +237,7 @@ module _ (P : Program) (D : Disciplined P) (T : InTurn P) where
           a = follows_at P hx l
 
           f : (ts : Branches) × (b < length ts.tasks) × AfterFork P x.path a.task (answers (mine X x.path)) ts b
-          f = T.begins_forked x.path a.task (answers (mine X x.path)) b (x.turns, a.asks ∙ ap (λ c. Next x.turns c) act)
+          f = T.begins_forked x.path a.task (answers (mine X x.path)) b (x.ticks, a.asks ∙ ap (λ c. Next x.ticks c) act)
 
           j : ForkSince P X lx.1 x.path f.0 b
           j = fork_since P X lx.1 x.path a.task f.0 b a.begun f.2

@@ -111,7 +111,7 @@ unfolding mine last_written things above first_of
 let_begun = entries_let begun refl refl
 
 abbrev enters_at : Path → Event
-enters_at p = record { path = p; turns = 0; act = Do (Enter (writes_to 1)); ans = Went }
+enters_at p = record { path = p; ticks = 0; act = Do (Enter (writes_to 1)); ans = Went }
 
 b_stands : Upto (enters_at pb ∷ without 8 whole) (without 5 whole)
 unfolding mine last_written things above first_of

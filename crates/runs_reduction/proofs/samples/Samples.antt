@@ -110,10 +110,10 @@ unfolding mine last_written things above first_of inner
 levels = levels_guarded other_region run refl
 
 abbrev d_writes : Event
-d_writes = record { path = pd; turns = 0; act = Do (Write main (pos 0) (int 2)); ans = Went }
+d_writes = record { path = pd; ticks = 0; act = Do (Write main (pos 0) (int 2)); ans = Went }
 
 abbrev b_writes : Event
-b_writes = record { path = pb; turns = 0; act = Do (Write main (pos 0) (int 1)); ans = Went }
+b_writes = record { path = pb; ticks = 0; act = Do (Write main (pos 0) (int 1)); ans = Went }
 
 b_stands : Upto (b_writes ∷ without 7 run) run
 unfolding mine last_written things above first_of
@@ -194,7 +194,7 @@ unfolding mine last_written things above first_of
 open_played = refl
 
 abbrev reads_seven : Event
-reads_seven = record { path = pa; turns = 0; act = Do (Read main (pos 0)); ans = Got (int 7) }
+reads_seven = record { path = pa; ticks = 0; act = Do (Read main (pos 0)); ans = Got (int 7) }
 
 abbrev entered_run : Run
 entered_run = without 2 open_run
@@ -257,7 +257,7 @@ unfolding mine last_written things above first_of
 forged_guarded = conflicts_guarded other_region forged_run refl
 
 abbrev looks : Event
-looks = record { path = pa; turns = 0; act = Do (Look made_by_b); ans = Length 1 }
+looks = record { path = pa; ticks = 0; act = Do (Look made_by_b); ans = Length 1 }
 
 abbrev before_new : Run
 before_new = without 2 forged_run
@@ -341,7 +341,7 @@ unfolding mine last_written things above first_of inner
 wait_levels = levels_guarded (leaving_locals strict) wait_run refl
 
 abbrev enters : Event
-enters = record { path = pe; turns = 0; act = Do (Enter narrow); ans = Went }
+enters = record { path = pe; ticks = 0; act = Do (Enter narrow); ans = Went }
 
 abbrev both_run : Run
 both_run = without 9 wait_run

@@ -144,9 +144,9 @@ module _ (P : Program) (D : Disciplined P) (known : Known P) where
         -- it can be answered here, and in R the answer is the same
         own : (c : Own) → e.act ≡ Do c → reply P Z e.path c ≡ Some e.ans
         own c k =
-            let asks : P.meaning e.path a0.task (answers (mine Z e.path)) ≡ Next e.turns (Do c) =
-            ap (λ l. P.meaning e.path a0.task (answers l)) mz ∙ a0.asks ∙ ap (λ x. Next e.turns x) k in
-            let z = known.replies Z (legal_from P D Z valid_z) e.path a0.task begun c (e.turns, asks) in
+            let asks : P.meaning e.path a0.task (answers (mine Z e.path)) ≡ Next e.ticks (Do c) =
+            ap (λ l. P.meaning e.path a0.task (answers l)) mz ∙ a0.asks ∙ ap (λ x. Next e.ticks x) k in
+            let z = known.replies Z (legal_from P D Z valid_z) e.path a0.task begun c (e.ticks, asks) in
             let r : reply P R e.path c ≡ Some z.0 = reply_grows P e.path c z.0 grows mz last_here z.1 in
             z.1 ∙ ap Some (same_some r (ready (Do c) k))
           where

@@ -111,7 +111,7 @@ module _ {v w : Sight} (wide : Wider v w) where
   pub event_later : {x : MadeEvent} {e : Event} → EventAlike v x e → EventAlike w x e
   event_later {x} {e} h = record {
     task = wide.paths x.event.task e.path h.task;
-    turns = h.turns;
+    ticks = h.ticks;
     action = action_later h.action;
     answer = answer_later h.answer;
   }

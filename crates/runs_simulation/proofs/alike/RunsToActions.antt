@@ -1,15 +1,15 @@
 -- A task's way to an action in a machine is like that with the names of a run.
 use Rattle.std.proofs.Common.{◌≡◌, ℕ, zero, suc, Bool, true, false, if◌then◌else◌, ◌==◌, List, [], ◌∷◌, refl, subst, Option, Some, slice_get}
 use Rattle.lang_meaning.specs.Actions.{Do, Rest, Answer, Action}
-use Rattle.lang_meaning.specs.Asking.{most_turns}
+use Rattle.lang_meaning.specs.Asking.{most_ticks}
 use Rattle.code_instrs.specs.Plain.{PlainCode}
 use Rattle.code_instrs.specs.Machine.{Start, State, Stand, begins_at}
-use Rattle.code_instrs.specs.RunsToActions.{Halt, Asks, ran_on_turn, ran_on, run_to_action, RunsToAction, Halts}
+use Rattle.code_instrs.specs.RunsToActions.{Halt, Asks, ran_on_tick, ran_on, run_to_action, RunsToAction, Halts}
 use Rattle.runs_theory.specs.Objects.{Path, Name, LocalRegion}
 use Rattle.runs_program.specs.Steps.{named_by}
 use Rattle.exec_task.specs.Names.{names_of}
 use Rattle.runs_elision.proofs.Worlds.{Distinct}
-use Rattle.runs_simulation.proofs.alike.Sights.{Sight, made_like, StateLike, state_later, StandLike, goes_like, turns_like, makes_like, waits_like, ends_like, stuck_like, HaltLike, asks_like, finished_like, dead_like, do_like, rest_like}
+use Rattle.runs_simulation.proofs.alike.Sights.{Sight, made_like, StateLike, state_later, StandLike, goes_like, ticks_like, makes_like, waits_like, ends_like, stuck_like, HaltLike, asks_like, finished_like, dead_like, do_like, rest_like}
 use Rattle.runs_simulation.proofs.alike.Steps.{step_like}
 
 abbrev pub HaltOf : Type 0
@@ -23,34 +23,34 @@ alike_some : {w : Sight} {h h' : Halt ℕ (ℕ × ℕ)} {g : HaltOf} → ◌≡�
 alike_some {w} {h} {h'} {g} e l = (let same : h' ≡ h = cc in (g, refl, subst (λ z. HaltLike w z g) same l))
 
 abbrev RunsToActions : Sight → (ℕ → ℕ → State ℕ (ℕ × ℕ) → Option (Halt ℕ (ℕ × ℕ))) → (ℕ → ℕ → State Name LocalRegion → Option HaltOf) → Type 0
-RunsToActions w more more' = (turns made : ℕ) (s : State ℕ (ℕ × ℕ)) (t : State Name LocalRegion) (h : Halt ℕ (ℕ × ℕ)) → StateLike w s t → more turns made s ≡ Some h
-    → Alike w (more' turns made t) h
+RunsToActions w more more' = (ticks made : ℕ) (s : State ℕ (ℕ × ℕ)) (t : State Name LocalRegion) (h : Halt ℕ (ℕ × ℕ)) → StateLike w s t → more ticks made s ≡ Some h
+    → Alike w (more' ticks made t) h
 
 module _ (C : PlainCode) (k : ℕ) (p : Path) {w : Sight} (d : Distinct w.names) (there : slice_get w.paths k ≡ Some p) where
-  turn_like : (more : ℕ → ℕ → State ℕ (ℕ × ℕ) → Option (Halt ℕ (ℕ × ℕ))) (more' : ℕ → ℕ → State Name LocalRegion → Option HaltOf) → RunsToActions w more more'
-      → (turns made : ℕ) (s : State ℕ (ℕ × ℕ)) (t : State Name LocalRegion) (h : Halt ℕ (ℕ × ℕ)) → StateLike w s t → ran_on_turn more turns made s ≡ Some h
-      → Alike w (ran_on_turn more' turns made t) h
-  turn_like more more' rec turns made s t h l e = go (suc turns == most_turns) e
+  tick_like : (more : ℕ → ℕ → State ℕ (ℕ × ℕ) → Option (Halt ℕ (ℕ × ℕ))) (more' : ℕ → ℕ → State Name LocalRegion → Option HaltOf) → RunsToActions w more more'
+      → (ticks made : ℕ) (s : State ℕ (ℕ × ℕ)) (t : State Name LocalRegion) (h : Halt ℕ (ℕ × ℕ)) → StateLike w s t → ran_on_tick more ticks made s ≡ Some h
+      → Alike w (ran_on_tick more' ticks made t) h
+  tick_like more more' rec ticks made s t h l e = go (suc ticks == most_ticks) e
     where
-      go : (b : Bool) → (if b then Some (Asks (suc turns) made (Do Rest) (λ x. s)) else more (suc turns) made s) ≡ Some h
-          → Alike w (if b then Some (Asks (suc turns) made (Do Rest) (λ x. t)) else more' (suc turns) made t) h
-      go true i = alike_some i (asks_like (suc turns) made (do_like rest_like) (λ v x y wide a. state_later wide l))
-      go false i = rec (suc turns) made s t h l i
+      go : (b : Bool) → (if b then Some (Asks (suc ticks) made (Do Rest) (λ x. s)) else more (suc ticks) made s) ≡ Some h
+          → Alike w (if b then Some (Asks (suc ticks) made (Do Rest) (λ x. t)) else more' (suc ticks) made t) h
+      go true i = alike_some i (asks_like (suc ticks) made (do_like rest_like) (λ v x y wide a. state_later wide l))
+      go false i = rec (suc ticks) made s t h l i
 
   stand_like : (more : ℕ → ℕ → State ℕ (ℕ × ℕ) → Option (Halt ℕ (ℕ × ℕ))) (more' : ℕ → ℕ → State Name LocalRegion → Option HaltOf) → RunsToActions w more more'
-      → (turns made : ℕ) {o : Stand ℕ (ℕ × ℕ)} {q : Stand Name LocalRegion} (h : Halt ℕ (ℕ × ℕ)) → StandLike w o q
-      → ran_on (names_of k) more turns made o ≡ Some h → Alike w (ran_on (named_by p) more' turns made q) h
-  stand_like more more' rec turns made h (goes_like {s} {t} l) e = rec turns made s t h l e
-  stand_like more more' rec turns made h (turns_like {s} {t} l) e = turn_like more more' rec turns made s t h l e
-  stand_like more more' rec turns made h (makes_like l) e = turn_like more more' rec turns (suc made) _ _ h (l _ _ (made_like k made p there)) e
-  stand_like more more' rec turns made h (waits_like a l) e = alike_some e (asks_like turns made a l)
-  stand_like more more' rec turns made h (ends_like l) e = alike_some e (finished_like turns l)
-  stand_like more more' rec turns made h stuck_like e = alike_some e dead_like
+      → (ticks made : ℕ) {o : Stand ℕ (ℕ × ℕ)} {q : Stand Name LocalRegion} (h : Halt ℕ (ℕ × ℕ)) → StandLike w o q
+      → ran_on (names_of k) more ticks made o ≡ Some h → Alike w (ran_on (named_by p) more' ticks made q) h
+  stand_like more more' rec ticks made h (goes_like {s} {t} l) e = rec ticks made s t h l e
+  stand_like more more' rec ticks made h (ticks_like {s} {t} l) e = tick_like more more' rec ticks made s t h l e
+  stand_like more more' rec ticks made h (makes_like l) e = tick_like more more' rec ticks (suc made) _ _ h (l _ _ (made_like k made p there)) e
+  stand_like more more' rec ticks made h (waits_like a l) e = alike_some e (asks_like ticks made a l)
+  stand_like more more' rec ticks made h (ends_like l) e = alike_some e (finished_like ticks l)
+  stand_like more more' rec ticks made h stuck_like e = alike_some e dead_like
 
   run_in : (fuel : ℕ) → RunsToActions w (λ n m s. run_to_action (names_of k) C fuel n m s) (λ n m s. run_to_action (named_by p) C fuel n m s)
-  run_in zero turns made s t h l e = absurd (cc)
-  run_in (suc fuel) turns made s t h l e =
-      stand_like (λ n m s. run_to_action (names_of k) C fuel n m s) (λ n m s. run_to_action (named_by p) C fuel n m s) (run_in fuel) turns made h (step_like C k p d l) e
+  run_in zero ticks made s t h l e = absurd (cc)
+  run_in (suc fuel) ticks made s t h l e =
+      stand_like (λ n m s. run_to_action (names_of k) C fuel n m s) (λ n m s. run_to_action (named_by p) C fuel n m s) (run_in fuel) ticks made h (step_like C k p d l) e
 
   pub run_like : (made : ℕ) {s : State ℕ (ℕ × ℕ)} {t : State Name LocalRegion} {h : Halt ℕ (ℕ × ℕ)} → StateLike w s t → RunsToAction (names_of k) C made s h
       → (g : HaltOf) × RunsToAction (named_by p) C made t g × HaltLike w h g

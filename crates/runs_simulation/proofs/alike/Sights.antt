@@ -8,7 +8,7 @@ use Rattle.lang_meaning.specs.Values.{Value, Part, Region, Thing, An_object, An_
 use Rattle.lang_meaning.specs.Actions.{Frame, Effect, Ending, Own, Rest, Read, Write, Look, New, Print, Enter, Exit, Action, Do, Fork, Begin, Join, End}
 use Rattle.lang_meaning.specs.Actions.{Answer, Went, Got, Out, Class, Length, Named, Joined, Fell}
 use Rattle.lang_meaning.specs.Regions.{Around}
-use Rattle.code_instrs.specs.Machine.{Level, Start, State, On, Rested, Off, Nowhere, Stand, Goes, Turns, Makes, Waits, Ends, Stuck}
+use Rattle.code_instrs.specs.Machine.{Level, Start, State, On, Rested, Off, Nowhere, Stand, Goes, Ticks, Makes, Waits, Ends, Stuck}
 use Rattle.code_instrs.specs.RunsToActions.{Halt, Asks, Finished, Dead}
 use Rattle.runs_theory.specs.Objects.{Path, Name, LocalRegion}
 use Rattle.runs_elision.proofs.Worlds.{Distinct, Later, later_none, ValueLike, ValuesLike, values_later, LocalsLike}
@@ -114,7 +114,7 @@ OnLike w f g = (v : Sight) (x : Answer ℕ (ℕ × ℕ)) (y : Answer Name LocalR
 
 pub data StandLike (w : Sight) : Stand ℕ (ℕ × ℕ) → Stand Name LocalRegion → Type 0 where
   goes_like : {s : State ℕ (ℕ × ℕ)} {t : State Name LocalRegion} → StateLike w s t → StandLike w (Goes s) (Goes t)
-  turns_like : {s : State ℕ (ℕ × ℕ)} {t : State Name LocalRegion} → StateLike w s t → StandLike w (Turns s) (Turns t)
+  ticks_like : {s : State ℕ (ℕ × ℕ)} {t : State Name LocalRegion} → StateLike w s t → StandLike w (Ticks s) (Ticks t)
   makes_like : {f : ℕ × ℕ → State ℕ (ℕ × ℕ)} {g : LocalRegion → State Name LocalRegion} → ((l : ℕ × ℕ) (m : LocalRegion) → LocalLike w l m
       → StateLike w (f l) (g m)) → StandLike w (Makes f) (Makes g)
   waits_like : {a : Action ℕ (ℕ × ℕ) (Start ℕ (ℕ × ℕ))} {b : Action Name LocalRegion (Start Name LocalRegion)} {f : Answer ℕ (ℕ × ℕ) → State ℕ (ℕ × ℕ)}
@@ -123,10 +123,10 @@ pub data StandLike (w : Sight) : Stand ℕ (ℕ × ℕ) → Stand Name LocalRegi
   stuck_like : StandLike w Stuck Stuck
 
 pub data HaltLike (w : Sight) : Halt ℕ (ℕ × ℕ) → Halt Name LocalRegion → Type 0 where
-  asks_like : (turns made : ℕ) {a : Action ℕ (ℕ × ℕ) (Start ℕ (ℕ × ℕ))} {b : Action Name LocalRegion (Start Name LocalRegion)}
+  asks_like : (ticks made : ℕ) {a : Action ℕ (ℕ × ℕ) (Start ℕ (ℕ × ℕ))} {b : Action Name LocalRegion (Start Name LocalRegion)}
       {f : Answer ℕ (ℕ × ℕ) → State ℕ (ℕ × ℕ)} {g : Answer Name LocalRegion → State Name LocalRegion} → ActionLike w a b → OnLike w f g
-      → HaltLike w (Asks turns made a f) (Asks turns made b g)
-  finished_like : (turns : ℕ) {e : Ending ℕ} {f : Ending Name} → EndingLike w.names e f → HaltLike w (Finished turns e) (Finished turns f)
+      → HaltLike w (Asks ticks made a f) (Asks ticks made b g)
+  finished_like : (ticks : ℕ) {e : Ending ℕ} {f : Ending Name} → EndingLike w.names e f → HaltLike w (Finished ticks e) (Finished ticks f)
   dead_like : HaltLike w Dead Dead
 
 -- what is like is so after more were made

@@ -24,7 +24,7 @@ use Rattle.exec_task.specs.Names.{names_of}
 use Rattle.runs_elision.proofs.Worlds.{Names, Distinct, name_later, ValueLike, int_like, boolean_like, null_like, object_like, ValuesLike, no_values, more_values, values_later, BroughtLike, back_like, trap_like, returned_like, assigned_like, trapped_like}
 use Rattle.runs_elision.proofs.Counts.{number_like, truth_like, text_like, int_of, slot_like, set_like, padded_like, reverse_like, assigned_alike, copied_like, part_place_like, part_taken_like, numbered_like, MaybeLike, none_like, some_like, operated_like, unary_like}
 use Rattle.runs_simulation.proofs.alike.Sights.{Sight, each_none, each_more, each_append, RegionsLike, RegionLike, FrameLike, LevelLike, level_later, LevelsLike, levels_later, StateLike, on_like, rested_like, off_like, nowhere_like, StartsLike, regions_later}
-use Rattle.runs_simulation.proofs.alike.Sights.{an_object, an_array, rest_like, read_like, write_like, look_like, new_like, print_like, enter_like, exit_like, do_like, fork_like, begin_like, join_like, StandLike, goes_like, turns_like, makes_like, waits_like, ends_like, stuck_like}
+use Rattle.runs_simulation.proofs.alike.Sights.{an_object, an_array, rest_like, read_like, write_like, look_like, new_like, print_like, enter_like, exit_like, do_like, fork_like, begin_like, join_like, StandLike, goes_like, ticks_like, makes_like, waits_like, ends_like, stuck_like}
 use Rattle.runs_simulation.proofs.alike.Readings.{each_set, concrete_like, concretes_like, effects_like, unmade_from_like, regions_above_like, is_long_like, some_long_like, is_out_like, length_seen_like, name_made_like, brought_like, SeenLike, class_entered_like}
 use Rattle.runs_simulation.proofs.alike.Readings.{read_like as read_answer}
 
@@ -427,7 +427,7 @@ module _ (C : PlainCode) (k : ℕ) (p : Path) {w : Sight} (d : Distinct w.names)
   exec_like at (i.Jump n) l ls = goes_like (on_like (record { body = l.body; at = refl; frame = l.frame; stack = l.stack }) ls)
   exec_like at (i.Unless n) {g} {h} l ls =
       one_like l.stack (λ v u st ut a s. goes_like (jumped_like 0 0 (suc g.at) (suc h.at) n (truth v) (truth u) (ap (λ n. suc n) l.at) (truth_like a) l s ls))
-  exec_like at i.Turn l ls = turns_like (next_like l ls l.stack)
+  exec_like at i.Turn l ls = ticks_like (next_like l ls l.stack)
   exec_like at (i.Get x) l ls = one_like l.stack (λ v u st ut a s. reads_like at (pos x) (pos x) a refl l s ls)
   exec_like at (i.Put x) l ls = two_like l.stack (λ v v' u u' st ut a b s. writes_like at (pos x) (pos x) a refl b l s ls)
   exec_like at i.Elem l ls = two_like l.stack (λ v v' u u' st ut a b s. reads_like at (number v') (number u') a (number_like b) l s ls)

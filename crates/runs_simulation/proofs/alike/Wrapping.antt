@@ -28,10 +28,10 @@ first_numbers start n m =
     none n = omega arith
 
     around : (cast_unsigned w32 start + Many + m) % Many ≡ (cast_unsigned w32 start + m) % Many
-    around = ap (λ z. z % Many) (turned) ∙ add-mul-mod_self_right (cast_unsigned w32 start + m) 1 Many
+    around = ap (λ z. z % Many) (ticked) ∙ add-mul-mod_self_right (cast_unsigned w32 start + m) 1 Many
       where
-        turned : cast_unsigned w32 start + Many + m ≡ cast_unsigned w32 start + m + 1 * Many
-        turned = omega arith
+        ticked : cast_unsigned w32 start + Many + m ≡ cast_unsigned w32 start + m + 1 * Many
+        ticked = omega arith
 
 pub next_numbers : NextNumbers
 next_numbers next n m few =

@@ -93,7 +93,7 @@ IsScoped action.Join = Unit {0}
 IsScoped a = ⊥
 
 abbrev pub event_of : ℕ → ℕ → Option (List Effect) → DeclaredAction → DeclaredEvent
-event_of k turns wants a = record { task = k; turns = turns; action = a; wants = wants }
+event_of k ticks wants a = record { task = k; ticks = ticks; action = a; wants = wants }
 
 module _ (code : Code) (P : PlainProgram) (arg : ℤ) (rule : Rule) (L : Limits) (right : RightFor (plain_code code) P) where
   abbrev C : PlainCode
@@ -111,13 +111,13 @@ module _ (code : Code) (P : PlainProgram) (arg : ℤ) (rule : Rule) (L : Limits)
   pub record Matched (m : Moment) (d : DeclaredEvent) (w : Sight) (R : Run) (k : ℕ) (n : Moment) : Type 0 where
     pub stepped : Stepped w R k n
     pub wider : Wider w stepped.sight
-    pub turns : d.turns ≡ stepped.event.turns
+    pub ticks : d.ticks ≡ stepped.event.ticks
     pub action : ActionAlike stepped.sight d.action stepped.event.act
     pub answer : AnswerAlike stepped.sight (answer_to m.world d) stepped.event.ans
 
   -- the live task of a ready number, at its next action
-  module _ {m : Moment} {w : Sight} {R : Run} (T : Tied P arg rule C L m w R) (k turns : ℕ) (wants : Option (List Effect)) (a : DeclaredAction)
-      (x : NextOf C m k (event_of k turns wants a)) where
+  module _ {m : Moment} {w : Sight} {R : Run} (T : Tied P arg rule C L m w R) (k ticks : ℕ) (wants : Option (List Effect)) (a : DeclaredAction)
+      (x : NextOf C m k (event_of k ticks wants a)) where
     pub found : (y : Live) × (get m.world.tree.tasks k ≡ Some y)
     found = ready_there (get m.world.tree.tasks k) x.ready.0
 
@@ -128,7 +128,7 @@ module _ (code : Code) (P : PlainProgram) (arg : ℤ) (rule : Rule) (L : Limits)
     same_running = (let same : Some x.task ≡ Some live.runs = sym x.there ∙ live.runs_so in cc)
 
     abbrev pub at : Halt ℕ (ℕ × ℕ)
-    at = front C k turns x.stands.made x.stands.state
+    at = front C k ticks x.stands.made x.stands.state
 
     pub run_here : RunsToAction (names_of k) C live.runs.made live.runs.state at
     run_here = subst (λ (t : Running). RunsToAction (names_of k) C t.made t.state at) same_running x.stands.run_to_action
@@ -139,29 +139,29 @@ module _ (code : Code) (P : PlainProgram) (arg : ℤ) (rule : Rule) (L : Limits)
     -- what is asked there
     pub record AskedAt (b : ActionIn) : Type 0 where
       pub both : BothAt w at here.halt b
-      pub turns_are : both.turns ≡ turns
+      pub ticks_are : both.ticks ≡ ticks
       pub act : Action
-      pub asks : (Q P arg rule C).meaning live.path live.task.task (answers (mine R live.path)) ≡ Next turns act
+      pub asks : (Q P arg rule C).meaning live.path live.task.task (answers (mine R live.path)) ≡ Next ticks act
       pub same : SameAct C P act both.act
 
     pub asked_at : (b : ActionIn) → ActsAt at b → AskedAt b
-    asked_at b acts = record { both = both; turns_are = turns_are; act = r.0; asks = r.1 ∙ ap (λ n. Next n r.0) turns_are; same = r.2 }
+    asked_at b acts = record { both = both; ticks_are = ticks_are; act = r.0; asks = r.1 ∙ ap (λ n. Next n r.0) ticks_are; same = r.2 }
       where
         both : BothAt w at here.halt b
         both = both_at b here.like acts
 
-        turns_are : both.turns ≡ turns
-        turns_are = (subst (λ h. TellsCounts turns x.stands.made h) both.is_in (front_counts C k turns x.stands.made x.stands.state)).0
+        ticks_are : both.ticks ≡ ticks
+        ticks_are = (subst (λ h. TellsCounts ticks x.stands.made h) both.is_in (front_counts C k ticks x.stands.made x.stands.state)).0
 
-        r : (act : Action) × ((Q P arg rule C).meaning live.path live.task.task (answers (mine R live.path)) ≡ Next both.turns act) × SameAct C P act both.act
-        r = reply_act C P ((Q P arg rule C).meaning live.path live.task.task (answers (mine R live.path))) both.turns both.act
+        r : (act : Action) × ((Q P arg rule C).meaning live.path live.task.task (answers (mine R live.path)) ≡ Next both.ticks act) × SameAct C P act both.act
+        r = reply_act C P ((Q P arg rule C).meaning live.path live.task.task (answers (mine R live.path))) both.ticks both.act
             (subst (λ h. SameReply C P ((Q P arg rule C).meaning live.path live.task.task (answers (mine R live.path))) (said h)) both.is_of here.same)
 
     -- it hasn't ended there
     pub not_off : (b : ActionIn) → AskedAt b → (e : EndingOver ℕ) → live.runs.state ≡ Off e → ⊥
     not_off b A e i =
         let h : at ≡ Finished 0 e = off_run C k live.runs.made e at (subst (λ s. RunsToAction (names_of k) C live.runs.made s at) i run_here) in
-        let both : AsksAt A.both.turns A.both.made b A.both.then_in ≡ Finished 0 e = sym A.both.is_in ∙ h in
+        let both : AsksAt A.both.ticks A.both.made b A.both.then_in ≡ Finished 0 e = sym A.both.is_in ∙ h in
         cc
 
     pub out_runs : found.0.state ≡ Runs → OutRuns R live.path live.runs.state found.0.out
@@ -183,7 +183,7 @@ module _ (code : Code) (P : PlainProgram) (arg : ℤ) (rule : Rule) (L : Limits)
       compiled = live.task.compiled;
       state = A.both.then_of e.ans;
       stands = subst (λ es. StandsAfter C live.path live.task.start (answers es) (A.both.then_of e.ans) A.both.made) (sym (mine_same e R live.path own))
-          (after_answer (answers (mine R live.path)) A.both.turns A.both.made A.both.act A.both.then_of
+          (after_answer (answers (mine R live.path)) A.both.ticks A.both.made A.both.act A.both.then_of
           (subst (λ h. Halts (named_by live.path) C live.task.start (answers (mine R live.path)) h) A.both.is_of here.halts) e.ans);
       like = A.both.on v (plain_answer y) e.ans wide like;
     }
@@ -198,8 +198,8 @@ module _ (code : Code) (P : PlainProgram) (arg : ℤ) (rule : Rule) (L : Limits)
         cc
 
   -- an action of a task's own
-  pub record OwnCosts (old new : World) (turns : ℕ) (q : Own) : Type 0 where
-    pub steps : new.steps ≡ old.steps + (turns + own_steps q)
+  pub record OwnCosts (old new : World) (ticks : ℕ) (q : Own) : Type 0 where
+    pub steps : new.steps ≡ old.steps + (ticks + own_steps q)
     pub cells : new.heap.used ≡ old.heap.used + own_cells q
     pub most_steps : new.most_steps ≡ old.most_steps
     pub most_cells : new.heap.limit ≡ old.heap.limit
@@ -212,27 +212,27 @@ module _ (code : Code) (P : PlainProgram) (arg : ℤ) (rule : Rule) (L : Limits)
   pub same_live : (tasks : Tasks) (k : ℕ) → SameLive tasks tasks k []
   same_live tasks k = record { others = λ j apart. refl; itself = λ x e. (x, e, refl, refl, sym (append-nil x.out)) }
 
-  module _ {m : Moment} {w : Sight} {R : Run} (T : Tied P arg rule C L m w R) (k turns : ℕ) (wants : Option (List Effect)) (d : DeclaredOwn)
-      (x : NextOf C m k (event_of k turns wants (action.Do d)))
+  module _ {m : Moment} {w : Sight} {R : Run} (T : Tied P arg rule C L m w R) (k ticks : ℕ) (wants : Option (List Effect)) (d : DeclaredOwn)
+      (x : NextOf C m k (event_of k ticks wants (action.Do d)))
       (does : (p : Path) (q : Own) → OwnLike w (plain_own C d) q
-      → OwnTied (Q P arg rule C) w R p turns q (own_answer m.world d) (own_acted code m.world k wants d).heap.objects)
-      (costs : (q : Own) → OwnLike w (plain_own C d) q → OwnCosts m.world (world_after code m.world (event_of k turns wants (action.Do d))) turns q)
+      → OwnTied (Q P arg rule C) w R p ticks q (own_answer m.world d) (own_acted code m.world k wants d).heap.objects)
+      (costs : (q : Own) → OwnLike w (plain_own C d) q → OwnCosts m.world (world_after code m.world (event_of k ticks wants (action.Do d))) ticks q)
       (begun_same : (own_acted code m.world k wants d).tree.begun ≡ m.world.tree.begun)
       (tree : SameLive m.world.tree.tasks (own_acted code m.world k wants d).tree.tasks k (bytes_of (plain_own C d))) where
     abbrev a : DeclaredAction
     a = action.Do d
 
     abbrev n : Moment
-    n = after code m (event_of k turns wants (action.Do d)) x.stands.state x.stands.made
+    n = after code m (event_of k ticks wants (action.Do d)) x.stands.state x.stands.made
 
     abbrev o : OwnOver ℕ (ℕ × ℕ)
     o = plain_own C d
 
-    abbrev V : LiveTied P arg rule C w R m.world.tree.tasks m.tasks k (found T k turns wants a x).0
-    V = live T k turns wants a x
+    abbrev V : LiveTied P arg rule C w R m.world.tree.tasks m.tasks k (found T k ticks wants a x).0
+    V = live T k ticks wants a x
 
-    A : AskedAt T k turns wants a x (Do o)
-    A = asked_at T k turns wants a x (Do o) (acts_at C a (Do o) (λ e i. (cc)) (λ b e. e) (at T k turns wants a x) x.stands.tells)
+    A : AskedAt T k ticks wants a x (Do o)
+    A = asked_at T k ticks wants a x (Do o) (acts_at C a (Do o) (λ e i. (cc)) (λ b e. e) (at T k ticks wants a x) x.stands.tells)
 
     own : (q : Own) × (A.both.act ≡ Do q) × OwnLike w o q
     own = own_like A.both.like
@@ -240,35 +240,35 @@ module _ (code : Code) (P : PlainProgram) (arg : ℤ) (rule : Rule) (L : Limits)
     act_is : A.act ≡ Do own.0
     act_is = same_do C P A.act own.0 (subst (λ b. SameAct C P A.act b) own.1 A.same)
 
-    asks : (Q P arg rule C).meaning V.path V.task.task (answers (mine R V.path)) ≡ Next turns (Do own.0)
-    asks = A.asks ∙ ap (λ c. Next turns c) act_is
+    asks : (Q P arg rule C).meaning V.path V.task.task (answers (mine R V.path)) ≡ Next ticks (Do own.0)
+    asks = A.asks ∙ ap (λ c. Next ticks c) act_is
 
-    D : OwnTied (Q P arg rule C) w R V.path turns own.0 (own_answer m.world d) (own_acted code m.world k wants d).heap.objects
+    D : OwnTied (Q P arg rule C) w R V.path ticks own.0 (own_answer m.world d) (own_acted code m.world k wants d).heap.objects
     D = does V.path own.0 own.2
 
     abbrev event : Event
-    event = record { path = V.path; turns = turns; act = Do own.0; ans = D.answer }
+    event = record { path = V.path; ticks = ticks; act = Do own.0; ans = D.answer }
 
     follows : Follows (Q P arg rule C) R event
     follows = record { task = V.task.task; begun = V.task.begun; asks = asks; right = D.replies }
 
-    runs : (found T k turns wants a x).0.state ≡ Runs
-    runs = runs_if P arg rule C w T.faithful V.runs.state (found T k turns wants a x).0.state V.scope V.task.task V.task.begun turns (Do own.0) asks (λ b i. (cc)) (λ i. (cc))
+    runs : (found T k ticks wants a x).0.state ≡ Runs
+    runs = runs_if P arg rule C w T.faithful V.runs.state (found T k ticks wants a x).0.state V.scope V.task.task V.task.begun ticks (Do own.0) asks (λ b i. (cc)) (λ i. (cc))
 
-    y : (y : Live) × (get n.world.tree.tasks k ≡ Some y) × (y.origin ≡ (found T k turns wants a x).0.origin) × (y.state ≡ (found T k turns wants a x).0.state)
-        × (y.out ≡ (found T k turns wants a x).0.out ++ bytes_of o)
-    y = tree.itself (found T k turns wants a x).0 (found T k turns wants a x).1
+    y : (y : Live) × (get n.world.tree.tasks k ≡ Some y) × (y.origin ≡ (found T k ticks wants a x).0.origin) × (y.state ≡ (found T k ticks wants a x).0.state)
+        × (y.out ≡ (found T k ticks wants a x).0.out ++ bytes_of o)
+    y = tree.itself (found T k ticks wants a x).0 (found T k ticks wants a x).1
 
-    K : OwnCosts m.world n.world turns own.0
+    K : OwnCosts m.world n.world ticks own.0
     K = costs own.0 own.2
 
-    H : OutRuns R V.path V.runs.state (found T k turns wants a x).0.out
-    H = out_runs T k turns wants a x runs
+    H : OutRuns R V.path V.runs.state (found T k ticks wants a x).0.out
+    H = out_runs T k ticks wants a x runs
 
     fine : trapped H.segment ≡ None
-    fine = fine_none H.segment V.runs.state H.fine (λ f i. not_off T k turns wants a x (Do o) A (Trapped f.0 f.1) i)
+    fine = fine_none H.segment V.runs.state H.fine (λ f i. not_off T k ticks wants a x (Do o) A (Trapped f.0 f.1) i)
 
-    out_now : OutRuns (event ∷ R) V.path (goes_to T k turns wants a x (Do o) A (own_answer m.world d)).state y.0.out
+    out_now : OutRuns (event ∷ R) V.path (goes_to T k ticks wants a x (Do o) A (own_answer m.world d)).state y.0.out
     out_now = record {
       segment = event ∷ H.segment;
       seg = seg_with event refl (λ b i. (cc)) H;
@@ -283,21 +283,21 @@ module _ (code : Code) (P : PlainProgram) (arg : ℤ) (rule : Rule) (L : Limits)
       follows = follows;
       there = V.there;
       sight = D.sight;
-      tied = plain_next P arg rule C L m n T k (found T k turns wants a x).0 y.0 (found T k turns wants a x).1 D.wider D.paths event V.there follows refl D.heap begun_same
-          tree.others y.1 y.2 (λ j apart. beside m.tasks k _ j apart) (goes_to T k turns wants a x (Do o) A (own_answer m.world d))
-          (placed m.tasks k _ k refl ∙ goes_so T k turns wants a x (Do o) A (own_answer m.world d))
-          (task_next T k turns wants a x (Do o) A (own_answer m.world d) event refl D.wider D.like)
-          (subst (λ s. ScopeTied P arg rule C D.sight (event ∷ R) V.path (goes_to T k turns wants a x (Do o) A (own_answer m.world d)).state s) (sym (y.3 ∙ runs)) tt)
-          (subst (λ s. OutLive (event ∷ R) V.path (goes_to T k turns wants a x (Do o) A (own_answer m.world d)).state y.0.out s) (sym (y.3 ∙ runs)) out_now)
-          (childless_if T k turns wants a x runs)
+      tied = plain_next P arg rule C L m n T k (found T k ticks wants a x).0 y.0 (found T k ticks wants a x).1 D.wider D.paths event V.there follows refl D.heap begun_same
+          tree.others y.1 y.2 (λ j apart. beside m.tasks k _ j apart) (goes_to T k ticks wants a x (Do o) A (own_answer m.world d))
+          (placed m.tasks k _ k refl ∙ goes_so T k ticks wants a x (Do o) A (own_answer m.world d))
+          (task_next T k ticks wants a x (Do o) A (own_answer m.world d) event refl D.wider D.like)
+          (subst (λ s. ScopeTied P arg rule C D.sight (event ∷ R) V.path (goes_to T k ticks wants a x (Do o) A (own_answer m.world d)).state s) (sym (y.3 ∙ runs)) tt)
+          (subst (λ s. OutLive (event ∷ R) V.path (goes_to T k ticks wants a x (Do o) A (own_answer m.world d)).state y.0.out s) (sym (y.3 ∙ runs)) out_now)
+          (childless_if T k ticks wants a x runs)
           (record { steps = K.steps; cells = K.cells; most_steps = K.most_steps; most_cells = K.most_cells });
     }
 
-    pub own_next : Matched m (event_of k turns wants a) w R k n
+    pub own_next : Matched m (event_of k ticks wants a) w R k n
     own_next = record {
       stepped = stepped;
       wider = D.wider;
-      turns = refl;
+      ticks = refl;
       action = action_later D.wider (do_alike (own_alike C d own.2));
       answer = answer_alike (own_answer m.world d) D.like;
     }

@@ -46,41 +46,41 @@ ThenOf = Answer → State Name LocalRegion
 
 -- where both stand at an action, or both at their end
 pub record BothAt (w : Sight) (h : Halt ℕ (ℕ × ℕ)) (g : HaltOf) (a : ActionIn) : Type 0 where
-  pub turns : ℕ
+  pub ticks : ℕ
   pub made : ℕ
   pub act : ActionOf
   pub then_in : ThenIn
   pub then_of : ThenOf
-  pub is_in : h ≡ AsksAt turns made a then_in
-  pub is_of : g ≡ AsksAt turns made act then_of
+  pub is_in : h ≡ AsksAt ticks made a then_in
+  pub is_of : g ≡ AsksAt ticks made act then_of
   pub like : ActionLike w a act
   pub on : OnLike w then_in then_of
 
 -- a task stands at this action
 abbrev pub ActsAt : Halt ℕ (ℕ × ℕ) → ActionIn → Type 0
-ActsAt (AsksAt turns made b f) a = b ≡ a
-ActsAt (Finished turns e) a = ⊥
+ActsAt (AsksAt ticks made b f) a = b ≡ a
+ActsAt (Finished ticks e) a = ⊥
 ActsAt Dead a = ⊥
 
 pub acts_at : (C : PlainCode) (x : DeclaredAction) (a : ActionIn) → ((e : EndingOver ℕ) → a ≡ End e → ⊥) → ((b : ActionIn) → Says C x b → b ≡ a)
     → (h : Halt ℕ (ℕ × ℕ)) → Tells C x h → ActsAt h a
-acts_at C x a no_end says (AsksAt turns made b f) tells = says b tells
-acts_at C x a no_end says (Finished turns e) tells = absurd (no_end e (sym (says (End e) tells)))
+acts_at C x a no_end says (AsksAt ticks made b f) tells = says b tells
+acts_at C x a no_end says (Finished ticks e) tells = absurd (no_end e (sym (says (End e) tells)))
 acts_at C x a no_end says Dead tells = absurd tells
 
 pub both_at : {w : Sight} {h : Halt ℕ (ℕ × ℕ)} {g : HaltOf} (a : ActionIn) → HaltLike w h g → ActsAt h a → BothAt w h g a
-both_at {w} a (asks_like turns made {a = b} {b = c} {f = f} {g = k} l on) e = record {
-  turns = turns;
+both_at {w} a (asks_like ticks made {a = b} {b = c} {f = f} {g = k} l on) e = record {
+  ticks = ticks;
   made = made;
   act = c;
   then_in = f;
   then_of = k;
-  is_in = ap (λ z. AsksAt turns made z f) e;
+  is_in = ap (λ z. AsksAt ticks made z f) e;
   is_of = refl;
   like = subst (λ z. ActionLike w z c) e l;
   on = on;
 }
-both_at a (finished_like turns l) e = absurd e
+both_at a (finished_like ticks l) e = absurd e
 both_at a dead_like e = absurd e
 
 -- the actions that are like
@@ -183,10 +183,10 @@ module _ (P : PlainProgram) (arg : ℤ) (rule : Rule) (C : PlainCode) where
     forked_so : Asks (Q P arg rule C) q t (answers (mine F.before q)) (Fork F.tasks)
     forked_so =
         let same : at_fork.task ≡ t = same_task (agree_self R) (begun_upto (upto_tail F.stands) at_fork.begun) (subst (λ p. Begun (Q P arg rule C) R p t) (sym F.path) begun) in (
-          F.fork.turns,
-          subst (λ t. (Q P arg rule C).meaning q t (answers (mine F.before q)) ≡ Next F.fork.turns (Fork F.tasks)) same
-              (subst (λ p. (Q P arg rule C).meaning p at_fork.task (answers (mine F.before p)) ≡ Next F.fork.turns (Fork F.tasks)) F.path
-              (at_fork.asks ∙ ap (λ a. Next F.fork.turns a) F.act)),
+          F.fork.ticks,
+          subst (λ t. (Q P arg rule C).meaning q t (answers (mine F.before q)) ≡ Next F.fork.ticks (Fork F.tasks)) same
+              (subst (λ p. (Q P arg rule C).meaning p at_fork.task (answers (mine F.before p)) ≡ Next F.fork.ticks (Fork F.tasks)) F.path
+              (at_fork.asks ∙ ap (λ a. Next F.fork.ticks a) F.act)),
         )
 
     got_is : answers (mine R q) ≡ (answers F.since ++ F.fork.ans ∷ []) ++ answers (mine F.before q)

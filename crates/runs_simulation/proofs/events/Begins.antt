@@ -8,7 +8,7 @@ use Rattle.lang_base.specs.declared.outcome.Limits.{Limits}
 use Rattle.lang_typed.specs.Plain.{PlainProgram}
 use Rattle.lang_meaning.specs.Actions as meaning
 use Rattle.code_instrs.specs.RunsToActions.{Asks as AsksAt}
-use Rattle.code_instrs.specs.Machine.{Start, State, Stand, Goes, Turns, Makes, Waits, Ends, Stuck, begins_at, step}
+use Rattle.code_instrs.specs.Machine.{Start, State, Stand, Goes, Ticks, Makes, Waits, Ends, Stuck, begins_at, step}
 use Rattle.code_instrs.specs.Plain.{PlainCode, plain_code}
 use Rattle.code_instrs.specs.declared.code.Code.{Code}
 use Rattle.code_scheme.specs.Compiled.{Compiled, SameAct}
@@ -86,25 +86,25 @@ ends_more w R q n b (Some e ∷ es) h = (h.0, ends_more w R q n (suc b) es h.1)
 more_length : {A : Type 0} (xs : List A) (x : A) → length (xs ++ x ∷ []) ≡ suc (length xs)
 more_length xs x = (let a = length-append xs (x ∷ []) in omega (arith, a))
 
-stands_waits : (turns made : ℕ) (o : Stand ℕ (ℕ × ℕ)) (n m : ℕ) (a : ActionIn) (f : meaning.Answer ℕ (ℕ × ℕ) → State ℕ (ℕ × ℕ)) → stands turns made o ≡ AsksAt n m a f → o ≡ Waits a f
-stands_waits turns made (Waits b g) n m a f i = (let x : b ≡ a = cc in let y : g ≡ f = cc in λ j. Waits (x j) (y j))
-stands_waits turns made (Ends x) n m a f i = absurd (cc)
-stands_waits turns made (Goes s) n m a f i = absurd (cc)
-stands_waits turns made (Turns s) n m a f i = absurd (cc)
-stands_waits turns made (Makes g) n m a f i = absurd (cc)
-stands_waits turns made Stuck n m a f i = absurd (cc)
+stands_waits : (ticks made : ℕ) (o : Stand ℕ (ℕ × ℕ)) (n m : ℕ) (a : ActionIn) (f : meaning.Answer ℕ (ℕ × ℕ) → State ℕ (ℕ × ℕ)) → stands ticks made o ≡ AsksAt n m a f → o ≡ Waits a f
+stands_waits ticks made (Waits b g) n m a f i = (let x : b ≡ a = cc in let y : g ≡ f = cc in λ j. Waits (x j) (y j))
+stands_waits ticks made (Ends x) n m a f i = absurd (cc)
+stands_waits ticks made (Goes s) n m a f i = absurd (cc)
+stands_waits ticks made (Ticks s) n m a f i = absurd (cc)
+stands_waits ticks made (Makes g) n m a f i = absurd (cc)
+stands_waits ticks made Stuck n m a f i = absurd (cc)
 
 module _ (code : Code) (P : PlainProgram) (arg : ℤ) (rule : Rule) (L : Limits) (right : RightFor (plain_code code) P) (FJ : ForksAreJoined (plain_code code)) where
   abbrev C : PlainCode
   C = plain_code code
 
   -- a task that begins a branch stands at its join still, and its branches start as they did
-  module _ {m : Moment} {w : Sight} {R : Run} (T : Tied P arg rule C L m w R) (short : m.world.steps ≤ 20000001) (k turns : ℕ) (wants : Option (List Effect)) (b : ℕ)
-      (x : NextOf C m k (event_of k turns wants (action.Begin b))) (A : AskedAt code P arg rule L right T k turns wants (action.Begin b) x (Begin b)) {scope : Scope}
-      (F : ForkTied P arg rule C w R (live code P arg rule L right T k turns wants (action.Begin b) x).path
-      (live code P arg rule L right T k turns wants (action.Begin b) x).runs.state scope) (b_is : length scope.ends ≡ b) where
-    abbrev V_at : LiveTied P arg rule C w R m.world.tree.tasks m.tasks k (found code P arg rule L right T k turns wants (action.Begin b) x).0
-    V_at = live code P arg rule L right T k turns wants (action.Begin b) x
+  module _ {m : Moment} {w : Sight} {R : Run} (T : Tied P arg rule C L m w R) (short : m.world.steps ≤ 20000001) (k ticks : ℕ) (wants : Option (List Effect)) (b : ℕ)
+      (x : NextOf C m k (event_of k ticks wants (action.Begin b))) (A : AskedAt code P arg rule L right T k ticks wants (action.Begin b) x (Begin b)) {scope : Scope}
+      (F : ForkTied P arg rule C w R (live code P arg rule L right T k ticks wants (action.Begin b) x).path
+      (live code P arg rule L right T k ticks wants (action.Begin b) x).runs.state scope) (b_is : length scope.ends ≡ b) where
+    abbrev V_at : LiveTied P arg rule C w R m.world.tree.tasks m.tasks k (found code P arg rule L right T k ticks wants (action.Begin b) x).0
+    V_at = live code P arg rule L right T k ticks wants (action.Begin b) x
 
     abbrev then_at : meaning.Answer ℕ (ℕ × ℕ) → State ℕ (ℕ × ℕ)
     then_at = A.both.then_in
@@ -120,39 +120,39 @@ module _ (code : Code) (P : PlainProgram) (arg : ℤ) (rule : Rule) (L : Limits)
     from_join_at = go (subst (λ o. Kept C V_at.runs.state o) waits (step_keeps C FJ first_numbers next_numbers k V_at.runs.state))
       where
         waits : step (names_of k) C V_at.runs.state ≡ Waits (Begin b) then_at
-        waits = stands_waits 0 V_at.runs.made (step (names_of k) C V_at.runs.state) A.both.turns A.both.made (Begin b) then_at
-            (join_run C k V_at.runs.made V_at.runs.state (at code P arg rule L right T k turns wants (action.Begin b) x) F.at_join
-            (run_here code P arg rule L right T k turns wants (action.Begin b) x) ∙ A.both.is_in)
+        waits = stands_waits 0 V_at.runs.made (step (names_of k) C V_at.runs.state) A.both.ticks A.both.made (Begin b) then_at
+            (join_run C k V_at.runs.made V_at.runs.state (at code P arg rule L right T k ticks wants (action.Begin b) x) F.at_join
+            (run_here code P arg rule L right T k ticks wants (action.Begin b) x) ∙ A.both.is_in)
 
         go : Kept C V_at.runs.state (Waits (Begin b) then_at) → AtJoin C (then_at went_at) × HasBegun C (then_at went_at) × (starts_at C (then_at went_at) ≡ starts_at C V_at.runs.state)
         go h = (let j = h.is.0 F.at_join went_at in (j.0, j.1, h.is.1 went_at j.1 few_at))
 
     pub from_there_at : starts_at C (then_at went_at) ≡ starts_at C x.stands.state
-    from_there_at = go (subst (λ o. Kept C x.stands.state o) (front_step C k turns x.stands.made x.stands.state A.both.turns A.both.made (Begin b) then_at A.both.is_in (λ i. (cc))) (step_keeps C FJ first_numbers next_numbers k x.stands.state))
+    from_there_at = go (subst (λ o. Kept C x.stands.state o) (front_step C k ticks x.stands.made x.stands.state A.both.ticks A.both.made (Begin b) then_at A.both.is_in (λ i. (cc))) (step_keeps C FJ first_numbers next_numbers k x.stands.state))
       where
         go : Kept C x.stands.state (Waits (Begin b) then_at) → starts_at C (then_at went_at) ≡ starts_at C x.stands.state
         go h = h.is.1 went_at from_join_at.1 few_at
 
-  module _ {m : Moment} {w : Sight} {R : Run} (T : Tied P arg rule C L m w R) (short : m.world.steps ≤ 20000001) (k turns : ℕ) (wants : Option (List Effect)) (b : ℕ)
-      (x : NextOf C m k (event_of k turns wants (action.Begin b))) (can : CanBeMade C m.world (event_of k turns wants (action.Begin b)) x.stands.state) where
+  module _ {m : Moment} {w : Sight} {R : Run} (T : Tied P arg rule C L m w R) (short : m.world.steps ≤ 20000001) (k ticks : ℕ) (wants : Option (List Effect)) (b : ℕ)
+      (x : NextOf C m k (event_of k ticks wants (action.Begin b))) (can : CanBeMade C m.world (event_of k ticks wants (action.Begin b)) x.stands.state) where
     abbrev n : Moment
-    n = after code m (event_of k turns wants (action.Begin b)) x.stands.state x.stands.made
+    n = after code m (event_of k ticks wants (action.Begin b)) x.stands.state x.stands.made
 
     abbrev z : State ℕ (ℕ × ℕ)
     z = x.stands.state
 
-    A : AskedAt code P arg rule L right T k turns wants (action.Begin b) x (Begin b)
-    A = asked_at code P arg rule L right T k turns wants (action.Begin b) x (Begin b)
-        (acts_at C (action.Begin b) (Begin b) (λ e i. (cc)) (λ c e. e) (at code P arg rule L right T k turns wants (action.Begin b) x) x.stands.tells)
+    A : AskedAt code P arg rule L right T k ticks wants (action.Begin b) x (Begin b)
+    A = asked_at code P arg rule L right T k ticks wants (action.Begin b) x (Begin b)
+        (acts_at C (action.Begin b) (Begin b) (λ e i. (cc)) (λ c e. e) (at code P arg rule L right T k ticks wants (action.Begin b) x) x.stands.tells)
 
-    abbrev V : LiveTied P arg rule C w R m.world.tree.tasks m.tasks k (found code P arg rule L right T k turns wants (action.Begin b) x).0
-    V = live code P arg rule L right T k turns wants (action.Begin b) x
+    abbrev V : LiveTied P arg rule C w R m.world.tree.tasks m.tasks k (found code P arg rule L right T k ticks wants (action.Begin b) x).0
+    V = live code P arg rule L right T k ticks wants (action.Begin b) x
 
     abbrev y : Live
-    y = (found code P arg rule L right T k turns wants (action.Begin b) x).0
+    y = (found code P arg rule L right T k ticks wants (action.Begin b) x).0
 
     y_is : get m.world.tree.tasks k ≡ Some y
-    y_is = (found code P arg rule L right T k turns wants (action.Begin b) x).1
+    y_is = (found code P arg rule L right T k ticks wants (action.Begin b) x).1
 
     opens : CanOpen y
     opens = can_open m.world.tree.tasks k y y_is can.fits.0
@@ -163,14 +163,14 @@ module _ (code : Code) (P : PlainProgram) (arg : ℤ) (rule : Rule) (L : Limits)
     F : ForkTied P arg rule C w R V.path V.runs.state scope
     F = subst (λ s. ScopeTied P arg rule C w R V.path V.runs.state s) opens.state V.scope
 
-    asks : (Q P arg rule C).meaning V.path V.task.task (answers (mine R V.path)) ≡ Next turns (Begin b)
-    asks = A.asks ∙ ap (λ c. Next turns c) (same_begin C P A.act b (subst (λ c. SameAct C P A.act c) (beginning_like A.both.like) A.same))
+    asks : (Q P arg rule C).meaning V.path V.task.task (answers (mine R V.path)) ≡ Next ticks (Begin b)
+    asks = A.asks ∙ ap (λ c. Next ticks c) (same_begin C P A.act b (subst (λ c. SameAct C P A.act c) (beginning_like A.both.like) A.same))
 
     b_is : length scope.ends ≡ b
-    b_is = begins_next P arg rule C T.faithful scope F V.task.task V.task.begun turns b asks opens.less
+    b_is = begins_next P arg rule C T.faithful scope F V.task.task V.task.begun ticks b asks opens.less
 
     abbrev event : Event
-    event = record { path = V.path; turns = turns; act = Begin b; ans = Went }
+    event = record { path = V.path; ticks = ticks; act = Begin b; ans = Went }
 
     follows : Follows (Q P arg rule C) R event
     follows = record { task = V.task.task; begun = V.task.begun; asks = asks; right = refl }
@@ -182,10 +182,10 @@ module _ (code : Code) (P : PlainProgram) (arg : ℤ) (rule : Rule) (L : Limits)
     went = plain_answer answer.Went
 
     from_join : AtJoin C (then_in went) × HasBegun C (then_in went) × (starts_at C (then_in went) ≡ starts_at C V.runs.state)
-    from_join = from_join_at T short k turns wants b x A F b_is
+    from_join = from_join_at T short k ticks wants b x A F b_is
 
     from_there : starts_at C (then_in went) ≡ starts_at C z
-    from_there = from_there_at T short k turns wants b x A F b_is
+    from_there = from_there_at T short k ticks wants b x A F b_is
 
     -- the start of the branch
     start : (s : Start ℕ (ℕ × ℕ)) × (slice_get (starts_at C z) b ≡ Some s)
@@ -260,8 +260,8 @@ module _ (code : Code) (P : PlainProgram) (arg : ℤ) (rule : Rule) (L : Limits)
     abbrev base : ℕ → Option Running
     base = with_task m.tasks c (begun (slice_get (starts_at C z) b))
 
-    k_runs : n.tasks k ≡ Some (goes_to code P arg rule L right T k turns wants (action.Begin b) x (Begin b) A answer.Went)
-    k_runs = placed base k _ k refl ∙ goes_so code P arg rule L right T k turns wants (action.Begin b) x (Begin b) A answer.Went
+    k_runs : n.tasks k ≡ Some (goes_to code P arg rule L right T k ticks wants (action.Begin b) x (Begin b) A answer.Went)
+    k_runs = placed base k _ k refl ∙ goes_so code P arg rule L right T k ticks wants (action.Begin b) x (Begin b) A answer.Went
 
     c_runs : n.tasks c ≡ Some (at_start start.0)
     c_runs = beside base k _ c (λ s. k_apart (sym s)) ∙ placed m.tasks c _ c refl ∙ ap begun start.1
@@ -314,9 +314,9 @@ module _ (code : Code) (P : PlainProgram) (arg : ℤ) (rule : Rule) (L : Limits)
     k_next = record {
       path = V.path;
       there = wide.paths k V.path V.there;
-      runs = goes_to code P arg rule L right T k turns wants (action.Begin b) x (Begin b) A answer.Went;
+      runs = goes_to code P arg rule L right T k ticks wants (action.Begin b) x (Begin b) A answer.Went;
       runs_so = k_runs;
-      task = task_next code P arg rule L right T k turns wants (action.Begin b) x (Begin b) A answer.Went event refl wide went_like;
+      task = task_next code P arg rule L right T k ticks wants (action.Begin b) x (Begin b) A answer.Went event refl wide went_like;
       origin = origin_later P arg rule C L wide T.numbers event k V.there m.world.tree.tasks tasks V.path y.origin
           (λ u f. (let a = not_itself P arg rule C L w R m.world.tree.tasks k V.there y.origin V.origin u f in (a, other_now u.parent a (parent_in y.origin V.origin u f)))) V.origin;
       scope = subst (λ s. ScopeTied P arg rule C v (event ∷ R) V.path (then_in went) s) (sym state_now) fork_now;
@@ -445,7 +445,7 @@ module _ (code : Code) (P : PlainProgram) (arg : ℤ) (rule : Rule) (L : Limits)
       there = V.there;
       sight = v;
       tied = record {
-        heap = seen_later (structural (Q P arg rule C) T.heap V.path turns event refl (λ c. refl) (λ f. refl) refl);
+        heap = seen_later (structural (Q P arg rule C) T.heap V.path ticks event refl (λ c. refl) (λ f. refl) refl);
         numbers = numbers_next;
         costs = costs_next P arg rule C L m n event (record { steps = refl; cells = omega arith; most_steps = refl; most_cells = refl }) T.costs;
         faithful = (follows, T.faithful);
@@ -453,5 +453,5 @@ module _ (code : Code) (P : PlainProgram) (arg : ℤ) (rule : Rule) (L : Limits)
       };
     }
 
-    pub begins_branch : Matched code P arg rule L right m (event_of k turns wants (action.Begin b)) w R k n
-    begins_branch = record { stepped = stepped; wider = wide; turns = refl; action = begin_alike b; answer = went_alike }
+    pub begins_branch : Matched code P arg rule L right m (event_of k ticks wants (action.Begin b)) w R k n
+    begins_branch = record { stepped = stepped; wider = wide; ticks = refl; action = begin_alike b; answer = went_alike }

@@ -215,32 +215,32 @@ module _ (code : Code) (P : PlainProgram) (arg : ℤ) (rule : Rule) (L : Limits)
   C = plain_code code
 
   -- what the event of a recorded run is
-  module _ {m n : Moment} {w : Sight} {R : Run} (T : Tied P arg rule C L m w R) (k turns : ℕ) (wants : Option (List PathEffect)) (a : DeclaredAction)
-      (x : NextOf C m k (event_of k turns wants a)) (S : Stepped code P arg rule L right w R k n) where
-    abbrev V : LiveTied P arg rule C w R m.world.tree.tasks m.tasks k (found code P arg rule L right T k turns wants a x).0
-    V = live code P arg rule L right T k turns wants a x
+  module _ {m n : Moment} {w : Sight} {R : Run} (T : Tied P arg rule C L m w R) (k ticks : ℕ) (wants : Option (List PathEffect)) (a : DeclaredAction)
+      (x : NextOf C m k (event_of k ticks wants a)) (S : Stepped code P arg rule L right w R k n) where
+    abbrev V : LiveTied P arg rule C w R m.world.tree.tasks m.tasks k (found code P arg rule L right T k ticks wants a x).0
+    V = live code P arg rule L right T k ticks wants a x
 
     path_is : S.event.path ≡ V.path
     path_is = path_one w k S.there V.there
 
-    asks : (Q P arg rule C).meaning V.path V.task.task (answers (mine R V.path)) ≡ Next S.event.turns S.event.act
+    asks : (Q P arg rule C).meaning V.path V.task.task (answers (mine R V.path)) ≡ Next S.event.ticks S.event.act
     asks =
         let task : S.follows.task ≡ V.task.task = same_task (agree_self R) (subst (λ q. Begun (Q P arg rule C) R q S.follows.task) path_is S.follows.begun) V.task.begun in
         ap (λ t. (Q P arg rule C).meaning V.path t (answers (mine R V.path))) (sym task)
-        ∙ subst (λ q. (Q P arg rule C).meaning q S.follows.task (answers (mine R q)) ≡ Next S.event.turns S.event.act) path_is S.follows.asks
+        ∙ subst (λ q. (Q P arg rule C).meaning q S.follows.task (answers (mine R q)) ≡ Next S.event.ticks S.event.act) path_is S.follows.asks
 
     -- what is said of it in a machine, and what it is in the run
     pub event_by : (K : Type 0) → ((b : ActionIn) (c : ActionOf) → Says C a b → ActionLike w b c → SameAct C P S.event.act c → K) → K
     event_by K use_it =
-        let H = here code P arg rule L right T k turns wants a x in
+        let H = here code P arg rule L right T k ticks wants a x in
         go H.like x.stands.tells (subst (λ r. SameReply C P r (said H.halt)) asks H.same)
       where
-        go : {h : Halt ℕ (ℕ × ℕ)} {g : HaltOf} → HaltLike w h g → Tells C a h → SameReply C P (Next S.event.turns S.event.act) (said g) → K
-        go (asks_like turns made {a = b} {b = c} l on) tells same =
-            let acts : c ≡ same.0 = said_same turns S.event.turns c same.0 same.1 in
+        go : {h : Halt ℕ (ℕ × ℕ)} {g : HaltOf} → HaltLike w h g → Tells C a h → SameReply C P (Next S.event.ticks S.event.act) (said g) → K
+        go (asks_like ticks made {a = b} {b = c} l on) tells same =
+            let acts : c ≡ same.0 = said_same ticks S.event.ticks c same.0 same.1 in
             use_it b c tells l (subst (λ c. SameAct C P S.event.act c) (sym acts) same.2)
-        go (finished_like turns {e = e} {f = f} l) tells same =
-            let acts : End f ≡ same.0 = said_same turns S.event.turns (End f) same.0 same.1 in
+        go (finished_like ticks {e = e} {f = f} l) tells same =
+            let acts : End f ≡ same.0 = said_same ticks S.event.ticks (End f) same.0 same.1 in
             use_it (End e) (End f) tells (end_like l) (subst (λ c. SameAct C P S.event.act c) (sym acts) same.2)
         go dead_like tells same = absurd tells
 
@@ -252,10 +252,10 @@ module _ (code : Code) (P : PlainProgram) (arg : ℤ) (rule : Rule) (L : Limits)
 
   -- the tie of the blocks over an event
   module _ {m : Moment} {w : Sight} {R : Run} (T : Tied P arg rule C L m w R) (short : m.world.steps ≤ 20000001) (B : BlocksTied w R m.world) (wanted : AllNoted C m)
-      (k turns : ℕ) (wants : Option (List PathEffect)) (a : DeclaredAction) (x : NextOf C m k (event_of k turns wants a))
-      (S : Stepped code P arg rule L right w R k (after code m (event_of k turns wants a) x.stands.state x.stands.made)) where
+      (k ticks : ℕ) (wants : Option (List PathEffect)) (a : DeclaredAction) (x : NextOf C m k (event_of k ticks wants a))
+      (S : Stepped code P arg rule L right w R k (after code m (event_of k ticks wants a) x.stands.state x.stands.made)) where
     abbrev pub n : World
-    n = world_after code m.world (event_of k turns wants a)
+    n = world_after code m.world (event_of k ticks wants a)
 
     abbrev pub v : Sight
     v = S.sight
@@ -271,7 +271,7 @@ module _ (code : Code) (P : PlainProgram) (arg : ℤ) (rule : Rule) (L : Limits)
 
     -- the task of the event is live
     pub own : (y : Live) × (get m.world.tree.tasks k ≡ Some y)
-    own = found code P arg rule L right T k turns wants a x
+    own = found code P arg rule L right T k ticks wants a x
 
     own_apart : (j : ℕ) → get m.world.tree.tasks j ≡ None → j ≢ k
     own_apart j e same = (let i = own.1 in let f = ap (λ i. get m.world.tree.tasks i) same in let both : None ≡ Some own.0 = sym e ∙ f ∙ i in cc)
@@ -447,7 +447,7 @@ module _ (code : Code) (P : PlainProgram) (arg : ℤ) (rule : Rule) (L : Limits)
           same_child : y ≡ child
           same_child = (let both : Some y ≡ Some child = sym is ∙ c_now in cc)
 
-          U : LiveTied P arg rule C v S_run n.tree.tasks (after code m (event_of k turns wants a) x.stands.state x.stands.made).tasks c y
+          U : LiveTied P arg rule C v S_run n.tree.tasks (after code m (event_of k ticks wants a) x.stands.state x.stands.made).tasks c y
           U = S.tied.live c y is
 
           origin : Origin
@@ -467,7 +467,7 @@ module _ (code : Code) (P : PlainProgram) (arg : ℤ) (rule : Rule) (L : Limits)
               p_is : p ≡ D.step ∷ S.event.path
               p_is = sym path_so ∙ D.is ∙ ap (λ q. D.step ∷ q) above_is
 
-              W : LiveTied P arg rule C v S_run n.tree.tasks (after code m (event_of k turns wants a) x.stands.state x.stands.made).tasks k D.parent
+              W : LiveTied P arg rule C v S_run n.tree.tasks (after code m (event_of k ticks wants a) x.stands.state x.stands.made).tasks k D.parent
               W = S.tied.live k D.parent D.parent_is
 
               w_path : W.path ≡ S.event.path
@@ -534,44 +534,44 @@ module _ (code : Code) (P : PlainProgram) (arg : ℤ) (rule : Rule) (L : Limits)
 
   -- over any event
   module _ {m : Moment} {w : Sight} {R : Run} (T : Tied P arg rule C L m w R) (short : m.world.steps ≤ 20000001) (B : BlocksTied w R m.world) (wanted : AllNoted C m)
-      (k turns : ℕ) (wants : Option (List PathEffect)) where
+      (k ticks : ℕ) (wants : Option (List PathEffect)) where
     abbrev Next_blocks : DeclaredAction → Type 0
-    Next_blocks a = (x : NextOf C m k (event_of k turns wants a)) (S : Stepped code P arg rule L right w R k (after code m (event_of k turns wants a) x.stands.state x.stands.made))
-        → BlocksTied S.sight (S.event ∷ R) (world_after code m.world (event_of k turns wants a))
+    Next_blocks a = (x : NextOf C m k (event_of k ticks wants a)) (S : Stepped code P arg rule L right w R k (after code m (event_of k ticks wants a) x.stands.state x.stands.made))
+        → BlocksTied S.sight (S.event ∷ R) (world_after code m.world (event_of k ticks wants a))
 
     blocks_any : (a : DeclaredAction) → Next_blocks a
     blocks_any (action.Do (alone.Print bytes)) x S =
-        same_next T short B wanted k turns wants (action.Do (alone.Print bytes)) x S (event_like T k turns wants (action.Do (alone.Print bytes)) x S) refl
+        same_next T short B wanted k ticks wants (action.Do (alone.Print bytes)) x S (event_like T k ticks wants (action.Do (alone.Print bytes)) x S) refl
         (changed_keys m.world.tree.tasks k (printed_task bytes)) refl
     blocks_any (action.Do (alone.Enter effects)) x S =
-        let e = event_like T k turns wants (action.Do (alone.Enter effects)) x S in
-        entered_next T short B wanted k turns wants (action.Do (alone.Enter effects)) x S (map plain_effect effects) e.0 e.1 e.2
-        (ap (λ o. locks.entered m.world.locks k (wanted_of o)) (entry_noted C m k turns wants effects x wanted)) refl
+        let e = event_like T k ticks wants (action.Do (alone.Enter effects)) x S in
+        entered_next T short B wanted k ticks wants (action.Do (alone.Enter effects)) x S (map plain_effect effects) e.0 e.1 e.2
+        (ap (λ o. locks.entered m.world.locks k (wanted_of o)) (entry_noted C m k ticks wants effects x wanted)) refl
     blocks_any (action.Do alone.Exit) x S =
-        exited_next T short B wanted k turns wants (action.Do alone.Exit) x S (event_like T k turns wants (action.Do alone.Exit) x S) refl refl
-    blocks_any (action.Do o) x S = same_next T short B wanted k turns wants (action.Do o) x S (event_like T k turns wants (action.Do o) x S) refl (λ j. refl) refl
+        exited_next T short B wanted k ticks wants (action.Do alone.Exit) x S (event_like T k ticks wants (action.Do alone.Exit) x S) refl refl
+    blocks_any (action.Do o) x S = same_next T short B wanted k ticks wants (action.Do o) x S (event_like T k ticks wants (action.Do o) x S) refl (λ j. refl) refl
     blocks_any (action.Fork forking many) x S =
-        same_next T short B wanted k turns wants (action.Fork forking many) x S (event_like T k turns wants (action.Fork forking many) x S) refl
+        same_next T short B wanted k ticks wants (action.Fork forking many) x S (event_like T k ticks wants (action.Fork forking many) x S) refl
         (changed_keys m.world.tree.tasks k (forked_task many)) refl
     blocks_any action.Join x S =
-        same_next T short B wanted k turns wants action.Join x S (event_like T k turns wants action.Join x S) refl (changed_keys m.world.tree.tasks k joined_task) refl
-    blocks_any (action.Begin b) x S = begun_next T short B wanted k turns wants (action.Begin b) x S b (event_like T k turns wants (action.Begin b) x S) refl refl refl
+        same_next T short B wanted k ticks wants action.Join x S (event_like T k ticks wants action.Join x S) refl (changed_keys m.world.tree.tasks k joined_task) refl
+    blocks_any (action.Begin b) x S = begun_next T short B wanted k ticks wants (action.Begin b) x S b (event_like T k ticks wants (action.Begin b) x S) refl refl refl
     blocks_any (action.End c) x S =
-        let e = event_like T k turns wants (action.End c) x S in
-        ended_next T short B wanted k turns wants (action.End c) x S e.0 e.1 refl (ended_begun m.world.tree k (trap_in c) (slots_in c))
+        let e = event_like T k ticks wants (action.End c) x S in
+        ended_next T short B wanted k ticks wants (action.End c) x S e.0 e.1 refl (ended_begun m.world.tree k (trap_in c) (slots_in c))
         (none_there _ (ended_gone m.world k (trap_in c) (slots_in c))) (λ j apart. ended_keys m.world k (trap_in c) (slots_in c) j apart)
 
     -- where the machine makes an entry, so may the run
     not_quiet : (E : List Effect) (a : Action) → Quiet a → a ≡ Do (Enter E) → ⊥
     not_quiet E a q e = (let both : In_block 0 E ≡ Out_of = subst Quiet e q Out_of in cc)
 
-    module _ (effects : List PathEffect) (x : NextOf C m k (event_of k turns wants (action.Do (alone.Enter effects))))
+    module _ (effects : List PathEffect) (x : NextOf C m k (event_of k ticks wants (action.Do (alone.Enter effects))))
         (p : Path) (own_path : slice_get w.paths k ≡ Some p) (F : List Effect) (like : EffectsLike w (map plain_effect effects) F) where
       abbrev E_in : EffectsIn
       E_in = map plain_effect effects
 
       may : locks.MayEnter m.world.locks k (map noted E_in)
-      may = subst (λ o. IsFreeFor m.world.locks k o) (entry_noted C m k turns wants effects x wanted) x.ready.1
+      may = subst (λ o. IsFreeFor m.world.locks k o) (entry_noted C m k ticks wants effects x wanted) x.ready.1
 
       one : OneNumber w
       one i j q a b = number_same (T.numbers.numbered i q a) (T.numbers.numbered j q b)
@@ -640,7 +640,7 @@ module _ (code : Code) (P : PlainProgram) (arg : ℤ) (rule : Rule) (L : Limits)
           H = holder q G stands
 
           y : (y : Live) × (get m.world.tree.tasks k ≡ Some y)
-          y = found code P arg rule L right T k turns wants (action.Do (alone.Enter effects)) x
+          y = found code P arg rule L right T k ticks wants (action.Do (alone.Enter effects)) x
 
           outside : get m.world.locks k ≡ None
           outside = tells_standing (B.stand k y.0 p y.1 own_path) out
@@ -670,34 +670,34 @@ module _ (code : Code) (P : PlainProgram) (arg : ℤ) (rule : Rule) (L : Limits)
 
     -- an entry of the run is one of the machine
     abbrev Enters : DeclaredAction → Type 0
-    Enters a = (x : NextOf C m k (event_of k turns wants a)) (n : Moment)
+    Enters a = (x : NextOf C m k (event_of k ticks wants a)) (n : Moment)
         → (S : Stepped code P arg rule L right w R k n) (F : List Effect) → S.event.act ≡ Do (Enter F) → CanEnter run.lets R S.event.path F
 
     enters_any : (a : DeclaredAction) → Enters a
     enters_any (action.Do (alone.Enter effects)) x n S F act = record { clear = λ out q G stands. apart_so effects x S.event.path S.there F like out q G stands }
       where
         e : ActsLike w (action.Do (alone.Enter effects)) S.event.act
-        e = event_like T k turns wants (action.Do (alone.Enter effects)) x S
+        e = event_like T k ticks wants (action.Do (alone.Enter effects)) x S
 
         like : EffectsLike w (map plain_effect effects) F
         like = subst (λ H. EffectsLike w (map plain_effect effects) H) (same_entry e.0 F (sym e.1 ∙ act)) e.2
           where
             same_entry : (H G : List Effect) → ◌≡◌ {A = Action} (Do (Enter H)) (Do (Enter G)) → H ≡ G
             same_entry H G e = cc
-    enters_any (action.Do alone.Rest) x n S F act = absurd (not_quiet F S.event.act (event_like T k turns wants (action.Do alone.Rest) x S) act)
-    enters_any (action.Do (alone.Read i j)) x n S F act = absurd (not_quiet F S.event.act (event_like T k turns wants (action.Do (alone.Read i j)) x S) act)
-    enters_any (action.Do (alone.Write i j u)) x n S F act = absurd (not_quiet F S.event.act (event_like T k turns wants (action.Do (alone.Write i j u)) x S) act)
-    enters_any (action.Do (alone.Look i)) x n S F act = absurd (not_quiet F S.event.act (event_like T k turns wants (action.Do (alone.Look i)) x S) act)
+    enters_any (action.Do alone.Rest) x n S F act = absurd (not_quiet F S.event.act (event_like T k ticks wants (action.Do alone.Rest) x S) act)
+    enters_any (action.Do (alone.Read i j)) x n S F act = absurd (not_quiet F S.event.act (event_like T k ticks wants (action.Do (alone.Read i j)) x S) act)
+    enters_any (action.Do (alone.Write i j u)) x n S F act = absurd (not_quiet F S.event.act (event_like T k ticks wants (action.Do (alone.Write i j u)) x S) act)
+    enters_any (action.Do (alone.Look i)) x n S F act = absurd (not_quiet F S.event.act (event_like T k ticks wants (action.Do (alone.Look i)) x S) act)
     enters_any (action.Do (alone.NewObject d rs constructor)) x n S F act =
-        absurd (not_quiet F S.event.act (event_like T k turns wants (action.Do (alone.NewObject d rs constructor)) x S) act)
+        absurd (not_quiet F S.event.act (event_like T k ticks wants (action.Do (alone.NewObject d rs constructor)) x S) act)
     enters_any (action.Do (alone.NewArray region len first)) x n S F act =
-        absurd (not_quiet F S.event.act (event_like T k turns wants (action.Do (alone.NewArray region len first)) x S) act)
-    enters_any (action.Do (alone.Print bytes)) x n S F act = absurd (not_quiet F S.event.act (event_like T k turns wants (action.Do (alone.Print bytes)) x S) act)
-    enters_any (action.Fork forking many) x n S F act = absurd (not_quiet F S.event.act (event_like T k turns wants (action.Fork forking many) x S) act)
-    enters_any action.Join x n S F act = absurd (not_quiet F S.event.act (event_like T k turns wants action.Join x S) act)
-    enters_any (action.Do alone.Exit) x n S F act = absurd (let both : Do Exit ≡ Do (Enter F) = sym (event_like T k turns wants (action.Do alone.Exit) x S) ∙ act in cc)
-    enters_any (action.Begin b) x n S F act = absurd (let both : Begin b ≡ Do (Enter F) = sym (event_like T k turns wants (action.Begin b) x S) ∙ act in cc)
-    enters_any (action.End c) x n S F act = absurd (let e = event_like T k turns wants (action.End c) x S in let both : End e.0 ≡ Do (Enter F) = sym e.1 ∙ act in cc)
+        absurd (not_quiet F S.event.act (event_like T k ticks wants (action.Do (alone.NewArray region len first)) x S) act)
+    enters_any (action.Do (alone.Print bytes)) x n S F act = absurd (not_quiet F S.event.act (event_like T k ticks wants (action.Do (alone.Print bytes)) x S) act)
+    enters_any (action.Fork forking many) x n S F act = absurd (not_quiet F S.event.act (event_like T k ticks wants (action.Fork forking many) x S) act)
+    enters_any action.Join x n S F act = absurd (not_quiet F S.event.act (event_like T k ticks wants action.Join x S) act)
+    enters_any (action.Do alone.Exit) x n S F act = absurd (let both : Do Exit ≡ Do (Enter F) = sym (event_like T k ticks wants (action.Do alone.Exit) x S) ∙ act in cc)
+    enters_any (action.Begin b) x n S F act = absurd (let both : Begin b ≡ Do (Enter F) = sym (event_like T k ticks wants (action.Begin b) x S) ∙ act in cc)
+    enters_any (action.End c) x n S F act = absurd (let e = event_like T k ticks wants (action.End c) x S in let both : End e.0 ≡ Do (Enter F) = sym e.1 ∙ act in cc)
 
   -- of any task
   module _ {m : Moment} {w : Sight} {R : Run} (T : Tied P arg rule C L m w R) (short : m.world.steps ≤ 20000001) (B : BlocksTied w R m.world) (wanted : AllNoted C m) (k : ℕ)
@@ -706,10 +706,10 @@ module _ (code : Code) (P : PlainProgram) (arg : ℤ) (rule : Rule) (L : Limits)
         → BlocksTied S.sight (S.event ∷ R) (world_after code m.world e)
     blocks_next x S =
         subst (λ j. (x : NextOf C m j e) (S : Stepped code P arg rule L right w R j (after code m e x.stands.state x.stands.made))
-        → BlocksTied S.sight (S.event ∷ R) (world_after code m.world e)) x.stands.number (λ x S. blocks_any T short B wanted e.task e.turns e.wants e.action x S) x S
+        → BlocksTied S.sight (S.event ∷ R) (world_after code m.world e)) x.stands.number (λ x S. blocks_any T short B wanted e.task e.ticks e.wants e.action x S) x S
 
     pub entry_allowed : (x : NextOf C m k e) (n : Moment) (S : Stepped code P arg rule L right w R k n) (F : List Effect)
         → S.event.act ≡ Do (Enter F) → CanEnter run.lets R S.event.path F
     entry_allowed x n S F act =
         subst (λ j. (x : NextOf C m j e) (S : Stepped code P arg rule L right w R j n) → S.event.act ≡ Do (Enter F)
-        → CanEnter run.lets R S.event.path F) x.stands.number (λ x S act. enters_any T short B wanted e.task e.turns e.wants e.action x n S F act) x S act
+        → CanEnter run.lets R S.event.path F) x.stands.number (λ x S act. enters_any T short B wanted e.task e.ticks e.wants e.action x n S F act) x S act

@@ -9,10 +9,10 @@ use Rattle.lang_base.specs.declared.place.Place.{Place}
 use Rattle.lang_base.specs.declared.value.Trap.{Trap}
 use Rattle.lang_meaning.specs.Actions as meaning
 use Rattle.lang_meaning.specs.Actions.{Ending as EndingOver}
-use Rattle.lang_meaning.specs.Asking.{most_turns}
+use Rattle.lang_meaning.specs.Asking.{most_ticks}
 use Rattle.lang_meaning.specs.Outcomes.{trap_of, locals_of}
 use Rattle.code_instrs.specs.RunsToActions.{Halt, RunsToAction, Asks as AsksAt, Finished, Dead, said}
-use Rattle.code_instrs.specs.Machine.{State, Off, Stand, Goes, Turns, Makes, Waits, Ends, Stuck, step}
+use Rattle.code_instrs.specs.Machine.{State, Off, Stand, Goes, Ticks, Makes, Waits, Ends, Stuck, step}
 use Rattle.code_instrs.specs.Plain.{PlainCode, plain_code}
 use Rattle.code_instrs.specs.declared.code.Code.{Code}
 use Rattle.code_scheme.specs.Compiled.{SameAct, SameReply}
@@ -53,31 +53,31 @@ use Rattle.runs_simulation.proofs.tied.Segments.{Seg, seg_later, seg_own}
 use Rattle.runs_simulation.proofs.tied.Sorted.{printed_step, trapped_step}
 use Rattle.runs_theory.specs.Order.{printed, trap_in, trapped}
 
--- where a task stands tells its turns
-abbrev HasTurns : ℕ → Halt ℕ (ℕ × ℕ) → Type 0
-HasTurns turns (AsksAt n m a f) = n ≡ turns
-HasTurns turns (Finished n e) = n ≡ turns
-HasTurns turns Dead = Unit {0}
+-- where a task stands tells its ticks
+abbrev HasTicks : ℕ → Halt ℕ (ℕ × ℕ) → Type 0
+HasTicks ticks (AsksAt n m a f) = n ≡ ticks
+HasTicks ticks (Finished n e) = n ≡ ticks
+HasTicks ticks Dead = Unit {0}
 
-front_turns : (C : PlainCode) (k turns made : ℕ) (z : State ℕ (ℕ × ℕ)) → HasTurns turns (front C k turns made z)
-front_turns C k turns made z = go (turns == most_turns)
+front_ticks : (C : PlainCode) (k ticks made : ℕ) (z : State ℕ (ℕ × ℕ)) → HasTicks ticks (front C k ticks made z)
+front_ticks C k ticks made z = go (ticks == most_ticks)
   where
-    at_stand : (o : Stand ℕ (ℕ × ℕ)) → HasTurns turns (stands turns made o)
+    at_stand : (o : Stand ℕ (ℕ × ℕ)) → HasTicks ticks (stands ticks made o)
     at_stand (Waits b g) = refl
     at_stand (Ends x) = refl
     at_stand (Goes s) = tt
-    at_stand (Turns s) = tt
+    at_stand (Ticks s) = tt
     at_stand (Makes g) = tt
     at_stand Stuck = tt
 
-    go : (b : Bool) → HasTurns turns (if b then AsksAt turns made (Do Rest) (λ x. z) else stands turns made (step (names_of k) C z))
+    go : (b : Bool) → HasTicks ticks (if b then AsksAt ticks made (Do Rest) (λ x. z) else stands ticks made (step (names_of k) C z))
     go true = refl
     go false = at_stand (step (names_of k) C z)
 
 -- both stand at their end
-record EndAt (w : Sight) (turns : ℕ) (g : HaltOf) (c : DeclaredEnding) : Type 0 where
+record EndAt (w : Sight) (ticks : ℕ) (g : HaltOf) (c : DeclaredEnding) : Type 0 where
   ending : Ending
-  said_is : said g ≡ Next turns (End ending)
+  said_is : said g ≡ Next ticks (End ending)
   like : EndingLike w.names (plain_ending c) ending
 
 end_acts : {w : Sight} {a : ActionIn} {b : ActionOf} (e : EndingOver ℕ) → ActionLike w a b → a ≡ End e → (f : Ending) × (b ≡ End f) × EndingLike w.names e f
@@ -86,15 +86,15 @@ end_acts {w} {a} {b} e l is = go (subst (λ z. ActionLike w z b) is l)
     go : {b : ActionOf} → ActionLike w (End e) b → (f : Ending) × (b ≡ End f) × EndingLike w.names e f
     go (end_like {f = f} l) = (f, refl, l)
 
-end_at : {w : Sight} (C : PlainCode) (c : DeclaredEnding) (turns : ℕ) {h : Halt ℕ (ℕ × ℕ)} {g : HaltOf} → HaltLike w h g → Tells C (action.End c) h → HasTurns turns h
-    → EndAt w turns g c
-end_at C c turns (asks_like n m {a = a} {b = b} l on) tells same =
+end_at : {w : Sight} (C : PlainCode) (c : DeclaredEnding) (ticks : ℕ) {h : Halt ℕ (ℕ × ℕ)} {g : HaltOf} → HaltLike w h g → Tells C (action.End c) h → HasTicks ticks h
+    → EndAt w ticks g c
+end_at C c ticks (asks_like n m {a = a} {b = b} l on) tells same =
     let x = end_acts (plain_ending c) l tells in
-    record { ending = x.0; said_is = ap (λ z. Next z b) same ∙ ap (λ (z : ActionOf). Next turns z) x.1; like = x.2 }
-end_at {w} C c turns (finished_like n {e = e} {f = f} l) tells same =
+    record { ending = x.0; said_is = ap (λ z. Next z b) same ∙ ap (λ (z : ActionOf). Next ticks z) x.1; like = x.2 }
+end_at {w} C c ticks (finished_like n {e = e} {f = f} l) tells same =
     let is : e ≡ plain_ending c = cc in
     record { ending = f; said_is = ap (λ z. Next z (End f)) same; like = subst (λ z. EndingLike w.names z f) is l }
-end_at C c turns dead_like tells same = absurd tells
+end_at C c ticks dead_like tells same = absurd tells
 
 -- how a task has ended, as both see it
 trap_is : {ns : Names} (c : DeclaredEnding) (x : Ending) → EndingLike ns (plain_ending c) x → machine_trap c ≡ trap_of x None
@@ -157,44 +157,44 @@ module _ (code : Code) (P : PlainProgram) (arg : ℤ) (rule : Rule) (L : Limits)
     pub trap : machine_trap c ≡ trapped segment
     pub like : EndingLike w.names (plain_ending c) ending
 
-  module _ {m : Moment} {w : Sight} {R : Run} (T : Tied P arg rule C L m w R) (k turns : ℕ) (wants : Option (List Effect)) (c : DeclaredEnding)
-      (x : NextOf C m k (event_of k turns wants (action.End c))) where
+  module _ {m : Moment} {w : Sight} {R : Run} (T : Tied P arg rule C L m w R) (k ticks : ℕ) (wants : Option (List Effect)) (c : DeclaredEnding)
+      (x : NextOf C m k (event_of k ticks wants (action.End c))) where
     abbrev n : Moment
-    n = after code m (event_of k turns wants (action.End c)) x.stands.state x.stands.made
+    n = after code m (event_of k ticks wants (action.End c)) x.stands.state x.stands.made
 
-    abbrev V : LiveTied P arg rule C w R m.world.tree.tasks m.tasks k (found code P arg rule L right T k turns wants (action.End c) x).0
-    V = live code P arg rule L right T k turns wants (action.End c) x
+    abbrev V : LiveTied P arg rule C w R m.world.tree.tasks m.tasks k (found code P arg rule L right T k ticks wants (action.End c) x).0
+    V = live code P arg rule L right T k ticks wants (action.End c) x
 
     abbrev y : Live
-    y = (found code P arg rule L right T k turns wants (action.End c) x).0
+    y = (found code P arg rule L right T k ticks wants (action.End c) x).0
 
     y_is : get m.world.tree.tasks k ≡ Some y
-    y_is = (found code P arg rule L right T k turns wants (action.End c) x).1
+    y_is = (found code P arg rule L right T k ticks wants (action.End c) x).1
 
     abbrev meant : Reply
     meant = (Q P arg rule C).meaning V.path V.task.task (answers (mine R V.path))
 
-    E : EndAt w turns (here code P arg rule L right T k turns wants (action.End c) x).halt c
-    E = end_at C c turns (here code P arg rule L right T k turns wants (action.End c) x).like x.stands.tells (front_turns C k turns x.stands.made x.stands.state)
+    E : EndAt w ticks (here code P arg rule L right T k ticks wants (action.End c) x).halt c
+    E = end_at C c ticks (here code P arg rule L right T k ticks wants (action.End c) x).like x.stands.tells (front_ticks C k ticks x.stands.made x.stands.state)
 
-    acts : (a : Action) × (meant ≡ Next turns a) × SameAct C P a (End E.ending)
-    acts = reply_act C P meant turns (End E.ending)
-        (subst (λ r. SameReply C P meant r) E.said_is (here code P arg rule L right T k turns wants (action.End c) x).same)
+    acts : (a : Action) × (meant ≡ Next ticks a) × SameAct C P a (End E.ending)
+    acts = reply_act C P meant ticks (End E.ending)
+        (subst (λ r. SameReply C P meant r) E.said_is (here code P arg rule L right T k ticks wants (action.End c) x).same)
 
-    asks : meant ≡ Next turns (End E.ending)
-    asks = acts.1 ∙ ap (λ a. Next turns a) (same_end C P acts.0 E.ending acts.2)
+    asks : meant ≡ Next ticks (End E.ending)
+    asks = acts.1 ∙ ap (λ a. Next ticks a) (same_end C P acts.0 E.ending acts.2)
 
     abbrev event : Event
-    event = record { path = V.path; turns = turns; act = End E.ending; ans = Went }
+    event = record { path = V.path; ticks = ticks; act = End E.ending; ans = Went }
 
     follows : Follows (Q P arg rule C) R event
     follows = record { task = V.task.task; begun = V.task.begun; asks = asks; right = refl }
 
     runs : y.state ≡ Runs
-    runs = runs_if P arg rule C w T.faithful V.runs.state y.state V.scope V.task.task V.task.begun turns (End E.ending) asks (λ b i. (cc)) (λ i. (cc))
+    runs = runs_if P arg rule C w T.faithful V.runs.state y.state V.scope V.task.task V.task.begun ticks (End E.ending) asks (λ b i. (cc)) (λ i. (cc))
 
     childless : (j : ℕ) (z : Live) (o : Origin) → j ≢ k → get m.world.tree.tasks j ≡ Some z → z.origin ≡ Some o → o.parent ≢ k
-    childless j z o apart is origin = childless_if code P arg rule L right T k turns wants (action.End c) x runs j z o apart is origin
+    childless j z o apart is origin = childless_if code P arg rule L right T k ticks wants (action.End c) x runs j z o apart is origin
 
     abbrev how : TaskEnd
     how = end_of (Some y) (machine_trap c) (slots_in c)
@@ -210,16 +210,16 @@ module _ (code : Code) (P : PlainProgram) (arg : ℤ) (rule : Rule) (L : Limits)
 
     -- what it has printed
     H : OutRuns R V.path V.runs.state y.out
-    H = out_runs code P arg rule L right T k turns wants (action.End c) x runs
+    H = out_runs code P arg rule L right T k ticks wants (action.End c) x runs
 
     -- after a trap below it it ends with that trap
     falls : (f : Trap × Place) → V.runs.state ≡ Off (meaning.Trapped f.0 f.1) → machine_trap c ≡ Some f
     falls f i = (let s : ◌≡◌ {A = ActionIn} (End (meaning.Trapped f.0 f.1)) (End (plain_ending c)) = ends_so in
         let is : ◌≡◌ {A = EndingOver ℕ} (meaning.Trapped f.0 f.1) (plain_ending c) = cc in trapped_ends c f is)
       where
-        fell : at code P arg rule L right T k turns wants (action.End c) x ≡ Finished 0 (meaning.Trapped f.0 f.1)
-        fell = off_run C k V.runs.made (meaning.Trapped f.0 f.1) (at code P arg rule L right T k turns wants (action.End c) x)
-            (subst (λ s. RunsToAction (names_of k) C V.runs.made s (at code P arg rule L right T k turns wants (action.End c) x)) i (run_here code P arg rule L right T k turns wants (action.End c) x))
+        fell : at code P arg rule L right T k ticks wants (action.End c) x ≡ Finished 0 (meaning.Trapped f.0 f.1)
+        fell = off_run C k V.runs.made (meaning.Trapped f.0 f.1) (at code P arg rule L right T k ticks wants (action.End c) x)
+            (subst (λ s. RunsToAction (names_of k) C V.runs.made s (at code P arg rule L right T k ticks wants (action.End c) x)) i (run_here code P arg rule L right T k ticks wants (action.End c) x))
 
         ends_so : Tells C (action.End c) (Finished 0 (meaning.Trapped f.0 f.1))
         ends_so = subst (λ h. Tells C (action.End c) h) fell x.stands.tells
@@ -475,7 +475,7 @@ module _ (code : Code) (P : PlainProgram) (arg : ℤ) (rule : Rule) (L : Limits)
       there = V.there;
       sight = w;
       tied = record {
-        heap = structural (Q P arg rule C) T.heap V.path turns event refl (λ c. refl) (λ f. refl) refl;
+        heap = structural (Q P arg rule C) T.heap V.path ticks event refl (λ c. refl) (λ f. refl) refl;
         numbers = numbers_kept {P = Q P arg rule C} event follows refl (wider_none T.heap.holds.distinct) refl (ended_begun m.world.tree k (machine_trap c) (slots_in c)) T.numbers;
         costs = costs_next P arg rule C L m n event (record { steps = refl; cells = omega arith; most_steps = refl; most_cells = refl }) T.costs;
         faithful = (follows, T.faithful);
@@ -495,11 +495,11 @@ module _ (code : Code) (P : PlainProgram) (arg : ℤ) (rule : Rule) (L : Limits)
       like = E.like;
     }
 
-    pub ends_next : Matched code P arg rule L right m (event_of k turns wants (action.End c)) w R k n
+    pub ends_next : Matched code P arg rule L right m (event_of k ticks wants (action.End c)) w R k n
     ends_next = record {
       stepped = stepped;
       wider = wider_none T.heap.holds.distinct;
-      turns = refl;
+      ticks = refl;
       action = end_alike (ending_alike c E.like);
       answer = went_alike;
     }

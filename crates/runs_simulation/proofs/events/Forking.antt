@@ -16,7 +16,7 @@ use Rattle.code_instrs.specs.declared.instr.Instr.{Instr}
 use Rattle.code_instrs.specs.declared.instr.Instr.TheVariants as i
 use Rattle.code_instrs.specs.Fit.{site_at}
 use Rattle.code_instrs.specs.RunsToActions.{Halt, ran_on, run_to_action, RunsToAction}
-use Rattle.code_instrs.specs.Machine.{Level, State, On, Rested, Off, Nowhere, Stand, Goes, Turns, Makes, Waits, Ends, Stuck, next, one, two, three, taken, or_trap, cell_read, cell_written, reads, writes, deeper, unless_long, entered, enters, calls, called, held_first, creates, created, array_of, makes_array, below, forked, each_started, waiting, spread, all_copied, joins_fork, joins_spread, joins_site, branch_site, site_of, line_before, joins, ends_branch, in_part, operates, exec, exec_line, enters_block, rested_at, rested_line, step}
+use Rattle.code_instrs.specs.Machine.{Level, State, On, Rested, Off, Nowhere, Stand, Goes, Ticks, Makes, Waits, Ends, Stuck, next, one, two, three, taken, or_trap, cell_read, cell_written, reads, writes, deeper, unless_long, entered, enters, calls, called, held_first, creates, created, array_of, makes_array, below, forked, each_started, waiting, spread, all_copied, joins_fork, joins_spread, joins_site, branch_site, site_of, line_before, joins, ends_branch, in_part, operates, exec, exec_line, enters_block, rested_at, rested_line, step}
 use Rattle.code_instrs.specs.Plain.{Line, Site, fork_site, spread_site, block_site, call_site, new_site, array_site, PlainCode, body_at, class_at, parent_of, constructor_of, fields_of}
 use Rattle.exec_task.specs.Branches.{spread_starts, starts_of, starts_at}
 use Rattle.exec_task.specs.Halts.{stands}
@@ -78,7 +78,7 @@ Keeps C z (Waits (Do o) f) = Unit {0}
 Keeps C z (Waits Join f) = (t : Trap) (p : Place) → f (Fell t p) ≡ Off (Trapped t p)
 Keeps C z (Waits (End e) f) = Unit {0}
 Keeps C z (Goes s) = Unit {0}
-Keeps C z (Turns s) = Unit {0}
+Keeps C z (Ticks s) = Unit {0}
 Keeps C z (Makes f) = Unit {0}
 Keeps C z (Ends e) = Unit {0}
 Keeps C z Stuck = Unit {0}
@@ -372,7 +372,7 @@ abbrev OnlyWaits : StandIn → Type 0
 OnlyWaits (Waits a f) = Unit {0}
 OnlyWaits Stuck = Unit {0}
 OnlyWaits (Goes s) = ⊥
-OnlyWaits (Turns s) = ⊥
+OnlyWaits (Ticks s) = ⊥
 OnlyWaits (Makes f) = ⊥
 OnlyWaits (Ends e) = ⊥
 
@@ -426,7 +426,7 @@ join_run C k made z h at l = go l.fuel l.runs
     stand more (Waits a f) w e = cc
     stand more Stuck w e = cc
     stand more (Goes s) w e = absurd w
-    stand more (Turns s) w e = absurd w
+    stand more (Ticks s) w e = absurd w
     stand more (Makes f) w e = absurd w
     stand more (Ends x) w e = absurd w
 

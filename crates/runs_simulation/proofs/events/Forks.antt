@@ -6,9 +6,9 @@ use Rattle.lang_base.specs.declared.outcome.Limits.{Limits}
 use Rattle.lang_typed.specs.declared.stmt.Forking.{Forking}
 use Rattle.lang_typed.specs.Plain.{PlainProgram}
 use Rattle.lang_meaning.specs.Actions as meaning
-use Rattle.lang_meaning.specs.Asking.{most_turns}
+use Rattle.lang_meaning.specs.Asking.{most_ticks}
 use Rattle.code_instrs.specs.RunsToActions.{Halt, Asks as AsksAt, Finished, Dead}
-use Rattle.code_instrs.specs.Machine.{Start, State, Stand, Goes, Turns, Makes, Waits, Ends, Stuck, step}
+use Rattle.code_instrs.specs.Machine.{Start, State, Stand, Goes, Ticks, Makes, Waits, Ends, Stuck, step}
 use Rattle.code_instrs.specs.Plain.{PlainCode, plain_code}
 use Rattle.code_instrs.specs.declared.code.Code.{Code}
 use Rattle.code_scheme.specs.Compiled.{AllCompiled, SameAct}
@@ -44,19 +44,19 @@ use Rattle.runs_simulation.proofs.tied.Sorted.{printed_step, trapped_step}
 use Rattle.runs_theory.specs.Order.{printed, trapped}
 
 -- where a task stands at another action than a rest, a step leads there
-pub front_step : (C : PlainCode) (k turns made : ℕ) (z : State ℕ (ℕ × ℕ)) (n m : ℕ) (a : ActionIn) (f : meaning.Answer ℕ (ℕ × ℕ) → State ℕ (ℕ × ℕ))
-    → front C k turns made z ≡ AsksAt n m a f → (a ≡ Do Rest → ⊥) → step (names_of k) C z ≡ Waits a f
-front_step C k turns made z n m a f e no_rest = go (turns == most_turns) e
+pub front_step : (C : PlainCode) (k ticks made : ℕ) (z : State ℕ (ℕ × ℕ)) (n m : ℕ) (a : ActionIn) (f : meaning.Answer ℕ (ℕ × ℕ) → State ℕ (ℕ × ℕ))
+    → front C k ticks made z ≡ AsksAt n m a f → (a ≡ Do Rest → ⊥) → step (names_of k) C z ≡ Waits a f
+front_step C k ticks made z n m a f e no_rest = go (ticks == most_ticks) e
   where
-    at_stand : (o : Stand ℕ (ℕ × ℕ)) → stands turns made o ≡ AsksAt n m a f → o ≡ Waits a f
+    at_stand : (o : Stand ℕ (ℕ × ℕ)) → stands ticks made o ≡ AsksAt n m a f → o ≡ Waits a f
     at_stand (Waits b g) i = (let x : b ≡ a = cc in let y : g ≡ f = cc in λ j. Waits (x j) (y j))
     at_stand (Ends x) i = absurd (cc)
     at_stand (Goes s) i = absurd (cc)
-    at_stand (Turns s) i = absurd (cc)
+    at_stand (Ticks s) i = absurd (cc)
     at_stand (Makes g) i = absurd (cc)
     at_stand Stuck i = absurd (cc)
 
-    go : (b : Bool) → (if b then AsksAt turns made (Do Rest) (λ x. z) else stands turns made (step (names_of k) C z)) ≡ AsksAt n m a f → step (names_of k) C z ≡ Waits a f
+    go : (b : Bool) → (if b then AsksAt ticks made (Do Rest) (λ x. z) else stands ticks made (step (names_of k) C z)) ≡ AsksAt n m a f → step (names_of k) C z ≡ Waits a f
     go true i = absurd (no_rest (let x : Do Rest ≡ a = cc in sym x))
     go false i = at_stand (step (names_of k) C z) i
 
@@ -71,28 +71,28 @@ module _ (code : Code) (P : PlainProgram) (arg : ℤ) (rule : Rule) (L : Limits)
   abbrev C : PlainCode
   C = plain_code code
 
-  module _ {m : Moment} {w : Sight} {R : Run} (T : Tied P arg rule C L m w R) (k turns : ℕ) (wants : Option (List Effect)) (forking : Forking) (many : ℕ)
-      (x : NextOf C m k (event_of k turns wants (action.Fork forking many))) where
+  module _ {m : Moment} {w : Sight} {R : Run} (T : Tied P arg rule C L m w R) (k ticks : ℕ) (wants : Option (List Effect)) (forking : Forking) (many : ℕ)
+      (x : NextOf C m k (event_of k ticks wants (action.Fork forking many))) where
     abbrev n : Moment
-    n = after code m (event_of k turns wants (action.Fork forking many)) x.stands.state x.stands.made
+    n = after code m (event_of k ticks wants (action.Fork forking many)) x.stands.state x.stands.made
 
-    reported : (ts : List (Start ℕ (ℕ × ℕ))) × ActsAt (at code P arg rule L right T k turns wants (action.Fork forking many) x) (Fork (record { kind = forking; tasks = ts })) × (length ts ≡ many)
-    reported = fork_acts C forking many (at code P arg rule L right T k turns wants (action.Fork forking many) x) x.stands.tells
+    reported : (ts : List (Start ℕ (ℕ × ℕ))) × ActsAt (at code P arg rule L right T k ticks wants (action.Fork forking many) x) (Fork (record { kind = forking; tasks = ts })) × (length ts ≡ many)
+    reported = fork_acts C forking many (at code P arg rule L right T k ticks wants (action.Fork forking many) x) x.stands.tells
 
     abbrev forks : ActionIn
     forks = Fork (record { kind = forking; tasks = reported.0 })
 
-    A : AskedAt code P arg rule L right T k turns wants (action.Fork forking many) x forks
-    A = asked_at code P arg rule L right T k turns wants (action.Fork forking many) x forks reported.1
+    A : AskedAt code P arg rule L right T k ticks wants (action.Fork forking many) x forks
+    A = asked_at code P arg rule L right T k ticks wants (action.Fork forking many) x forks reported.1
 
-    abbrev V : LiveTied P arg rule C w R m.world.tree.tasks m.tasks k (found code P arg rule L right T k turns wants (action.Fork forking many) x).0
-    V = live code P arg rule L right T k turns wants (action.Fork forking many) x
+    abbrev V : LiveTied P arg rule C w R m.world.tree.tasks m.tasks k (found code P arg rule L right T k ticks wants (action.Fork forking many) x).0
+    V = live code P arg rule L right T k ticks wants (action.Fork forking many) x
 
     abbrev y : Live
-    y = (found code P arg rule L right T k turns wants (action.Fork forking many) x).0
+    y = (found code P arg rule L right T k ticks wants (action.Fork forking many) x).0
 
     y_is : get m.world.tree.tasks k ≡ Some y
-    y_is = (found code P arg rule L right T k turns wants (action.Fork forking many) x).1
+    y_is = (found code P arg rule L right T k ticks wants (action.Fork forking many) x).1
 
     like : (cs : List (Start Name LocalRegion)) × (A.both.act ≡ Fork (record { kind = forking; tasks = cs })) × StartsLike w reported.0 cs
     like = forking_like A.both.like
@@ -100,20 +100,20 @@ module _ (code : Code) (P : PlainProgram) (arg : ℤ) (rule : Rule) (L : Limits)
     source : (ts : Branches) × (A.act ≡ Fork ts) × AllCompiled C P like.0 ts.tasks
     source = same_fork C P A.act forking like.0 (subst (λ b. SameAct C P A.act b) like.1 A.same)
 
-    asks : (Q P arg rule C).meaning V.path V.task.task (answers (mine R V.path)) ≡ Next turns (Fork source.0)
-    asks = A.asks ∙ ap (λ c. Next turns c) source.1
+    asks : (Q P arg rule C).meaning V.path V.task.task (answers (mine R V.path)) ≡ Next ticks (Fork source.0)
+    asks = A.asks ∙ ap (λ c. Next ticks c) source.1
 
     abbrev event : Event
-    event = record { path = V.path; turns = turns; act = Fork source.0; ans = Went }
+    event = record { path = V.path; ticks = ticks; act = Fork source.0; ans = Went }
 
     follows : Follows (Q P arg rule C) R event
     follows = record { task = V.task.task; begun = V.task.begun; asks = asks; right = refl }
 
     runs : y.state ≡ Runs
-    runs = runs_if P arg rule C w T.faithful V.runs.state y.state V.scope V.task.task V.task.begun turns (Fork source.0) asks (λ b i. (cc)) (λ i. (cc))
+    runs = runs_if P arg rule C w T.faithful V.runs.state y.state V.scope V.task.task V.task.begun ticks (Fork source.0) asks (λ b i. (cc)) (λ i. (cc))
 
     steps_there : step (names_of k) C x.stands.state ≡ Waits forks A.both.then_in
-    steps_there = front_step C k turns x.stands.made x.stands.state A.both.turns A.both.made forks A.both.then_in A.both.is_in (λ i. (cc))
+    steps_there = front_step C k ticks x.stands.made x.stands.state A.both.ticks A.both.made forks A.both.then_in A.both.is_in (λ i. (cc))
 
     keeps : AtJoin C (A.both.then_in (plain_answer answer.Went)) × (starts_at C (A.both.then_in (plain_answer answer.Went)) ≡ reported.0)
     keeps = kept_fork (subst (λ o. Kept C x.stands.state o) steps_there (step_keeps C FJ first_numbers next_numbers k x.stands.state))
@@ -144,10 +144,10 @@ module _ (code : Code) (P : PlainProgram) (arg : ℤ) (rule : Rule) (L : Limits)
     }
 
     H : OutRuns R V.path V.runs.state y.out
-    H = out_runs code P arg rule L right T k turns wants (action.Fork forking many) x runs
+    H = out_runs code P arg rule L right T k ticks wants (action.Fork forking many) x runs
 
     fine : trapped H.segment ≡ None
-    fine = fine_none H.segment V.runs.state H.fine (λ f i. not_off code P arg rule L right T k turns wants (action.Fork forking many) x forks A (meaning.Trapped f.0 f.1) i)
+    fine = fine_none H.segment V.runs.state H.fine (λ f i. not_off code P arg rule L right T k ticks wants (action.Fork forking many) x forks A (meaning.Trapped f.0 f.1) i)
 
     out_now : OutForks (event ∷ R) V.path y.out (no_branch_yet many)
     out_now = record {
@@ -171,23 +171,23 @@ module _ (code : Code) (P : PlainProgram) (arg : ℤ) (rule : Rule) (L : Limits)
       there = V.there;
       sight = w;
       tied = plain_next P arg rule C L m n T k y (forked_task many y) y_is (wider_none T.heap.holds.distinct) refl event V.there follows refl
-          (structural (Q P arg rule C) T.heap V.path turns event refl (λ c. refl) (λ f. refl) refl) refl
+          (structural (Q P arg rule C) T.heap V.path ticks event refl (λ c. refl) (λ f. refl) refl) refl
           (λ j apart. changed_other m.world.tree.tasks k (forked_task many) j y_is apart) (changed_own m.world.tree.tasks k (forked_task many) y_is) refl
-          (λ j apart. beside m.tasks k _ j apart) (goes_to code P arg rule L right T k turns wants (action.Fork forking many) x forks A answer.Went)
-          (placed m.tasks k _ k refl ∙ goes_so code P arg rule L right T k turns wants (action.Fork forking many) x forks A answer.Went)
-          (task_next code P arg rule L right T k turns wants (action.Fork forking many) x forks A answer.Went event refl (wider_none T.heap.holds.distinct) went_like)
-          fork out_now (childless_if code P arg rule L right T k turns wants (action.Fork forking many) x runs)
+          (λ j apart. beside m.tasks k _ j apart) (goes_to code P arg rule L right T k ticks wants (action.Fork forking many) x forks A answer.Went)
+          (placed m.tasks k _ k refl ∙ goes_so code P arg rule L right T k ticks wants (action.Fork forking many) x forks A answer.Went)
+          (task_next code P arg rule L right T k ticks wants (action.Fork forking many) x forks A answer.Went event refl (wider_none T.heap.holds.distinct) went_like)
+          fork out_now (childless_if code P arg rule L right T k ticks wants (action.Fork forking many) x runs)
           (record { steps = refl; cells = omega arith; most_steps = refl; most_cells = refl });
     }
 
     many_are : length source.0.tasks ≡ many
     many_are = sym (AllLength C P like.0 source.0.tasks source.2) ∙ sym (each_length like.2) ∙ reported.2
 
-    pub forks_next : Matched code P arg rule L right m (event_of k turns wants (action.Fork forking many)) w R k n
+    pub forks_next : Matched code P arg rule L right m (event_of k ticks wants (action.Fork forking many)) w R k n
     forks_next = record {
       stepped = stepped;
       wider = wider_none T.heap.holds.distinct;
-      turns = refl;
+      ticks = refl;
       action = fork_alike forking many source.0 (fork_kind C P source.0 forking like.0 (subst (λ a. SameAct C P a (Fork (record { kind = forking; tasks = like.0 }))) source.1
           (subst (λ b. SameAct C P A.act b) like.1 A.same))) many_are;
       answer = went_alike;

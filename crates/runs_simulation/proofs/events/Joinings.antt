@@ -130,23 +130,23 @@ module _ (code : Code) (P : PlainProgram) (arg : ℤ) (rule : Rule) (L : Limits)
   abbrev C : PlainCode
   C = plain_code code
 
-  module _ {m : Moment} {w : Sight} {R : Run} (T : Tied P arg rule C L m w R) (k turns : ℕ) (wants : Option (List Effect))
-      (x : NextOf C m k (event_of k turns wants action.Join)) (can : CanBeMade C m.world (event_of k turns wants action.Join) x.stands.state) where
+  module _ {m : Moment} {w : Sight} {R : Run} (T : Tied P arg rule C L m w R) (k ticks : ℕ) (wants : Option (List Effect))
+      (x : NextOf C m k (event_of k ticks wants action.Join)) (can : CanBeMade C m.world (event_of k ticks wants action.Join) x.stands.state) where
     abbrev n : Moment
-    n = after code m (event_of k turns wants action.Join) x.stands.state x.stands.made
+    n = after code m (event_of k ticks wants action.Join) x.stands.state x.stands.made
 
-    A : AskedAt code P arg rule L right T k turns wants action.Join x Join
-    A = asked_at code P arg rule L right T k turns wants action.Join x Join
-        (acts_at C action.Join Join (λ e i. (cc)) (λ b e. e) (at code P arg rule L right T k turns wants action.Join x) x.stands.tells)
+    A : AskedAt code P arg rule L right T k ticks wants action.Join x Join
+    A = asked_at code P arg rule L right T k ticks wants action.Join x Join
+        (acts_at C action.Join Join (λ e i. (cc)) (λ b e. e) (at code P arg rule L right T k ticks wants action.Join x) x.stands.tells)
 
-    abbrev V : LiveTied P arg rule C w R m.world.tree.tasks m.tasks k (found code P arg rule L right T k turns wants action.Join x).0
-    V = live code P arg rule L right T k turns wants action.Join x
+    abbrev V : LiveTied P arg rule C w R m.world.tree.tasks m.tasks k (found code P arg rule L right T k ticks wants action.Join x).0
+    V = live code P arg rule L right T k ticks wants action.Join x
 
     abbrev y : Live
-    y = (found code P arg rule L right T k turns wants action.Join x).0
+    y = (found code P arg rule L right T k ticks wants action.Join x).0
 
     y_is : get m.world.tree.tasks k ≡ Some y
-    y_is = (found code P arg rule L right T k turns wants action.Join x).1
+    y_is = (found code P arg rule L right T k ticks wants action.Join x).1
 
     close : CanClose y
     close = can_close m.world.tree.tasks k y y_is can.fits
@@ -160,14 +160,14 @@ module _ (code : Code) (P : PlainProgram) (arg : ℤ) (rule : Rule) (L : Limits)
     act_is : A.act ≡ Join
     act_is = same_join C P A.act (subst (λ b. SameAct C P A.act b) (joining_like A.both.like) A.same)
 
-    asks : (Q P arg rule C).meaning V.path V.task.task (answers (mine R V.path)) ≡ Next turns Join
-    asks = A.asks ∙ ap (λ c. Next turns c) act_is
+    asks : (Q P arg rule C).meaning V.path V.task.task (answers (mine R V.path)) ≡ Next ticks Join
+    asks = A.asks ∙ ap (λ c. Next ticks c) act_is
 
     abbrev answer : Answer
     answer = joined_or (first_trap Z.ends) (all_locals Z.ends)
 
     abbrev event : Event
-    event = record { path = V.path; turns = turns; act = Join; ans = answer }
+    event = record { path = V.path; ticks = ticks; act = Join; ans = answer }
 
     full : close.scope.count ≡ length close.scope.ends
     full = (let a = F.within in let b = not_less (length close.scope.ends) close.scope.count close.begun in omega (arith, a, b))
@@ -214,7 +214,7 @@ module _ (code : Code) (P : PlainProgram) (arg : ℤ) (rule : Rule) (L : Limits)
     O = out_joined R V.path y.out close.scope (subst (λ s. OutLive R V.path V.runs.state y.out s) close.state V.out) close.ended
 
     steps_there : step (names_of k) C x.stands.state ≡ Waits Join A.both.then_in
-    steps_there = front_step C k turns x.stands.made x.stands.state A.both.turns A.both.made Join A.both.then_in A.both.is_in (λ i. (cc))
+    steps_there = front_step C k ticks x.stands.made x.stands.state A.both.ticks A.both.made Join A.both.then_in A.both.is_in (λ i. (cc))
 
     falls : (t : Trap) (p : Place) → A.both.then_in (Fell t p) ≡ Off (meaning.Trapped t p)
     falls t p = kept_join (subst (λ o. Kept C x.stands.state o) steps_there (step_keeps C FJ first_numbers next_numbers k x.stands.state))
@@ -247,20 +247,20 @@ module _ (code : Code) (P : PlainProgram) (arg : ℤ) (rule : Rule) (L : Limits)
       there = V.there;
       sight = w;
       tied = plain_next P arg rule C L m n T k y (joined_task y) y_is (wider_none T.heap.holds.distinct) refl event V.there follows refl
-          (structural (Q P arg rule C) T.heap V.path turns event refl (λ c. refl) (λ f. refl) refl) refl
+          (structural (Q P arg rule C) T.heap V.path ticks event refl (λ c. refl) (λ f. refl) refl) refl
           (λ j apart. changed_other m.world.tree.tasks k joined_task j y_is apart) (changed_own m.world.tree.tasks k joined_task y_is) refl
           (λ j apart. beside m.tasks k _ j apart)
-          (goes_to code P arg rule L right T k turns wants action.Join x Join A (join_answer (ends_in (task_at m.world.tree k))))
-          (placed m.tasks k _ k refl ∙ goes_so code P arg rule L right T k turns wants action.Join x Join A (join_answer (ends_in (task_at m.world.tree k))))
-          (task_next code P arg rule L right T k turns wants action.Join x Join A (join_answer (ends_in (task_at m.world.tree k))) event refl (wider_none T.heap.holds.distinct) like)
+          (goes_to code P arg rule L right T k ticks wants action.Join x Join A (join_answer (ends_in (task_at m.world.tree k))))
+          (placed m.tasks k _ k refl ∙ goes_so code P arg rule L right T k ticks wants action.Join x Join A (join_answer (ends_in (task_at m.world.tree k))))
+          (task_next code P arg rule L right T k ticks wants action.Join x Join A (join_answer (ends_in (task_at m.world.tree k))) event refl (wider_none T.heap.holds.distinct) like)
           tt out_now childless (record { steps = refl; cells = omega arith; most_steps = refl; most_cells = refl });
     }
 
-    pub joins_next : Matched code P arg rule L right m (event_of k turns wants action.Join) w R k n
+    pub joins_next : Matched code P arg rule L right m (event_of k ticks wants action.Join) w R k n
     joins_next = record {
       stepped = stepped;
       wider = wider_none T.heap.holds.distinct;
-      turns = refl;
+      ticks = refl;
       action = join_alike;
       answer = answer_alike (join_answer (ends_in (task_at m.world.tree k))) like;
     }

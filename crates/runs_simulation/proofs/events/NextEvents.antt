@@ -1,9 +1,9 @@
 -- A ready task of a machine has a next event.
 use Rattle.std.proofs.Common.{◌≡◌, ◌∙◌, ℕ, suc, zero, ◌==◌, if◌then◌else◌, Bool, true, false, map, Some, None, option_map, refl, ap, sym, subst}
 use Rattle.lang_meaning.specs.Actions.{Do, End, Rest}
-use Rattle.lang_meaning.specs.Asking.{most_turns}
+use Rattle.lang_meaning.specs.Asking.{most_ticks}
 use Rattle.code_instrs.specs.RunsToActions.{Asks, Dead, Halt, RunsToAction, run_to_action, ran_on}
-use Rattle.code_instrs.specs.Machine.{Ends, Makes, Stand, State, Stuck, Turns, Waits, step}
+use Rattle.code_instrs.specs.Machine.{Ends, Makes, Stand, State, Stuck, Ticks, Waits, step}
 use Rattle.code_instrs.specs.Machine.{Goes as GoesTo}
 use Rattle.code_instrs.specs.Plain.{PlainCode}
 use Rattle.exec_task.specs.Halts.{Tells, stands}
@@ -21,46 +21,46 @@ use Rattle.runs_simulation.proofs.events.Sayings.{WaitsRight, said_by, step_righ
 
 -- where a task's way ends, with the action that says so
 record Front (C : PlainCode) (k : ℕ) (h : Halt ℕ (ℕ × ℕ)) : Type 0 where
-  turns : ℕ
+  ticks : ℕ
   made : ℕ
   state : State ℕ (ℕ × ℕ)
-  is : front C k turns made state ≡ h
+  is : front C k ticks made state ≡ h
   action : Action
   tells : Tells C action h
 
 abbrev Further : PlainCode → ℕ → ℕ → Type 0
 Further C k fuel =
-    (turns made : ℕ) (z : State ℕ (ℕ × ℕ)) (h : Halt ℕ (ℕ × ℕ)) → (turns == most_turns) ≡ false → run_to_action (names_of k) C fuel turns made z ≡ Some h → (h ≡ Dead → ⊥) → Front C k h
+    (ticks made : ℕ) (z : State ℕ (ℕ × ℕ)) (h : Halt ℕ (ℕ × ℕ)) → (ticks == most_ticks) ≡ false → run_to_action (names_of k) C fuel ticks made z ≡ Some h → (h ≡ Dead → ⊥) → Front C k h
 
 same_halt : {A : Type 0} {x y : A} → Some x ≡ Some y → x ≡ y
 same_halt e = cc
 
 module _ (C : PlainCode) (k fuel : ℕ) (more : Further C k fuel) where
-  -- after a turn: the task rests, or goes on
-  turned : (turns made : ℕ) (z : State ℕ (ℕ × ℕ)) (h : Halt ℕ (ℕ × ℕ)) (b : Bool) → (turns == most_turns) ≡ b
-      → (if b then Some (Asks turns made (Do Rest) (λ x. z)) else run_to_action (names_of k) C fuel turns made z) ≡ Some h → (h ≡ Dead → ⊥) → Front C k h
-  turned turns count z h true last runs alive = record {
-    turns = turns;
+  -- after a tick: the task rests, or goes on
+  ticked : (ticks made : ℕ) (z : State ℕ (ℕ × ℕ)) (h : Halt ℕ (ℕ × ℕ)) (b : Bool) → (ticks == most_ticks) ≡ b
+      → (if b then Some (Asks ticks made (Do Rest) (λ x. z)) else run_to_action (names_of k) C fuel ticks made z) ≡ Some h → (h ≡ Dead → ⊥) → Front C k h
+  ticked ticks count z h true last runs alive = record {
+    ticks = ticks;
     made = count;
     state = z;
-    is = ap (λ b. if b then Asks turns count (Do Rest) (λ x. z) else stands turns count (step (names_of k) C z)) last ∙ same_halt runs;
+    is = ap (λ b. if b then Asks ticks count (Do Rest) (λ x. z) else stands ticks count (step (names_of k) C z)) last ∙ same_halt runs;
     action = action.Do own.Rest;
     tells = subst (Tells C (action.Do own.Rest)) (same_halt runs) refl;
   }
-  turned turns count z h false last runs alive = more turns count z h last runs alive
+  ticked ticks count z h false last runs alive = more ticks count z h last runs alive
 
-  module _ (turns made : ℕ) (z : State ℕ (ℕ × ℕ)) (h : Halt ℕ (ℕ × ℕ)) (less : (turns == most_turns) ≡ false) (alive : h ≡ Dead → ⊥) where
-    here : (s : Stand ℕ (ℕ × ℕ)) → step (names_of k) C z ≡ s → front C k turns made z ≡ stands turns made s
+  module _ (ticks made : ℕ) (z : State ℕ (ℕ × ℕ)) (h : Halt ℕ (ℕ × ℕ)) (less : (ticks == most_ticks) ≡ false) (alive : h ≡ Dead → ⊥) where
+    here : (s : Stand ℕ (ℕ × ℕ)) → step (names_of k) C z ≡ s → front C k ticks made z ≡ stands ticks made s
     here s e =
-        ap (λ b. if b then Asks turns made (Do Rest) (λ x. z) else stands turns made (step (names_of k) C z)) less ∙ ap (stands turns made) e
+        ap (λ b. if b then Asks ticks made (Do Rest) (λ x. z) else stands ticks made (step (names_of k) C z)) less ∙ ap (stands ticks made) e
 
-    by_stand : (s : Stand ℕ (ℕ × ℕ)) → step (names_of k) C z ≡ s → ran_on (names_of k) (λ n m t. run_to_action (names_of k) C fuel n m t) turns made s ≡ Some h → Front C k h
-    by_stand (GoesTo t) e runs = more turns made t h less runs alive
-    by_stand (Turns t) e runs = turned (suc turns) made t h (suc turns == most_turns) refl runs alive
-    by_stand (Makes made_so) e runs = turned (suc turns) (suc made) (made_so ((names_of k).made made)) h (suc turns == most_turns) refl runs alive
+    by_stand : (s : Stand ℕ (ℕ × ℕ)) → step (names_of k) C z ≡ s → ran_on (names_of k) (λ n m t. run_to_action (names_of k) C fuel n m t) ticks made s ≡ Some h → Front C k h
+    by_stand (GoesTo t) e runs = more ticks made t h less runs alive
+    by_stand (Ticks t) e runs = ticked (suc ticks) made t h (suc ticks == most_ticks) refl runs alive
+    by_stand (Makes made_so) e runs = ticked (suc ticks) (suc made) (made_so ((names_of k).made made)) h (suc ticks == most_ticks) refl runs alive
     by_stand (Waits a kont) e runs =
         let said = said_by C a (subst (WaitsRight C) e (step_right (names_of k) C z)) in record {
-          turns = turns;
+          ticks = ticks;
           made = made;
           state = z;
           is = here (Waits a kont) e ∙ same_halt runs;
@@ -69,7 +69,7 @@ module _ (C : PlainCode) (k fuel : ℕ) (more : Further C k fuel) where
         }
     by_stand (Ends x) e runs =
         let said = said_by C (End x) tt in record {
-          turns = turns;
+          ticks = ticks;
           made = made;
           state = z;
           is = here (Ends x) e ∙ same_halt runs;
@@ -79,21 +79,21 @@ module _ (C : PlainCode) (k fuel : ℕ) (more : Further C k fuel) where
     by_stand Stuck e runs = absurd (alive (sym (same_halt runs)))
 
 front_there : (C : PlainCode) (k fuel : ℕ) → Further C k fuel
-front_there C k zero turns count z h less runs alive = absurd (let none : None ≡ Some h = runs in cc)
-front_there C k (suc fuel) turns count z h less runs alive = by_stand C k fuel (front_there C k fuel) turns count z h less alive (step (names_of k) C z) refl runs
+front_there C k zero ticks count z h less runs alive = absurd (let none : None ≡ Some h = runs in cc)
+front_there C k (suc fuel) ticks count z h less runs alive = by_stand C k fuel (front_there C k fuel) ticks count z h less alive (step (names_of k) C z) refl runs
 
-wants_rightly : (C : PlainCode) (z : State ℕ (ℕ × ℕ)) (turns : ℕ) (a : Action) → WantsRightly C z turns a (option_map (map noted) (wanted_after C turns z))
-wants_rightly C z turns (action.Do own.Rest) = refl
-wants_rightly C z turns a = tt
+wants_rightly : (C : PlainCode) (z : State ℕ (ℕ × ℕ)) (ticks : ℕ) (a : Action) → WantsRightly C z ticks a (option_map (map noted) (wanted_after C ticks z))
+wants_rightly C z ticks (action.Do own.Rest) = refl
+wants_rightly C z ticks a = tt
 
-first_turn : (0 == most_turns) ≡ false
-unfolding most_turns
-first_turn = refl
+first_tick : (0 == most_ticks) ≡ false
+unfolding most_ticks
+first_tick = refl
 
 -- a ready task has a next event
 pub next_event : (C : PlainCode) (m : Moment) (k : ℕ) → GoesOn C m → m.outcome ≡ None → IsReady m.world k → (e : Event) × NextOf C m k e
 next_event C m k goes unfinished ready = (
-  record { task = k; turns = F.turns; action = F.action; wants = option_map (map noted) (wanted_after C F.turns F.state) },
+  record { task = k; ticks = F.ticks; action = F.action; wants = option_map (map noted) (wanted_after C F.ticks F.state) },
   record {
     unfinished = unfinished;
     ready = ready;
@@ -105,7 +105,7 @@ next_event C m k goes unfinished ready = (
       run_to_action = subst (λ h. RunsToAction (names_of k) C live.0.made live.0.state h) (sym F.is) G.run_to_action;
       tells = subst (Tells C F.action) (sym F.is) F.tells;
       number = refl;
-      wants = wants_rightly C F.state F.turns F.action;
+      wants = wants_rightly C F.state F.ticks F.action;
     };
   },
 )
@@ -117,4 +117,4 @@ next_event C m k goes unfinished ready = (
     G = goes.all_go k live.0 live.1
 
     F : Front C k G.halt
-    F = front_there C k G.run_to_action.fuel 0 live.0.made live.0.state G.halt first_turn G.run_to_action.runs G.alive
+    F = front_there C k G.run_to_action.fuel 0 live.0.made live.0.state G.halt first_tick G.run_to_action.runs G.alive

@@ -83,32 +83,32 @@ module _ (code : Code) (P : PlainProgram) (arg : ℤ) (rule : Rule) (L : Limits)
   few_fields : (c : ℕ) → length (first_fields code c) ≡ length (map (held_first {N = ℕ}) (fields_of (class_at C c)))
   few_fields c = sym (length-map (first_fields code c) plain_value) ∙ ap length (fields c)
 
-  module _ {m : Moment} {w : Sight} {R : Run} (T : Tied P arg rule C L m w R) (k turns : ℕ) (wants : Option (List Effect)) where
+  module _ {m : Moment} {w : Sight} {R : Run} (T : Tied P arg rule C L m w R) (k ticks : ℕ) (wants : Option (List Effect)) where
     own_does : (o : DeclaredOwn) (p : Path) (q : Own) → OwnLike w (plain_own C o) q
-        → OwnTied (Q P arg rule C) w R p turns q (own_answer m.world o) (own_acted code m.world k wants o).heap.objects
-    own_does own.Rest p q rest_like = went (Q P arg rule C) T.heap p turns elided.rest_like refl refl
-    own_does (own.Read i j) p q (read_like i' y j' e) = reads (Q P arg rule C) T.heap p turns i y j m.world.heap refl e
-    own_does (own.Write i j v) p q (write_like i' y j' e l) = writes (Q P arg rule C) T.heap p turns i y j v m.world.heap refl e l
-    own_does (own.Look i) p q (look_like i' y e) = looks (Q P arg rule C) T.heap p turns i y m.world.heap refl e
+        → OwnTied (Q P arg rule C) w R p ticks q (own_answer m.world o) (own_acted code m.world k wants o).heap.objects
+    own_does own.Rest p q rest_like = went (Q P arg rule C) T.heap p ticks elided.rest_like refl refl
+    own_does (own.Read i j) p q (read_like i' y j' e) = reads (Q P arg rule C) T.heap p ticks i y j m.world.heap refl e
+    own_does (own.Write i j v) p q (write_like i' y j' e l) = writes (Q P arg rule C) T.heap p ticks i y j v m.world.heap refl e l
+    own_does (own.Look i) p q (look_like i' y e) = looks (Q P arg rule C) T.heap p ticks i y m.world.heap refl e
     own_does (own.NewObject c rs constructor) p q (new_like k' (an_object c' {qs = qs} {us = us} r v)) =
-        makes (Q P arg rule C) T.heap p turns (instance c rs (first_fields code c)) (An_object c (counted qs) (map held_first (fields_of (class_at C c)))) (An_object c qs us)
+        makes (Q P arg rule C) T.heap p ticks (instance c rs (first_fields code c)) (An_object c (counted qs) (map held_first (fields_of (class_at C c)))) (An_object c qs us)
         constructor (elided.an_object_like c (record { lengths = counted_lengths qs }) v) (sym (fields c)) (refl, r)
     own_does (own.NewArray region len first) p q (new_like k' (an_array {q = r} len' {u = u} l v)) =
-        makes (Q P arg rule C) T.heap p turns (array region (replicate len first)) (An_array [] len (plain_value first)) (An_array r len u) false
+        makes (Q P arg rule C) T.heap p ticks (array region (replicate len first)) (An_array [] len (plain_value first)) (An_array r len u) false
         (elided.an_array_like len v) (sym (map_repeated len first)) (length_replicate len first)
-    own_does (own.Print bytes) p q (print_like b) = went (Q P arg rule C) T.heap p turns (elided.print_like bytes) refl refl
-    own_does (own.Enter effects) p q (enter_like {F = F} l) = went (Q P arg rule C) T.heap p turns (elided.enter_like [] F) refl refl
-    own_does own.Exit p q exit_like = went (Q P arg rule C) T.heap p turns elided.exit_like refl refl
+    own_does (own.Print bytes) p q (print_like b) = went (Q P arg rule C) T.heap p ticks (elided.print_like bytes) refl refl
+    own_does (own.Enter effects) p q (enter_like {F = F} l) = went (Q P arg rule C) T.heap p ticks (elided.enter_like [] F) refl refl
+    own_does own.Exit p q exit_like = went (Q P arg rule C) T.heap p ticks elided.exit_like refl refl
 
     abbrev next_world : DeclaredOwn → World
-    next_world o = world_after code m.world (event_of k turns wants (action.Do o))
+    next_world o = world_after code m.world (event_of k ticks wants (action.Do o))
 
     -- it keeps the heap's limit, and uses as many cells as it costs
-    costs_of : (n : World) (q : Own) → n.steps ≡ m.world.steps + (turns + own_steps q) → n.heap.used ≡ m.world.heap.used + own_cells q
-        → n.most_steps ≡ m.world.most_steps → n.heap.limit ≡ m.world.heap.limit → OwnCosts code P arg rule L right m.world n turns q
+    costs_of : (n : World) (q : Own) → n.steps ≡ m.world.steps + (ticks + own_steps q) → n.heap.used ≡ m.world.heap.used + own_cells q
+        → n.most_steps ≡ m.world.most_steps → n.heap.limit ≡ m.world.heap.limit → OwnCosts code P arg rule L right m.world n ticks q
     costs_of n q steps used most limit = record { steps = steps; cells = used; most_steps = most; most_cells = limit }
 
-    own_costs : (o : DeclaredOwn) (q : Own) → OwnLike w (plain_own C o) q → OwnCosts code P arg rule L right m.world (next_world o) turns q
+    own_costs : (o : DeclaredOwn) (q : Own) → OwnLike w (plain_own C o) q → OwnCosts code P arg rule L right m.world (next_world o) ticks q
     own_costs own.Rest q rest_like = costs_of (next_world own.Rest) _ refl (omega arith) refl refl
     own_costs (own.Read i j) q (read_like i' y j' e) = costs_of (next_world (own.Read i j)) _ refl (omega arith) refl refl
     own_costs (own.Write i j v) q (write_like i' y j' e l) =
@@ -128,14 +128,14 @@ module _ (code : Code) (P : PlainProgram) (arg : ℤ) (rule : Rule) (L : Limits)
     own_begins (own.Print bytes) = refl
     own_begins o = refl
 
-    own_live : (o : DeclaredOwn) → NextOf C m k (event_of k turns wants (action.Do o))
+    own_live : (o : DeclaredOwn) → NextOf C m k (event_of k ticks wants (action.Do o))
         → SameLive code P arg rule L right m.world.tree.tasks (own_acted code m.world k wants o).tree.tasks k (bytes_of (plain_own C o))
     own_live (own.Print bytes) x = record {
-      others = λ j apart. changed_other m.world.tree.tasks k (printed_task bytes) j (found code P arg rule L right T k turns wants (action.Do (own.Print bytes)) x).1 apart;
+      others = λ j apart. changed_other m.world.tree.tasks k (printed_task bytes) j (found code P arg rule L right T k ticks wants (action.Do (own.Print bytes)) x).1 apart;
       itself = λ y e. (printed_task bytes y, changed_own m.world.tree.tasks k (printed_task bytes) e, refl, refl, refl);
     }
     own_live o x = same_live code P arg rule L right m.world.tree.tasks k
 
-    pub does_next : (o : DeclaredOwn) (x : NextOf C m k (event_of k turns wants (action.Do o)))
-        → Matched code P arg rule L right m (event_of k turns wants (action.Do o)) w R k (after code m (event_of k turns wants (action.Do o)) x.stands.state x.stands.made)
-    does_next o x = own_next code P arg rule L right T k turns wants o x (own_does o) (own_costs o) (own_begins o) (own_live o x)
+    pub does_next : (o : DeclaredOwn) (x : NextOf C m k (event_of k ticks wants (action.Do o)))
+        → Matched code P arg rule L right m (event_of k ticks wants (action.Do o)) w R k (after code m (event_of k ticks wants (action.Do o)) x.stands.state x.stands.made)
+    does_next o x = own_next code P arg rule L right T k ticks wants o x (own_does o) (own_costs o) (own_begins o) (own_live o x)

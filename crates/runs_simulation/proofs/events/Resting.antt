@@ -7,14 +7,14 @@ use Rattle.lang_base.specs.declared.value.FirstValue.{FirstValue}
 use Rattle.lang_base.specs.declared.op.BinaryOp.{BinaryOp}
 use Rattle.lang_meaning.specs.Values.{Value, Int, Object, Region, An_object, An_array}
 use Rattle.lang_meaning.specs.Actions.{Action, Answer, Effect, Read, Write, Look, New, Print, Enter, Exit, Do, Fork, Begin, Join, End, Rest}
-use Rattle.lang_meaning.specs.Asking.{most_turns}
+use Rattle.lang_meaning.specs.Asking.{most_ticks}
 use Rattle.lang_meaning.specs.Counts.{number, reference, value_read, is_out, length_seen, name_made, class_seen, class_entered, operated, slot_value, how_many, part_place, Brought, Back, Trap_of_branch, brought}
 use Rattle.lang_meaning.specs.Expressions.{none}
 use Rattle.lang_meaning.specs.Regions.{around, concrete, concrete_effect, is_long, some_long}
 use Rattle.code_instrs.specs.declared.instr.Instr.{Instr}
 use Rattle.code_instrs.specs.declared.instr.Instr.TheVariants as i
-use Rattle.code_instrs.specs.RunsToActions.{Halt, Asks, Finished, Dead, ran_on_turn, ran_on, run_to_action, RunsToAction}
-use Rattle.code_instrs.specs.Machine.{Level, Start, State, On, Rested, Off, Nowhere, Stand, Goes, Turns, Makes, Waits, Ends, Stuck, step, next, one, two, three, taken, or_trap, cell_read, cell_written, reads, writes, deeper, unless_long, entered, calls_method, enters, calls, called, creates, created, array_of, makes_array, held_first, returned, left_with, forked, spread, joined, joins_fork, joins_spread, joins_site, joins, all_copied, site_of, line_before, ends_branch, in_part, operates, exec, exec_line, enters_block, rested_at, rested_line}
+use Rattle.code_instrs.specs.RunsToActions.{Halt, Asks, Finished, Dead, ran_on_tick, ran_on, run_to_action, RunsToAction}
+use Rattle.code_instrs.specs.Machine.{Level, Start, State, On, Rested, Off, Nowhere, Stand, Goes, Ticks, Makes, Waits, Ends, Stuck, step, next, one, two, three, taken, or_trap, cell_read, cell_written, reads, writes, deeper, unless_long, entered, calls_method, enters, calls, called, creates, created, array_of, makes_array, held_first, returned, left_with, forked, spread, joined, joins_fork, joins_spread, joins_site, joins, all_copied, site_of, line_before, ends_branch, in_part, operates, exec, exec_line, enters_block, rested_at, rested_line}
 use Rattle.code_instrs.specs.Plain.{Line, Site, fork_site, spread_site, block_site, call_site, new_site, array_site, PlainCode, body_at, class_at, parent_of, method_at, Method, constructor_of, fields_of}
 use Rattle.exec_task.specs.Names.{names_of}
 use Rattle.exec_machine.specs.Wants.{entry_of, entry_by, effects_of, accesses_of, wants_at}
@@ -62,7 +62,7 @@ Following C z (End e) f = Unit {0}
 
 abbrev Leads : PlainCode → StateIn → StandIn → Type 0
 Leads C z (Goes s) = entry_next C s ≡ None
-Leads C z (Turns s) = entry_next C s ≡ None
+Leads C z (Ticks s) = entry_next C s ≡ None
 Leads C z (Makes f) = (l : ℕ × ℕ) → entry_next C (f l) ≡ None
 Leads C z (Waits a f) = Following C z a f
 Leads C z (Ends e) = Unit {0}
@@ -310,9 +310,9 @@ step_leads C k (Rested g fs) = rest_leads C k g fs (slice_get (body_at C g.body)
 step_leads C k (Off e) = record { is = tt }
 step_leads C k Nowhere = record { is = tt }
 
--- a way that ends in front of nothing but a rest: an entry is that of its start, and after the last turn no entry follows
+-- a way that ends in front of nothing but a rest: an entry is that of its start, and after the last tick no entry follows
 abbrev EndsAt : PlainCode → StateIn → Halt ℕ (ℕ × ℕ) → Type 0
-EndsAt C s (Asks n m a f) = ((E : List (Effect (ℕ × ℕ))) → a ≡ Do (Enter E) → entry_next C s ≡ Some E) × ((n == most_turns) ≡ true → NoEntry C f)
+EndsAt C s (Asks n m a f) = ((E : List (Effect (ℕ × ℕ))) → a ≡ Do (Enter E) → entry_next C s ≡ Some E) × ((n == most_ticks) ≡ true → NoEntry C f)
 EndsAt C s (Finished n e) = Unit {0}
 EndsAt C s Dead = Unit {0}
 
@@ -342,37 +342,37 @@ after_others C z (End e) f h n m = absurd (m e refl)
 
 module _ (C : PlainCode) (k : ℕ) where
   RunsEnd : (ℕ → ℕ → StateIn → Option (Halt ℕ (ℕ × ℕ))) → Type 0
-  RunsEnd more = (turns made : ℕ) (s : StateIn) (h : Halt ℕ (ℕ × ℕ)) → (turns == most_turns) ≡ false → more turns made s ≡ Some h → EndsAt C s h
+  RunsEnd more = (ticks made : ℕ) (s : StateIn) (h : Halt ℕ (ℕ × ℕ)) → (ticks == most_ticks) ≡ false → more ticks made s ≡ Some h → EndsAt C s h
 
-  turn_ends : (more : ℕ → ℕ → StateIn → Option (Halt ℕ (ℕ × ℕ))) → RunsEnd more → (turns made : ℕ) (s t : StateIn) (h : Halt ℕ (ℕ × ℕ)) → entry_next C t ≡ None
-      → ran_on_turn more turns made t ≡ Some h → EndsAt C s h
+  tick_ends : (more : ℕ → ℕ → StateIn → Option (Halt ℕ (ℕ × ℕ))) → RunsEnd more → (ticks made : ℕ) (s t : StateIn) (h : Halt ℕ (ℕ × ℕ)) → entry_next C t ≡ None
+      → ran_on_tick more ticks made t ≡ Some h → EndsAt C s h
   unfolding RunsEnd
-  turn_ends more rec turns made s t h none e = go (suc turns == most_turns) refl e
+  tick_ends more rec ticks made s t h none e = go (suc ticks == most_ticks) refl e
     where
-      go : (b : Bool) → (suc turns == most_turns) ≡ b → (if b then Some (Asks (suc turns) made (Do Rest) (λ x. t)) else more (suc turns) made t) ≡ Some h → EndsAt C s h
-      go true i e = (let same : Asks (suc turns) made (Do Rest) (λ x. t) ≡ h = cc in subst (λ h. EndsAt C s h) same (λ E j. absurd (cc), λ j x. none))
-      go false i e = ends_before C s t h none (rec (suc turns) made t h i e)
+      go : (b : Bool) → (suc ticks == most_ticks) ≡ b → (if b then Some (Asks (suc ticks) made (Do Rest) (λ x. t)) else more (suc ticks) made t) ≡ Some h → EndsAt C s h
+      go true i e = (let same : Asks (suc ticks) made (Do Rest) (λ x. t) ≡ h = cc in subst (λ h. EndsAt C s h) same (λ E j. absurd (cc), λ j x. none))
+      go false i e = ends_before C s t h none (rec (suc ticks) made t h i e)
 
-  stand_ends : (more : ℕ → ℕ → StateIn → Option (Halt ℕ (ℕ × ℕ))) → RunsEnd more → (turns made : ℕ) (s : StateIn) (o : StandIn) (h : Halt ℕ (ℕ × ℕ)) → Leading C s o
-      → (turns == most_turns) ≡ false → ran_on (names_of k) more turns made o ≡ Some h → EndsAt C s h
+  stand_ends : (more : ℕ → ℕ → StateIn → Option (Halt ℕ (ℕ × ℕ))) → RunsEnd more → (ticks made : ℕ) (s : StateIn) (o : StandIn) (h : Halt ℕ (ℕ × ℕ)) → Leading C s o
+      → (ticks == most_ticks) ≡ false → ran_on (names_of k) more ticks made o ≡ Some h → EndsAt C s h
   unfolding RunsEnd
-  stand_ends more rec turns made s (Goes t) h l n e = ends_before C s t h l.is (rec turns made t h n e)
-  stand_ends more rec turns made s (Turns t) h l n e = turn_ends more rec turns made s t h l.is e
-  stand_ends more rec turns made s (Makes f) h l n e = turn_ends more rec turns (suc made) s (f ((names_of k).made made)) h (l.is ((names_of k).made made)) e
-  stand_ends more rec turns made s (Waits a f) h l n e =
-      let same : Asks turns made a f ≡ h = cc in
+  stand_ends more rec ticks made s (Goes t) h l n e = ends_before C s t h l.is (rec ticks made t h n e)
+  stand_ends more rec ticks made s (Ticks t) h l n e = tick_ends more rec ticks made s t h l.is e
+  stand_ends more rec ticks made s (Makes f) h l n e = tick_ends more rec ticks (suc made) s (f ((names_of k).made made)) h (l.is ((names_of k).made made)) e
+  stand_ends more rec ticks made s (Waits a f) h l n e =
+      let same : Asks ticks made a f ≡ h = cc in
       subst (λ h. EndsAt C s h) same (λ E i. after_entry C s a f l.is E i, λ i. absurd (let both : false ≡ true = sym n ∙ i in cc))
-  stand_ends more rec turns made s (Ends x) h l n e = (let same : Finished turns x ≡ h = cc in subst (λ h. EndsAt C s h) same tt)
-  stand_ends more rec turns made s Stuck h l n e = (let same : Dead ≡ h = cc in subst (λ h. EndsAt C s h) same tt)
+  stand_ends more rec ticks made s (Ends x) h l n e = (let same : Finished ticks x ≡ h = cc in subst (λ h. EndsAt C s h) same tt)
+  stand_ends more rec ticks made s Stuck h l n e = (let same : Dead ≡ h = cc in subst (λ h. EndsAt C s h) same tt)
 
   run_ends : (fuel : ℕ) → RunsEnd (λ n m s. run_to_action (names_of k) C fuel n m s)
   unfolding RunsEnd
-  run_ends zero turns made s h n e = absurd (cc)
-  run_ends (suc fuel) turns made s h n e =
-      stand_ends (λ n m s. run_to_action (names_of k) C fuel n m s) (run_ends fuel) turns made s (step (names_of k) C s) h (step_leads C k s) n e
+  run_ends zero ticks made s h n e = absurd (cc)
+  run_ends (suc fuel) ticks made s h n e =
+      stand_ends (λ n m s. run_to_action (names_of k) C fuel n m s) (run_ends fuel) ticks made s (step (names_of k) C s) h (step_leads C k s) n e
 
-  at_first : (0 == most_turns) ≡ false
-  unfolding most_turns
+  at_first : (0 == most_ticks) ≡ false
+  unfolding most_ticks
   at_first = refl
 
   ends_run : (made : ℕ) (s : StateIn) (h : Halt ℕ (ℕ × ℕ)) → RunsToAction (names_of k) C made s h → EndsAt C s h
@@ -384,9 +384,9 @@ module _ (C : PlainCode) (k : ℕ) where
       → h ≡ Asks n m (Do (Enter E)) f → entry_next C s ≡ Some E
   run_entry made s h n m E f l e = (subst (λ h. EndsAt C s h) e (ends_run made s h l)).0 E refl
 
-  -- after the last turn no entry follows
+  -- after the last tick no entry follows
   pub run_spent : (made : ℕ) (s : StateIn) (h : Halt ℕ (ℕ × ℕ)) (n m : ℕ) (a : ActionIn) (f : ThenIn) → RunsToAction (names_of k) C made s h
-      → h ≡ Asks n m a f → (n == most_turns) ≡ true → (x : Answer ℕ (ℕ × ℕ)) → entry_next C (f x) ≡ None
+      → h ≡ Asks n m a f → (n == most_ticks) ≡ true → (x : Answer ℕ (ℕ × ℕ)) → entry_next C (f x) ≡ None
   run_spent made s h n m a f l e t x = (subst (λ h. EndsAt C s h) e (ends_run made s h l)).1 t x
 
 -- a task that has rested in front of an entry makes it next

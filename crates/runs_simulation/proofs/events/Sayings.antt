@@ -16,7 +16,7 @@ use Rattle.lang_meaning.specs.Values.{An_array, An_object, Any_index, Any_parts,
 use Rattle.lang_meaning.specs.Actions.{Action, Assigned, Begin, Do, End, Ending, Enter, Exit, Fork, Join, Look, New, Own, Print, Read, Rest, Returned, Trapped, Write}
 use Rattle.lang_meaning.specs.Actions.{Effect as EffectOf}
 use Rattle.code_instrs.specs.Machine as machine
-use Rattle.code_instrs.specs.Machine.{Ends, Goes, Level, Makes, Nowhere, Off, On, Rested, Stand, Start, State, Stuck, Turns, Waits, all_copied, array_of, called, created, creates, deeper, ends_branch, enters_block, exec, exec_line, held_first, forked, joins, joins_fork, joins_site, joins_spread, line_before, makes_array, one, or_trap, rested_at, rested_line, site_of, spread, step, taken, three, two, unless_long}
+use Rattle.code_instrs.specs.Machine.{Ends, Goes, Level, Makes, Nowhere, Off, On, Rested, Stand, Start, State, Stuck, Ticks, Waits, all_copied, array_of, called, created, creates, deeper, ends_branch, enters_block, exec, exec_line, held_first, forked, joins, joins_fork, joins_site, joins_spread, line_before, makes_array, one, or_trap, rested_at, rested_line, site_of, spread, step, taken, three, two, unless_long}
 use Rattle.code_instrs.specs.Plain.{Line, PlainCode, Site, array_site, block_site, body_at, call_site, class_at, constructor_of, fields_of, fork_site, new_site, spread_site}
 use Rattle.code_instrs.specs.declared.instr.Instr.{Instr}
 use Rattle.code_instrs.specs.declared.instr.Instr.TheVariants as i
@@ -121,7 +121,7 @@ said_by C (End e) right = (action.End (ending_for e), ap End (sym (ending_back e
 abbrev pub WaitsRight : PlainCode → Stand ℕ (ℕ × ℕ) → Type 0
 WaitsRight C (Waits a k) = IsRight C a
 WaitsRight C (Goes s) = Unit {0}
-WaitsRight C (Turns s) = Unit {0}
+WaitsRight C (Ticks s) = Unit {0}
 WaitsRight C (Makes k) = Unit {0}
 WaitsRight C (Ends e) = Unit {0}
 WaitsRight C Stuck = Unit {0}

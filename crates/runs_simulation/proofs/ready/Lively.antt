@@ -78,7 +78,7 @@ module _ (keeps : EachKeeps) (known : NamesAreKnown) (going : CodeMakesProgress)
       can scoped =
           subst (λ j. (x : NextOf (plain_code code) m j next.0) → CanBeMade (plain_code code) m.world next.0 x.stands.state) next.1.stands.number
           (λ x. scoped_can code P arg lets L (right code P L arg is resolved main few) (FJ code P L arg is resolved main few) A.tied A.short A.blocks A.lives (all_noted code L arg ks m leads)
-          (keeps P arg).lively (keeps P arg).in_turn next.0.task next.0.turns next.0.wants next.0.action x scoped) next.1
+          (keeps P arg).lively (keeps P arg).in_turn next.0.task next.0.ticks next.0.wants next.0.action x scoped) next.1
 
       r : (e : Event) × Ready (stepped P arg) A.run k e
       r = ready_as_recorded code P L arg is resolved main few leads A next.0 next.1 can
@@ -122,7 +122,7 @@ module _ (keeps : EachKeeps) (known : NamesAreKnown) (going : CodeMakesProgress)
       subst (λ j. (x : NextOf (plain_code code) m j s.event) → (CanBeMade (plain_code code) m.world s.event x.stands.state → ⊥)
       → LeftOpen m.world j s.event.action) s.next.stands.number
       (λ x unmade. stuck_any code P arg lets L (right code P L arg is resolved main few) (FJ code P L arg is resolved main few) A.tied A.short A.blocks A.lives (all_noted code L arg ks m leads)
-      (keeps P arg).lively (keeps P arg).in_turn s.event.task s.event.turns s.event.wants (small_values code P L arg is resolved main few cells ks m leads A) s.event.action x unmade) s.next s.unmade
+      (keeps P arg).lively (keeps P arg).in_turn s.event.task s.event.ticks s.event.wants (small_values code P L arg is resolved main few cells ks m leads A) s.event.action x unmade) s.next s.unmade
     where
       A : LedTo code P L arg is resolved main few ks m
       A = led_to code P L arg is resolved main few ks m leads s.next.unfinished
@@ -146,13 +146,13 @@ module _ (keeps : EachKeeps) (known : NamesAreKnown) (going : CodeMakesProgress)
       legal : Legal (stepped P arg) A.run
       legal = ran_legal (stepped P arg) L ks A.run A.ran
 
-      by_action : (a : Action) (x : NextOf (plain_code code) m s.event.task (event_of s.event.task s.event.turns s.event.wants a)) → LeftOpen m.world s.event.task a → StuckRun P arg
+      by_action : (a : Action) (x : NextOf (plain_code code) m s.event.task (event_of s.event.task s.event.ticks s.event.wants a)) → LeftOpen m.world s.event.task a → StuckRun P arg
       by_action (action.Do own.Exit) x left =
           let h = exit_next code P arg lets L (right code P L arg is resolved main few) (FJ code P L arg is resolved main few) A.tied A.short A.blocks A.lives (all_noted code L arg ks m leads)
-          (keeps P arg).lively (keeps P arg).in_turn s.event.task s.event.turns s.event.wants x left in
+          (keeps P arg).lively (keeps P arg).in_turn s.event.task s.event.ticks s.event.wants x left in
           record { run = A.run; event = h.0; legal = (h.1, legal); what = inl (h.2, h.3) }
       by_action (action.Fork forking many) x left =
           let h = fork_next code P arg lets L (right code P L arg is resolved main few) (FJ code P L arg is resolved main few) A.tied A.short A.blocks A.lives (all_noted code L arg ks m leads)
-          (keeps P arg).lively (keeps P arg).in_turn s.event.task s.event.turns s.event.wants forking many x in
+          (keeps P arg).lively (keeps P arg).in_turn s.event.task s.event.ticks s.event.wants forking many x in
           record { run = A.run; event = h.0; legal = (h.1, legal); what = inr (h.2, h.3, (let n = h.4 in omega (arith, n, left))) }
       by_action a x left = absurd left

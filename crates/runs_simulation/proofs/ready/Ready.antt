@@ -98,12 +98,12 @@ module _ (code : Code) (P : PlainProgram) (arg : ℤ) (L : Limits) (right : Righ
     own_path = path_one w k V.there path_so
 
     -- what it does next
-    asks : (Q P arg run.lets C).meaning V.path V.task.task (answers (mine R V.path)) ≡ Next e.turns e.act
+    asks : (Q P arg run.lets C).meaning V.path V.task.task (answers (mine R V.path)) ≡ Next e.ticks e.act
     asks =
         let path : e.path ≡ V.path = sym own_path in
         let task : follows.task ≡ V.task.task = same_task (agree_self R) (subst (λ q. Begun (Q P arg run.lets C) R q follows.task) path follows.begun) V.task.begun in
         ap (λ t. (Q P arg run.lets C).meaning V.path t (answers (mine R V.path))) (sym task)
-        ∙ subst (λ q. (Q P arg run.lets C).meaning q follows.task (answers (mine R q)) ≡ Next e.turns e.act) path follows.asks
+        ∙ subst (λ q. (Q P arg run.lets C).meaning q follows.task (answers (mine R q)) ≡ Next e.ticks e.act) path follows.asks
 
     -- all its branches have ended where it joins
     module _ (scope : Scope) (state : live.0.state ≡ Forked scope) (all_begun : scope.count ≤ length scope.ends) where
@@ -111,7 +111,7 @@ module _ (code : Code) (P : PlainProgram) (arg : ℤ) (L : Limits) (right : Righ
       F = subst (λ s. ScopeTied P arg run.lets C w R V.path V.runs.state s) state V.scope
 
       joins : e.act ≡ Join
-      joins = sym (asks_one P arg run.lets C R V.path V.task.task e.turns (asks_join P arg run.lets C T.faithful F V.task.task V.task.begun all_begun) asks)
+      joins = sym (asks_one P arg run.lets C R V.path V.task.task e.ticks (asks_join P arg run.lets C T.faithful F V.task.task V.task.begun all_begun) asks)
 
       since : count R V.path ≡ length F.since + suc (count F.before V.path)
       since = ap length F.last ∙ length-append F.since (F.fork ∷ mine F.before V.path)
@@ -201,10 +201,10 @@ module _ (code : Code) (P : PlainProgram) (arg : ℤ) (L : Limits) (right : Righ
       entry : (F : List Effect) × (e.act ≡ Do (Enter F)) × EffectsLike w r.entry F
       entry = go (subst (λ h. HaltLike w h H.halt) halts.1 H.like) (subst (λ q. SameReply C P q (said H.halt)) asks H.same)
         where
-          go : {g : HaltOf} → HaltLike w (AsksAt 0 V.runs.made (meaning.Do (meaning.Enter r.entry)) halts.0) g → SameReply C P (Next e.turns e.act) (said g)
+          go : {g : HaltOf} → HaltLike w (AsksAt 0 V.runs.made (meaning.Do (meaning.Enter r.entry)) halts.0) g → SameReply C P (Next e.ticks e.act) (said g)
               → (F : List Effect) × (e.act ≡ Do (Enter F)) × EffectsLike w r.entry F
-          go (asks_like turns made {b = c} l on) s =
-              let acts : c ≡ s.0 = said_same turns e.turns c s.0 s.1 in
+          go (asks_like ticks made {b = c} l on) s =
+              let acts : c ≡ s.0 = said_same ticks e.ticks c s.0 s.1 in
               let h = own_like l in
               let q = entry_like h.2 in
               (q.0, same_do C P e.act h.0 (subst (λ c. SameAct C P e.act c) (sym acts ∙ h.1) s.2) ∙ ap (λ o. Do o) q.1, q.2)

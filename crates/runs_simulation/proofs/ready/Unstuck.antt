@@ -104,19 +104,19 @@ module _ (code : Code) (P : PlainProgram) (arg : ℤ) (rule : Rule) (L : Limits)
   QR = Q P arg rule C
 
   module _ {m : Moment} {w : Sight} {R : Run} (T : Tied P arg rule C L m w R) (short : m.world.steps ≤ 20000001) (B : BlocksTied w R m.world) (lives : LivesTied w R m)
-      (noted_all : AllNoted C m) (lively : Lively QR) (in_turn : InTurn QR) (k turns : ℕ) (wants : Option (List PathEffect)) where
+      (noted_all : AllNoted C m) (lively : Lively QR) (in_turn : InTurn QR) (k ticks : ℕ) (wants : Option (List PathEffect)) where
     abbrev At : DeclaredAction → Type 0
-    At a = NextOf C m k (event_of k turns wants a)
+    At a = NextOf C m k (event_of k ticks wants a)
 
     abbrev Stuck_at : (a : DeclaredAction) → At a → Type 0
-    Stuck_at a x = (CanBeMade C m.world (event_of k turns wants a) x.stands.state → ⊥) → LeftOpen m.world k a
+    Stuck_at a x = (CanBeMade C m.world (event_of k ticks wants a) x.stands.state → ⊥) → LeftOpen m.world k a
 
     module _ (a : DeclaredAction) (x : At a) where
       abbrev y : (y : Live) × (get m.world.tree.tasks k ≡ Some y)
-      y = found_live code P arg rule L right T k turns wants a x
+      y = found_live code P arg rule L right T k ticks wants a x
 
       abbrev V : LiveTied P arg rule C w R m.world.tree.tasks m.tasks k y.0
-      V = live code P arg rule L right T k turns wants a x
+      V = live code P arg rule L right T k ticks wants a x
 
       -- what is asked of it
       asked_by : (K : Type 0)
@@ -134,10 +134,10 @@ module _ (code : Code) (P : PlainProgram) (arg : ℤ) (rule : Rule) (L : Limits)
 
           go : (r : Reply) → QR.meaning V.path V.task.task (answers (mine R V.path)) ≡ r → K
           go (Next n act) e =
-              let H = here code P arg rule L right T k turns wants a x in
+              let H = here code P arg rule L right T k ticks wants a x in
               by_halt n act e H.like x.stands.tells (subst (λ r. SameReply C P r (said H.halt)) e H.same)
-          go Over e = absurd (let H = here code P arg rule L right T k turns wants a x in never_over H.halt (subst (λ r. SameReply C P r (said H.halt)) e H.same))
-          go Unknown e = absurd (let H = here code P arg rule L right T k turns wants a x in subst (λ r. SameReply C P r (said H.halt)) e H.same)
+          go Over e = absurd (let H = here code P arg rule L right T k ticks wants a x in never_over H.halt (subst (λ r. SameReply C P r (said H.halt)) e H.same))
+          go Unknown e = absurd (let H = here code P arg rule L right T k ticks wants a x in subst (λ r. SameReply C P r (said H.halt)) e H.same)
 
       -- who stands after a fork has an open scope
       forked : (n b : ℕ) (act : Action) → QR.meaning V.path V.task.task (answers (mine R V.path)) ≡ Next n act → (ts : Branches) → b ≤ length ts.tasks
@@ -174,7 +174,7 @@ module _ (code : Code) (P : PlainProgram) (arg : ℤ) (rule : Rule) (L : Limits)
 
     -- one clause an action
     stuck_rest : (x : At (action.Do own.Rest)) → Stuck_at (action.Do own.Rest) x
-    stuck_rest x unmade = absurd (unmade (record { fits = subst (λ o. AllRoot (wanted o)) (sym x.stands.wants) (all_roots (wanted_after C turns x.stands.state)); starts = tt }))
+    stuck_rest x unmade = absurd (unmade (record { fits = subst (λ o. AllRoot (wanted o)) (sym x.stands.wants) (all_roots (wanted_after C ticks x.stands.state)); starts = tt }))
 
     stuck_read : (n : ℕ) (j : ℤ) (x : At (action.Do (own.Read n j))) → Stuck_at (action.Do (own.Read n j)) x
     stuck_read n j x unmade =
@@ -202,7 +202,7 @@ module _ (code : Code) (P : PlainProgram) (arg : ℤ) (rule : Rule) (L : Limits)
     stuck_enter : (effects : List PathEffect) (x : At (action.Do (own.Enter effects))) → Stuck_at (action.Do (own.Enter effects)) x
     stuck_enter effects x unmade =
         absurd (unmade (record {
-          fits = (let waits = entry_noted C m k turns wants effects x noted_all in
+          fits = (let waits = entry_noted C m k ticks wants effects x noted_all in
               subst (λ o. CanEnter m.world.locks k o) (sym waits) (subst (λ o. IsFreeFor m.world.locks k o) waits x.ready.1));
           starts = tt;
         }))
@@ -236,17 +236,17 @@ module _ (code : Code) (P : PlainProgram) (arg : ℤ) (rule : Rule) (L : Limits)
         }))))) (λ wide. wide) (cases_lt many (2 ^ 32))
 
     -- a join
-    join_can : (x : At action.Join) → CanBeMade C m.world (event_of k turns wants action.Join) x.stands.state
-    join_can x = asked_by action.Join x (CanBeMade C m.world (event_of k turns wants action.Join) x.stands.state) (λ i act b c asks says like same.
+    join_can : (x : At action.Join) → CanBeMade C m.world (event_of k ticks wants action.Join) x.stands.state
+    join_can x = asked_by action.Join x (CanBeMade C m.world (event_of k ticks wants action.Join) x.stands.state) (λ i act b c asks says like same.
         joins i (asks ∙ ap (λ a. Next i a) (same_join C P act (subst (λ c. SameAct C P act c) (joining_like (subst (λ b. ActionLike w b c) says like)) same))))
       where
-        joins : (i : ℕ) → QR.meaning (V action.Join x).path (V action.Join x).task.task (answers (mine R (V action.Join x).path)) ≡ Next i Join → CanBeMade C m.world (event_of k turns wants action.Join) x.stands.state
+        joins : (i : ℕ) → QR.meaning (V action.Join x).path (V action.Join x).task.task (answers (mine R (V action.Join x).path)) ≡ Next i Join → CanBeMade C m.world (event_of k ticks wants action.Join) x.stands.state
         joins i asks = by_state (y action.Join x).0.state refl (V action.Join x).scope
           where
             free : IsTrue (state_ready (y action.Join x).0.state)
             free = subst (λ o. IsTrue (ready o)) (y action.Join x).1 x.ready.0
 
-            by_state : (s : Scoped) → (y action.Join x).0.state ≡ s → ScopeTied P arg rule C w R (V action.Join x).path (V action.Join x).runs.state (y action.Join x).0.state → CanBeMade C m.world (event_of k turns wants action.Join) x.stands.state
+            by_state : (s : Scoped) → (y action.Join x).0.state ≡ s → ScopeTied P arg rule C w R (V action.Join x).path (V action.Join x).runs.state (y action.Join x).0.state → CanBeMade C m.world (event_of k ticks wants action.Join) x.stands.state
             by_state Running s scope =
                 let j = lively.joins_forked (V action.Join x).path (V action.Join x).task.task (answers (mine R (V action.Join x).path)) (i, asks) in
                 absurd (forked action.Join x i (length j.0.tasks) Join asks j.0 (omega arith)
@@ -256,7 +256,7 @@ module _ (code : Code) (P : PlainProgram) (arg : ℤ) (rule : Rule) (L : Limits)
                 F : ForkTied P arg rule C w R (V action.Join x).path (V action.Join x).runs.state scope
                 F = subst (λ s. ScopeTied P arg rule C w R (V action.Join x).path (V action.Join x).runs.state s) s tied
 
-                by_count : (b : Bool) → nat_lt (length scope.ends) scope.count ≡ b → CanBeMade C m.world (event_of k turns wants action.Join) x.stands.state
+                by_count : (b : Bool) → nat_lt (length scope.ends) scope.count ≡ b → CanBeMade C m.world (event_of k ticks wants action.Join) x.stands.state
                 by_count true c = absurd (
                     let both : Join ≡ Begin (length scope.ends) =
                     sym (asks_one P arg rule C R (V action.Join x).path (V action.Join x).task.task i
@@ -276,12 +276,12 @@ module _ (code : Code) (P : PlainProgram) (arg : ℤ) (rule : Rule) (L : Limits)
       abbrev U : LiveTied P arg rule C w R m.world.tree.tasks m.tasks k (y (action.Begin b) x).0
       U = V (action.Begin b) x
 
-      A : AskedAt code P arg rule L right T k turns wants (action.Begin b) x (Begin b)
-      A = asked_at code P arg rule L right T k turns wants (action.Begin b) x (Begin b)
-          (acts_at C (action.Begin b) (Begin b) (λ e i. (cc)) (λ c e. e) (at code P arg rule L right T k turns wants (action.Begin b) x) x.stands.tells)
+      A : AskedAt code P arg rule L right T k ticks wants (action.Begin b) x (Begin b)
+      A = asked_at code P arg rule L right T k ticks wants (action.Begin b) x (Begin b)
+          (acts_at C (action.Begin b) (Begin b) (λ e i. (cc)) (λ c e. e) (at code P arg rule L right T k ticks wants (action.Begin b) x) x.stands.tells)
 
-      asks : QR.meaning U.path U.task.task (answers (mine R U.path)) ≡ Next turns (Begin b)
-      asks = A.asks ∙ ap (λ c. Next turns c) (same_begin C P A.act b (subst (λ c. SameAct C P A.act c) (beginning_like A.both.like) A.same))
+      asks : QR.meaning U.path U.task.task (answers (mine R U.path)) ≡ Next ticks (Begin b)
+      asks = A.asks ∙ ap (λ c. Next ticks c) (same_begin C P A.act b (subst (λ c. SameAct C P A.act c) (beginning_like A.both.like) A.same))
 
       absent : (o : Option Live) → get m.world.tree.tasks m.world.tree.begun ≡ o → o ≡ None
       absent None e = refl
@@ -301,9 +301,9 @@ module _ (code : Code) (P : PlainProgram) (arg : ℤ) (rule : Rule) (L : Limits)
 
       by_state : (s : Scoped) → (y (action.Begin b) x).0.state ≡ s → ScopeTied P arg rule C w R U.path U.runs.state (y (action.Begin b) x).0.state → Opens
       by_state Running s scope =
-          absurd (let j = in_turn.begins_forked U.path U.task.task (answers (mine R U.path)) b (turns, asks) in
+          absurd (let j = in_turn.begins_forked U.path U.task.task (answers (mine R U.path)) b (ticks, asks) in
           let l = j.1 in
-          forked (action.Begin b) x turns b (Begin b) asks j.0 (omega (arith, l)) (fork_since QR R T.faithful U.path U.task.task j.0 b U.task.begun j.2) s)
+          forked (action.Begin b) x ticks b (Begin b) asks j.0 (omega (arith, l)) (fork_since QR R T.faithful U.path U.task.task j.0 b U.task.begun j.2) s)
       by_state (Forked scope) s tied = by_count (cases_lt (length scope.ends) scope.count)
         where
           F : ForkTied P arg rule C w R U.path U.runs.state scope
@@ -318,14 +318,14 @@ module _ (code : Code) (P : PlainProgram) (arg : ℤ) (rule : Rule) (L : Limits)
           }
             where
               b_is : length scope.ends ≡ b
-              b_is = begins_next P arg rule C T.faithful scope F U.task.task U.task.begun turns b asks l
+              b_is = begins_next P arg rule C T.faithful scope F U.task.task U.task.begun ticks b asks l
 
               from : AtJoin C (A.both.then_in (plain_answer answer.Went)) × HasBegun C (A.both.then_in (plain_answer answer.Went))
                   × (starts_at C (A.both.then_in (plain_answer answer.Went)) ≡ starts_at C U.runs.state)
-              from = from_join_at code P arg rule L right FJ T short k turns wants b x A F b_is
+              from = from_join_at code P arg rule L right FJ T short k ticks wants b x A F b_is
 
               there : starts_at C (A.both.then_in (plain_answer answer.Went)) ≡ starts_at C x.stands.state
-              there = from_there_at code P arg rule L right FJ T short k turns wants b x A F b_is
+              there = from_there_at code P arg rule L right FJ T short k ticks wants b x A F b_is
 
               start : (c : Start Name LocalRegion) × (slice_get F.starts b ≡ Some c)
               start = get_there F.starts b (let e = AllLength C P F.starts F.tasks.tasks F.compiled in let c = F.many in omega (arith, e, c, l, b_is))
@@ -339,20 +339,20 @@ module _ (code : Code) (P : PlainProgram) (arg : ℤ) (rule : Rule) (L : Limits)
           by_count : (length scope.ends < scope.count) ⊎ (scope.count ≤ length scope.ends) → Opens
           by_count (inl l) = begins_it l
           by_count (inr l) =
-              absurd (let both : Begin b ≡ Join = sym (asks_one P arg rule C R U.path U.task.task turns
+              absurd (let both : Begin b ≡ Join = sym (asks_one P arg rule C R U.path U.task.task ticks
               (asks_join P arg rule C T.faithful F U.task.task U.task.begun l) asks) in cc)
 
       opened : Opens
       opened = by_state (y (action.Begin b) x).0.state refl U.scope
 
-      begin_can : CanBeMade C m.world (event_of k turns wants (action.Begin b)) x.stands.state
+      begin_can : CanBeMade C m.world (event_of k ticks wants (action.Begin b)) x.stands.state
       begin_can = record { fits = (opened.opens, room, outside); starts = opened.starts }
 
       stuck_begin : Stuck_at (action.Begin b) x
       stuck_begin unmade = unmade begin_can
 
     -- a begin or a join can be made
-    pub scoped_can : (a : DeclaredAction) (x : At a) → IsScoped a → CanBeMade C m.world (event_of k turns wants a) x.stands.state
+    pub scoped_can : (a : DeclaredAction) (x : At a) → IsScoped a → CanBeMade C m.world (event_of k ticks wants a) x.stands.state
     scoped_can (action.Begin b) x scoped = begin_can b x
     scoped_can action.Join x scoped = join_can x
     scoped_can a x scoped = absurd scoped
@@ -373,7 +373,7 @@ module _ (code : Code) (P : PlainProgram) (arg : ℤ) (rule : Rule) (L : Limits)
     -- an event that comes next in the run where the task stands, and is no entry
     module _ (a : DeclaredAction) (x : At a) where
       abbrev next_one : ℕ → Action → Event
-      next_one n act = record { path = (V a x).path; turns = n; act = act; ans = Went }
+      next_one n act = record { path = (V a x).path; ticks = n; act = act; ans = Went }
 
       allowed_there : (n : ℕ) (act : Action) → QR.meaning (V a x).path (V a x).task.task (answers (mine R (V a x).path)) ≡ Next n act
           → ((E : List Effect) → act ≡ Do (Enter E) → ⊥) → Right QR R (V a x).path act Went → Allowed QR R (next_one n act)

@@ -202,21 +202,21 @@ module _ (Q : Program) where
   }
 
   -- what a machine answers to an action of a task's own, and keeps then, is what the run does
-  pub record OwnTied (w : Sight) (R : Run) (p : Path) (turns : ℕ) (q : Own) (x : DeclaredAnswer) (objects : List Object) : Type 0 where
+  pub record OwnTied (w : Sight) (R : Run) (p : Path) (ticks : ℕ) (q : Own) (x : DeclaredAnswer) (objects : List Object) : Type 0 where
     pub answer : Answer
     pub sight : Sight
     pub wider : Wider w sight
     pub paths : sight.paths ≡ w.paths
     pub replies : reply Q R p q ≡ Some answer
     pub like : AnswerLike sight (plain_answer x) answer
-    pub heap : HeapTied sight (record { path = p; turns = turns; act = Do q; ans = answer } ∷ R) objects
+    pub heap : HeapTied sight (record { path = p; ticks = ticks; act = Do q; ans = answer } ∷ R) objects
 
-  module _ {w : Sight} {R : Run} {objects : List Object} (T : HeapTied w R objects) (p : Path) (turns : ℕ) where
-    abbrev Turned : Store
-    Turned = record T.store { steps = T.store.steps + turns }
+  module _ {w : Sight} {R : Run} {objects : List Object} (T : HeapTied w R objects) (p : Path) (ticks : ℕ) where
+    abbrev Ticked : Store
+    Ticked = record T.store { steps = T.store.steps + ticks }
 
-    turned : Holds Q R w.names turns Turned
-    turned = record {
+    ticked : Holds Q R w.names ticks Ticked
+    ticked = record {
       many = T.holds.many;
       distinct = T.holds.distinct;
       there = T.holds.there;
@@ -247,7 +247,7 @@ module _ (Q : Program) where
     -- an action that leaves the objects as they are
     quiet : {o : OwnOver ℕ Counted} {q : Own} (x : DeclaredAnswer) → elided.OwnLike w.names o q → heap_after o T.store.heap ≡ T.store.heap
         → ((b : Answer) → reply Q R p q ≡ Some b → elided.AnswerLike w.names (elided_answer T.store.heap o) b → AnswerLike w (plain_answer x) b)
-        → OwnTied w R p turns q x objects
+        → OwnTied w R p ticks q x objects
     quiet {o} {q} x like still f = record {
       answer = A.answer;
       sight = w;
@@ -256,39 +256,39 @@ module _ (Q : Program) where
       replies = A.replies;
       like = f A.answer A.replies (subst (λ ns. elided.AnswerLike ns (elided_answer T.store.heap o) A.answer) same A.like);
       heap = record {
-        store = after o Turned;
-        holds = subst (λ ns. Holds Q (e ∷ R) ns 0 (after o Turned)) same A.holds;
+        store = after o Ticked;
+        holds = subst (λ ns. Holds Q (e ∷ R) ns 0 (after o Ticked)) same A.holds;
         values = ap values_held still ∙ T.values;
         shown = λ n y z a b. shown_later e (wider_none T.holds.distinct) (T.shown n y z a b);
       };
     }
       where
-        A : Answered Q R w.names turns Turned p o q
-        A = own_step Q turned p like
+        A : Answered Q R w.names ticks Ticked p o q
+        A = own_step Q ticked p like
 
         e : Event
-        e = record { path = p; turns = turns; act = Do q; ans = A.answer }
+        e = record { path = p; ticks = ticks; act = Do q; ans = A.answer }
 
         same : A.names ≡ w.names
         same = same_names A.later (A.holds.many ∙ ap length still ∙ sym T.holds.many)
 
     pub went : {o : OwnOver ℕ Counted} {q : Own} → elided.OwnLike w.names o q → heap_after o T.store.heap ≡ T.store.heap
-        → elided_answer T.store.heap o ≡ Went → OwnTied w R p turns q answer.Went objects
+        → elided_answer T.store.heap o ≡ Went → OwnTied w R p ticks q answer.Went objects
     went {o} like still e = quiet answer.Went like still (λ b r k. same_answer k (subst (λ a. SameAnswer a Went) (sym e) refl))
 
     -- a fork, a begin, a join or an end
-    pub structural : (e : Event) → e.turns ≡ turns → ((c : Cell) → written_by c e.act ≡ None) → ((f : Option (Trap × Place)) → printed_by e.act f ≡ [])
+    pub structural : (e : Event) → e.ticks ≡ ticks → ((c : Cell) → written_by c e.act ≡ None) → ((f : Option (Trap × Place)) → printed_by e.act f ≡ [])
         → cells e.act ≡ 0 → HeapTied w (e ∷ R) objects
     structural e same writes prints free = record {
-      store = record Turned { trap = trap_in e.act T.store.trap; steps = Turned.steps + steps e.act };
-      holds = structure_step Q turned p e same writes prints free (record Turned { trap = trap_in e.act T.store.trap; steps = Turned.steps + steps e.act })
+      store = record Ticked { trap = trap_in e.act T.store.trap; steps = Ticked.steps + steps e.act };
+      holds = structure_step Q ticked p e same writes prints free (record Ticked { trap = trap_in e.act T.store.trap; steps = Ticked.steps + steps e.act })
           refl refl refl refl refl;
       values = T.values;
       shown = λ n y z a b. shown_later e (wider_none T.holds.distinct) (T.shown n y z a b);
     }
 
     pub reads : (n : ℕ) (x : Name) (i : ℤ) (heap : Contents) → heap.objects ≡ objects → slice_get w.names n ≡ Some x
-        → OwnTied w R p turns (Read x i) (read_at (object_at heap n) i) objects
+        → OwnTied w R p ticks (Read x i) (read_at (object_at heap n) i) objects
     reads n x i heap same e =
         quiet (read_at (object_at heap n) i) (elided.read_like n x i e) refl (λ b r k. same_answer k
         (subst (λ a. SameAnswer a (plain_answer (read_at (object_at heap n) i))) (sym is) (read_same_at (object_at heap n) i)))
@@ -307,7 +307,7 @@ module _ (Q : Program) where
     seen_like (array pattern es) (An_array r len u) s = subst (λ (k : ℕ). AnswerLike w (Length (length es)) (Length k)) s (length_like (length es))
 
     pub looks : (n : ℕ) (x : Name) (heap : Contents) → heap.objects ≡ objects → slice_get w.names n ≡ Some x
-        → OwnTied w R p turns (Look x) (object_seen (object_at heap n)) objects
+        → OwnTied w R p ticks (Look x) (object_seen (object_at heap n)) objects
     looks n x heap same e =
         quiet (object_seen (object_at heap n)) (elided.look_like n x e) refl (λ b r k.
         subst (λ b. AnswerLike w (plain_answer (object_seen (object_at heap n))) b)
@@ -348,7 +348,7 @@ module _ (Q : Program) where
         go false a = inl a
 
     pub writes : (n : ℕ) (x : Name) (i : ℤ) (v : Constant) {u : Value Name} (heap : Contents) → heap.objects ≡ objects → slice_get w.names n ≡ Some x
-        → ValueLike w.names (plain_value v) u → OwnTied w R p turns (Write x i u) (wrote_at (object_at heap n) i) (written_at heap n i v).objects
+        → ValueLike w.names (plain_value v) u → OwnTied w R p ticks (Write x i u) (wrote_at (object_at heap n) i) (written_at heap n i v).objects
     writes n x i v {u} heap same e like = record {
       answer = A.answer;
       sight = w;
@@ -358,8 +358,8 @@ module _ (Q : Program) where
       like = same_answer (subst (λ ns. elided.AnswerLike ns (elided_answer T.store.heap (Write n i (plain_value v))) A.answer) names_are A.like)
           (subst (λ a. SameAnswer a (plain_answer (wrote_at o i))) (sym answer_is) (write_same_at o i));
       heap = record {
-        store = after (Write n i (plain_value v)) Turned;
-        holds = subst (λ ns. Holds Q (event ∷ R) ns 0 (after (Write n i (plain_value v)) Turned)) names_are A.holds;
+        store = after (Write n i (plain_value v)) Ticked;
+        holds = subst (λ ns. Holds Q (event ∷ R) ns 0 (after (Write n i (plain_value v)) Ticked)) names_are A.holds;
         values = ap values_held heap_is ∙ map_set (λ h. h.values) T.store.heap n now_held ∙ ap (λ l. slice_set l n now_held.values) (T.values ∙ ap values_in (sym same))
             ∙ ap (λ vs. slice_set (values_in heap.objects) n (set_at vs i (plain_value v))) (values_there n o S.held here S.is_held)
             ∙ written_values heap n i v (subst (λ os. slice_get os n ≡ Some o) (sym same) here);
@@ -376,11 +376,11 @@ module _ (Q : Program) where
         here : slice_get objects n ≡ Some o
         here = object_there n x e heap same
 
-        A : Answered Q R w.names turns Turned p (Write n i (plain_value v)) (Write x i u)
-        A = own_step Q turned p (elided.write_like n x i e like)
+        A : Answered Q R w.names ticks Ticked p (Write n i (plain_value v)) (Write x i u)
+        A = own_step Q ticked p (elided.write_like n x i e like)
 
         event : Event
-        event = record { path = p; turns = turns; act = Do (Write x i u); ans = A.answer }
+        event = record { path = p; ticks = ticks; act = Do (Write x i u); ans = A.answer }
 
         now_held : Held
         now_held = record S.held { values = set_at S.held.values i (plain_value v) }
@@ -414,7 +414,7 @@ module _ (Q : Program) where
 
     pub makes : (object : Object) (t : ThingOver ℕ Counted) (s : Thing) (c : Bool) → elided.ThingLike w.names t s
         → (held t).values ≡ map plain_value (values_of object) → SeenTied w object s
-        → OwnTied w R p turns (New s c) (answer.Made (length objects)) (objects ++ object ∷ [])
+        → OwnTied w R p ticks (New s c) (answer.Made (length objects)) (objects ++ object ∷ [])
     makes object t s c like values sees = record {
       answer = A.answer;
       sight = now_sight;
@@ -423,7 +423,7 @@ module _ (Q : Program) where
       replies = A.replies;
       like = same_answer A.like (ap (λ n. Named n) (sym many ∙ T.holds.many));
       heap = record {
-        store = after (New t c) Turned;
+        store = after (New t c) Ticked;
         holds = A.holds;
         values = map_append (λ h. h.values) T.store.heap (held t ∷ []) ∙ ap (λ l. l ++ (held t).values ∷ []) T.values ∙ ap (λ vs. values_in objects ++ vs ∷ []) values
             ∙ sym (map_append (λ o. map plain_value (values_of o)) objects (object ∷ []));
@@ -431,8 +431,8 @@ module _ (Q : Program) where
       };
     }
       where
-        A : Answered Q R w.names turns Turned p (New t c) (New s c)
-        A = own_step Q turned p (elided.new_like c like)
+        A : Answered Q R w.names ticks Ticked p (New t c) (New s c)
+        A = own_step Q ticked p (elided.new_like c like)
 
         now_sight : Sight
         now_sight = record { names = A.names; paths = w.paths }
@@ -441,7 +441,7 @@ module _ (Q : Program) where
         wide = record { names = A.later; paths = λ k p h. h }
 
         event : Event
-        event = record { path = p; turns = turns; act = Do (New s c); ans = A.answer }
+        event = record { path = p; ticks = ticks; act = Do (New s c); ans = A.answer }
 
         name : Name
         name = record { maker = p; count = length (made Q R p) }

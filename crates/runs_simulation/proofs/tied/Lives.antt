@@ -75,18 +75,18 @@ module _ (code : Code) (P : PlainProgram) (arg : ℤ) (rule : Rule) (L : Limits)
   C = plain_code code
 
   module _ {m : Moment} {w : Sight} {R : Run} (T : Tied P arg rule C L m w R) (short : m.world.steps ≤ 20000001) (B : BlocksTied w R m.world) (wanted : AllNoted C m)
-      (lives : LivesTied w R m) (k turns : ℕ) (wants : Option (List PathEffect)) where
+      (lives : LivesTied w R m) (k ticks : ℕ) (wants : Option (List PathEffect)) where
     abbrev Then : DeclaredAction → Type 0
-    Then a = (x : NextOf C m k (event_of k turns wants a)) → CanBeMade C m.world (event_of k turns wants a) x.stands.state → (S : Stepped code P arg rule L right w R k (after code m (event_of k turns wants a) x.stands.state x.stands.made))
-        → LivesTied S.sight (S.event ∷ R) (after code m (event_of k turns wants a) x.stands.state x.stands.made)
+    Then a = (x : NextOf C m k (event_of k ticks wants a)) → CanBeMade C m.world (event_of k ticks wants a) x.stands.state → (S : Stepped code P arg rule L right w R k (after code m (event_of k ticks wants a) x.stands.state x.stands.made))
+        → LivesTied S.sight (S.event ∷ R) (after code m (event_of k ticks wants a) x.stands.state x.stands.made)
 
-    module _ (a : DeclaredAction) (x : NextOf C m k (event_of k turns wants a))
-        (S : Stepped code P arg rule L right w R k (after code m (event_of k turns wants a) x.stands.state x.stands.made)) where
+    module _ (a : DeclaredAction) (x : NextOf C m k (event_of k ticks wants a))
+        (S : Stepped code P arg rule L right w R k (after code m (event_of k ticks wants a) x.stands.state x.stands.made)) where
       abbrev n : Moment
-      n = after code m (event_of k turns wants a) x.stands.state x.stands.made
+      n = after code m (event_of k ticks wants a) x.stands.state x.stands.made
 
       old_path : (j : ℕ) (y : Live) → get m.world.tree.tasks j ≡ Some y → (p : Path) → slice_get S.sight.paths j ≡ Some p → slice_get w.paths j ≡ Some p
-      old_path j y is p h = live_path code P arg rule L right T short B wanted k turns wants a x S j y is p h
+      old_path j y is p h = live_path code P arg rule L right T short B wanted k ticks wants a x S j y is p h
 
       -- of a task that had begun
       unended_old : (j : ℕ) (y : Live) (p : Path) → get m.world.tree.tasks j ≡ Some y → slice_get S.sight.paths j ≡ Some p
@@ -192,50 +192,50 @@ module _ (code : Code) (P : PlainProgram) (arg : ℤ) (rule : Rule) (L : Limits)
     lives_any : (a : DeclaredAction) → Then a
     lives_any (action.Do (alone.Print bytes)) x can S =
         kept_lives (action.Do (alone.Print bytes)) x S (changed_keys m.world.tree.tasks k (printed_task bytes)) (branches_printed m.world.tree.tasks k bytes lives.branches)
-        (not_end S.event.act (event_like code P arg rule L right T k turns wants (action.Do (alone.Print bytes)) x S))
-        (λ j apart. changed_other m.world.tree.tasks k (printed_task bytes) j (own code P arg rule L right T short B wanted k turns wants (action.Do (alone.Print bytes)) x S).1 apart)
-        (λ y is run. event_passes code P arg rule L right T k turns wants (action.Do (alone.Print bytes)) x S tt)
+        (not_end S.event.act (event_like code P arg rule L right T k ticks wants (action.Do (alone.Print bytes)) x S))
+        (λ j apart. changed_other m.world.tree.tasks k (printed_task bytes) j (own code P arg rule L right T short B wanted k ticks wants (action.Do (alone.Print bytes)) x S).1 apart)
+        (λ y is run. event_passes code P arg rule L right T k ticks wants (action.Do (alone.Print bytes)) x S tt)
     lives_any (action.Do (alone.Enter effects)) x can S =
         kept_lives (action.Do (alone.Enter effects)) x S (λ j. refl) lives.branches
-        (λ z e. (let f = event_like code P arg rule L right T k turns wants (action.Do (alone.Enter effects)) x S in let both : Do (Enter f.0) ≡ End z = sym f.1 ∙ e in cc))
-        (λ j apart. refl) (λ y is run. event_passes code P arg rule L right T k turns wants (action.Do (alone.Enter effects)) x S tt)
+        (λ z e. (let f = event_like code P arg rule L right T k ticks wants (action.Do (alone.Enter effects)) x S in let both : Do (Enter f.0) ≡ End z = sym f.1 ∙ e in cc))
+        (λ j apart. refl) (λ y is run. event_passes code P arg rule L right T k ticks wants (action.Do (alone.Enter effects)) x S tt)
     lives_any (action.Do alone.Exit) x can S =
         kept_lives (action.Do alone.Exit) x S (λ j. refl) lives.branches
-        (λ z e. (let both : Do Exit ≡ End z = sym (event_like code P arg rule L right T k turns wants (action.Do alone.Exit) x S) ∙ e in cc))
-        (λ j apart. refl) (λ y is run. event_passes code P arg rule L right T k turns wants (action.Do alone.Exit) x S tt)
+        (λ z e. (let both : Do Exit ≡ End z = sym (event_like code P arg rule L right T k ticks wants (action.Do alone.Exit) x S) ∙ e in cc))
+        (λ j apart. refl) (λ y is run. event_passes code P arg rule L right T k ticks wants (action.Do alone.Exit) x S tt)
     lives_any (action.Do o) x can S =
-        kept_lives (action.Do o) x S (λ j. refl) lives.branches (not_end S.event.act (event_like code P arg rule L right T k turns wants (action.Do o) x S))
-        (λ j apart. refl) (λ y is run. event_passes code P arg rule L right T k turns wants (action.Do o) x S tt)
+        kept_lives (action.Do o) x S (λ j. refl) lives.branches (not_end S.event.act (event_like code P arg rule L right T k ticks wants (action.Do o) x S))
+        (λ j apart. refl) (λ y is run. event_passes code P arg rule L right T k ticks wants (action.Do o) x S tt)
     lives_any (action.Fork forking many) x can S =
         kept_lives (action.Fork forking many) x S (changed_keys m.world.tree.tasks k (forked_task many)) (branches_forked m.world.tree.tasks k many lives.branches)
-        (not_end S.event.act (event_like code P arg rule L right T k turns wants (action.Fork forking many) x S))
-        (λ j apart. changed_other m.world.tree.tasks k (forked_task many) j (own code P arg rule L right T short B wanted k turns wants (action.Fork forking many) x S).1 apart)
-        (λ y is run. absurd (let both : Some (forked_task many (own code P arg rule L right T short B wanted k turns wants (action.Fork forking many) x S).0) ≡ Some y =
-        sym (changed_own m.world.tree.tasks k (forked_task many) (own code P arg rule L right T short B wanted k turns wants (action.Fork forking many) x S).1) ∙ is in
-        forked_running many (own code P arg rule L right T short B wanted k turns wants (action.Fork forking many) x S).0 y (cc) run))
+        (not_end S.event.act (event_like code P arg rule L right T k ticks wants (action.Fork forking many) x S))
+        (λ j apart. changed_other m.world.tree.tasks k (forked_task many) j (own code P arg rule L right T short B wanted k ticks wants (action.Fork forking many) x S).1 apart)
+        (λ y is run. absurd (let both : Some (forked_task many (own code P arg rule L right T short B wanted k ticks wants (action.Fork forking many) x S).0) ≡ Some y =
+        sym (changed_own m.world.tree.tasks k (forked_task many) (own code P arg rule L right T short B wanted k ticks wants (action.Fork forking many) x S).1) ∙ is in
+        forked_running many (own code P arg rule L right T short B wanted k ticks wants (action.Fork forking many) x S).0 y (cc) run))
     lives_any action.Join x can S =
         kept_lives action.Join x S (changed_keys m.world.tree.tasks k joined_task) (branches_joined m.world.tree.tasks k lives.branches)
-        (not_end S.event.act (event_like code P arg rule L right T k turns wants action.Join x S))
-        (λ j apart. changed_other m.world.tree.tasks k joined_task j (own code P arg rule L right T short B wanted k turns wants action.Join x S).1 apart)
-        (λ y is run. event_passes code P arg rule L right T k turns wants action.Join x S tt)
+        (not_end S.event.act (event_like code P arg rule L right T k ticks wants action.Join x S))
+        (λ j apart. changed_other m.world.tree.tasks k joined_task j (own code P arg rule L right T short B wanted k ticks wants action.Join x S).1 apart)
+        (λ y is run. event_passes code P arg rule L right T k ticks wants action.Join x S tt)
     lives_any (action.Begin b) x can S =
-        let act = event_like code P arg rule L right T k turns wants (action.Begin b) x S in
-        let y = own code P arg rule L right T short B wanted k turns wants (action.Begin b) x S in
-        let free = absent code P arg rule L right T short B wanted k turns wants (action.Begin b) x S b act refl refl refl in
+        let act = event_like code P arg rule L right T k ticks wants (action.Begin b) x S in
+        let y = own code P arg rule L right T short B wanted k ticks wants (action.Begin b) x S in
+        let free = absent code P arg rule L right T short B wanted k ticks wants (action.Begin b) x S b act refl refl refl in
         begun_lives (action.Begin b) x S m.world.tree.begun refl
-        (λ j apart. keys code P arg rule L right T short B wanted k turns wants (action.Begin b) x S b act refl refl refl j apart)
+        (λ j apart. keys code P arg rule L right T short B wanted k ticks wants (action.Begin b) x S b act refl refl refl j apart)
         (branches_begun_too m.world.tree.tasks k m.world.tree.begun y.0 y.1 free
         (λ s. (let both : None ≡ Some y.0 = sym free ∙ ap (λ i. get m.world.tree.tasks i) (sym s) ∙ y.1 in cc)) lives.branches) b act
-        (λ j apart other. others_begun code P arg rule L right T short B wanted k turns wants (action.Begin b) x S b act refl refl refl j apart other)
+        (λ j apart other. others_begun code P arg rule L right T short B wanted k ticks wants (action.Begin b) x S b act refl refl refl j apart other)
         (λ z is run. no_begin_here y.0 z (can_begin m.world.tree.tasks k y.1 can.fits.0)
-        (let both : Some (with_scope with_branch y.0) ≡ Some z = sym (k_now code P arg rule L right T short B wanted k turns wants (action.Begin b) x S b act refl refl refl) ∙ is in cc) run)
+        (let both : Some (with_scope with_branch y.0) ≡ Some z = sym (k_now code P arg rule L right T short B wanted k ticks wants (action.Begin b) x S b act refl refl refl) ∙ is in cc) run)
     lives_any (action.End c) x can S =
-        let y = own code P arg rule L right T short B wanted k turns wants (action.End c) x S in
+        let y = own code P arg rule L right T short B wanted k ticks wants (action.End c) x S in
         ended_lives (action.End c) x S (λ j apart. ended_keys m.world k (trap_in c) (slots_in c) j apart)
         (none_there _ (ended_gone m.world k (trap_in c) (slots_in c))) (branches_ended m.world.tree k y.0 _ y.1 lives.branches) not_root
         (λ j z is run. ended_runs m.world.tree k _ _ j z is run)
       where
-        not_root : (after code m (event_of k turns wants (action.End c)) x.stands.state x.stands.made).outcome ≡ None → 0 ≢ k
+        not_root : (after code m (event_of k ticks wants (action.End c)) x.stands.state x.stands.made).outcome ≡ None → 0 ≢ k
         not_root none s = go _ (k == 0) refl none
           where
             go : {A : Type 0} (o : A) (b : Bool) → (k == 0) ≡ b → (if b then Some o else None) ≡ None → ⊥
@@ -252,4 +252,4 @@ module _ (code : Code) (P : PlainProgram) (arg : ℤ) (rule : Rule) (L : Limits)
     lives_next x can S =
         subst (λ j. (x : NextOf C m j e) → CanBeMade C m.world e x.stands.state → (S : Stepped code P arg rule L right w R j (after code m e x.stands.state x.stands.made))
         → LivesTied S.sight (S.event ∷ R) (after code m e x.stands.state x.stands.made)) x.stands.number
-        (λ x can S. lives_any T short B wanted lives e.task e.turns e.wants e.action x can S) x can S
+        (λ x can S. lives_any T short B wanted lives e.task e.ticks e.wants e.action x can S) x can S

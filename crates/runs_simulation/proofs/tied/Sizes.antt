@@ -51,13 +51,13 @@ write_charged heap n (pos i) v h = go (nat_lt i (length (values_of (object_at he
     go true = written_charged heap n i v h
     go false = h
 
-event_charged : (code : Code) (w : World) (k turns : ℕ) (wants : Option (List PathEffect)) (a : Action) → AllCharged w.heap
-    → AllCharged (world_after code w (event_of k turns wants a)).heap
-event_charged code w k turns wants (action.Do (own.Write n j v)) h = write_charged w.heap n j v h
-event_charged code w k turns wants (action.Do (own.NewObject c rs constructor)) h = more_charged w.heap (instance c rs (first_fields code c)) h
-event_charged code w k turns wants (action.Do (own.NewArray region len first)) h = more_charged w.heap (array region (replicate len first)) h
-event_charged code w k turns wants (action.Do (own.Print bytes)) h = λ n o e. (let l = h n o e in omega (arith, l))
-event_charged code w k turns wants a h = h
+event_charged : (code : Code) (w : World) (k ticks : ℕ) (wants : Option (List PathEffect)) (a : Action) → AllCharged w.heap
+    → AllCharged (world_after code w (event_of k ticks wants a)).heap
+event_charged code w k ticks wants (action.Do (own.Write n j v)) h = write_charged w.heap n j v h
+event_charged code w k ticks wants (action.Do (own.NewObject c rs constructor)) h = more_charged w.heap (instance c rs (first_fields code c)) h
+event_charged code w k ticks wants (action.Do (own.NewArray region len first)) h = more_charged w.heap (array region (replicate len first)) h
+event_charged code w k ticks wants (action.Do (own.Print bytes)) h = λ n o e. (let l = h n o e in omega (arith, l))
+event_charged code w k ticks wants a h = h
 
 -- wherever a schedule leads
 pub all_charged : (code : Code) (L : Limits) (arg : ℤ) (ks : List ℕ) (m : Moment) → LeadsTo code L arg ks m → AllCharged m.world.heap
@@ -67,6 +67,6 @@ all_charged code L arg [] m (opened room is) =
 all_charged code L arg [] m (no_room full is) =
     subst (λ (m : Moment). AllCharged m.world.heap) (sym is) (λ n o e. absurd (let both : None ≡ Some o = e in cc))
 all_charged code L arg (k ∷ ks) m (before, leads, made e x can within is) =
-    subst (λ (m : Moment). AllCharged m.world.heap) (sym is) (event_charged code before.world e.task e.turns e.wants e.action (all_charged code L arg ks before leads))
+    subst (λ (m : Moment). AllCharged m.world.heap) (sym is) (event_charged code before.world e.task e.ticks e.wants e.action (all_charged code L arg ks before leads))
 all_charged code L arg (k ∷ ks) m (before, leads, over e x can beyond is) =
     subst (λ (m : Moment). AllCharged m.world.heap) (sym is) (all_charged code L arg ks before leads)

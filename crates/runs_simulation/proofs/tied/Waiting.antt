@@ -9,9 +9,9 @@ use Rattle.std.specs.Prelude.{cond}
 use Rattle.lang_base.specs.declared.effect.Effect.{Effect as PathEffect}
 use Rattle.lang_base.specs.declared.outcome.Limits.{Limits}
 use Rattle.lang_meaning.specs.Actions.{Answer, Effect, Ending, Do, End, Enter, Rest}
-use Rattle.lang_meaning.specs.Asking.{most_turns}
+use Rattle.lang_meaning.specs.Asking.{most_ticks}
 use Rattle.code_instrs.specs.RunsToActions.{Halt, Asks, Finished, Dead, RunsToAction}
-use Rattle.code_instrs.specs.Machine.{root_start, Start, State, Stand, Goes, Turns, Makes, Waits, Ends, Stuck, step}
+use Rattle.code_instrs.specs.Machine.{root_start, Start, State, Stand, Goes, Ticks, Makes, Waits, Ends, Stuck, step}
 use Rattle.code_instrs.specs.Plain.{PlainCode, plain_code}
 use Rattle.code_instrs.specs.declared.code.Code.{Code}
 use Rattle.exec_task.specs.Branches.{starts_at}
@@ -57,12 +57,12 @@ rested_other : (waits : Waiting) (k j : ℕ) (wants : Option (List PathEffect)) 
 rested_other waits k j None apart = refl
 rested_other waits k j (Some E) apart = inserted_other waits k j E apart
 
-waits_other : (code : Code) (w : World) (k turns : ℕ) (wants : Option (List PathEffect)) (a : DeclaredAction) (j : ℕ) → j ≢ k
-    → get (world_after code w (event_of k turns wants a)).waits j ≡ get w.waits j
-waits_other code w k turns wants (action.Do own.Rest) j apart = rested_other w.waits k j wants apart
-waits_other code w k turns wants (action.Do (own.Enter effects)) j apart =
+waits_other : (code : Code) (w : World) (k ticks : ℕ) (wants : Option (List PathEffect)) (a : DeclaredAction) (j : ℕ) → j ≢ k
+    → get (world_after code w (event_of k ticks wants a)).waits j ≡ get w.waits j
+waits_other code w k ticks wants (action.Do own.Rest) j apart = rested_other w.waits k j wants apart
+waits_other code w k ticks wants (action.Do (own.Enter effects)) j apart =
     get-remove nat_cmp_total w.waits k j ∙ ap (λ b. cond b None (get w.waits j)) (other_number j k apart)
-waits_other code w k turns wants a j apart = refl
+waits_other code w k ticks wants a j apart = refl
 
 -- a branch that begins is in front of no entry
 module _ (C : PlainCode) where
@@ -81,23 +81,23 @@ module _ (C : PlainCode) where
   branch_noted z a next tasks waits h j t e = h j t e
 
   -- where a task stands at an action, what it answers leads on
-  record At (z : State ℕ (ℕ × ℕ)) (turns : ℕ) (h : Halt ℕ (ℕ × ℕ)) (x : Answer ℕ (ℕ × ℕ)) (t : Running) : Type 0 where
+  record At (z : State ℕ (ℕ × ℕ)) (ticks : ℕ) (h : Halt ℕ (ℕ × ℕ)) (x : Answer ℕ (ℕ × ℕ)) (t : Running) : Type 0 where
     made : ℕ
     act : ActionIn
     then_in : ThenIn
-    is : h ≡ Asks turns made act then_in
+    is : h ≡ Asks ticks made act then_in
     state : t.state ≡ then_in x
-    following : (turns == most_turns) ≡ false → Following C z act then_in
-    spent : (turns == most_turns) ≡ true → act ≡ Do Rest
+    following : (ticks == most_ticks) ≡ false → Following C z act then_in
+    spent : (ticks == most_ticks) ≡ true → act ≡ Do Rest
 
-  at_answer : (k turns made : ℕ) (z : State ℕ (ℕ × ℕ)) (y : DeclaredAnswer) (t : Running) → answered (front C k turns made z) y ≡ Some t
-      → At z turns (front C k turns made z) (plain_answer y) t
-  at_answer k turns made z y t e = go (turns == most_turns) refl e
+  at_answer : (k ticks made : ℕ) (z : State ℕ (ℕ × ℕ)) (y : DeclaredAnswer) (t : Running) → answered (front C k ticks made z) y ≡ Some t
+      → At z ticks (front C k ticks made z) (plain_answer y) t
+  at_answer k ticks made z y t e = go (ticks == most_ticks) refl e
     where
       Here : Bool → Halt ℕ (ℕ × ℕ)
-      Here b = if b then Asks turns made (Do Rest) (λ x. z) else stands turns made (step (names_of k) C z)
+      Here b = if b then Asks ticks made (Do Rest) (λ x. z) else stands ticks made (step (names_of k) C z)
 
-      stood : (turns == most_turns) ≡ false → (o : Stand ℕ (ℕ × ℕ)) → Leading C z o → answered (stands turns made o) y ≡ Some t → At z turns (stands turns made o) (plain_answer y) t
+      stood : (ticks == most_ticks) ≡ false → (o : Stand ℕ (ℕ × ℕ)) → Leading C z o → answered (stands ticks made o) y ≡ Some t → At z ticks (stands ticks made o) (plain_answer y) t
       stood i (Waits a f) l e = record {
         made = made;
         act = a;
@@ -108,12 +108,12 @@ module _ (C : PlainCode) where
         spent = λ n. absurd (let both : false ≡ true = sym i ∙ n in cc);
       }
       stood i (Goes s) l e = absurd (cc)
-      stood i (Turns s) l e = absurd (cc)
+      stood i (Ticks s) l e = absurd (cc)
       stood i (Makes f) l e = absurd (cc)
       stood i (Ends x) l e = absurd (cc)
       stood i Stuck l e = absurd (cc)
 
-      go : (b : Bool) → (turns == most_turns) ≡ b → answered (Here b) y ≡ Some t → At z turns (Here b) (plain_answer y) t
+      go : (b : Bool) → (ticks == most_ticks) ≡ b → answered (Here b) y ≡ Some t → At z ticks (Here b) (plain_answer y) t
       go true i e = record {
         made = made;
         act = Do Rest;
@@ -135,41 +135,41 @@ module _ (C : PlainCode) where
   passes : {b c : ActionIn} → b ≡ c → Passes c → Passes b
   passes e n = (λ r. n.0 (sym e ∙ r), λ x r. n.1 x (sym e ∙ r))
 
-  module _ (k turns made : ℕ) (z : State ℕ (ℕ × ℕ)) (y : DeclaredAnswer) (t : Running) (waits : Waiting) where
+  module _ (k ticks made : ℕ) (z : State ℕ (ℕ × ℕ)) (y : DeclaredAnswer) (t : Running) (waits : Waiting) where
     -- after it no entry follows
-    none_next : (a : DeclaredAction) → Tells C a (front C k turns made z) → ((b : ActionIn) → Says C a b → Passes b)
-        → answered (front C k turns made z) y ≡ Some t → Noted C waits k t
-    none_next a tells passed e E i = absurd (go (turns == most_turns) refl)
+    none_next : (a : DeclaredAction) → Tells C a (front C k ticks made z) → ((b : ActionIn) → Says C a b → Passes b)
+        → answered (front C k ticks made z) y ≡ Some t → Noted C waits k t
+    none_next a tells passed e E i = absurd (go (ticks == most_ticks) refl)
       where
-        A : At z turns (front C k turns made z) (plain_answer y) t
-        A = at_answer k turns made z y t e
+        A : At z ticks (front C k ticks made z) (plain_answer y) t
+        A = at_answer k ticks made z y t e
 
         p : Passes A.act
-        p = passed A.act (reported a (front C k turns made z) turns A.made A.act A.then_in tells A.is)
+        p = passed A.act (reported a (front C k ticks made z) ticks A.made A.act A.then_in tells A.is)
 
-        go : (b : Bool) → (turns == most_turns) ≡ b → ⊥
+        go : (b : Bool) → (ticks == most_ticks) ≡ b → ⊥
         go true s = p.0 (A.spent s)
         go false s =
             let none : entry_next C (A.then_in (plain_answer y)) ≡ None = after_others C z A.act A.then_in (A.following s) p.0 p.1 (plain_answer y) in
             let both : None ≡ Some E = sym none ∙ ap (λ s. entry_next C s) (sym A.state) ∙ i in cc
 
     -- after a rest the entry in front of which the task rests
-    rest_next : {first : ℕ} {s : State ℕ (ℕ × ℕ)} → RunsToAction (names_of k) C first s (front C k turns made z) → Tells C (action.Do own.Rest) (front C k turns made z)
-        → (wants : Option (List PathEffect)) → WantsRightly C z turns (action.Do own.Rest) wants → answered (front C k turns made z) y ≡ Some t → Noted C (rested waits k wants) k t
-    rest_next {first} {s} run_to_action tells wants right e E i = go (turns == most_turns) refl
+    rest_next : {first : ℕ} {s : State ℕ (ℕ × ℕ)} → RunsToAction (names_of k) C first s (front C k ticks made z) → Tells C (action.Do own.Rest) (front C k ticks made z)
+        → (wants : Option (List PathEffect)) → WantsRightly C z ticks (action.Do own.Rest) wants → answered (front C k ticks made z) y ≡ Some t → Noted C (rested waits k wants) k t
+    rest_next {first} {s} run_to_action tells wants right e E i = go (ticks == most_ticks) refl
       where
-        A : At z turns (front C k turns made z) (plain_answer y) t
-        A = at_answer k turns made z y t e
+        A : At z ticks (front C k ticks made z) (plain_answer y) t
+        A = at_answer k ticks made z y t e
 
         is_rest : A.act ≡ Do Rest
-        is_rest = reported (action.Do own.Rest) (front C k turns made z) turns A.made A.act A.then_in tells A.is
+        is_rest = reported (action.Do own.Rest) (front C k ticks made z) ticks A.made A.act A.then_in tells A.is
 
         entry : entry_next C (A.then_in (plain_answer y)) ≡ Some E
         entry = ap (λ s. entry_next C s) (sym A.state) ∙ i
 
-        go : (b : Bool) → (turns == most_turns) ≡ b → get (rested waits k wants) k ≡ Some (map noted E)
+        go : (b : Bool) → (ticks == most_ticks) ≡ b → get (rested waits k wants) k ≡ Some (map noted E)
         go true b =
-            absurd (let none = run_spent C k first s (front C k turns made z) turns A.made A.act A.then_in run_to_action A.is b (plain_answer y) in
+            absurd (let none = run_spent C k first s (front C k ticks made z) ticks A.made A.act A.then_in run_to_action A.is b (plain_answer y) in
             let both : None ≡ Some E = sym none ∙ entry in cc)
         go false b = subst (λ o. get (rested waits k o) k ≡ Some (map noted E)) (sym so) (inserted_own waits k (map noted E))
           where
@@ -180,30 +180,30 @@ module _ (C : PlainCode) where
             so = right ∙ ap (λ c. option_map (map noted) (if c then None else wants_at C z)) b ∙ ap (option_map (map noted)) (sym following ∙ entry)
 
 -- over an event
-module _ (code : Code) (m : Moment) (k turns : ℕ) (wants : Option (List PathEffect)) where
+module _ (code : Code) (m : Moment) (k ticks : ℕ) (wants : Option (List PathEffect)) where
   abbrev C : PlainCode
   C = plain_code code
 
-  abbrev Own : (a : DeclaredAction) → NextOf C m k (event_of k turns wants a) → Type 0
-  Own a x = (t : Running) → goes_on a (front C k turns x.stands.made x.stands.state) (answer_at m.world k a) ≡ Some t
-      → Noted C (world_after code m.world (event_of k turns wants a)).waits k t
+  abbrev Own : (a : DeclaredAction) → NextOf C m k (event_of k ticks wants a) → Type 0
+  Own a x = (t : Running) → goes_on a (front C k ticks x.stands.made x.stands.state) (answer_at m.world k a) ≡ Some t
+      → Noted C (world_after code m.world (event_of k ticks wants a)).waits k t
 
-  abbrev None_next : (a : DeclaredAction) (x : NextOf C m k (event_of k turns wants a)) → ((b : ActionIn) → Says C a b → Passes C b) → (t : Running)
-      → answered (front C k turns x.stands.made x.stands.state) (answer_at m.world k a) ≡ Some t → (waits : Waiting) → Noted C waits k t
-  None_next a x p t e waits = none_next C k turns x.stands.made x.stands.state (answer_at m.world k a) t waits a x.stands.tells p e
+  abbrev None_next : (a : DeclaredAction) (x : NextOf C m k (event_of k ticks wants a)) → ((b : ActionIn) → Says C a b → Passes C b) → (t : Running)
+      → answered (front C k ticks x.stands.made x.stands.state) (answer_at m.world k a) ≡ Some t → (waits : Waiting) → Noted C waits k t
+  None_next a x p t e waits = none_next C k ticks x.stands.made x.stands.state (answer_at m.world k a) t waits a x.stands.tells p e
 
-  own_noted : (a : DeclaredAction) (x : NextOf C m k (event_of k turns wants a)) → Own a x
+  own_noted : (a : DeclaredAction) (x : NextOf C m k (event_of k ticks wants a)) → Own a x
   own_noted (action.Do own.Rest) x t e =
-      rest_next C k turns x.stands.made x.stands.state (answer_at m.world k (action.Do own.Rest)) t m.world.waits x.stands.run_to_action x.stands.tells wants x.stands.wants e
+      rest_next C k ticks x.stands.made x.stands.state (answer_at m.world k (action.Do own.Rest)) t m.world.waits x.stands.run_to_action x.stands.tells wants x.stands.wants e
   own_noted (action.Fork forking many) x t e = None_next (action.Fork forking many) x (λ b s. passes C s.1 (λ r. (cc), λ x r. (cc))) t e _
   own_noted (action.End c) x t e = absurd (cc)
   own_noted a x t e = None_next a x (λ b s. passes C s (λ r. (cc), λ x r. (cc))) t e _
 
-  event_noted : (a : DeclaredAction) (x : NextOf C m k (event_of k turns wants a)) → AllNoted C m
-      → AllNoted C (after code m (event_of k turns wants a) x.stands.state x.stands.made)
+  event_noted : (a : DeclaredAction) (x : NextOf C m k (event_of k ticks wants a)) → AllNoted C m
+      → AllNoted C (after code m (event_of k ticks wants a) x.stands.state x.stands.made)
   event_noted a x all j t e = elim (eqb_tells j k) [
-    | inl s ↦ subst (λ i. Noted C (world_after code m.world (event_of k turns wants a)).waits i t) (sym s.1) (own_noted a x t (sym (placed others k _ j s.1) ∙ e))
-    | inr s ↦ (λ E i. waits_other code m.world k turns wants a j s.1 ∙ branch_noted C x.stands.state a m.world.tree.begun m.tasks m.world.waits all j t (sym (beside others k _ j s.1) ∙ e) E i)
+    | inl s ↦ subst (λ i. Noted C (world_after code m.world (event_of k ticks wants a)).waits i t) (sym s.1) (own_noted a x t (sym (placed others k _ j s.1) ∙ e))
+    | inr s ↦ (λ E i. waits_other code m.world k ticks wants a j s.1 ∙ branch_noted C x.stands.state a m.world.tree.begun m.tasks m.world.waits all j t (sym (beside others k _ j s.1) ∙ e) E i)
   ]
     where
       others : ℕ → Option Running
@@ -214,7 +214,7 @@ module _ (code : Code) (L : Limits) (arg : ℤ) where
       → AllNoted (plain_code code) (after code m e x.stands.state x.stands.made)
   next_noted m k e x all =
       subst (λ j. (y : NextOf (plain_code code) m j e) → AllNoted (plain_code code) (after code m e y.stands.state y.stands.made)) x.stands.number
-      (λ y. event_noted code m e.task e.turns e.wants e.action y all) x
+      (λ y. event_noted code m e.task e.ticks e.wants e.action y all) x
 
   root_noted : (waits : Waiting) (k : ℕ) (t : Running) → root_alone code arg k ≡ Some t → Noted (plain_code code) waits k t
   root_noted waits k t e = go (k == 0) e
@@ -234,14 +234,14 @@ module _ (code : Code) (L : Limits) (arg : ℤ) where
   all_noted (k ∷ ks) m (before, leads, over_so e x can beyond is) = subst (λ m. AllNoted (plain_code code) m) (sym is) (all_noted ks before leads)
 
 -- a task that makes an entry has noted its effects
-pub entry_noted : (C : PlainCode) (m : Moment) (k turns : ℕ) (wants : Option (List PathEffect)) (effects : List PathEffect) (x : NextOf C m k (event_of k turns wants (action.Do (own.Enter effects))))
+pub entry_noted : (C : PlainCode) (m : Moment) (k ticks : ℕ) (wants : Option (List PathEffect)) (effects : List PathEffect) (x : NextOf C m k (event_of k ticks wants (action.Do (own.Enter effects))))
     → AllNoted C m → get m.world.waits k ≡ Some (map noted (map plain_effect effects))
-entry_noted C m k turns wants effects x all = all k x.task x.there (map plain_effect effects) (at_front (front C k turns x.stands.made x.stands.state) refl x.stands.tells)
+entry_noted C m k ticks wants effects x all = all k x.task x.there (map plain_effect effects) (at_front (front C k ticks x.stands.made x.stands.state) refl x.stands.tells)
   where
-    at_front : (h : Halt ℕ (ℕ × ℕ)) → front C k turns x.stands.made x.stands.state ≡ h → Tells C (action.Do (own.Enter effects)) h
+    at_front : (h : Halt ℕ (ℕ × ℕ)) → front C k ticks x.stands.made x.stands.state ≡ h → Tells C (action.Do (own.Enter effects)) h
         → entry_next C x.task.state ≡ Some (map plain_effect effects)
     at_front (Asks n m a f) e t =
-        run_entry C k x.task.made x.task.state (front C k turns x.stands.made x.stands.state) n m (map plain_effect effects) f x.stands.run_to_action (e ∙ ap (λ b. Asks n m b f) t)
+        run_entry C k x.task.made x.task.state (front C k ticks x.stands.made x.stands.state) n m (map plain_effect effects) f x.stands.run_to_action (e ∙ ap (λ b. Asks n m b f) t)
     at_front (Finished n y) e t = absurd (cc)
     at_front Dead e t = absurd t
 
@@ -266,12 +266,12 @@ pub record Rests (C : PlainCode) (m : Moment) (k : ℕ) (W : List PathEffect) : 
 abbrev pub RestsAlone : PlainCode → Moment → Type 0
 RestsAlone C m = (k : ℕ) (W : List PathEffect) → get m.world.waits k ≡ Some W → Rests C m k W
 
-module _ (code : Code) (m : Moment) (k turns : ℕ) (wants : Option (List PathEffect)) (fresh : m.tasks m.world.tree.begun ≡ None) (all : RestsAlone (plain_code code) m) where
+module _ (code : Code) (m : Moment) (k ticks : ℕ) (wants : Option (List PathEffect)) (fresh : m.tasks m.world.tree.begun ≡ None) (all : RestsAlone (plain_code code) m) where
   abbrev CA : PlainCode
   CA = plain_code code
 
   -- what is noted of a task that makes no entry
-  none_noted : (a : DeclaredAction) (x : NextOf CA m k (event_of k turns wants a)) → ((b : ActionIn) → Says CA a b → (E : EffectsIn) → b ≡ Do (Enter E) → ⊥)
+  none_noted : (a : DeclaredAction) (x : NextOf CA m k (event_of k ticks wants a)) → ((b : ActionIn) → Says CA a b → (E : EffectsIn) → b ≡ Do (Enter E) → ⊥)
       → (o : Option (List PathEffect)) → get m.world.waits k ≡ o → o ≡ None
   none_noted a x other None e = refl
   none_noted a x other (Some W) e = absurd (other (Do (Enter r.entry)) says r.entry refl)
@@ -282,15 +282,15 @@ module _ (code : Code) (m : Moment) (k turns : ℕ) (wants : Option (List PathEf
       same : x.task ≡ r.task
       same = (let both : Some x.task ≡ Some r.task = sym x.there ∙ r.there in cc)
 
-      at : (f : ThenIn) × (front CA k turns x.stands.made x.stands.state ≡ Asks 0 x.task.made (Do (Enter r.entry)) f)
-      at = run_rested CA k x.task.made x.task.state (front CA k turns x.stands.made x.stands.state) r.entry (ap (λ (t : Running). entry_next CA t.state) same ∙ r.next) x.stands.run_to_action
+      at : (f : ThenIn) × (front CA k ticks x.stands.made x.stands.state ≡ Asks 0 x.task.made (Do (Enter r.entry)) f)
+      at = run_rested CA k x.task.made x.task.state (front CA k ticks x.stands.made x.stands.state) r.entry (ap (λ (t : Running). entry_next CA t.state) same ∙ r.next) x.stands.run_to_action
 
       says : Says CA a (Do (Enter r.entry))
-      says = reported CA a (front CA k turns x.stands.made x.stands.state) 0 x.task.made (Do (Enter r.entry)) at.0 x.stands.tells at.1
+      says = reported CA a (front CA k ticks x.stands.made x.stands.state) 0 x.task.made (Do (Enter r.entry)) at.0 x.stands.tells at.1
 
   -- another task that has begun goes on as it was
-  other_task : (a : DeclaredAction) (x : NextOf CA m k (event_of k turns wants a)) (j : ℕ) (t : Running) → j ≢ k → m.tasks j ≡ Some t
-      → (after code m (event_of k turns wants a) x.stands.state x.stands.made).tasks j ≡ Some t
+  other_task : (a : DeclaredAction) (x : NextOf CA m k (event_of k ticks wants a)) (j : ℕ) (t : Running) → j ≢ k → m.tasks j ≡ Some t
+      → (after code m (event_of k ticks wants a) x.stands.state x.stands.made).tasks j ≡ Some t
   other_task a x j t apart e = beside (with_branch CA x.stands.state a m.world.tree.begun m.tasks) k _ j apart ∙ branch_beside a
     where
       not_fresh : j ≢ m.world.tree.begun
@@ -301,11 +301,11 @@ module _ (code : Code) (m : Moment) (k turns : ℕ) (wants : Option (List PathEf
       branch_beside a = e
 
   abbrev Own_rests : DeclaredAction → Type 0
-  Own_rests a = (x : NextOf CA m k (event_of k turns wants a)) (W : List PathEffect) → get (world_after code m.world (event_of k turns wants a)).waits k ≡ Some W
-      → Rests CA (after code m (event_of k turns wants a) x.stands.state x.stands.made) k W
+  Own_rests a = (x : NextOf CA m k (event_of k ticks wants a)) (W : List PathEffect) → get (world_after code m.world (event_of k ticks wants a)).waits k ≡ Some W
+      → Rests CA (after code m (event_of k ticks wants a) x.stands.state x.stands.made) k W
 
   -- where nothing is noted over the event
-  nothing_noted : (a : DeclaredAction) (x : NextOf CA m k (event_of k turns wants a)) → ((b : ActionIn) → Says CA a b → (E : EffectsIn) → b ≡ Do (Enter E) → ⊥)
+  nothing_noted : (a : DeclaredAction) (x : NextOf CA m k (event_of k ticks wants a)) → ((b : ActionIn) → Says CA a b → (E : EffectsIn) → b ≡ Do (Enter E) → ⊥)
       → (W : List PathEffect) → get m.world.waits k ≡ Some W → ⊥
   nothing_noted a x other W e = (let none = none_noted a x other (get m.world.waits k) refl in let both : None ≡ Some W = sym none ∙ e in cc)
 
@@ -320,10 +320,10 @@ module _ (code : Code) (m : Moment) (k turns : ℕ) (wants : Option (List PathEf
       z = x.stands.state
 
       h : Halt ℕ (ℕ × ℕ)
-      h = front CA k turns x.stands.made z
+      h = front CA k ticks x.stands.made z
 
       n : Moment
-      n = after code m (event_of k turns wants (action.Do own.Rest)) z x.stands.made
+      n = after code m (event_of k ticks wants (action.Do own.Rest)) z x.stands.made
 
       G : Goes_on CA h (answer_at m.world k (action.Do own.Rest))
       G = rest_goes_on CA h (answer_at m.world k (action.Do own.Rest)) x.stands.tells
@@ -331,13 +331,13 @@ module _ (code : Code) (m : Moment) (k turns : ℕ) (wants : Option (List PathEf
       there : n.tasks k ≡ Some G.task
       there = placed (with_branch CA z (action.Do own.Rest) m.world.tree.begun m.tasks) k _ k refl ∙ G.goes
 
-      A : At CA z turns h (plain_answer (answer_at m.world k (action.Do own.Rest))) G.task
-      A = at_answer CA k turns x.stands.made z (answer_at m.world k (action.Do own.Rest)) G.task G.goes
+      A : At CA z ticks h (plain_answer (answer_at m.world k (action.Do own.Rest))) G.task
+      A = at_answer CA k ticks x.stands.made z (answer_at m.world k (action.Do own.Rest)) G.task G.goes
 
       is_rest : A.act ≡ Do Rest
-      is_rest = reported CA (action.Do own.Rest) h turns A.made A.act A.then_in x.stands.tells A.is
+      is_rest = reported CA (action.Do own.Rest) h ticks A.made A.act A.then_in x.stands.tells A.is
 
-      rests_with : (V : List PathEffect) → wants ≡ Some V → V ≡ W → (b : Bool) → (turns == most_turns) ≡ b → Rests CA n k W
+      rests_with : (V : List PathEffect) → wants ≡ Some V → V ≡ W → (b : Bool) → (ticks == most_ticks) ≡ b → Rests CA n k W
       rests_with V i s true b =
           absurd (let both : Some V ≡ None = sym i ∙ x.stands.wants ∙ ap (λ c. option_map (map noted) (if c then None else wants_at CA z)) b in cc)
       rests_with V i s false b = by_wants (wants_at CA z) refl
@@ -362,7 +362,7 @@ module _ (code : Code) (m : Moment) (k turns : ℕ) (wants : Option (List PathEf
       go None i = absurd (nothing_noted (action.Do own.Rest) x (λ b s. no_entry s (λ E r. (cc))) W (ap (λ o. get (rested m.world.waits k o) k) (sym i) ∙ e))
       go (Some V) i =
           let here : Some V ≡ Some W = sym (inserted_own m.world.waits k V) ∙ ap (λ o. get (rested m.world.waits k o) k) (sym i) ∙ e in
-          rests_with V i (cc) (turns == most_turns) refl
+          rests_with V i (cc) (ticks == most_ticks) refl
 
   own_rests : (a : DeclaredAction) → Own_rests a
   own_rests (action.Do own.Rest) x W e = rest_rests x W e
@@ -371,11 +371,11 @@ module _ (code : Code) (m : Moment) (k turns : ℕ) (wants : Option (List PathEf
   own_rests (action.Fork forking many) x W e = absurd (nothing_noted (action.Fork forking many) x (λ b s. no_entry s.1 (λ E r. (cc))) W e)
   own_rests a x W e = absurd (nothing_noted a x (λ b s. no_entry s (λ E r. (cc))) W e)
 
-  rests_after : (a : DeclaredAction) (x : NextOf CA m k (event_of k turns wants a)) → RestsAlone CA (after code m (event_of k turns wants a) x.stands.state x.stands.made)
+  rests_after : (a : DeclaredAction) (x : NextOf CA m k (event_of k ticks wants a)) → RestsAlone CA (after code m (event_of k ticks wants a) x.stands.state x.stands.made)
   rests_after a x j W e = elim (eqb_tells j k) [
-    | inl s ↦ subst (λ i. Rests CA (after code m (event_of k turns wants a) x.stands.state x.stands.made) i W) (sym s.1)
-        (own_rests a x W (ap (λ i. get (world_after code m.world (event_of k turns wants a)).waits i) (sym s.1) ∙ e))
-    | inr s ↦ (let r = all j W (sym (waits_other code m.world k turns wants a j s.1) ∙ e) in
+    | inl s ↦ subst (λ i. Rests CA (after code m (event_of k ticks wants a) x.stands.state x.stands.made) i W) (sym s.1)
+        (own_rests a x W (ap (λ i. get (world_after code m.world (event_of k ticks wants a)).waits i) (sym s.1) ∙ e))
+    | inr s ↦ (let r = all j W (sym (waits_other code m.world k ticks wants a j s.1) ∙ e) in
         record { task = r.task; there = other_task a x j r.task s.1 r.there; entry = r.entry; next = r.next; noted_as = r.noted_as })
   ]
 
@@ -384,7 +384,7 @@ module _ (code : Code) (L : Limits) (arg : ℤ) (goes : CanProgress code L arg) 
       → RestsAlone (plain_code code) (after code m e x.stands.state x.stands.made)
   next_rests m k e x fresh all =
       subst (λ j. (y : NextOf (plain_code code) m j e) → RestsAlone (plain_code code) (after code m e y.stands.state y.stands.made)) x.stands.number
-      (λ y. rests_after code m e.task e.turns e.wants fresh all e.action y) x
+      (λ y. rests_after code m e.task e.ticks e.wants fresh all e.action y) x
 
   nobody : Waiting
   nobody = empty

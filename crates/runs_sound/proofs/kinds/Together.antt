@@ -3,12 +3,12 @@ use Rattle.std.proofs.Common.{◌≡◌, ◌⊎◌, inl, inr, ℕ, zero, suc, �
 use Rattle.std.proofs.lemmas.Bool.{eqb-false}
 use Rattle.lang_typed.specs.declared.stmt.Forking.{Forking}
 use Rattle.lang_meaning.specs.Actions.{Work}
-use Rattle.lang_meaning.specs.Asking.{most_turns, asked, turned, begins_then, reported_join, reported, ending, ended, replied}
+use Rattle.lang_meaning.specs.Asking.{most_ticks, asked, ticked, begins_then, reported_join, reported, ending, ended, replied}
 use Rattle.lang_meaning.specs.Core.{Goes_on, Returns, Makes, Done, Trapped as Fallen, Stopped, Lost, bind, tested, rounded, run}
 use Rattle.lang_meaning.specs.Counts.{Brought, brought, truth}
 use Rattle.lang_meaning.specs.Tasks.{again as loops}
 use Rattle.lang_meaning.specs.Values.{Naming}
-use Rattle.lang_meaning.proofs.Turns.{most_pos, past_test, turned_if, loops_again, bind_done}
+use Rattle.lang_meaning.proofs.Ticks.{most_pos, past_test, ticked_if, loops_again, bind_done}
 use Rattle.runs_theory.specs.Actions.{Task, Own, Do, Fork, Answer, Reply, Next}
 use Rattle.runs_theory.specs.Objects.{Name, LocalRegion}
 use Rattle.runs_sound.specs.Frames.{Frame}
@@ -31,14 +31,14 @@ together_self : (d : ℕ) (m : Replies) → Together d m m
 together_self zero m = tt
 together_self (suc d) m = inr (refl, λ x. together_self d (λ xs. m (x ∷ xs)))
 
-room_falls : (n d t : ℕ) → most_turns * suc d + (most_turns - t) < n → most_turns * d + (most_turns - 0) < n
+room_falls : (n d t : ℕ) → most_ticks * suc d + (most_ticks - t) < n → most_ticks * d + (most_ticks - 0) < n
 room_falls n d t l = omega arith
 
--- however deep, where less than so many turns are possible
+-- however deep, where less than so many ticks are possible
 record Both (n : ℕ) (h k : Reported → Reply) : Type 0 where
-  from : (d t made : ℕ) → t < most_turns → most_turns * d + (most_turns - t) < n → Together d (λ xs. h (reported_on t made xs)) (λ xs. k (reported_on t made xs))
+  from : (d t made : ℕ) → t < most_ticks → most_ticks * d + (most_ticks - t) < n → Together d (λ xs. h (reported_on t made xs)) (λ xs. k (reported_on t made xs))
 
-both_same : {n : ℕ} {h i k l : Reported → Reply} → ((w : Reported) → w.since < most_turns → h w ≡ i w) → ((w : Reported) → w.since < most_turns → k w ≡ l w) → Both n h k → Both n i l
+both_same : {n : ℕ} {h i k l : Reported → Reply} → ((w : Reported) → w.since < most_ticks → h w ≡ i w) → ((w : Reported) → w.since < most_ticks → k w ≡ l w) → Both n h k → Both n i l
 both_same e f s = record { from = λ d t made l r. together_same d (λ xs. e (reported_on t made xs) l) (λ xs. f (reported_on t made xs) l) (s.from d t made l r) }
 
 both_less : {n m : ℕ} {h k : Reported → Reply} → m ≤ n → Both n h k → Both m h k
@@ -52,36 +52,36 @@ module _ {V : Type 0} (K L : V → Reported → Reply) where
       Both n (λ w. finish (bind (asked (Do o) w) k) K) (λ w. finish (bind (asked (Do o) w) l) L)
   both_own {n} o k l more = record { from = go }
     where
-      go : (d t made : ℕ) → t < most_turns → most_turns * d + (most_turns - t) < n →
+      go : (d t made : ℕ) → t < most_ticks → most_ticks * d + (most_ticks - t) < n →
           Together d (λ xs. finish (bind (asked (Do o) (reported_on t made xs)) k) K) (λ xs. finish (bind (asked (Do o) (reported_on t made xs)) l) L)
       go zero t made b r = tt
       go (suc d) t made b r = inr (refl, λ x. (more x).from d 0 made most_pos (room_falls n d t r))
 
-  both_turn : {n : ℕ} (k l : Reported → Out V) → Both n (λ w. finish (k w) K) (λ w. finish (l w) L) →
-      Both (suc n) (λ w. finish (bind (turned w) (λ u v. k v)) K) (λ w. finish (bind (turned w) (λ u v. l v)) L)
-  both_turn {n} k l s = record { from = λ d t made b r. go d t made b r (suc t == most_turns) refl }
+  both_tick : {n : ℕ} (k l : Reported → Out V) → Both n (λ w. finish (k w) K) (λ w. finish (l w) L) →
+      Both (suc n) (λ w. finish (bind (ticked w) (λ u v. k v)) K) (λ w. finish (bind (ticked w) (λ u v. l v)) L)
+  both_tick {n} k l s = record { from = λ d t made b r. go d t made b r (suc t == most_ticks) refl }
     where
-      go : (d t made : ℕ) → t < most_turns → most_turns * d + (most_turns - t) < suc n → (c : Bool) → (suc t == most_turns) ≡ c →
-          Together d (λ xs. finish (bind (turned_if c (reported_on t made xs)) (λ u v. k v)) K) (λ xs. finish (bind (turned_if c (reported_on t made xs)) (λ u v. l v)) L)
+      go : (d t made : ℕ) → t < most_ticks → most_ticks * d + (most_ticks - t) < suc n → (c : Bool) → (suc t == most_ticks) ≡ c →
+          Together d (λ xs. finish (bind (ticked_if c (reported_on t made xs)) (λ u v. k v)) K) (λ xs. finish (bind (ticked_if c (reported_on t made xs)) (λ u v. l v)) L)
       go zero t made b r true e = tt
       go (suc d) t made b r true e = inr (refl, λ x. s.from d 0 made most_pos (omega arith))
       go d t made b r false e =
-          let ne = eqb-false (suc t) most_turns e in
-          let lt : suc t < most_turns = grind arith in
+          let ne = eqb-false (suc t) most_ticks e in
+          let lt : suc t < most_ticks = grind arith in
           s.from d (suc t) made lt (omega arith)
 
   module _ {n : ℕ} (k l : Brought Name → Reported → Out V) (more : (x : Brought Name) → Both n (λ w. finish (k x w) K) (λ w. finish (l x w) L)) where
     both_begins : (i j : ℕ) → Both n (λ w. finish (bind (begins_then i j reported_join w) k) K) (λ w. finish (bind (begins_then i j reported_join w) l) L)
     both_begins i zero = record { from = go }
       where
-        go : (d t made : ℕ) → t < most_turns → most_turns * d + (most_turns - t) < n →
+        go : (d t made : ℕ) → t < most_ticks → most_ticks * d + (most_ticks - t) < n →
             Together d (λ xs. finish (bind (reported_join (reported_on t made xs)) k) K) (λ xs. finish (bind (reported_join (reported_on t made xs)) l) L)
         go zero t made b r = tt
         go (suc d) t made b r = inr (refl, λ x. (more (brought x)).from d 0 made most_pos (room_falls n d t r))
     both_begins i (suc j) = record { from = go (both_begins (suc i) j) }
       where
-        go : Both n (λ w. finish (bind (begins_then (suc i) j reported_join w) k) K) (λ w. finish (bind (begins_then (suc i) j reported_join w) l) L) → (d t made : ℕ) → t < most_turns →
-            most_turns * d + (most_turns - t) < n →
+        go : Both n (λ w. finish (bind (begins_then (suc i) j reported_join w) k) K) (λ w. finish (bind (begins_then (suc i) j reported_join w) l) L) → (d t made : ℕ) → t < most_ticks →
+            most_ticks * d + (most_ticks - t) < n →
             Together d (λ xs. finish (bind (begins_then i (suc j) reported_join (reported_on t made xs)) k) K) (λ xs. finish (bind (begins_then i (suc j) reported_join (reported_on t made xs)) l) L)
         go s zero t made b r = tt
         go s (suc d) t made b r = inr (refl, λ x. s.from d 0 made most_pos (room_falls n d t r))
@@ -91,8 +91,8 @@ module _ {V : Type 0} (K L : V → Reported → Reply) where
         (λ w. finish (bind (asked (Fork (record { kind = forking; tasks = ts })) w) (λ a v. bind (begins_then 0 (length ts) reported_join v) l)) L)
     both_fork forking ts = record { from = go (both_begins 0 (length ts)) }
       where
-        go : Both n (λ w. finish (bind (begins_then 0 (length ts) reported_join w) k) K) (λ w. finish (bind (begins_then 0 (length ts) reported_join w) l) L) → (d t made : ℕ) → t < most_turns →
-            most_turns * d + (most_turns - t) < n →
+        go : Both n (λ w. finish (bind (begins_then 0 (length ts) reported_join w) k) K) (λ w. finish (bind (begins_then 0 (length ts) reported_join w) l) L) → (d t made : ℕ) → t < most_ticks →
+            most_ticks * d + (most_ticks - t) < n →
             Together d (λ xs. finish (bind (asked (Fork (record { kind = forking; tasks = ts })) (reported_on t made xs)) (λ a v. bind (begins_then 0 (length ts) reported_join v) k)) K)
             (λ xs. finish (bind (asked (Fork (record { kind = forking; tasks = ts })) (reported_on t made xs)) (λ a v. bind (begins_then 0 (length ts) reported_join v) l)) L)
         go s zero t made b r = tt
@@ -111,8 +111,8 @@ module _ (names : Naming Name LocalRegion) where
     OneMore n K L = (e : Frame) → Both n (λ w. finish (loops names t s e w) K) (λ w. finish (loops names u v e w) L)
 
     good_past : (n : ℕ) (K L : Result → Reported → Reply) → After (suc n) K L → OneMore n K L → (r : Result) →
-        Both (suc n) (λ w. finish (tested turned (λ e x. run (reported names) (s e) x) (λ e x. loops names t s e x) r w) K)
-        (λ w. finish (tested turned (λ e x. run (reported names) (v e) x) (λ e x. loops names u v e x) r w) L)
+        Both (suc n) (λ w. finish (tested ticked (λ e x. run (reported names) (s e) x) (λ e x. loops names t s e x) r w) K)
+        (λ w. finish (tested ticked (λ e x. run (reported names) (v e) x) (λ e x. loops names u v e x) r w) L)
     good_past n K L k more (Returns x) = k (Returns x)
     good_past n K L k more (Goes_on x e) = go (truth x)
       where
@@ -123,7 +123,7 @@ module _ (names : Naming Name LocalRegion) where
         go : (c : Bool) → Both (suc n) (λ w. finish (past_test (λ e x. run (reported names) (s e) x) (λ e x. loops names t s e x) x e w c) K)
             (λ w. finish (past_test (λ e x. run (reported names) (v e) x) (λ e x. loops names u v e x) x e w c) L)
         go false = k (Goes_on x e)
-        go true = both_turn K L (λ y. bind (run (reported names) (s e) y) (λ r q. rounded (λ e x. loops names t s e x) r q)) (λ y. bind (run (reported names) (v e) y) (λ r q. rounded (λ e x. loops names u v e x) r q))
+        go true = both_tick K L (λ y. bind (run (reported names) (s e) y) (λ r q. rounded (λ e x. loops names t s e x) r q)) (λ y. bind (run (reported names) (v e) y) (λ r q. rounded (λ e x. loops names u v e x) r q))
             (both_same (λ w l. sym (finish_bind (run (reported names) (s e) w) _ K)) (λ w l. sym (finish_bind (run (reported names) (v e) w) _ L))
             ((hs e).good n _ _ on_round))
 
@@ -150,8 +150,8 @@ module _ (names : Naming Name LocalRegion) where
           Both n (λ w. finish (run (reported names) (Makes j) w) K) (λ w. finish (run (reported names) (Makes l) w) L)
       made n K L k = record {
         from = λ d t c b r.
-            together_same d (λ xs. ap (λ o. finish o K) (sym (bind_bind (turned (reported_on t (suc c) xs)) _ _))) (λ xs. ap (λ o. finish o L) (sym (bind_bind (turned (reported_on t (suc c) xs)) _ _)))
-            ((both_turn K L (λ v. run (reported names) (j (names.made c)) v) (λ v. run (reported names) (l (names.made c)) v) (k (names.made c))).from d t (suc c) b (omega arith));
+            together_same d (λ xs. ap (λ o. finish o K) (sym (bind_bind (ticked (reported_on t (suc c) xs)) _ _))) (λ xs. ap (λ o. finish o L) (sym (bind_bind (ticked (reported_on t (suc c) xs)) _ _)))
+            ((both_tick K L (λ v. run (reported names) (j (names.made c)) v) (λ v. run (reported names) (l (names.made c)) v) (k (names.made c))).from d t (suc c) b (omega arith));
       }
   walk (again {t = t} {u = u} {s = s} {v = v} {f = f} {k = j} {l = l} a b c) = record {
     good = λ n K L k.
@@ -180,4 +180,4 @@ module _ (names : Naming Name LocalRegion) where
   reply_together k {p} {q} a d =
       let z = most_pos in
       (both_same (λ w l. replied_is k (run (reported names) p w)) (λ w l. replied_is k (run (reported names) q w))
-      ((walk a).good (suc (most_turns * d + most_turns)) (λ r w. ending (ended k r) w.since w.to_come) (λ r w. ending (ended k r) w.since w.to_come) (λ r. both_self _))).from d 0 0 z (omega arith)
+      ((walk a).good (suc (most_ticks * d + most_ticks)) (λ r w. ending (ended k r) w.since w.to_come) (λ r w. ending (ended k r) w.since w.to_come) (λ r. both_self _))).from d 0 0 z (omega arith)

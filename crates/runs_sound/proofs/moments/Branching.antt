@@ -315,7 +315,7 @@ module _ (wrong : Wrong Name LocalRegion) (P : PlainProgram) (wt : WellTyped P) 
       brings None = all_returned P Q s e.path af.before af.event af.stands af.path (record { kind = forking; tasks = ts }) af.act st forks (λ i. ap (λ (k : Kept). k.bounds) (af.kept i)) (λ i. ap (λ (k : Kept). k.scope) (af.kept i)) j.ends ended_there
       brings (Some fell) = tt
 
-  meant : replied a.task.work (run (reported (named_by e.path)) (strict_does wrong (named_by e.path) P a.task) (reported_on 0 0 (reverse (answers (mine R e.path))))) ≡ Next e.turns e.act
+  meant : replied a.task.work (run (reported (named_by e.path)) (strict_does wrong (named_by e.path) P a.task) (reported_on 0 0 (reverse (answers (mine R e.path))))) ≡ Next e.ticks e.act
   unfolding strict_ask
   meant = a.asks
 
@@ -323,7 +323,7 @@ module _ (wrong : Wrong Name LocalRegion) (P : PlainProgram) (wt : WellTyped P) 
   next_step = by w.moment w.grown w.entered w.is_at e.act refl w.may w.tells w.then a.right
     where
       counted : (m : ℕ) × (asks_counting (s.keeping e.path) (answers (mine R e.path)) ≡ Next m e.act)
-      counted = counts_as (s.keeping e.path) e.path a.task (λ q t. strict_does wrong (named_by q) P t) (stand P Q l s a room).path (stand P Q l s a room).task (works e.path) (answers (mine R e.path)) e.turns e.act meant
+      counted = counts_as (s.keeping e.path) e.path a.task (λ q t. strict_does wrong (named_by q) P t) (stand P Q l s a room).path (stand P Q l s a room).task (works e.path) (answers (mine R e.path)) e.ticks e.act meant
 
       w : Now P Q l s a room
       w = now_asked P Q l s a room counted.0 counted.1

@@ -4,10 +4,10 @@ use Rattle.std.proofs.lemmas.Bool.{eqb-false}
 use Rattle.lang_typed.specs.declared.stmt.Forking.{Forking}
 use Rattle.lang_typed.specs.Plain.{PlainProgram}
 use Rattle.lang_typed.specs.Scope.{Scope}
-use Rattle.lang_meaning.specs.Asking.{most_turns, Reported as ReportedOf, asked, turned, begins_then, reported_join, ending}
+use Rattle.lang_meaning.specs.Asking.{most_ticks, Reported as ReportedOf, asked, ticked, begins_then, reported_join, ending}
 use Rattle.lang_meaning.specs.Core.{Out as OutOf, Done, Trapped as Fallen, Stopped, Lost, bind}
 use Rattle.lang_meaning.specs.Counts.{brought}
-use Rattle.lang_meaning.proofs.Turns.{most_pos, turned_if}
+use Rattle.lang_meaning.proofs.Ticks.{most_pos, ticked_if}
 use Rattle.runs_theory.specs.Actions.{Task, Own, Rest, Read, Write, Look, New, Print, Enter, Exit, Action, Do, Fork, Begin, Join, End, Ending, Trapped, Answer, Reply, Next, Over, Unknown}
 use Rattle.runs_theory.specs.Objects.{Name, LocalRegion}
 use Rattle.runs_sound.specs.Accesses.{Bounds}
@@ -35,7 +35,7 @@ finish (Fallen trap p w) K = ending (Trapped trap p) w.since w.to_come
 finish (Stopped n a) K = Next n a
 finish (Lost w) K = Unknown
 
-room_falls : (n d t : ℕ) → most_turns * suc d + (most_turns - t) < n → most_turns * d + (most_turns - 0) < n
+room_falls : (n d t : ℕ) → most_ticks * suc d + (most_ticks - t) < n → most_ticks * d + (most_ticks - 0) < n
 room_falls n d t l = omega arith
 
 abbrev pub reported_on : ℕ → ℕ → List Answer → Reported
@@ -188,11 +188,11 @@ module _ (P : PlainProgram) (b : Bounds) (L : Scope) (copies : List ℕ) where
       go Over z = tt
       go Unknown z = tt
 
-  -- it goes in order, however deep, where less than so many turns are possible
+  -- it goes in order, however deep, where less than so many ticks are possible
   pub record Good (n : ℕ) (g : Moment P b) (k : Reported → Reply) : Type 0 where
-    pub from : (d t : ℕ) → t < most_turns → most_turns * d + (most_turns - t) < n → Goes d g (λ xs. k (reported_on t (state_of g).made xs))
+    pub from : (d t : ℕ) → t < most_ticks → most_ticks * d + (most_ticks - t) < n → Goes d g (λ xs. k (reported_on t (state_of g).made xs))
 
-  pub good_same : {n : ℕ} {g : Moment P b} {h k : Reported → Reply} → ((w : Reported) → w.since < most_turns → h w ≡ k w) → Good n g h → Good n g k
+  pub good_same : {n : ℕ} {g : Moment P b} {h k : Reported → Reply} → ((w : Reported) → w.since < most_ticks → h w ≡ k w) → Good n g h → Good n g k
   good_same {n} {g} e s = record { from = λ d t l r. goes_same d g _ _ (λ xs. e (reported_on t (state_of g).made xs) l) (s.from d t l r) }
 
   pub good_less : {n m : ℕ} {g : Moment P b} {h : Reported → Reply} → m ≤ n → Good n g h → Good m g h
@@ -206,7 +206,7 @@ module _ (P : PlainProgram) (b : Bounds) (L : Scope) (copies : List ℕ) where
       go (suc d) t = record { moment = at st; quietly = still; may = fits; tells = tt; then = λ y h c. goes_over d h }
 
   -- from a state that the next event is answered in, to what follows it
-  stands_in : {n : ℕ} (d t : ℕ) (st : State) {u : State} {h : Moment P b} (k : Reported → Reply) → h ≡ at u → u.made ≡ st.made → most_turns * suc d + (most_turns - t) < n → Good n (at u) k →
+  stands_in : {n : ℕ} (d t : ℕ) (st : State) {u : State} {h : Moment P b} (k : Reported → Reply) → h ≡ at u → u.made ≡ st.made → most_ticks * suc d + (most_ticks - t) < n → Good n (at u) k →
       Goes d h (λ xs. k (reported_on 0 st.made xs))
   stands_in {n} d t st {u} k e m r s =
       subst (λ z. Goes d z (λ xs. k (reported_on 0 st.made xs))) (sym e) (subst (λ y. Goes d (at u) (λ xs. k (reported_on 0 y xs))) m (s.from d 0 most_pos (room_falls n d t r)))
@@ -215,7 +215,7 @@ module _ (P : PlainProgram) (b : Bounds) (L : Scope) (copies : List ℕ) where
       ((x : Answer) (u : State) → After o st u → Answers P b st o m x u → Good n (at u) (λ w. finish (k x w) K)) → Good n (at st) (λ w. finish (bind (acts_counting o w w.to_come) k) K)
   good_own {V} {n} st o k K m leaves more = record { from = go }
     where
-      go : (d t : ℕ) → t < most_turns → most_turns * d + (most_turns - t) < n → Goes d (at st) (λ xs. finish (bind (acts_counting o (reported_on t st.made xs) xs) k) K)
+      go : (d t : ℕ) → t < most_ticks → most_ticks * d + (most_ticks - t) < n → Goes d (at st) (λ xs. finish (bind (acts_counting o (reported_on t st.made xs) xs) k) K)
       go zero t l r = tt
       go (suc d) t l r = record {
         moment = at st;
@@ -225,13 +225,13 @@ module _ (P : PlainProgram) (b : Bounds) (L : Scope) (copies : List ℕ) where
         then = λ x h c. stands_in d t st (λ w. finish (k x w) K) c.1 c.2.made r (more x c.0 c.2 c.3);
       }
 
-  -- a turn, or the rest of the last that may be made without an event
-  pub good_turn : {V : Type 0} {n : ℕ} (st : State) (k : Reported → Out V) (K : V → Reported → Reply) → ((u : State) → Since st u → u.made ≡ st.made → Good n (at u) (λ w. finish (k w) K)) →
-      Good (suc n) (at st) (λ w. finish (bind (turned w) (λ u v. k v)) K)
-  good_turn {V} {n} st k K s = record { from = λ d t l r. go d t l r (suc t == most_turns) refl }
+  -- a tick, or the rest of the last that may be made without an event
+  pub good_tick : {V : Type 0} {n : ℕ} (st : State) (k : Reported → Out V) (K : V → Reported → Reply) → ((u : State) → Since st u → u.made ≡ st.made → Good n (at u) (λ w. finish (k w) K)) →
+      Good (suc n) (at st) (λ w. finish (bind (ticked w) (λ u v. k v)) K)
+  good_tick {V} {n} st k K s = record { from = λ d t l r. go d t l r (suc t == most_ticks) refl }
     where
-      go : (d t : ℕ) → t < most_turns → most_turns * d + (most_turns - t) < suc n → (c : Bool) → (suc t == most_turns) ≡ c →
-          Goes d (at st) (λ xs. finish (bind (turned_if c (reported_on t st.made xs)) (λ u v. k v)) K)
+      go : (d t : ℕ) → t < most_ticks → most_ticks * d + (most_ticks - t) < suc n → (c : Bool) → (suc t == most_ticks) ≡ c →
+          Goes d (at st) (λ xs. finish (bind (ticked_if c (reported_on t st.made xs)) (λ u v. k v)) K)
       go zero t l r true e = tt
       go (suc d) t l r true e = record {
         moment = at st;
@@ -242,8 +242,8 @@ module _ (P : PlainProgram) (b : Bounds) (L : Scope) (copies : List ℕ) where
             ((s c.0 (since_after Rest refl c.2) c.2.made).from d 0 most_pos (omega arith)));
       }
       go d t l r false e =
-          let ne = eqb-false (suc t) most_turns e in
-          let lt : suc t < most_turns = grind arith in
+          let ne = eqb-false (suc t) most_ticks e in
+          let lt : suc t < most_ticks = grind arith in
           (s st (since_now st) refl).from d (suc t) lt (omega arith)
 
   -- begins, and the join
@@ -253,7 +253,7 @@ module _ (P : PlainProgram) (b : Bounds) (L : Scope) (copies : List ℕ) where
   good_begins {V} {n} st forking ts forks i zero k K e more =
       good_same (λ w l. ap (λ o. finish o K) (sym (bind_bind (asked Join w) (λ a v. Done (brought a) v) k))) (record { from = go })
     where
-      go : (d t : ℕ) → t < most_turns → most_turns * d + (most_turns - t) < n →
+      go : (d t : ℕ) → t < most_ticks → most_ticks * d + (most_ticks - t) < n →
           Goes d (forked st forking ts forks i) (λ xs. finish (bind (asked Join (reported_on t st.made xs)) (λ a v. k (brought a) v)) K)
       go zero t l r = tt
       go (suc d) t l r = record {
@@ -267,7 +267,7 @@ module _ (P : PlainProgram) (b : Bounds) (L : Scope) (copies : List ℕ) where
       good_same (λ w l. ap (λ o. finish o K) (sym (bind_bind (asked (Begin i) w) (λ a v. begins_then (suc i) j reported_join v) k)))
       (record { from = go (good_begins st forking ts forks (suc i) j k K (omega arith) more) })
     where
-      go : Good n (forked st forking ts forks (suc i)) (λ w. finish (bind (begins_then (suc i) j reported_join w) k) K) → (d t : ℕ) → t < most_turns → most_turns * d + (most_turns - t) < n →
+      go : Good n (forked st forking ts forks (suc i)) (λ w. finish (bind (begins_then (suc i) j reported_join w) k) K) → (d t : ℕ) → t < most_ticks → most_ticks * d + (most_ticks - t) < n →
           Goes d (forked st forking ts forks i) (λ xs. finish (bind (asked (Begin i) (reported_on t st.made xs)) (λ a v. bind (begins_then (suc i) j reported_join v) k)) K)
       go s zero t l r = tt
       go s (suc d) t l r = record {
@@ -283,7 +283,7 @@ module _ (P : PlainProgram) (b : Bounds) (L : Scope) (copies : List ℕ) where
       Good n (at st) (λ w. finish (bind (asked (Fork (record { kind = forking; tasks = ts })) w) (λ a v. bind (begins_then 0 (length ts) reported_join v) k)) K)
   good_fork {V} {n} st forking ts forks nd_free k K more = record { from = go (good_begins st forking ts forks 0 (length ts) k K (omega arith) more) }
     where
-      go : Good n (forked st forking ts forks 0) (λ w. finish (bind (begins_then 0 (length ts) reported_join w) k) K) → (d t : ℕ) → t < most_turns → most_turns * d + (most_turns - t) < n →
+      go : Good n (forked st forking ts forks 0) (λ w. finish (bind (begins_then 0 (length ts) reported_join w) k) K) → (d t : ℕ) → t < most_ticks → most_ticks * d + (most_ticks - t) < n →
           Goes d (at st) (λ xs. finish (bind (asked (Fork (record { kind = forking; tasks = ts })) (reported_on t st.made xs)) (λ a v. bind (begins_then 0 (length ts) reported_join v) k)) K)
       go s zero t l r = tt
       go s (suc d) t l r = record {

@@ -23,7 +23,7 @@ use Rattle.runs_sound.proofs.moments.Sound.{Kept, asks_counting, Sound, Stands, 
 use Rattle.runs_sound.proofs.moments.Whole.{Whole, whole}
 
 module _ (P : PlainProgram) (wt : WellTyped P) (arg : ℤ) (small : FitsSigned w32 arg) {R : Run} (l : Faithful (stepped P arg) R) (p : Path) (t : Task)
-    (b : Begun (stepped P arg) R p t) (o : Own) (turns : ℕ) (asks : (stepped P arg).meaning p t (answers (mine R p)) ≡ Next turns (Do o)) where
+    (b : Begun (stepped P arg) R p t) (o : Own) (ticks : ℕ) (asks : (stepped P arg).meaning p t (answers (mine R p)) ≡ Next ticks (Do o)) where
   abbrev Q : Program
   Q = stepped P arg
 
@@ -42,12 +42,12 @@ module _ (P : PlainProgram) (wt : WellTyped P) (arg : ℤ) (small : FitsSigned w
   abbrev replies : List Answer → Reply
   replies xs = asks_counting k (reverse xs ++ answers (mine R p))
 
-  meant : replied t.work (run (reported (named_by p)) (does (named_by p) P t) (reported_on 0 0 (reverse (answers (mine R p))))) ≡ Next turns (Do o)
+  meant : replied t.work (run (reported (named_by p)) (does (named_by p) P t) (reported_on 0 0 (reverse (answers (mine R p))))) ≡ Next ticks (Do o)
   unfolding ask
   meant = asks
 
   counted : (m : ℕ) × (asks_counting k (answers (mine R p)) ≡ Next m (Do o))
-  counted = counts_as k p t (λ q t. does (named_by q) P t) stand.path stand.task (w.works p) (answers (mine R p)) turns (Do o) meant
+  counted = counts_as k p t (λ q t. does (named_by q) P t) stand.path stand.task (w.works p) (answers (mine R p)) ticks (Do o) meant
 
   -- what it does next is in order
   record Moving : Type 0 where

@@ -1,13 +1,13 @@
--- A task that counts its local regions comes out as one that doesn't, but for the number with which it stops; and a loop is here too what its next turn
+-- A task that counts its local regions comes out as one that doesn't, but for the number with which it stops; and a loop is here too what its next tick
 -- leads to.
 use Rattle.std.proofs.Common.{◌≡◌, ℕ, zero, suc, ◌+◌, ◌-◌, ◌<◌, ◌≤◌, ⊎_elim, Bool, true, false, List, [], ◌∷◌, refl, sym, ap, ◌∙◌, subst, arith, ◌==◌}
 use Rattle.std.proofs.lemmas.Bool.{eqb-false, cases_lt}
 use Rattle.lang_meaning.specs.Actions.{Action, Answer, Do, Frame, Next, Own, Rest, Task, Work}
-use Rattle.lang_meaning.specs.Asking.{most_turns, Reported, take_answer, asked, turned, made_region, reported_fork, reported, replied}
+use Rattle.lang_meaning.specs.Asking.{most_ticks, Reported, take_answer, asked, ticked, made_region, reported_fork, reported, replied}
 use Rattle.lang_meaning.specs.Core.{Result, Goes_on, Returns, Prog, Ret, Traps, Act, Makes, Again, Split, Out, Done, Trapped, Stopped, Lost, bind, loop, tested, rounded, run}
 use Rattle.lang_meaning.specs.Counts.{truth}
 use Rattle.lang_meaning.specs.Values.{Naming}
-use Rattle.lang_meaning.proofs.Turns.{Body, room, past_test, turned_if, bind_done, run_fits, most_pos}
+use Rattle.lang_meaning.proofs.Ticks.{Body, room, past_test, ticked_if, bind_done, run_fits, most_pos}
 use Rattle.runs_sound.specs.Counting.{acts_counting, counting}
 
 -- the same outcome, but for the number of a stop
@@ -72,22 +72,22 @@ under_bind (Trapped trap p w) k j h = refl
 under_bind (Stopped n a) k j h = refl
 under_bind (Lost w) k j h = tt
 
-turn_low : {N M : Type 0} (w u : Reported N M) (z : Unit {0}) → w.since < most_turns → turned w ≡ Done z u → u.since < most_turns
-turn_low {N} {M} w u z l = go (suc w.since == most_turns) refl
+tick_low : {N M : Type 0} (w u : Reported N M) (z : Unit {0}) → w.since < most_ticks → ticked w ≡ Done z u → u.since < most_ticks
+tick_low {N} {M} w u z l = go (suc w.since == most_ticks) refl
   where
-    rested : (xs : List (Answer N M)) → bind {U = Unit {0}} (take_answer (Do Rest) (record w { since = suc w.since }) xs) (λ a v. Done tt v) ≡ Done z u → u.since < most_turns
+    rested : (xs : List (Answer N M)) → bind {U = Unit {0}} (take_answer (Do Rest) (record w { since = suc w.since }) xs) (λ a v. Done tt v) ≡ Done z u → u.since < most_ticks
     rested [] e = absurd (cc)
     rested (x ∷ xs) e =
         let k : record { since = 0; made = w.made; to_come = xs } ≡ u = cc in
-        subst (λ (y : Reported N M). y.since < most_turns) k most_pos
+        subst (λ (y : Reported N M). y.since < most_ticks) k most_pos
 
-    go : (b : Bool) → (suc w.since == most_turns) ≡ b → turned_if b w ≡ Done z u → u.since < most_turns
+    go : (b : Bool) → (suc w.since == most_ticks) ≡ b → ticked_if b w ≡ Done z u → u.since < most_ticks
     go true q e = rested w.to_come e
     go false q e =
-        let ne = eqb-false (suc w.since) most_turns q in
-        let lt : suc w.since < most_turns = grind arith in
+        let ne = eqb-false (suc w.since) most_ticks q in
+        let lt : suc w.since < most_ticks = grind arith in
         let k : record w { since = suc w.since } ≡ u = cc in
-        subst (λ (y : Reported N M). y.since < most_turns) k lt
+        subst (λ (y : Reported N M). y.since < most_ticks) k lt
 
 module _ {N M : Type 0} where
   abbrev Twins : Body N M → Body N M → Type 0
@@ -97,18 +97,18 @@ module _ {N M : Type 0} where
   twin_round a c t (Returns v) w = refl
   twin_round a c t (Goes_on v f) w = t f w
 
-  twin_tested : (b d a c : Body N M) → Twins b d → Twins a c → (r : Result N M) (w : Reported N M) → Twin (tested turned b a r w) (tested turned d c r w)
+  twin_tested : (b d a c : Body N M) → Twins b d → Twins a c → (r : Result N M) (w : Reported N M) → Twin (tested ticked b a r w) (tested ticked d c r w)
   twin_tested b d a c s t (Returns v) w = refl
   twin_tested b d a c s t (Goes_on v f) w = go (truth v)
     where
       go : (z : Bool) → Twin (past_test b a v f w z) (past_test d c v f w z)
       go false = refl
-      go true = twin_bind (turned w) (turned w) _ _ (twin_self (turned w)) (λ u x. twin_bind (b f x) (d f x) _ _ (s f x) (λ r y. twin_round a c t r y))
+      go true = twin_bind (ticked w) (ticked w) _ _ (twin_self (ticked w)) (λ u x. twin_bind (b f x) (d f x) _ _ (s f x) (λ r y. twin_round a c t r y))
 
-  twin_loop : (b d e g : Body N M) → Twins b d → Twins e g → (n : ℕ) → Twins (λ f w. loop turned b e n f w) (λ f w. loop turned d g n f w)
+  twin_loop : (b d e g : Body N M) → Twins b d → Twins e g → (n : ℕ) → Twins (λ f w. loop ticked b e n f w) (λ f w. loop ticked d g n f w)
   twin_loop b d e g s t zero f w = refl
   twin_loop b d e g s t (suc n) f w =
-      twin_bind (b f w) (d f w) _ _ (s f w) (λ r x. twin_tested e g (λ f w. loop turned b e n f w) (λ f w. loop turned d g n f w) t (twin_loop b d e g s t n) r x)
+      twin_bind (b f w) (d f w) _ _ (s f w) (λ r x. twin_tested e g (λ f w. loop ticked b e n f w) (λ f w. loop ticked d g n f w) t (twin_loop b d e g s t n) r x)
 
   twin_act : (o : Own N M) (w : Reported N M) (xs : List (Answer N M)) → Twin (take_answer (Do o) w xs) (acts_counting o w xs)
   twin_act o w [] = (w.made, refl)
@@ -126,10 +126,10 @@ module _ {N M : Type 0} (names : Naming N M) where
   twin_run (Split forking ts bs k) w = twin_bind (reported_fork forking ts w) (reported_fork forking ts w) _ _ (twin_self (reported_fork forking ts w)) (λ x v. twin_run (k x) v)
 
   -- so no bound runs out
-  not_lost : (p : Prog N M) (w : Reported N M) → w.since < most_turns → (u : Reported N M) → run (counting names) p w ≡ Lost u → ⊥
+  not_lost : (p : Prog N M) (w : Reported N M) → w.since < most_ticks → (u : Reported N M) → run (counting names) p w ≡ Lost u → ⊥
   not_lost p w l u e = (run_fits names p w l).total u (was_lost _ _ (twin_run p w) u e)
 
-  low : (p : Prog N M) (w : Reported N M) → w.since < most_turns → (v : Result N M) (u : Reported N M) → run (counting names) p w ≡ Done v u → u.since < most_turns
+  low : (p : Prog N M) (w : Reported N M) → w.since < most_ticks → (v : Result N M) (u : Reported N M) → run (counting names) p w ≡ Done v u → u.since < most_ticks
   low p w l v u e = (run_fits names p w l).low v u (was_done _ _ (twin_run p w) v u e)
 
   abbrev pub again_counting : (test body : Frame N M → Prog N M) → Body N M
@@ -143,22 +143,22 @@ module _ {N M : Type 0} (names : Naming N M) where
     body g v = run (counting names) (b g) v
 
     abbrev Unders : Body N M → Body N M → Type 0
-    Unders a c = (f : Frame N M) (w : Reported N M) → w.since < most_turns → Under (a f w) (c f w)
+    Unders a c = (f : Frame N M) (w : Reported N M) → w.since < most_ticks → Under (a f w) (c f w)
 
-    under_tested : (a c : Body N M) → Unders a c → (r : Result N M) (w : Reported N M) → w.since < most_turns → Under (tested turned body a r w) (tested turned body c r w)
+    under_tested : (a c : Body N M) → Unders a c → (r : Result N M) (w : Reported N M) → w.since < most_ticks → Under (tested ticked body a r w) (tested ticked body c r w)
     under_tested a c h (Returns v) w l = refl
     under_tested a c h (Goes_on v f) w l = go (truth v)
       where
-        round : (r : Result N M) (x : Reported N M) → x.since < most_turns → Under (rounded a r x) (rounded c r x)
+        round : (r : Result N M) (x : Reported N M) → x.since < most_ticks → Under (rounded a r x) (rounded c r x)
         round (Returns v) x m = refl
         round (Goes_on v g) x m = h g x m
 
         go : (z : Bool) → Under (past_test body a v f w z) (past_test body c v f w z)
         go false = refl
-        go true = under_bind (turned w) _ _ (λ u x e. under_bind (body f x) _ _ (λ r y q. round r y (low (b f) x (turn_low w x u l e) r y q)))
+        go true = under_bind (ticked w) _ _ (λ u x e. under_bind (body f x) _ _ (λ r y q. round r y (low (b f) x (tick_low w x u l e) r y q)))
 
     abbrev looped : ℕ → Body N M
-    looped n f w = loop turned test body n f w
+    looped n f w = loop ticked test body n f w
 
     under_next : (n : ℕ) → Unders (looped n) (looped (suc n))
     under_next zero f w l = tt
@@ -173,7 +173,7 @@ module _ {N M : Type 0} (names : Naming N M) where
     again_is : (f : Frame N M) (w : Reported N M) → again_counting t b f w ≡ looped (suc (room w)) f w
     again_is f w = bind_done _
 
-    -- with any bound on its turns it is as with enough
+    -- with any bound on its ticks it is as with enough
     under_again : (n : ℕ) → Unders (looped n) (again_counting t b)
     under_again n f w l = subst (λ o. Under (looped n f w) o) (sym (again_is f w)) (⊎_elim few many (cases_lt n (suc (room w))))
       where
@@ -186,7 +186,7 @@ module _ {N M : Type 0} (names : Naming N M) where
             subst (λ o. Under o (looped (suc (room w)) f w))
             (sym (under_same (looped (suc (room w)) f w) (looped n f w) more (λ u e. not_lost (Again t b f (λ r. Ret r)) w l u (again_is f w ∙ e)))) (under_self (looped (suc (room w)) f w))
 
-    pub loops_counting : (f : Frame N M) (w : Reported N M) → w.since < most_turns → again_counting t b f w ≡ bind (test f w) (λ r v. tested turned body (again_counting t b) r v)
+    pub loops_counting : (f : Frame N M) (w : Reported N M) → w.since < most_ticks → again_counting t b f w ≡ bind (test f w) (λ r v. tested ticked body (again_counting t b) r v)
     loops_counting f w l =
         again_is f w ∙ sym (under_same (looped (suc (room w)) f w) _ (under_bind (test f w) _ _ (λ r x e. under_tested (looped (room w)) (again_counting t b) (under_again (room w)) r x (low (t f) w l r x e)))
         (λ u e. not_lost (Again t b f (λ r. Ret r)) w l u (again_is f w ∙ e)))

@@ -3,10 +3,10 @@ use Rattle.std.proofs.Common.{◌≡◌, ◌≤◌, ℕ, zero, suc, ◌+◌, ◌
 use Rattle.lang_typed.specs.Plain.{PlainProgram}
 use Rattle.lang_typed.specs.Scope.{Scope}
 use Rattle.lang_meaning.specs.Actions.{Work}
-use Rattle.lang_meaning.specs.Asking.{most_turns, asked, turned, begins_then, reported_join, ending, ended, replied}
+use Rattle.lang_meaning.specs.Asking.{most_ticks, asked, ticked, begins_then, reported_join, ending, ended, replied}
 use Rattle.lang_meaning.specs.Core.{Goes_on, Returns, Ret, Traps, Act, Makes, Again, Split, Done, Trapped as Fallen, Stopped, Lost, bind, tested, rounded, run}
 use Rattle.lang_meaning.specs.Counts.{truth}
-use Rattle.lang_meaning.proofs.Turns.{most_pos, past_test, bind_done}
+use Rattle.lang_meaning.proofs.Ticks.{most_pos, past_test, bind_done}
 use Rattle.runs_theory.specs.Actions.{Task, Fork, Reply, Trapped, Own, Rest, Read, Write, Look, New, Print, Enter, Exit}
 use Rattle.runs_theory.specs.Objects.{Made}
 use Rattle.runs_program.specs.Steps.{named_by}
@@ -18,7 +18,7 @@ use Rattle.runs_sound.specs.Soundness.{EndFits}
 use Rattle.runs_sound.specs.Work.{Result, Prog, EnteredBefore, After as AfterOwn, AfterMaking, Rounds, InOrder, entries_after, without_latest}
 use Rattle.runs_sound.proofs.work.NdFree.{Entries, Back, IsNdFree}
 use Rattle.runs_sound.proofs.scopes.Frames.{frame_since}
-use Rattle.runs_sound.proofs.moments.Moments.{Reported, Out, finish, at, having_made, Goes, goes_same, goes_making, reported_on, Good, good_same, good_less, good_end, bind_bind, finish_bind, good_own, good_turn, good_fork}
+use Rattle.runs_sound.proofs.moments.Moments.{Reported, Out, finish, at, having_made, Goes, goes_same, goes_making, reported_on, Good, good_same, good_less, good_end, bind_bind, finish_bind, good_own, good_tick, good_fork}
 use Rattle.runs_sound.proofs.numbers.Small.{AreSmall, small_answers, small_brings}
 use Rattle.runs_sound.proofs.work.Counting.{again_counting, loops_counting}
 use Rattle.runs_sound.proofs.work.Work.{since_now, since_since}
@@ -73,7 +73,7 @@ module _ (P : PlainProgram) (b : Bounds) (L : Scope) (copies : List ℕ) where
     good_past : (n : ℕ) (K : Result → Reported → Reply) → After (suc n) K →
         ((h : State) (e : Frame) → Since st h → FrameFits P b.path h g M e → AreSmall e.values → Good P b L copies n (at h) (λ w. finish (again_counting (named_by b.path) t s e w) K)) →
         (h u : State) → Since st h → (r : Result) → Round h u r →
-        Good P b L copies (suc n) (at u) (λ w. finish (tested turned (λ e v. run (counting (named_by b.path)) (s e) v) (λ e v. again_counting (named_by b.path) t s e v) r w) K)
+        Good P b L copies (suc n) (at u) (λ w. finish (tested ticked (λ e v. run (counting (named_by b.path)) (s e) v) (λ e v. again_counting (named_by b.path) t s e v) r w) K)
     good_past n K k more h u since (Returns v) y = k u (Returns v) ((since_since since y.0.0, y.0.1), y.1)
     good_past n K k more h u since (Goes_on v e) y = go (truth v)
       where
@@ -84,7 +84,7 @@ module _ (P : PlainProgram) (b : Bounds) (L : Scope) (copies : List ℕ) where
         go : (c : Bool) → Good P b L copies (suc n) (at u) (λ w. finish (past_test (λ e v. run (counting (named_by b.path)) (s e) v) (λ e v. again_counting (named_by b.path) t s e v) v e w c) K)
         go false = k u (Goes_on v e) ((since_since since y.0.0, y.0.1), y.1)
         go true =
-            good_turn P b L copies u (λ x. bind (run (counting (named_by b.path)) (s e) x) (λ r q. rounded (λ e v. again_counting (named_by b.path) t s e v) r q)) K
+            good_tick P b L copies u (λ x. bind (run (counting (named_by b.path)) (s e) x) (λ r q. rounded (λ e v. again_counting (named_by b.path) t s e v) r q)) K
             (λ z zs m. (let from : Since st z = since_since (since_since since y.0.0) zs in
             good_same P b L copies (λ w l. sym (finish_bind (run (counting (named_by b.path)) (s e) w) _ K))
             ((hs z e from (frame_since zs y.0.1) y.1.2.1).good n _ (λ w r q. on_round z w from r q))))
@@ -114,8 +114,8 @@ module _ (P : PlainProgram) (b : Bounds) (L : Scope) (copies : List ℕ) where
           Good P b L copies n (at st) (λ w. finish (run (counting (named_by b.path)) (Makes j) w) K)
       made n K k = record {
         from = λ d t l r. goes_making P b L copies d st (suc st.made) _
-            (goes_same P b L copies d (at (having_made (suc st.made) st)) _ _ (λ xs. ap (λ o. finish o K) (sym (bind_bind (turned (reported_on t (suc st.made) xs)) _ _)))
-            ((good_turn P b L copies (having_made (suc st.made) st) (λ v. run (counting (named_by b.path)) (j (Made b.path st.made)) v) K
+            (goes_same P b L copies d (at (having_made (suc st.made) st)) _ _ (λ xs. ap (λ o. finish o K) (sym (bind_bind (ticked (reported_on t (suc st.made) xs)) _ _)))
+            ((good_tick P b L copies (having_made (suc st.made) st) (λ v. run (counting (named_by b.path)) (j (Made b.path st.made)) v) K
             (λ u s m. k u (record { grows = s.grows; made = m; entries = s.entries; before = early }))).from d t l (omega arith)));
       }
   walk Q R (Again t s f j) st early o c = record {
@@ -149,5 +149,5 @@ module _ (P : PlainProgram) (b : Bounds) (L : Scope) (copies : List ℕ) where
       let z = most_pos in
       let fine = walk Q R p st (subst (EnteredBefore st.made) (sym none) tt) o c in
       let good = good_same P b L copies (λ w l. replied_is t.work (run (counting (named_by b.path)) p w))
-      (fine.good (suc (most_turns * d + most_turns)) (λ r w. ending (ended t.work r) w.since w.to_come) (λ h r q. good_end P b L copies (ended t.work r) (ends h r q.0))) in
+      (fine.good (suc (most_ticks * d + most_ticks)) (λ r w. ending (ended t.work r) w.since w.to_come) (λ h r q. good_end P b L copies (ended t.work r) (ends h r q.0))) in
       subst (λ y. Goes P b L copies d (at st) (λ xs. replied t.work (run (counting (named_by b.path)) p (reported_on 0 y xs)))) m (good.from d 0 z (omega arith))

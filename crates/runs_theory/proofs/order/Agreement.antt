@@ -18,8 +18,8 @@ use Rattle.runs_theory.proofs.events.Things.{answering, same_some, same_thing}
 use Rattle.runs_theory.proofs.events.Cells.{got_in, slot_is}
 use Rattle.runs_theory.proofs.order.Compare.{free_upto, agree_upto, same_last, same_list}
 
-pub same_event : (e f : Event) → e.path ≡ f.path → e.turns ≡ f.turns → e.act ≡ f.act → e.ans ≡ f.ans → e ≡ f
-same_event e f a n b c = λ i. record { path = a i; turns = n i; act = b i; ans = c i }
+pub same_event : (e f : Event) → e.path ≡ f.path → e.ticks ≡ f.ticks → e.act ≡ f.act → e.ans ≡ f.ans → e ≡ f
+same_event e f a n b c = λ i. record { path = a i; ticks = n i; act = b i; ans = c i }
 
 module _ (P : Program) (D : Disciplined P) where
   -- a task ends in one way
@@ -64,7 +64,7 @@ module _ (P : Program) (D : Disciplined P) where
       → mine R f.path ≡ mine T f.path → e ≡ f
   next_event {R} {T} {e} {f} l m fr ft ag pe ms = same_event e f pe both.0 act (answer e.act refl)
     where
-      both : (e.turns ≡ f.turns) × (e.act ≡ f.act)
+      both : (e.ticks ≡ f.ticks) × (e.act ≡ f.act)
       both = same_act P f.path ag now now l.0 m.0 pe refl ms
 
       act : e.act ≡ f.act

@@ -105,20 +105,20 @@ module _ (P : Program) (D : Disciplined P) (V : Lively P) (T : InTurn P) (K : Kn
     branch_works : (b : ℕ) → e.act ≡ Begin b → (p : Path) × Working P (e ∷ R) p
     branch_works b act = make T.begins_forked
       where
-        asks : P.meaning w k.task (answers (mine R w)) ≡ Next e.turns (Begin b)
+        asks : P.meaning w k.task (answers (mine R w)) ≡ Next e.ticks (Begin b)
         asks =
             let a = l.0.follows in
             let t : a.task ≡ k.task = same_task (agree_self R) (subst (λ q. Begun P R q a.task) own a.begun) k.begun in
-            let h : P.meaning w a.task (answers (mine R w)) ≡ Next e.turns e.act =
-            subst (λ q. P.meaning q a.task (answers (mine R q)) ≡ Next e.turns e.act) own a.asks in
-            ap (λ s. P.meaning w s (answers (mine R w))) (sym t) ∙ h ∙ ap (λ c. Next e.turns c) act
+            let h : P.meaning w a.task (answers (mine R w)) ≡ Next e.ticks e.act =
+            subst (λ q. P.meaning q a.task (answers (mine R q)) ≡ Next e.ticks e.act) own a.asks in
+            ap (λ s. P.meaning w s (answers (mine R w))) (sym t) ∙ h ∙ ap (λ c. Next e.ticks c) act
 
         make : ((p : Path) (t : Task) (got : List Answer) (b : ℕ) → Asks P p t got (Begin b) → (ts : Branches) × (b < length ts.tasks)
             × AfterFork P p t got ts b) → (p : Path) × Working P (e ∷ R) p
         make forked = ((i, b) ∷ w, goes_into P D l k own b act j.before j.fork f.0 there.0 j.stands j.path j.act there.1 i refl number)
           where
             f : (ts : Branches) × (b < length ts.tasks) × AfterFork P w k.task (answers (mine R w)) ts b
-            f = forked w k.task (answers (mine R w)) b (e.turns, asks)
+            f = forked w k.task (answers (mine R w)) b (e.ticks, asks)
 
             j : ForkSince P R fl.1 w f.0 b
             j = fork_since P R fl.1 w k.task f.0 b k.begun f.2

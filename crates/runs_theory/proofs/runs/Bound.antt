@@ -101,7 +101,7 @@ paid_marks n a = ⊎_elim (λ h. (let k = paid_one (n + steps a) h in let m = on
 marks_paid : (R : Run) → total by_entry R + begins R ≤ total by_paid R
 marks_paid [] = let a = total_nil by_entry in let b = begins_nil in omega arith
 marks_paid (e ∷ R) = let r = marks_paid R in let a = total_step by_entry e R in let b = begins_step e R in let c = total_step by_paid e R in let d =
-    paid_marks e.turns e.act in omega arith
+    paid_marks e.ticks e.act in omega arith
 
 paid_steps : (R : Run) → total by_paid R ≤ total event_steps R
 paid_steps [] = let a = total_nil by_paid in omega arith
@@ -273,19 +273,19 @@ module _ (P : Program) (D : Disciplined P) (C : Paced P) where
 
       free_before : event_steps w ≡ 0 → one_entry e.act ≡ 1
       free_before z =
-          let at_rest = enters_next w.turns w.act z (λ x k. no_end x k) in
+          let at_rest = enters_next w.ticks w.act z (λ x k. no_end x k) in
           let a = follows_at P f.stands l.1 in
           let b = l.0 in
           let t : a.task ≡ b.task = same_task (agree_self R)
           (begun_upto (upto_tail f.stands) (subst (λ q. Begun P f.before q a.task) f.path a.begun)) b.begun in
-          let k1 : P.meaning e.path a.task (answers (mine f.before e.path)) ≡ Next w.turns w.act =
-          subst (λ q. P.meaning q a.task (answers (mine f.before q)) ≡ Next w.turns w.act) f.path a.asks in
+          let k1 : P.meaning e.path a.task (answers (mine f.before e.path)) ≡ Next w.ticks w.act =
+          subst (λ q. P.meaning q a.task (answers (mine f.before q)) ≡ Next w.ticks w.act) f.path a.asks in
           let k2 : P.meaning e.path b.task (answers L) ≡ Next 0 (Do Rest) =
           ap (λ s. P.meaning e.path s (answers L)) (sym t) ∙ ap (λ es. P.meaning e.path a.task (answers es)) (sym f.mine_is) ∙ k1
           ∙ (λ i. Next (at_rest.0 i) (at_rest.1 i)) in
           let c = C.enters e.path b.task (answers L) w.ans k2 in
-          let k3 : P.meaning e.path b.task (w.ans ∷ answers L) ≡ Next e.turns e.act = ap (λ es. P.meaning e.path b.task (answers es)) (sym m) ∙ b.asks in
-          let same = next_same e.turns c.1.0 e.act (Do (Enter c.0)) (sym k3 ∙ c.1.1) in
+          let k3 : P.meaning e.path b.task (w.ans ∷ answers L) ≡ Next e.ticks e.act = ap (λ es. P.meaning e.path b.task (answers es)) (sym m) ∙ b.asks in
+          let same = next_same e.ticks c.1.0 e.act (Do (Enter c.0)) (sym k3 ∙ c.1.1) in
           ap one_entry same.1
         where
           no_end : (x : Ending) → w.act ≡ End x → ⊥

@@ -122,20 +122,20 @@ module _ (P : Program) where
 
   -- the next action is one, after the same events
   pub same_act : {R S B C : Run} {e f : Event} (p : Path) → Agree R S → Upto B R → Upto C S → Follows P B e → Follows P C f
-      → e.path ≡ p → f.path ≡ p → mine B p ≡ mine C p → (e.turns ≡ f.turns) × (e.act ≡ f.act)
+      → e.path ≡ p → f.path ≡ p → mine B p ≡ mine C p → (e.ticks ≡ f.ticks) × (e.act ≡ f.act)
   same_act {B = B} {C = C} {e = e} {f = f} p ag hb hc a b ep fp m =
       let t : a.task ≡ b.task = same_task ag (begun_upto hb a.begun) (begun_upto hc (subst (λ r. Begun P C r b.task) (fp ∙ sym ep) b.begun)) in
-      let a1 = subst (λ r. P.meaning r a.task (answers (mine B r)) ≡ Next e.turns e.act) ep a.asks in
-      let b1 = subst (λ r. P.meaning r b.task (answers (mine C r)) ≡ Next f.turns f.act) fp b.asks in
+      let a1 = subst (λ r. P.meaning r a.task (answers (mine B r)) ≡ Next e.ticks e.act) ep a.asks in
+      let b1 = subst (λ r. P.meaning r b.task (answers (mine C r)) ≡ Next f.ticks f.act) fp b.asks in
       let c1 : P.meaning p a.task (answers (mine B p)) ≡ P.meaning p b.task (answers (mine C p)) =
       ap (λ t. P.meaning p t (answers (mine B p))) t ∙ ap (λ l. P.meaning p b.task (answers l)) m in
-      next_same e.turns f.turns e.act f.act (sym a1 ∙ c1 ∙ b1)
+      next_same e.ticks f.ticks e.act f.act (sym a1 ∙ c1 ∙ b1)
 
   -- the task of an event, and that it makes this action
   record Asked (R : Run) (q : Path) (y : Event) (Y : Run) : Type 0 where
     task : Task
     begun : Begun P R q task
-    asks : P.meaning q task (answers (mine Y q)) ≡ Next y.turns y.act
+    asks : P.meaning q task (answers (mine Y q)) ≡ Next y.ticks y.act
 
   asked_of : {R Y : Run} {y : Event} (q : Path) → Faithful P R → Upto (y ∷ Y) R → y.path ≡ q → Asked R q y Y
   asked_of {R} {Y} {y} q l hy yq =
@@ -143,7 +143,7 @@ module _ (P : Program) where
       record {
         task = a.task;
         begun = begun_upto (upto_tail hy) (subst (λ r. Begun P Y r a.task) yq a.begun);
-        asks = subst (λ r. P.meaning r a.task (answers (mine Y r)) ≡ Next y.turns y.act) yq a.asks;
+        asks = subst (λ r. P.meaning r a.task (answers (mine Y r)) ≡ Next y.ticks y.act) yq a.asks;
       }
 
   -- the events of a task before one of them, from the one in front of it
@@ -157,7 +157,7 @@ module _ (P : Program) where
     -- the events after a fork
     since_fork : {R F Y : Run} {f y : Event} (q : Path) (ts : Branches) → Faithful P R → Upto (f ∷ F) R → f.path ≡ q → f.act ≡ Fork ts → Upto (y ∷ Y) R
         → y.path ≡ q → count F q < count Y q → (t : Task) × (zs : Run) × (mine Y q ≡ zs ++ f ∷ mine F q) × Asks P q t (answers (mine F q)) (Fork ts)
-        × (P.meaning q t ((answers zs ++ f.ans ∷ []) ++ answers (mine F q)) ≡ Next y.turns y.act)
+        × (P.meaning q t ((answers zs ++ f.ans ∷ []) ++ answers (mine F q)) ≡ Next y.ticks y.act)
     since_fork {R} {F} {Y} {f} {y} q ts l hf fq fa hy yq n =
         let h = earlier_of q hf hy fq yq n in
         let z = upto_rest (mine_at q h fq) in
@@ -168,7 +168,7 @@ module _ (P : Program) where
         map-append (λ e. e.ans) z.0 (f ∷ mine F q) ∙ sym (append_assoc (answers z.0) (f.ans ∷ []) (answers (mine F q))) in
         let k : P.meaning q b.task (answers (mine Y q)) ≡ P.meaning q a.task ((answers z.0 ++ f.ans ∷ []) ++ answers (mine F q)) =
         ap (λ t. P.meaning q t (answers (mine Y q))) t ∙ ap (λ l. P.meaning q a.task (answers l)) z.1 ∙ ap (λ l. P.meaning q a.task l) e1 in
-        (a.task, z.0, z.1, (f.turns, a.asks ∙ ap (λ z. Next f.turns z) fa), sym k ∙ b.asks)
+        (a.task, z.0, z.1, (f.ticks, a.asks ∙ ap (λ z. Next f.ticks z) fa), sym k ∙ b.asks)
 
     since_length : (f : Event) (zs es ys : Run) → ys ≡ zs ++ f ∷ es → length (answers zs ++ f.ans ∷ []) ≡ suc (length zs)
         × (length ys ≡ suc (length zs + length es))
@@ -185,7 +185,7 @@ module _ (P : Program) where
         let m0 = m.0 in
         let m1 = m.1 in
         let d = D.begins q z.0 (answers (mine F q)) (answers z.1 ++ f.ans ∷ []) ts k z.3 (omega arith) lt in
-        (next_same y.turns d.0 y.act (Begin k) (sym z.4 ∙ d.1)).1
+        (next_same y.ticks d.0 y.act (Begin k) (sym z.4 ∙ d.1)).1
 
     -- after a fork and its begins stands the join
     pub join_after : {R F Y : Run} {f y : Event} (q : Path) (ts : Branches) → Faithful P R → Upto (f ∷ F) R → f.path ≡ q → f.act ≡ Fork ts → Upto (y ∷ Y) R
@@ -196,7 +196,7 @@ module _ (P : Program) where
         let m0 = m.0 in
         let m1 = m.1 in
         let d = D.joins q z.0 (answers (mine F q)) (answers z.1 ++ f.ans ∷ []) ts z.3 (omega arith) in
-        (next_same y.turns d.0 y.act Join (sym z.4 ∙ d.1)).1
+        (next_same y.ticks d.0 y.act Join (sym z.4 ∙ d.1)).1
 
     -- nothing stands after an end
     next_after_end : {R G Y : Run} {g y : Event} {x : Ending} (q : Path) → Faithful P R → Upto (g ∷ G) R → g.path ≡ q → g.act ≡ End x → Upto (y ∷ Y) R
@@ -206,10 +206,10 @@ module _ (P : Program) where
         let a = asked_of q l hg gq in
         let b = asked_of q l hy yq in
         let t : b.task ≡ a.task = same_task (agree_self R) b.begun a.begun in
-        let d = D.over q a.task (answers (mine G q)) x g.ans (g.turns, a.asks ∙ ap (λ z. Next g.turns z) ga) in
+        let d = D.over q a.task (answers (mine G q)) x g.ans (g.ticks, a.asks ∙ ap (λ z. Next g.ticks z) ga) in
         let k : P.meaning q b.task (answers (mine Y q)) ≡ P.meaning q a.task (g.ans ∷ answers (mine G q)) =
         ap (λ t. P.meaning q t (answers (mine Y q))) t ∙ ap (λ l. P.meaning q a.task (answers l)) m in
-        let z : Next y.turns y.act ≡ Over = sym b.asks ∙ k ∙ d in
+        let z : Next y.ticks y.act ≡ Over = sym b.asks ∙ k ∙ d in
         cc
 
     pub none_after_end : {R G Y : Run} {g y : Event} {x : Ending} (q : Path) → Faithful P R → Upto (g ∷ G) R → g.path ≡ q → g.act ≡ End x → Upto (y ∷ Y) R

@@ -32,9 +32,9 @@ module _ (P : Program) (R : Run) (l : Faithful P R) where
   asked p t b {w} {W} h e =
       let a = follows_at P h l in
       let same : a.task ≡ t = same_task (agree_self R) (begun_upto (upto_tail h) (subst (λ q. Begun P W q a.task) e a.begun)) b in
-      let k : P.meaning p a.task (answers (mine W p)) ≡ Next w.turns w.act =
-      subst (λ q. P.meaning q a.task (answers (mine W q)) ≡ Next w.turns w.act) e a.asks in
-      (w.turns, subst (λ s. P.meaning p s (answers (mine W p)) ≡ Next w.turns w.act) same k)
+      let k : P.meaning p a.task (answers (mine W p)) ≡ Next w.ticks w.act =
+      subst (λ q. P.meaning q a.task (answers (mine W q)) ≡ Next w.ticks w.act) e a.asks in
+      (w.ticks, subst (λ s. P.meaning p s (answers (mine W p)) ≡ Next w.ticks w.act) same k)
 
   -- the fork after which a task has made so many events
   pub record ForkSince (p : Path) (ts : Branches) (n : ℕ) : Type 0 where

@@ -103,7 +103,7 @@ module _ (P : Program) (D : Disciplined P) (V : Lively P) (R : Run) (l : Faithfu
   make : (p : Path) (t : Task) (c : Action) (a : Answer) → Begun P R p t → Asks P p t (answers (mine R p)) c → Right P R p c a
       → ((E : List Effect) → CanEnter P.rule R p E) → (e : Event) × (e.path ≡ p) × Admitted P R e
   make p t c a b k r may = (
-    record { path = p; turns = k.0; act = c; ans = a },
+    record { path = p; ticks = k.0; act = c; ans = a },
     refl,
     record { follows = record { task = t; begun = b; asks = k.1; right = r }; enters = λ E i. may E },
   )

@@ -56,7 +56,7 @@ module _ (P : Program) (D : Disciplined P) where
   pub same_step : {R : Run} {e f : Event} → Faithful P R → Follows P R e → Follows P R f → e.path ≡ f.path → e ≡ f
   same_step {R} {e} {f} l a b pe = same_event e f pe both.0 both.1 (answer e.act refl)
     where
-      both : (e.turns ≡ f.turns) × (e.act ≡ f.act)
+      both : (e.ticks ≡ f.ticks) × (e.act ≡ f.act)
       both = same_act P f.path (agree_self R) now now a b pe refl refl
 
       right_e : (c : Action) → e.act ≡ c → Right P R f.path c e.ans

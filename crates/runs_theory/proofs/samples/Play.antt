@@ -297,7 +297,7 @@ enter_ok rule R p E e = record { clear = λ w q F h. at w q F h (opener_of R q F
 abbrev event_for : Program → Run → Path → Reply → Option Event
 event_for P R p Over = None
 event_for P R p Unknown = None
-event_for P R p (Next n a) = when (may_come P.rule R p a) (let_some (answer_to P R p a) (λ x. Some (record { path = p; turns = n; act = a; ans = x })))
+event_for P R p (Next n a) = when (may_come P.rule R p a) (let_some (answer_to P R p a) (λ x. Some (record { path = p; ticks = n; act = a; ans = x })))
 
 abbrev pub next_of : Program → Run → Path → Option Event
 next_of P R p = let_some (task_of P R p) (λ t. event_for P R p (P.meaning p t (answers (mine R p))))
@@ -313,10 +313,10 @@ admitted_next P R p e h =
     go t b Unknown m k = absurd (let z : None ≡ Some e = sym (ap (event_for P R p) m) ∙ k in cc)
     go t b (Next n a) m k =
         let k1 = sym (ap (event_for P R p) m) ∙ k in
-        let w = when_parts (may_come P.rule R p a) (let_some (answer_to P R p a) (λ x. Some (record { path = p; turns = n; act = a; ans = x }))) e k1 in
-        let c = let_parts (answer_to P R p a) (λ x. Some (record { path = p; turns = n; act = a; ans = x })) e w.1 in
+        let w = when_parts (may_come P.rule R p a) (let_some (answer_to P R p a) (λ x. Some (record { path = p; ticks = n; act = a; ans = x }))) e k1 in
+        let c = let_parts (answer_to P R p a) (λ x. Some (record { path = p; ticks = n; act = a; ans = x })) e w.1 in
         let x : Answer = c.value in
-        let made : Event = record { path = p; turns = n; act = a; ans = x } in
+        let made : Event = record { path = p; ticks = n; act = a; ans = x } in
         let f : Admitted P R made = record {
           follows = record { task = t; begun = b; asks = m; right = answer_right P R p a x c.is };
           enters = λ E j. enter_ok P.rule R p E (ap (λ z. may_come P.rule R p z) (sym j) ∙ w.0);

@@ -185,10 +185,10 @@ comparison_needs_free = (
 
 -- the first branch goes on before the second begins, by the numbers, but not in this run
 abbrev x_event : Event
-x_event = record { path = pa; turns = 2; act = Do (Write main (pos 0) (int 1)); ans = Went }
+x_event = record { path = pa; ticks = 2; act = Do (Write main (pos 0) (int 1)); ans = Went }
 
 abbrev y_event : Event
-y_event = record { path = []; turns = 0; act = Begin 1; ans = Went }
+y_event = record { path = []; ticks = 0; act = Begin 1; ans = Went }
 
 abbrev y_before : Run
 y_before = run_of (play apart ([] ∷ [] ∷ []))
@@ -246,35 +246,35 @@ one_by_one = [] ∷ [] ∷ [] ∷ p2 ∷ p2 ∷ p1 ∷ p1 ∷ [] ∷ [] ∷ [] �
 abbrev other_first : List Path
 other_first = [] ∷ [] ∷ [] ∷ p1 ∷ p1 ∷ p2 ∷ p2 ∷ [] ∷ [] ∷ [] ∷ [] ∷ []
 
-abbrev turn_run : Run
-turn_run = run_of (play prints one_by_one)
+abbrev tick_run : Run
+tick_run = run_of (play prints one_by_one)
 
-abbrev other_turn : Run
-other_turn = run_of (play prints other_first)
+abbrev other_tick : Run
+other_tick = run_of (play prints other_first)
 
-turn_played : play prints one_by_one ≡ Some turn_run
+tick_played : play prints one_by_one ≡ Some tick_run
 unfolding mine last_written things above first_of
-turn_played = refl
+tick_played = refl
 
-other_turn_played : play prints other_first ≡ Some other_turn
+other_tick_played : play prints other_first ≡ Some other_tick
 unfolding mine last_written things above first_of
-other_turn_played = refl
+other_tick_played = refl
 
-turn_costs : (steps_of turn_run ≡ 9) × (cells_of prints turn_run ≡ 6)
+tick_costs : (steps_of tick_run ≡ 9) × (cells_of prints tick_run ≡ 6)
 unfolding mine last_written things above first_of total
-turn_costs = (refl, refl)
+tick_costs = (refl, refl)
 
-other_costs : (steps_of other_turn ≡ 9) × (cells_of prints other_turn ≡ 6)
+other_costs : (steps_of other_tick ≡ 9) × (cells_of prints other_tick ≡ 6)
 unfolding mine last_written things above first_of total
 other_costs = (refl, refl)
 
-turn_ended : Ended turn_run [] (Returned (int 5))
+tick_ended : Ended tick_run [] (Returned (int 5))
 unfolding mine last_written things above first_of
-turn_ended = has_ended_with turn_run [] (Returned (int 5)) refl
+tick_ended = has_ended_with tick_run [] (Returned (int 5)) refl
 
-other_turn_ended : Ended other_turn [] (Returned (int 5))
+other_tick_ended : Ended other_tick [] (Returned (int 5))
 unfolding mine last_written things above first_of
-other_turn_ended = has_ended_with other_turn [] (Returned (int 5)) refl
+other_tick_ended = has_ended_with other_tick [] (Returned (int 5)) refl
 
 abbrev at_second : Option Path → Bool
 at_second None = false
@@ -283,25 +283,25 @@ at_second (Some p) = same_path p p2
 abbrev fourth : Run → Bool
 fourth R = at_second (slice_get (map (λ e. e.path) R) 3)
 
-turns_differ : turn_run ≡ other_turn → ⊥
+ticks_differ : tick_run ≡ other_tick → ⊥
 unfolding mine last_written things above first_of
-turns_differ e = let k : true ≡ false = ap fourth e in true≢false k
+ticks_differ e = let k : true ≡ false = ap fourth e in true≢false k
 
 pub determinism_applies : DeterminismApplies
 determinism_applies =
     let D = script_disciplined (first_body ∷ printers) (int 0 ∷ []) never in
     let free = script_free first_body printers (int 0 ∷ []) never refl in
     let L : Limits = record { steps = 9; cells = 6 } in
-    let l = legal_play (first_body ∷ printers) (int 0 ∷ []) never one_by_one turn_run turn_played in
-    let m = legal_play (first_body ∷ printers) (int 0 ∷ []) never other_first other_turn other_turn_played in
-    let v : Within prints L turn_run = record { steps = (let n = turn_costs.0 in omega arith); cells = (let n = turn_costs.1 in omega arith) } in
-    let w : Within prints L other_turn = record { steps = (let n = other_costs.0 in omega arith); cells = (let n = other_costs.1 in omega arith) } in
-    let r = recorded prints L turn_run l v in
-    let s = recorded prints L other_turn m w in
-    let c = each_comes_out prints turn_run (Returned (int 5)) l turn_ended in
-    let d = each_comes_out prints other_turn (Returned (int 5)) m other_turn_ended in
-    let f : Finished prints L r.0 c.0 = ended turn_run r.1 c.1 in
-    let g : Finished prints L s.0 d.0 = ended other_turn s.1 d.1 in
+    let l = legal_play (first_body ∷ printers) (int 0 ∷ []) never one_by_one tick_run tick_played in
+    let m = legal_play (first_body ∷ printers) (int 0 ∷ []) never other_first other_tick other_tick_played in
+    let v : Within prints L tick_run = record { steps = (let n = tick_costs.0 in omega arith); cells = (let n = tick_costs.1 in omega arith) } in
+    let w : Within prints L other_tick = record { steps = (let n = other_costs.0 in omega arith); cells = (let n = other_costs.1 in omega arith) } in
+    let r = recorded prints L tick_run l v in
+    let s = recorded prints L other_tick m w in
+    let c = each_comes_out prints tick_run (Returned (int 5)) l tick_ended in
+    let d = each_comes_out prints other_tick (Returned (int 5)) m other_tick_ended in
+    let f : Finished prints L r.0 c.0 = ended tick_run r.1 c.1 in
+    let g : Finished prints L s.0 d.0 = ended other_tick s.1 d.1 in
     let same = schedules_agree prints D free L r.0 s.0 c.0 d.0 f g in (
       prints,
       D,
@@ -309,7 +309,7 @@ determinism_applies =
       L,
       r.0,
       s.0,
-      (λ e. turns_differ (one_run prints D L s.0 turn_run other_turn (subst (λ ks. Ran prints L ks turn_run) e r.1) s.1)),
+      (λ e. ticks_differ (one_run prints D L s.0 tick_run other_tick (subst (λ ks. Ran prints L ks tick_run) e r.1) s.1)),
       c.0,
       f,
       subst (λ o. Finished prints L s.0 o) (sym same) g,
@@ -322,7 +322,7 @@ begins_total : (R : Run) → begins R ≡ total one_begun R
 begins_total [] = begins_nil ∙ sym (total_nil one_begun)
 begins_total (e ∷ R) = begins_step e R ∙ ap (λ n. one_begin e.act + n) (begins_total R) ∙ sym (total_step one_begun e R)
 
-two_begun : total one_begun turn_run ≡ 2
+two_begun : total one_begun tick_run ≡ 2
 unfolding mine last_written things above first_of total
 two_begun = refl
 
@@ -376,22 +376,22 @@ greatest_applies = go (greatest_finishes prints D V T K prints_paced L w)
     w : Within prints L []
     w = record { steps = (let n = empty_costs.0 in omega arith); cells = (let n = empty_costs.1 in omega arith) }
 
-    l : Legal prints turn_run
-    l = legal_play (first_body ∷ printers) (int 0 ∷ []) never one_by_one turn_run turn_played
+    l : Legal prints tick_run
+    l = legal_play (first_body ∷ printers) (int 0 ∷ []) never one_by_one tick_run tick_played
 
-    v : Within prints L turn_run
-    v = record { steps = (let n = turn_costs.0 in omega arith); cells = (let n = turn_costs.1 in omega arith) }
+    v : Within prints L tick_run
+    v = record { steps = (let n = tick_costs.0 in omega arith); cells = (let n = tick_costs.1 in omega arith) }
 
     go : (ks : List ℕ) × (R : Run) × Ran prints L ks R × Greedy prints R
         × (((x : Ending) × Ended R [] x) ⊎ ((e : Event) × (k : ℕ) × Ready prints R k e × Greatest prints R e × (Within prints L (e ∷ R) → ⊥))) → GreatestApplies
-    go z = ⊎_elim done (λ h. absurd (h.4 (none_over prints D free L turn_run (h.0 ∷ z.1) (Returned (int 5)) l v turn_ended (h.2.allowed, m)))) z.4
+    go z = ⊎_elim done (λ h. absurd (h.4 (none_over prints D free L tick_run (h.0 ∷ z.1) (Returned (int 5)) l v tick_ended (h.2.allowed, m)))) z.4
       where
         m : Legal prints z.1
         m = ran_legal prints L z.0 z.1 z.2
 
         done : (x : Ending) × Ended z.1 [] x → GreatestApplies
         done h =
-            let s = same_events prints D turn_run z.1 (Returned (int 5)) h.0 l m (free turn_run l) (free z.1 m) turn_ended h.1 in
+            let s = same_events prints D tick_run z.1 (Returned (int 5)) h.0 l m (free tick_run l) (free z.1 m) tick_ended h.1 in
             let n = begins_total z.1 ∙ sym (s.2 one_begun) ∙ two_begun in
             (prints, D, V, T, K, z.1, m, z.3, h.0, h.1, omega arith)
 
@@ -470,9 +470,9 @@ not_allowed e p a =
     let d = admitted_from waits inside_run e (legal_faithful waits inside_run inside_legal) a in
     let f = d.follows in
     let t : f.task ≡ task 2 = same_task (agree_self inside_run) (subst (λ q. Begun waits inside_run q f.task) p f.begun) b_begun in
-    let k : waits.meaning pb f.task (answers (mine inside_run pb)) ≡ Next e.turns e.act =
-    subst (λ q. waits.meaning q f.task (answers (mine inside_run q)) ≡ Next e.turns e.act) p f.asks in
-    let act = (next_same 0 e.turns (Do (Enter any_effect)) e.act (sym (ap (λ s. waits.meaning pb s (answers (mine inside_run pb))) t ∙ b_asks) ∙ k)).1 in
+    let k : waits.meaning pb f.task (answers (mine inside_run pb)) ≡ Next e.ticks e.act =
+    subst (λ q. waits.meaning q f.task (answers (mine inside_run q)) ≡ Next e.ticks e.act) p f.asks in
+    let act = (next_same 0 e.ticks (Do (Enter any_effect)) e.act (sym (ap (λ s. waits.meaning pb s (answers (mine inside_run pb))) t ∙ b_asks) ∙ k)).1 in
     let c = d.enters any_effect (sym act) in
     true≢false (sym (c.clear (ap (λ q. standing inside_run q) p ∙ b_outside) pa any_effect a_inside))
 
@@ -519,9 +519,9 @@ stuck e a = go a.follows.begun
     go : Begun looks [] e.path f.task → ⊥
     go (branch q u F g ts B h p b c d r s b1 c1 e1 d1) = upto_none b
     go (root p t) =
-        let k : looks.meaning [] f.task (answers (mine [] [])) ≡ Next e.turns e.act =
-        subst (λ q. looks.meaning q f.task (answers (mine [] q)) ≡ Next e.turns e.act) p f.asks in
-        let act = (next_same 0 e.turns (Do (Look no_object)) e.act (sym (ap (λ s. looks.meaning [] s (answers (mine [] []))) t ∙ at_first) ∙ k)).1 in
+        let k : looks.meaning [] f.task (answers (mine [] [])) ≡ Next e.ticks e.act =
+        subst (λ q. looks.meaning q f.task (answers (mine [] q)) ≡ Next e.ticks e.act) p f.asks in
+        let act = (next_same 0 e.ticks (Do (Look no_object)) e.act (sym (ap (λ s. looks.meaning [] s (answers (mine [] []))) t ∙ at_first) ∙ k)).1 in
         let r : reply looks [] e.path (Look no_object) ≡ Some e.ans = subst (λ c. Right looks [] e.path c e.ans) (sym act) f.right in
         let z : None ≡ Some e.ans = sym nothing_there ∙ ap (λ q. reply looks [] q (Look no_object)) (sym p) ∙ r in
         cc
@@ -529,7 +529,7 @@ stuck e a = go a.follows.begun
 pub ready_needs_known : ReadyNeedsKnown
 ready_needs_known = (looks, script_disciplined lookers [] never, script_lively lookers [] never, [], tt, (λ x h. upto_none h.stands), stuck)
 
--- what a task does after a rest that no turns stand before
+-- what a task does after a rest that no ticks stand before
 abbrev enters_next : Reply → Type 0
 enters_next r = (E : List Effect) × (t : ℕ) × (r ≡ Next t (Do (Enter E)))
 

@@ -8,8 +8,8 @@ use Rattle.runs_theory.specs.Meaning.{AfterFork, Disciplined, InTurn, Lively}
 use Rattle.runs_theory.specs.Objects.{An_object, Int, Name, Null, Path, Thing, Value}
 
 pub data Item : Type 0 where
-  does : (turns : ℕ) (own : Own) → Item
-  forks : (turns : ℕ) (branches : Branches) → Item
+  does : (ticks : ℕ) (own : Own) → Item
+  forks : (ticks : ℕ) (branches : Branches) → Item
 
 -- after a fork: the begins from branch b on, as many as are left, the join, and what follows
 abbrev pub after_fork : ℕ → ℕ → (ℕ → Reply) → ℕ → Reply
@@ -205,9 +205,9 @@ goes_after (forks s ts ∷ is) x (suc n) t c e h = goes_fork (λ m. after is x m
 record Forked (f : ℕ → Reply) (n : ℕ) : Type 0 where
   branches : Branches
   at : ℕ
-  turns : ℕ
+  ticks : ℕ
   number : n ≡ suc (at + length branches.tasks)
-  is : f at ≡ Next turns (Fork branches)
+  is : f at ≡ Next ticks (Fork branches)
 
 join_fork : (rest : ℕ → Reply) (b k n t : ℕ) → after_fork b k rest n ≡ Next t Join → (n ≡ k) ⊎ ((m : ℕ) × (n ≡ suc (k + m)) × (rest m ≡ Next t Join))
 join_fork rest b zero zero t e = inl refl
@@ -228,13 +228,13 @@ join_after (does s o ∷ is) x zero t e = absurd (cc)
 join_after (does s o ∷ is) x (suc n) t e =
     let r = join_after is x n t e in
     let i = r.number in
-    record { branches = r.branches; at = suc r.at; turns = r.turns; number = omega arith; is = r.is }
+    record { branches = r.branches; at = suc r.at; ticks = r.ticks; number = omega arith; is = r.is }
 join_after (forks s ts ∷ is) x zero t e = absurd (cc)
 join_after (forks s ts ∷ is) x (suc n) t e = go (join_after is x) (join_fork (λ m. after is x m) 0 (length ts.tasks) n t e)
   where
     go : ((m u : ℕ) → after is x m ≡ Next u Join → Forked (λ m. after is x m) m) → (n ≡ length ts.tasks)
         ⊎ ((m : ℕ) × (n ≡ suc (length ts.tasks + m)) × (after is x m ≡ Next t Join)) → Forked (λ m. after (forks s ts ∷ is) x m) (suc n)
-    go rec (inl h) = record { branches = ts; at = 0; turns = s; number = omega arith; is = refl }
+    go rec (inl h) = record { branches = ts; at = 0; ticks = s; number = omega arith; is = refl }
     go rec (inr h) =
         let r = rec h.0 t h.2 in
         let i = r.number in
@@ -242,7 +242,7 @@ join_after (forks s ts ∷ is) x (suc n) t e = go (join_after is x) (join_fork (
         record {
           branches = r.branches;
           at = suc (suc (length ts.tasks + r.at));
-          turns = r.turns;
+          ticks = r.ticks;
           number = omega arith;
           is = past_fork (λ m. after is x m) 0 (length ts.tasks) r.at (suc (length ts.tasks + r.at)) (omega arith) ∙ r.is;
         }
@@ -251,10 +251,10 @@ join_after (forks s ts ∷ is) x (suc n) t e = go (join_after is x) (join_fork (
 record Beginning (f : ℕ → Reply) (n b : ℕ) : Type 0 where
   branches : Branches
   at : ℕ
-  turns : ℕ
+  ticks : ℕ
   number : n ≡ suc (at + b)
   there : b < length branches.tasks
-  is : f at ≡ Next turns (Fork branches)
+  is : f at ≡ Next ticks (Fork branches)
 
 begin_fork : (rest : ℕ → Reply) (b k n t c : ℕ) → after_fork b k rest n ≡ Next t (Begin c) → ((n < k) × (c ≡ b + n))
     ⊎ ((m : ℕ) × (n ≡ suc (k + m)) × (rest m ≡ Next t (Begin c)))
@@ -271,14 +271,14 @@ begin_after (does s o ∷ is) x zero t c e = absurd (cc)
 begin_after (does s o ∷ is) x (suc n) t c e =
     let r = begin_after is x n t c e in
     let i = r.number in
-    record { branches = r.branches; at = suc r.at; turns = r.turns; number = omega arith; there = r.there; is = r.is }
+    record { branches = r.branches; at = suc r.at; ticks = r.ticks; number = omega arith; there = r.there; is = r.is }
 begin_after (forks s ts ∷ is) x zero t c e = absurd (cc)
 begin_after (forks s ts ∷ is) x (suc n) t c e = go (begin_after is x) (begin_fork (λ m. after is x m) 0 (length ts.tasks) n t c e)
   where
     go : ((m u d : ℕ) → after is x m ≡ Next u (Begin d) → Beginning (λ m. after is x m) m d)
         → ((n < length ts.tasks) × (c ≡ 0 + n)) ⊎ ((m : ℕ) × (n ≡ suc (length ts.tasks + m)) × (after is x m ≡ Next t (Begin c)))
         → Beginning (λ m. after (forks s ts ∷ is) x m) (suc n) c
-    go rec (inl h) = let i = h.0 in let j = h.1 in record { branches = ts; at = 0; turns = s; number = omega arith; there = omega arith; is = refl }
+    go rec (inl h) = let i = h.0 in let j = h.1 in record { branches = ts; at = 0; ticks = s; number = omega arith; there = omega arith; is = refl }
     go rec (inr h) =
         let r = rec h.0 t c h.2 in
         let i = r.number in
@@ -286,7 +286,7 @@ begin_after (forks s ts ∷ is) x (suc n) t c e = go (begin_after is x) (begin_f
         record {
           branches = r.branches;
           at = suc (suc (length ts.tasks + r.at));
-          turns = r.turns;
+          ticks = r.ticks;
           number = omega arith;
           there = r.there;
           is = past_fork (λ m. after is x m) 0 (length ts.tasks) r.at (suc (length ts.tasks + r.at)) (omega arith) ∙ r.is;
@@ -311,10 +311,10 @@ items_of bodies t = (body_of (slice_get bodies (number_of t))).items
 abbrev ending_of : List Body → Task → Ending
 ending_of bodies t = (body_of (slice_get bodies (number_of t))).ending
 
-forked : (bodies : List Body) (fields : List Value) (rule : Rule) (p : Path) (t : Task) (got : List Answer) (ts : Branches) (at turns n : ℕ)
-    → length got ≡ suc (at + n) → after (items_of bodies t) (ending_of bodies t) at ≡ Next turns (Fork ts)
+forked : (bodies : List Body) (fields : List Value) (rule : Rule) (p : Path) (t : Task) (got : List Answer) (ts : Branches) (at ticks n : ℕ)
+    → length got ≡ suc (at + n) → after (items_of bodies t) (ending_of bodies t) at ≡ Next ticks (Fork ts)
     → AfterFork (scripted bodies fields rule) p t got ts n
-forked bodies fields rule p t got ts at turns n num is = go (split_at got (suc at) (omega arith))
+forked bodies fields rule p t got ts at ticks n num is = go (split_at got (suc at) (omega arith))
   where
     go : SplitAt got (suc at) → AfterFork (scripted bodies fields rule) p t got ts n
     go s = by s.earlier s.is s.many
@@ -331,7 +331,7 @@ forked bodies fields rule p t got ts at turns n num is = go (split_at got (suc a
               earlier = es;
               is = e;
               number = omega arith;
-              forks = (turns, ap (λ q. after (items_of bodies t) (ending_of bodies t) q) i ∙ is);
+              forks = (ticks, ap (λ q. after (items_of bodies t) (ending_of bodies t) q) i ∙ is);
             }
 
 pub script_lively : (bodies : List Body) (fields : List Value) (rule : Rule) → Lively (scripted bodies fields rule)
@@ -341,12 +341,12 @@ script_lively bodies fields rule = record {
   goes_on = λ p t got a c e h. goes_after (items_of bodies t) (ending_of bodies t) (length got) e.0 c e.1 h;
   joins_forked = λ p t got e. (
       let r = join_after (items_of bodies t) (ending_of bodies t) (length got) e.0 e.1 in
-      (r.branches, forked bodies fields rule p t got r.branches r.at r.turns (length r.branches.tasks) r.number r.is));
+      (r.branches, forked bodies fields rule p t got r.branches r.at r.ticks (length r.branches.tasks) r.number r.is));
 }
 
 pub script_in_turn : (bodies : List Body) (fields : List Value) (rule : Rule) → InTurn (scripted bodies fields rule)
 script_in_turn bodies fields rule = record {
   begins_forked = λ p t got b e. (
       let r = begin_after (items_of bodies t) (ending_of bodies t) (length got) e.0 b e.1 in
-      (r.branches, r.there, forked bodies fields rule p t got r.branches r.at r.turns b r.number r.is));
+      (r.branches, r.there, forked bodies fields rule p t got r.branches r.at r.ticks b r.number r.is));
 }

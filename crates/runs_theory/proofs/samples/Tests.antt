@@ -275,14 +275,14 @@ module _ (body : Body) (bodies : List Body) (fields : List Value) (rule : Rule) 
       go (branch q u F f ts B g p hf fq fn fa there hg gq ga gn) =
           let s = follows_at its (upto_trans hf (upto_tail hy)) l in
           let asks : after (body_of (slice_get (body ∷ bodies) (number_of s.task))).items (body_of (slice_get (body ∷ bodies) (number_of s.task))).ending
-          (length (answers (mine F f.path))) ≡ Next f.turns (Fork ts) = s.asks ∙ ap (λ c. Next f.turns c) fa in
+          (length (answers (mine F f.path))) ≡ Next f.ticks (Fork ts) = s.asks ∙ ap (λ c. Next f.ticks c) fa in
           let none = after_below (body_of (slice_get (body ∷ bodies) (number_of s.task))).items (body_of (slice_get (body ∷ bodies) (number_of s.task))).ending
-          (all_below_at (body ∷ bodies) (number_of s.task) parts_of.0) (length (answers (mine F f.path))) f.turns ts asks in
+          (all_below_at (body ∷ bodies) (number_of s.task) parts_of.0) (length (answers (mine F f.path))) f.ticks ts asks in
           let m = not_root ts.tasks u.1 a.task none there in
           let quiet : items_quiet (body_of (slice_get (body ∷ bodies) (number_of a.task))).items ≡ true =
           ap (λ n. items_quiet (body_of (slice_get (body ∷ bodies) n)).items) m.1 ∙ all_quiet_at bodies m.0 parts_of.1 in
           after_quiet (body_of (slice_get (body ∷ bodies) (number_of a.task))).items (body_of (slice_get (body ∷ bodies) (number_of a.task))).ending quiet
-          (length (answers (mine Y y.path))) y.turns o (a.asks ∙ ap (λ c. Next y.turns c) k)
+          (length (answers (mine Y y.path))) y.ticks o (a.asks ∙ ap (λ c. Next y.ticks c) k)
 
   pub script_free : AllFree its
   script_free R l = record { no = no }

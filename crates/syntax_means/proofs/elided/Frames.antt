@@ -18,7 +18,7 @@ use Rattle.lang_meaning.specs.Core.{bind, loop, tested, rounded, each_from, run}
 use Rattle.lang_meaning.specs.Core.{Out as out}
 use Rattle.lang_meaning.specs.Counts.{number, truth, reference, value_read, is_out, name_made, class_seen, class_entered, operated, slot_value}
 use Rattle.lang_meaning.specs.Counts.{part_place, Brought, Back, Trap_of_branch}
-use Rattle.lang_meaning.specs.Elision.{LocalRegion, Store, in_order, one_turn, sequential}
+use Rattle.lang_meaning.specs.Elision.{LocalRegion, Store, in_order, one_tick, sequential}
 use Rattle.lang_meaning.specs.Regions.{around, concrete, some_long, is_long, regions_above}
 use Rattle.lang_meaning.specs.Expressions.{Deeper, gives, none, unless_null, read_cell, entered, back, enter, called, created, new_object, made_array}
 use Rattle.lang_meaning.specs.Expressions.{class_in, part_element, of_expr, of_exprs}
@@ -162,34 +162,34 @@ keeps_less {L} {M} {f} {p} more h = record { from = λ w. at (run sequential p w
     at (Lost w) s = tt
 
 module _ (L : Scope) (test body : Slots → Tree) (kt : (g : Slots) → Keeps L g (test g)) (kb : (g : Slots) → Keeps L g (body g)) where
-  abbrev turns : ℕ → Slots → Store → Out ℕ LocalRegion (Result ℕ LocalRegion) Store
-  turns n f w = loop (λ v. one_turn v.turns v) (λ g v. run sequential (test g) v) (λ g v. run sequential (body g) v) n f w
+  abbrev ticks : ℕ → Slots → Store → Out ℕ LocalRegion (Result ℕ LocalRegion) Store
+  ticks n f w = loop (λ v. one_tick v.ticks v) (λ g v. run sequential (test g) v) (λ g v. run sequential (body g) v) n f w
 
   past_kept : (again : Slots → Store → Out ℕ LocalRegion (Result ℕ LocalRegion) Store) → ((g : Slots) (w : Store) → AtDone (Kept L g) (again g w))
       → (f : Slots) (v : Value ℕ) (w : Store) (b : Bool)
       → AtDone (Kept L f) (elim b as (λ b. Out ℕ LocalRegion (Result ℕ LocalRegion) Store) [
         | false ↦ Done (Goes_on v f) w
-        | true ↦ bind (one_turn w.turns w) (λ u w'. bind (run sequential (body f) w') (λ r w''. rounded again r w''))
+        | true ↦ bind (one_tick w.ticks w) (λ u w'. bind (run sequential (body f) w') (λ r w''. rounded again r w''))
       ])
   past_kept again h f v w false = still
   past_kept again h f v w true =
-      done_any (Kept L f) (one_turn w.turns w) _ (λ u w'. done_then (Kept L f) (Kept L f) (run sequential (body f) w') _ ((kb f).from w') round)
+      done_any (Kept L f) (one_tick w.ticks w) _ (λ u w'. done_then (Kept L f) (Kept L f) (run sequential (body f) w') _ ((kb f).from w') round)
     where
       round : (r : Result ℕ LocalRegion) (w'' : Store) → Kept L f r → AtDone (Kept L f) (rounded again r w'')
       round (Goes_on u g) w'' s = done_kept s (again g w'') (h g w'')
       round (Returns u) w'' s = tt
 
-  loop_kept : (n : ℕ) (f : Slots) (w : Store) → AtDone (Kept L f) (turns n f w)
+  loop_kept : (n : ℕ) (f : Slots) (w : Store) → AtDone (Kept L f) (ticks n f w)
   loop_kept zero f w = tt
   loop_kept (suc n) f w = done_then (Kept L f) (Kept L f) (run sequential (test f) w) _ ((kt f).from w) (after (loop_kept n))
     where
-      after : ((g : Slots) (v : Store) → AtDone (Kept L g) (turns n g v)) → (r : Result ℕ LocalRegion) (v : Store) → Kept L f r
-          → AtDone (Kept L f) (tested (λ v. one_turn v.turns v) (λ g v. run sequential (body g) v) (λ g u. turns n g u) r v)
-      after h (Goes_on u g) v s = done_kept s _ (past_kept (turns n) h g u v (truth u))
+      after : ((g : Slots) (v : Store) → AtDone (Kept L g) (ticks n g v)) → (r : Result ℕ LocalRegion) (v : Store) → Kept L f r
+          → AtDone (Kept L f) (tested (λ v. one_tick v.ticks v) (λ g v. run sequential (body g) v) (λ g u. ticks n g u) r v)
+      after h (Goes_on u g) v s = done_kept s _ (past_kept (ticks n) h g u v (truth u))
       after h (Returns u) v s = tt
 
   pub keeps_loop : (f : Slots) → Keeps L f (Again test body f (λ r. Ret r))
-  keeps_loop f = record { from = λ w. done_then (Kept L f) (Kept L f) (turns (suc w.turns) f w) _ (loop_kept (suc w.turns) f w) (λ r v s. s) }
+  keeps_loop f = record { from = λ w. done_then (Kept L f) (Kept L f) (ticks (suc w.ticks) f w) _ (loop_kept (suc w.ticks) f w) (λ r v s. s) }
 
 -- a cell is read or written, and a body that is entered leaves the caller's frame
 module _ {L : Scope} where

@@ -7,7 +7,7 @@ use Rattle.lang_meaning.specs.Core.{Result, Goes_on, Returns, Prog, Ret, Traps, 
 use Rattle.lang_meaning.specs.Core.{bind, World, loop, each_from, run}
 use Rattle.lang_meaning.specs.Core.{Out as out}
 use Rattle.lang_meaning.specs.Counts.{Brought}
-use Rattle.lang_meaning.specs.Elision.{LocalRegion, Store, one_turn, sequential}
+use Rattle.lang_meaning.specs.Elision.{LocalRegion, Store, one_tick, sequential}
 
 pub bind_assoc : {N M V U T W : Type 0} (o : Out N M V W) (j : V → W → Out N M U W) (k : U → W → Out N M T W) →
     bind (bind o j) k ≡ bind o (λ v w. bind (j v w) k)
@@ -31,7 +31,7 @@ run_on wd (Traps t p) k w = refl
 run_on wd (Act o j) k w = bind_through (wd.act o w) (λ x v. run wd (on (j x) k) v) (λ x v. run wd (j x) v) (λ f v. run wd (k f) v) (λ x v. run_on wd (j x) k v)
 run_on wd (Makes j) k w = bind_through (wd.make w) (λ x v. run wd (on (j x) k) v) (λ x v. run wd (j x) v) (λ f v. run wd (k f) v) (λ x v. run_on wd (j x) k v)
 run_on wd (Again t b f j) k w =
-    bind_through (loop wd.turn (λ g v. run wd (t g) v) (λ g v. run wd (b g) v) (wd.turns w) f w) (λ x v. run wd (on (j x) k) v) (λ x v. run wd (j x) v)
+    bind_through (loop wd.tick (λ g v. run wd (t g) v) (λ g v. run wd (b g) v) (wd.ticks w) f w) (λ x v. run wd (on (j x) k) v) (λ x v. run wd (j x) v)
     (λ f v. run wd (k f) v) (λ x v. run_on wd (j x) k v)
 run_on wd (Split forking ts bs j) k w =
     bind_through (wd.fork forking ts (each_from (λ i v. run wd (bs i) v) 0 ts) w) (λ x v. run wd (on (j x) k) v) (λ x v. run wd (j x) v)
@@ -82,7 +82,7 @@ same_entry {E} e = record { from = λ w. bind_same (sequential.act (Enter E) w) 
 pub same_loop : {t u b c : Slots → Tree} {f : Slots} {k : Result ℕ LocalRegion → Tree} → ((g : Slots) → Same (t g) (u g))
     → ((g : Slots) → Same (b g) (c g)) → Same (Again t b f k) (Again u c f k)
 same_loop {f = f} {k = k} test body = record {
-  from = λ w i. bind (loop (λ v. one_turn v.turns v) (λ g v. (test g).from v i) (λ g v. (body g).from v i) (suc w.turns) f w) (λ r v. run sequential (k r) v);
+  from = λ w i. bind (loop (λ v. one_tick v.ticks v) (λ g v. (test g).from v i) (λ g v. (body g).from v i) (suc w.ticks) f w) (λ r v. run sequential (k r) v);
 }
 
 -- branches that run alike

@@ -5,7 +5,7 @@ use Rattle.code_instrs.specs.Plain.{plain_code, body_at}
 use Rattle.exec_task.specs.StepsLocally.{IsAtOther}
 use Rattle.exec_task.specs.Steps.{plain_line}
 use Rattle.exec_task.proofs.Bodies.{without_instr}
-use Rattle.exec_task.proofs.RunningLocally.{stays, goes, turns, divides, never_stuck, never_short, other, no_line, nearer_by, kept_by}
+use Rattle.exec_task.proofs.RunningLocally.{stays, goes, ticks, divides, never_stuck, never_short, other, no_line, nearer_by, kept_by}
 use Rattle.exec_task.proofs.run_local.run_local.Goals as goal
 
 pub invariant_of-running : goal.invariant_of-running
@@ -41,37 +41,37 @@ loop-running-preserved-in-Goes c =
       nearer = let near = nearer_by s i.nearer in search (rules, near);
     }
 
-pub invariant_of-running-in-Turns : goal.invariant_of-running-in-Turns
-invariant_of-running-in-Turns c =
+pub invariant_of-running-in-Ticks : goal.invariant_of-running-in-Ticks
+invariant_of-running-in-Ticks c =
     let w = c.loop-running.running in
     let i = c.loop-running.invariant in
     let x = c.in-Some-get.ensures.value in
-    let is = rw c.in-Turns.is at c.local_step.ensures.local_step w.task.number (plain_code w.code.now) in
-    record { ends = (turns w.code.now c.args.running.now.code.now i.code c.args.running.now.task w.task i.reaches w.ends c.in-Some.body.now c.in-Some-get.instr.now i.at i.going i.body c.in-Some.ensures.value x c.local_step.new.self is).least }
+    let is = rw c.in-Ticks.is at c.local_step.ensures.local_step w.task.number (plain_code w.code.now) in
+    record { ends = (ticks w.code.now c.args.running.now.code.now i.code c.args.running.now.task w.task i.reaches w.ends c.in-Some.body.now c.in-Some-get.instr.now i.at i.going i.body c.in-Some.ensures.value x c.local_step.new.self is).least }
 
 pub returns-then-running-eq4096-clause-reaches : goal.returns-then-running-eq4096-clause-reaches
 returns-then-running-eq4096-clause-reaches c =
     let w = c.loop-running.running in
     let i = c.loop-running.invariant in
     let x = c.in-Some-get.ensures.value in
-    let is = rw c.in-Turns.is at c.local_step.ensures.local_step w.task.number (plain_code w.code.now) in
-    (turns w.code.now c.args.running.now.code.now i.code c.args.running.now.task w.task i.reaches w.ends c.in-Some.body.now c.in-Some-get.instr.now i.at i.going i.body c.in-Some.ensures.value x c.local_step.new.self is).reaches
+    let is = rw c.in-Ticks.is at c.local_step.ensures.local_step w.task.number (plain_code w.code.now) in
+    (ticks w.code.now c.args.running.now.code.now i.code c.args.running.now.task w.task i.reaches w.ends c.in-Some.body.now c.in-Some-get.instr.now i.at i.going i.body c.in-Some.ensures.value x c.local_step.new.self is).reaches
 
 pub returns-then-running-eq4096-clause-nearer : goal.returns-then-running-eq4096-clause-nearer
 returns-then-running-eq4096-clause-nearer c =
     let w = c.loop-running.running in
     let i = c.loop-running.invariant in
     let x = c.in-Some-get.ensures.value in
-    let is = rw c.in-Turns.is at c.local_step.ensures.local_step w.task.number (plain_code w.code.now) in
-    let near = nearer_by (turns w.code.now c.args.running.now.code.now i.code c.args.running.now.task w.task i.reaches w.ends c.in-Some.body.now c.in-Some-get.instr.now i.at i.going i.body c.in-Some.ensures.value x c.local_step.new.self is) i.nearer in search (rules, near)
+    let is = rw c.in-Ticks.is at c.local_step.ensures.local_step w.task.number (plain_code w.code.now) in
+    let near = nearer_by (ticks w.code.now c.args.running.now.code.now i.code c.args.running.now.task w.task i.reaches w.ends c.in-Some.body.now c.in-Some-get.instr.now i.at i.going i.body c.in-Some.ensures.value x c.local_step.new.self is) i.nearer in search (rules, near)
 
 pub loop-running-smaller : goal.loop-running-smaller
 loop-running-smaller c =
     let w = c.loop-running.running in
     let i = c.loop-running.invariant in
     let x = c.in-Some-get.ensures.value in
-    let is = rw c.in-Turns.is at c.local_step.ensures.local_step w.task.number (plain_code w.code.now) in
-    let s = turns w.code.now c.args.running.now.code.now i.code c.args.running.now.task w.task i.reaches w.ends c.in-Some.body.now c.in-Some-get.instr.now i.at i.going i.body c.in-Some.ensures.value x c.local_step.new.self is in
+    let is = rw c.in-Ticks.is at c.local_step.ensures.local_step w.task.number (plain_code w.code.now) in
+    let s = ticks w.code.now c.args.running.now.code.now i.code c.args.running.now.task w.task i.reaches w.ends c.in-Some.body.now c.in-Some-get.instr.now i.at i.going i.body c.in-Some.ensures.value x c.local_step.new.self is in
     let less = s.less in search (rules, less)
 
 pub loop-running-preserved : goal.loop-running-preserved
@@ -79,8 +79,8 @@ loop-running-preserved c =
     let w = c.loop-running.running in
     let i = c.loop-running.invariant in
     let x = c.in-Some-get.ensures.value in
-    let is = rw c.in-Turns.is at c.local_step.ensures.local_step w.task.number (plain_code w.code.now) in
-    let s = turns w.code.now c.args.running.now.code.now i.code c.args.running.now.task w.task i.reaches w.ends c.in-Some.body.now c.in-Some-get.instr.now i.at i.going i.body c.in-Some.ensures.value x c.local_step.new.self is in
+    let is = rw c.in-Ticks.is at c.local_step.ensures.local_step w.task.number (plain_code w.code.now) in
+    let s = ticks w.code.now c.args.running.now.code.now i.code c.args.running.now.task w.task i.reaches w.ends c.in-Some.body.now c.in-Some-get.instr.now i.at i.going i.body c.in-Some.ensures.value x c.local_step.new.self is in
     record {
       reaches = s.reaches;
       code = i.code;

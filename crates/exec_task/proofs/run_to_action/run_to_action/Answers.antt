@@ -28,7 +28,7 @@ returns-in-Some-clause-halts c =
     subst (λ k. Halts (plain_code k) c.advance.new.self (front_of (plain_code k) c.advance.new.self)) c.loop-running.invariant.code
     (subst (λ t. Halts (plain_code c.loop-running.running.code.now) t (front_of (plain_code c.loop-running.running.code.now) t)) (sym o.1)
     (halts_front (plain_code c.loop-running.running.code.now) c.loop-running.running.task c.in-Some.action c.loop-running-test.true
-    (o.0 c.loop-running.running.task.turns c.loop-running.running.task.made)))
+    (o.0 c.loop-running.running.task.ticks c.loop-running.running.task.made)))
 
 pub returns-in-Some-clause-tells : goal.returns-in-Some-clause-tells
 returns-in-Some-clause-tells c =
@@ -36,7 +36,7 @@ returns-in-Some-clause-tells c =
     subst (λ k. Tells (plain_code k) c.in-Some.action (front_of (plain_code k) c.advance.new.self)) c.loop-running.invariant.code
     (subst (λ t. Tells (plain_code c.loop-running.running.code.now) c.in-Some.action (front_of (plain_code c.loop-running.running.code.now) t)) (sym o.1)
     (tells_front (plain_code c.loop-running.running.code.now) c.loop-running.running.task c.in-Some.action c.loop-running-test.true
-    (o.0 c.loop-running.running.task.turns c.loop-running.running.task.made)))
+    (o.0 c.loop-running.running.task.ticks c.loop-running.running.task.made)))
 
 pub loop-running-smaller : goal.loop-running-smaller
 loop-running-smaller c =
@@ -54,7 +54,7 @@ goes_on c =
     let r = reaches_next (plain_code c.args.running.now.code.now) c.args.running.now.task c.loop-running.running.task c.advance.new.self c.loop-running.invariant.reaches
     c.loop-running-test.true (subst (λ k. Advances (plain_code k) c.loop-running.running.task c.advance.new.self) c.loop-running.invariant.code o)
     c.advance.ensures.number c.advance.ensures.paced
-    (subst (λ k. IsAsking (stands c.loop-running.running.task.turns c.loop-running.running.task.made (step_at (plain_code k) c.loop-running.running.task)) → ⊥)
+    (subst (λ k. IsAsking (stands c.loop-running.running.task.ticks c.loop-running.running.task.made (step_at (plain_code k) c.loop-running.running.task)) → ⊥)
     c.loop-running.invariant.code m) in
     reaches_on (plain_code c.args.running.now.code.now) c.args.running.now.task c.advance.new.self c.run_local-in-loop-running.new.running.task r
     (subst (λ k. Reaches (plain_code k) c.advance.new.self c.run_local-in-loop-running.new.running.task) c.loop-running.invariant.code c.run_local-in-loop-running.ensures.reaches)
@@ -63,7 +63,7 @@ pub loop-running-preserved : goal.loop-running-preserved
 loop-running-preserved c = record {
   reaches = goes_on (goal.at.loop-running-preserved c).After-run_local-in-loop-running;
   code = c.run_local-in-loop-running.ensures.code ∙ c.loop-running.invariant.code;
-  other = subst (λ k. c.run_local-in-loop-running.new.running.task.turns < 4096 → IsAtOther (plain_code k) c.run_local-in-loop-running.new.running.task)
+  other = subst (λ k. c.run_local-in-loop-running.new.running.task.ticks < 4096 → IsAtOther (plain_code k) c.run_local-in-loop-running.new.running.task)
       (sym c.run_local-in-loop-running.ensures.code) c.in_ok-run_local-2.ensures.other;
 }
 
@@ -73,9 +73,9 @@ returns-in_err-run_local-2-clause-reaches c = goes_on (goal.at.returns-in_err-ru
 pub returns-clause-halts : goal.returns-clause-halts
 returns-clause-halts c =
     subst (λ k. Halts (plain_code k) c.loop-running.running.task (front_of (plain_code k) c.loop-running.running.task)) c.loop-running.invariant.code
-    (halts_rest (plain_code c.loop-running.running.code.now) c.loop-running.running.task c.loop-running-test.false c.loop-running.invariant.reaches.paced.turns)
+    (halts_rest (plain_code c.loop-running.running.code.now) c.loop-running.running.task c.loop-running-test.false c.loop-running.invariant.reaches.paced.ticks)
 
 pub returns-clause-tells : goal.returns-clause-tells
 returns-clause-tells c =
     subst (λ k. Tells (plain_code k) (action.Do own.Rest) (front_of (plain_code k) c.loop-running.running.task)) c.loop-running.invariant.code
-    (tells_rest (plain_code c.loop-running.running.code.now) c.loop-running.running.task c.loop-running-test.false c.loop-running.invariant.reaches.paced.turns)
+    (tells_rest (plain_code c.loop-running.running.code.now) c.loop-running.running.task c.loop-running-test.false c.loop-running.invariant.reaches.paced.ticks)

@@ -37,4 +37,4 @@ pub returns-in-Unless-clause-local_step : goal.returns-in-Unless-clause-local_st
 returns-in-Unless-clause-local_step c = λ task C. rw c.in-Unless.is c.jump_unless.ensures.local_step
 
 pub returns-in-Turn-clause-local_step : goal.returns-in-Turn-clause-local_step
-returns-in-Turn-clause-local_step c = λ task C. rw c.in-Turn.is c.turn.ensures.local_step
+returns-in-Turn-clause-local_step c = λ task C. rw c.in-Turn.is c.tick.ensures.local_step

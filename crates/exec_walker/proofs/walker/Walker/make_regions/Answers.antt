@@ -17,14 +17,14 @@ loop-region-preserved c = record {
   waiting = c.loop-region.invariant.waiting;
   made = λ L w h.
       let before = c.loop-region.invariant.made L w h in
-      let turns : 0 < before.0.turns = omega (arith, before.2.turns, before.2.steps, before.2.steps_limit, c.loop-region.self.store.within) in (
+      let ticks : 0 < before.0.ticks = omega (arith, before.2.ticks, before.2.steps, before.2.steps_limit, c.loop-region.self.store.within) in (
         with_region before.0,
         before.1
             ∙ next_made (plain_level c.args.self.now.level) (map plain_waiting c.args.self.now.waiting)
             (map (λ (region : LocalRegion). region.number) (drop c.loop-region.region-index c.as_slice-region-items.result.now)) _ _ c.in_ok-number.number
             (plain_frame c.loop-region.self.level.frame) (map plain_local c.set_local.new.locals) before.0 c.set_local.ensures
             (c.in_ok-number.ensures.number L before.0 before.2)
-            (next_number c.as_slice-region-items.result.now c.loop-region.region-index _ c.loop-region-test.true) turns,
+            (next_number c.as_slice-region-items.result.now c.loop-region.region-index _ c.loop-region-test.true) ticks,
         c.in_ok-number.ensures.store L before.0 before.2,
       );
 }
@@ -38,12 +38,12 @@ returns-in_err-number c = λ L w h.
     let i = c.loop-region.region-index in
     let d : LocalRegion = record { number = 0 } in
     let before = c.loop-region.invariant.made L w h in
-    let turns : 0 < before.0.turns = omega (arith, before.2.turns, before.2.steps, before.2.steps_limit, c.loop-region.self.store.within) in
+    let ticks : 0 < before.0.ticks = omega (arith, before.2.ticks, before.2.steps, before.2.steps_limit, c.loop-region.self.store.within) in
     let out = err_from_is_err_and c.from_residual.result c.from_residual.ensures.1 in
     rw (out.1, out.2) (refused ℕ L c.in_err-number.field-0.0 _ _ (Holds L c.make_region.new.self) (with_region before.0) (c.in_err-number.ensures.store L before.0 before.2) (λ over.
     subst (λ s. IsOverAt L s)
     (sym (ap (λ (xs : List LocalRegion). makes_from g ws (map (λ region. region.number) xs) g.frame w) (sym c.as_slice-region-items.ensures) ∙ before.1
-    ∙ next_made g ws (map (λ (region : LocalRegion). region.number) (drop i items)) _ _ before.0.regions f _ before.0 refl refl (next_number items i d c.loop-region-test.true) turns))
+    ∙ next_made g ws (map (λ (region : LocalRegion). region.number) (drop i items)) _ _ before.0.regions f _ before.0 refl refl (next_number items i d c.loop-region-test.true) ticks))
     (makes_over g ws L (map (λ (region : LocalRegion). region.number) (drop (i + 1) items)) _ (with_region before.0) over)))
 
 pub returns : goal.returns
