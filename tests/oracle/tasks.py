@@ -13,8 +13,8 @@ from oracle.elision import (
     ARITHMETIC, COMPARISONS, DEEPEST, STATUS_DONE, STATUS_LIMITED, STATUS_TRAPPED, Frame, Object, Outcome, Part, Trap, spelled, wrapped,
 )
 
-# So many turns a task makes without an event at most.
-MOST_TURNS = 4096
+# So many ticks a task makes without an event at most.
+MOST_TICKS = 4096
 
 # Stands for the regions of all arrays that are cut into parts.
 PARTS = "parts"
@@ -22,7 +22,7 @@ PARTS = "parts"
 
 @dataclasses.dataclass(frozen=True)
 class Event:
-    """What a task does next, and what that costs besides the turns before it."""
+    """What a task does next, and what that costs besides the ticks before it."""
 
     kind: str
     steps: int = 1
@@ -117,7 +117,7 @@ class Task:
         self.run, self.number, self.parent = run, run.begun, parent
         # An open block in which it stands, and how many entries of its own are open.
         self.inside, self.entries = parent.inside if parent else None, 0
-        self.turns, self.output, self.branches, self.trap, self.result, self.has_ended = 0, [], [], None, None, False
+        self.ticks, self.output, self.branches, self.trap, self.result, self.has_ended = 0, [], [], None, None, False
         self.event = None
 
     def start(self, work):
@@ -131,10 +131,10 @@ class Task:
             self.trap = trap
         yield END
 
-    def turn(self):
-        """A turn of a loop or a new local region costs a step, which is counted with the next event."""
-        self.turns += 1
-        if self.turns == MOST_TURNS:
+    def tick(self):
+        """An iteration of a loop or a new local region costs a step, which is counted with the next event."""
+        self.ticks += 1
+        if self.ticks == MOST_TICKS:
             yield REST
 
     def fork(self, frame, place, bodies):
@@ -203,11 +203,11 @@ class Run:
         self.schedule.append(number)
         task = self.tasks[number]
         event = task.event
-        steps, cells = self.steps + task.turns + event.steps, self.cells + event.cells
+        steps, cells = self.steps + task.ticks + event.steps, self.cells + event.cells
         if steps > self.limits[0] or cells > self.limits[1]:
             self.outcome = Outcome(b"limit\n", STATUS_LIMITED, *self.limits)
             return
-        self.steps, self.cells, task.turns = steps, cells, 0
+        self.steps, self.cells, task.ticks = steps, cells, 0
         if event is END:
             self.end(task)
             return
@@ -465,7 +465,7 @@ def _(node: elision.Atomic, task, frame):
 @perform.register
 def _(node: elision.LocalRegions, task, frame):
     for _ in node.names:
-        yield from task.turn()
+        yield from task.tick()
 
 
 @perform.register
@@ -478,7 +478,7 @@ def _(node: elision.If, task, frame):
 @perform.register
 def _(node: elision.While, task, frame):
     while (yield from value(node.condition, task, frame)):
-        yield from task.turn()
+        yield from task.tick()
         returned = yield from perform(node.body, task, frame)
         if returned:
             return returned

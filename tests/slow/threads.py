@@ -15,7 +15,7 @@ import time
 
 PROGRAM = pathlib.Path(__file__).resolve().parents[2] / "out" / "dpj"
 LOOP = b"class Main { int main(int n) { cobegin { this.count(n); this.count(n); } return n; } void count(int n) pure { int k = 0; while (k < n) { k = k + 1; } } }"
-# The numbers of workers, each with the turns of a branch; and by how many the threads are to take turns.
+# The numbers of workers, each with the iterations of a branch; and by how many the threads are to take turns.
 RUNS = ((1, 4000000), (2, 9000000), (4, 4000000))
 TURNS_BY = 2
 TRIES = 3
@@ -43,12 +43,12 @@ def ticks(task):
 class Watched:
     """What is seen of a run: in which order the threads used time, a thread once for each time that it goes on after another, and how much."""
 
-    def __init__(self, program, workers, turns):
+    def __init__(self, program, workers, iterations):
         self.order, self.used, self.main_before, self.main_after = [], {}, 0, 0
         with tempfile.TemporaryFile() as text:
             text.write(LOOP)
             text.seek(0)
-            running = subprocess.Popen([program, "run", f"workers={workers}", f"arg={turns}", "steps=20000000"], stdin=text, stdout=subprocess.DEVNULL)
+            running = subprocess.Popen([program, "run", f"workers={workers}", f"arg={iterations}", "steps=20000000"], stdin=text, stdout=subprocess.DEVNULL)
             self.main = str(running.pid)
             while running.poll() is None:
                 self.look()
@@ -88,9 +88,9 @@ class Watched:
 def main():
     program = sys.argv[1] if len(sys.argv) > 1 else PROGRAM
     failed = 0
-    for workers, turns in RUNS:
+    for workers, iterations in RUNS:
         for _ in range(TRIES):
-            run = Watched(program, workers, turns)
+            run = Watched(program, workers, iterations)
             waits, by_turns = run.main_waits(), workers != TURNS_BY or run.by_turns()
             if waits and by_turns:
                 break

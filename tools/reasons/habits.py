@@ -138,9 +138,9 @@ HABITS = [
         "Iterations that may run side by side are those of `foreach (int i in start, count)`.", rewrites.parallel_loop),
     row("foreach-without-int", r"(?P<lead>\bforeach(?:_nd)?\s*\(\s*)(?=\w+\s+in\b)", "The variable of a loop is declared in it.", r"\g<lead>int "),
     row("for-each", r"\bfor\s*\((?=[^;{}]*?:)",
-        "There is no `for`; a `while` goes through the indices, or a `foreach` where the turns may run side by side.",
+        "There is no `for`; a `while` goes through the indices, or a `foreach` where the iterations may run side by side.",
         rewrites.each_loop),
-    row("for", r"\bfor\s*\([^{}]*?", "There is no `for`. A `while` does the same one after another; where the turns may run side by side:"
+    row("for", r"\bfor\s*\([^{}]*?", "There is no `for`. A `while` does the same one after another; where the iterations may run side by side:"
         " `foreach (int i in start, count)`.", rewrites.counting_loop),
     row("for", r"\bfor\s*\([^{}]*?\)\s*", "There is no `for`; a `while` does the same.", rewrites.counting_loop),
     row("do", r"\bdo\b\s*(?=\{|\w)", "There is no `do`. Write the body once before a `while`.", rewrites.do_while),
