@@ -1,4 +1,4 @@
--- Whether a task is ready can be told, and which tasks are.
+-- Whether a task is ready can be decided, and which tasks are.
 use Rattle.std.proofs.Common.{◌≡◌, ◌∙◌, ◌⊎◌, ◌+◌, ◌<◌, ◌≤◌, ◌==◌, ◌&&◌, ◌||◌, ℕ, suc, zero, Bool, true, false, not, List, [], ◌∷◌, length, Contains, Option, Some, None, inl, inr, ⊎_elim, refl, ap, sym, subst, arith}
 use Rattle.std.specs.Prelude.{is_some, slice_index}
 use Rattle.std.specs.FinMap.{contains_key-keys, get, keys}

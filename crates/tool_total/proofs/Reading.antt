@@ -13,7 +13,7 @@ use Rattle.tool_trace.specs.Runs.{last_of}
 use Rattle.tool_trace.specs.Text.{events_text, settings_text}
 use Rattle.tool_trace.specs.declared.reading.Trace.{Trace}
 use Rattle.tool_trace.proofs.Leading.{misfit-line, misfit-missing, trace-is}
-use Rattle.tool_total.proofs.Deciding.{Told, after_told, found_told, less_told, most_told, same_told, some_told, text_told, told_both, told_map}
+use Rattle.tool_total.proofs.Deciding.{Decided, after_decided, found_decided, less_decided, most_decided, same_decided, some_decided, text_decided, decided_both, decided_map}
 
 -- a text is cut at a byte, or doesn't have it
 abbrev CutSo : List ℕ → Type 0
@@ -32,28 +32,28 @@ cut_later : (b : ℕ) (bs : List ℕ) → (b ≡ 10 → ⊥) → ((text followin
 cut_later b bs other never [] following cut = other (head_same cut.is)
 cut_later b bs other never (x ∷ text) following cut = never text following (record { is = tail_same cut.is; first = cut.first.1 })
 
-cut_told : (rest : List ℕ) → CutSo rest ⊎ ((text following : List ℕ) → IsCut 10 rest text following → ⊥)
-cut_told [] = inr (λ text following cut. no_end text following cut.is)
-cut_told (b ∷ bs) =
+cut_decided : (rest : List ℕ) → CutSo rest ⊎ ((text following : List ℕ) → IsCut 10 rest text following → ⊥)
+cut_decided [] = inr (λ text following cut. no_end text following cut.is)
+cut_decided (b ∷ bs) =
     ⊎_elim (λ (same : b ≡ 10). inl ([], bs, record { is = ap (λ c. c ∷ bs) same; first = tt }))
     (λ (other : b ≡ 10 → ⊥).
     ⊎_elim (λ (cut : CutSo bs). inl (b ∷ cut.0, cut.1, record { is = ap (λ l. b ∷ l) cut.2.is; first = (other, cut.2.first) }))
-    (λ never. inr (cut_later b bs other never)) (cut_told bs)) (same_told b 10)
+    (λ never. inr (cut_later b bs other never)) (cut_decided bs)) (same_decided b 10)
 
 -- which limits are allowed, and which numbers fit
-limits_told : (L : Limits) → Told (AreLimits L)
-limits_told L =
-    told_map (λ h. record { steps_least = h.0.0; steps_most = h.0.1; cells_least = h.1.0; cells_most = h.1.1 }) (λ a. ((a.steps_least, a.steps_most), (a.cells_least, a.cells_most)))
-    (told_both (told_both (most_told 1 L.steps) (most_told L.steps 20000000)) (told_both (most_told 1 L.cells) (most_told L.cells 16777216)))
+limits_decided : (L : Limits) → Decided (AreLimits L)
+limits_decided L =
+    decided_map (λ h. record { steps_least = h.0.0; steps_most = h.0.1; cells_least = h.1.0; cells_most = h.1.1 }) (λ a. ((a.steps_least, a.steps_most), (a.cells_least, a.cells_most)))
+    (decided_both (decided_both (most_decided 1 L.steps) (most_decided L.steps 20000000)) (decided_both (most_decided 1 L.cells) (most_decided L.cells 16777216)))
 
-fits_told : (z : ℤ) → Told (FitsSigned w32 z)
-fits_told (pos n) = told_map (λ h. record { sfits = h }) (λ f. f.sfits) (less_told n 2147483648)
-fits_told (negsuc n) = told_map (λ h. record { sfits = h }) (λ f. f.sfits) (less_told n 2147483648)
+fits_decided : (z : ℤ) → Decided (FitsSigned w32 z)
+fits_decided (pos n) = decided_map (λ h. record { sfits = h }) (λ f. f.sfits) (less_decided n 2147483648)
+fits_decided (negsuc n) = decided_map (λ h. record { sfits = h }) (λ f. f.sfits) (less_decided n 2147483648)
 
-settings_so : (text : List ℕ) (arg : ℤ) (L : Limits) → Told (IsSettings text arg L)
+settings_so : (text : List ℕ) (arg : ℤ) (L : Limits) → Decided (IsSettings text arg L)
 settings_so text arg L =
-    told_map (λ h. record { limits_allowed = h.0; arg_allowed = h.1.0; is = h.1.1 }) (λ f. (f.limits_allowed, (f.arg_allowed, f.is)))
-    (told_both (limits_told L) (told_both (fits_told arg) (text_told text (settings_text arg L))))
+    decided_map (λ h. record { limits_allowed = h.0; arg_allowed = h.1.0; is = h.1.1 }) (λ f. (f.limits_allowed, (f.arg_allowed, f.is)))
+    (decided_both (limits_decided L) (decided_both (fits_decided arg) (text_decided text (settings_text arg L))))
 
 abbrev limits_with : ℕ → ℕ → Limits
 limits_with steps cells = record { steps = steps; cells = cells }
@@ -62,71 +62,71 @@ limits_with steps cells = record { steps = steps; cells = cells }
 abbrev LimitsOf : List ℕ → ℤ → Type 0
 LimitsOf text arg = (L : Limits) × IsSettings text arg L
 
-limits_found : (text : List ℕ) (arg : ℤ) → Told (LimitsOf text arg)
+limits_found : (text : List ℕ) (arg : ℤ) → Decided (LimitsOf text arg)
 limits_found text arg =
     ⊎_elim (λ found. inl (limits_with found.0 found.1.0, found.1.1))
     (λ none. inr (λ h. (let most : h.0.steps ≤ 20000000 = h.1.limits_allowed.steps_most in none h.0.steps (omega (arith, most)) (h.0.cells, h.1))))
-    (found_told {P = λ steps. (cells : ℕ) × IsSettings text arg (limits_with steps cells)} 20000001 (λ steps. by_steps steps))
+    (found_decided {P = λ steps. (cells : ℕ) × IsSettings text arg (limits_with steps cells)} 20000001 (λ steps. by_steps steps))
   where
-    by_steps : (steps : ℕ) → Told ((cells : ℕ) × IsSettings text arg (limits_with steps cells))
+    by_steps : (steps : ℕ) → Decided ((cells : ℕ) × IsSettings text arg (limits_with steps cells))
     by_steps steps =
         ⊎_elim (λ found. inl found)
         (λ none. inr (λ h. (let most : h.0 ≤ 16777216 = h.1.limits_allowed.cells_most in none h.0 (omega (arith, most)) h.1)))
-        (found_told {P = λ cells. IsSettings text arg (limits_with steps cells)} 16777217 (λ cells. settings_so text arg (limits_with steps cells)))
+        (found_decided {P = λ cells. IsSettings text arg (limits_with steps cells)} 16777217 (λ cells. settings_so text arg (limits_with steps cells)))
 
-settings_told : (text : List ℕ) → Told ((arg : ℤ) × LimitsOf text arg)
-settings_told text =
+settings_decided : (text : List ℕ) → Decided ((arg : ℤ) × LimitsOf text arg)
+settings_decided text =
     ⊎_elim (λ found. inl (pos found.0, found.1))
     (λ no_pos.
     ⊎_elim (λ found. inl (negsuc found.0, found.1)) (λ no_neg. inr (λ h. neither no_pos no_neg h.0 h.1))
-    (found_told {P = λ n. LimitsOf text (negsuc n)} 2147483648 (λ n. limits_found text (negsuc n))))
-    (found_told {P = λ n. LimitsOf text (pos n)} 2147483648 (λ n. limits_found text (pos n)))
+    (found_decided {P = λ n. LimitsOf text (negsuc n)} 2147483648 (λ n. limits_found text (negsuc n))))
+    (found_decided {P = λ n. LimitsOf text (pos n)} 2147483648 (λ n. limits_found text (pos n)))
   where
     neither : ((n : ℕ) → n < 2147483648 → LimitsOf text (pos n) → ⊥) → ((n : ℕ) → n < 2147483648 → LimitsOf text (negsuc n) → ⊥) → (arg : ℤ) → LimitsOf text arg → ⊥
     neither a b (pos n) h = a n h.1.arg_allowed.sfits h
     neither a b (negsuc n) h = b n h.1.arg_allowed.sfits h
 
-events_told : (text : List ℕ) (most : ℕ) → Told ((events : ℕ) × IsEvents text most events)
-events_told text most =
+events_decided : (text : List ℕ) (most : ℕ) → Decided ((events : ℕ) × IsEvents text most events)
+events_decided text most =
     ⊎_elim (λ found. inl (found.0, record { few = found.1.0; is = found.1.1 }))
     (λ none. inr (λ h. (let few = h.1.few in none h.0 (omega (arith, few)) (h.1.few, h.1.is))))
-    (found_told {P = λ events. (events ≤ most) × (text ≡ events_text events)} (suc most) (λ events. told_both (most_told events most) (text_told text (events_text events))))
+    (found_decided {P = λ events. (events ≤ most) × (text ≡ events_text events)} (suc most) (λ events. decided_both (most_decided events most) (text_decided text (events_text events))))
 
 -- numbers
-digits_told : (text : List ℕ) → Told (AllDigits 10 text)
-digits_told [] = inl tt
-digits_told (c ∷ cs) = told_both (less_told (digit_value c) 10) (digits_told cs)
+digits_decided : (text : List ℕ) → Decided (AllDigits 10 text)
+digits_decided [] = inl tt
+digits_decided (c ∷ cs) = decided_both (less_decided (digit_value c) 10) (digits_decided cs)
 
-plain_told : (text : List ℕ) → Told (slice_index text 0 ≡ 48 → length text ≡ 1)
-plain_told text =
+plain_decided : (text : List ℕ) → Decided (slice_index text 0 ≡ 48 → length text ≡ 1)
+plain_decided text =
     ⊎_elim (λ (one : length text ≡ 1). inl (λ zero. one))
     (λ (more : length text ≡ 1 → ⊥). ⊎_elim (λ (zero : slice_index text 0 ≡ 48). inr (λ plain. more (plain zero))) (λ (other : slice_index text 0 ≡ 48 → ⊥). inl (λ zero. absurd (other zero)))
-    (same_told (slice_index text 0) 48)) (same_told (length text) 1)
+    (same_decided (slice_index text 0) 48)) (same_decided (length text) 1)
 
-number_told : (text : List ℕ) → Told (IsNumber text)
-number_told text =
-    told_map (λ h. record { digits = h.0; some = h.1.0; plain = h.1.1 }) (λ n. (n.digits, (n.some, n.plain)))
-    (told_both (digits_told text) (told_both (less_told 0 (length text)) (plain_told text)))
+number_decided : (text : List ℕ) → Decided (IsNumber text)
+number_decided text =
+    decided_map (λ h. record { digits = h.0; some = h.1.0; plain = h.1.1 }) (λ n. (n.digits, (n.some, n.plain)))
+    (decided_both (digits_decided text) (decided_both (less_decided 0 (length text)) (plain_decided text)))
 
 -- the line of a run
 abbrev ManyOf : List ℕ → ℕ → Type 0
 ManyOf text task = (many : List ℕ) × TellsRun text task many
 
-many_told : (text : List ℕ) (task : ℕ) → Told (ManyOf text task)
-many_told text task =
+many_decided : (text : List ℕ) (task : ℕ) → Decided (ManyOf text task)
+many_decided text task =
     ⊎_elim (λ after. with_rest after.0 after.1)
     (λ none. inr (λ h. none h.0 (h.1.is)))
-    (after_told text (decimal task ++ codes " "))
+    (after_decided text (decimal task ++ codes " "))
   where
-    with_rest : (many : List ℕ) → text ≡ (decimal task ++ codes " ") ++ many → Told (ManyOf text task)
+    with_rest : (many : List ℕ) → text ≡ (decimal task ++ codes " ") ++ many → Decided (ManyOf text task)
     with_rest many is =
-        told_map (λ h. (many, record { task_allowed = h.0; number = h.1.0; some = h.1.1; is = is }))
+        decided_map (λ h. (many, record { task_allowed = h.0; number = h.1.0; some = h.1.1; is = is }))
         (λ h. (let same : h.0 ≡ many = append_cancel_left (decimal task ++ codes " ") h.0 many (sym h.1.is ∙ is) in
         (h.1.task_allowed, (subst IsNumber same h.1.number, subst (λ (m : List ℕ). 0 < digits_value 10 m) same h.1.some))))
-        (told_both (less_told task (2 ^ 32)) (told_both (number_told many) (less_told 0 (digits_value 10 many))))
+        (decided_both (less_decided task (2 ^ 32)) (decided_both (number_decided many) (less_decided 0 (digits_value 10 many))))
 
-run_told : (text before : List ℕ) → Told ((longer : List ℕ) × IsRun text before longer)
-run_told text before =
+run_decided : (text before : List ℕ) → Decided ((longer : List ℕ) × IsRun text before longer)
+run_decided text before =
     ⊎_elim (λ found. inl (
       before ++ replicate (digits_value 10 found.1.1.0) found.0,
       record {
@@ -138,26 +138,26 @@ run_told text before =
       },
     ))
     (λ none. inr (λ h. none h.1.task h.1.tells.task_allowed (h.1.other, (h.1.many, h.1.tells))))
-    (found_told {P = λ task. (last_of before ≡ Some task → ⊥) × ManyOf text task} (2 ^ 32) (λ task. told_both (other_told task) (many_told text task)))
+    (found_decided {P = λ task. (last_of before ≡ Some task → ⊥) × ManyOf text task} (2 ^ 32) (λ task. decided_both (other_decided task) (many_decided text task)))
   where
-    other_told : (task : ℕ) → Told (last_of before ≡ Some task → ⊥)
-    other_told task = ⊎_elim (λ same. inr (λ other. other same)) (λ other. inl other) (some_told (last_of before) task)
+    other_decided : (task : ℕ) → Decided (last_of before ≡ Some task → ⊥)
+    other_decided task = ⊎_elim (λ same. inr (λ other. other same)) (λ other. inl other) (some_decided (last_of before) task)
 
 -- what a line leads to, if it fits
 abbrev FitsSo : Reported → List ℕ → Type 0
 FitsSo reported text = (after : Reported) × Fits reported text after
 
 fits_so : (reported : Reported) (text : List ℕ) → FitsSo reported text ⊎ ((after : Reported) → Fits reported text after → ⊥)
-fits_so nothing text = ⊎_elim (λ is. inl (begun, (is, refl))) (λ never. inr (λ after f. never f.0)) (text_told text (codes "dpj-trace 1"))
+fits_so nothing text = ⊎_elim (λ is. inl (begun, (is, refl))) (λ never. inr (λ after f. never f.0)) (text_decided text (codes "dpj-trace 1"))
 fits_so begun text =
-    ⊎_elim (λ h. inl (settings h.0 h.1.0, (h.0, h.1.0, h.1.1, refl))) (λ never. inr (λ after f. never (f.0, (f.1, f.2)))) (settings_told text)
+    ⊎_elim (λ h. inl (settings h.0 h.1.0, (h.0, h.1.0, h.1.1, refl))) (λ never. inr (λ after f. never (f.0, (f.1, f.2)))) (settings_decided text)
 fits_so (settings arg limits) text =
-    ⊎_elim (λ h. inl (listing arg limits h.0 [], (h.0, h.1, refl))) (λ never. inr (λ after f. never (f.0, f.1))) (events_told text (2 * limits.steps + 2))
+    ⊎_elim (λ h. inl (listing arg limits h.0 [], (h.0, h.1, refl))) (λ never. inr (λ after f. never (f.0, f.1))) (events_decided text (2 * limits.steps + 2))
 fits_so (listing arg limits events schedule) text =
     ⊎_elim (λ h. inl (listing arg limits events h.0, inl (h.0, h.1, refl)))
     (λ no_run. ⊎_elim (λ is. inl (whole arg limits schedule, inr (record { is = is.0; right = is.1 }, refl)))
     (λ no_program. inr (λ after f. ⊎_elim (λ run. no_run (run.0, run.1)) (λ program. no_program (program.0.is, program.0.right)) f))
-    (told_both (text_told text (codes "program")) (same_told (length schedule) events))) (run_told text schedule)
+    (decided_both (text_decided text (codes "program")) (same_decided (length schedule) events))) (run_decided text schedule)
 fits_so (whole arg limits schedule) text = inr (λ after f. f)
 
 -- what lines have told is in its range
@@ -209,7 +209,7 @@ module _ (bytes : List ℕ) where
       ⊎_elim
       (λ (cut : CutSo rest). ⊎_elim (λ (fit : FitsSo reported cut.0). by_fit fuel (reads fuel) n rest cut.0 cut.1 cut.2 few reported fit.0 leads right fit.1)
       (λ never. inr (suc n, misfit-line bytes n reported rest cut.0 cut.1 leads unfinished cut.2 never)) (fits_so reported cut.0))
-      (λ never. inr (suc n, misfit-missing bytes n reported rest leads unfinished never)) (cut_told rest)
+      (λ never. inr (suc n, misfit-missing bytes n reported rest leads unfinished never)) (cut_decided rest)
 
   pub read_so : ReadSo bytes
   read_so = reads (suc (length bytes)) 0 nothing bytes start tt tt (omega arith)
