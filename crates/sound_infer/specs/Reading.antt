@@ -10,7 +10,7 @@ use Rattle.syntax_tokens.specs.Says.{MeanAll}
 use Rattle.syntax_tokens.specs.declared.terminal.Placed.{Placed}
 use Rattle.syntax_tree.specs.declared.class.Program.{Program}
 use Rattle.syntax_tree.specs.declared.class.SummaryTree.{SummaryTree}
-use Rattle.syntax_parse.specs.Classes.{DerivesSummary}
+use Rattle.syntax_grammar.specs.Classes.{DerivesSummary}
 use Rattle.syntax_means.specs.Accepts.{Accepts, HasTree}
 use Rattle.syntax_means.specs.Declares.{OwnMethod, all_methods, names_in}
 use Rattle.body_infer.specs.declared.kept.Kept.{Kept}

@@ -15,11 +15,11 @@ use Rattle.syntax_tokens.proofs.Spans.{cuts-stand}
 use Rattle.syntax_tree.specs.declared.class.Program.{Program}
 use Rattle.syntax_tree.specs.Size.{program_size}
 use Rattle.syntax_tree.proofs.Sizes.{classes_counted}
-use Rattle.syntax_parse.specs.Classes.{DerivesProgram}
-use Rattle.syntax_parse.specs.Program.{IsProgram}
-use Rattle.syntax_parse.specs.Refusing.{IsWithin}
-use Rattle.syntax_parse.proofs.once.OnceText.{terminals_once, text_once}
-use Rattle.syntax_parse.proofs.Promised.{named_in, sized_in}
+use Rattle.syntax_grammar.specs.Classes.{DerivesProgram}
+use Rattle.syntax_grammar.specs.Program.{IsProgram}
+use Rattle.syntax_grammar.specs.Refusing.{IsWithin}
+use Rattle.syntax_grammar.proofs.once.OnceText.{terminals_once, text_once}
+use Rattle.syntax_grammar.proofs.Promised.{named_in, sized_in}
 use Rattle.syntax_laws.specs.Laws.{TextsAreWritten}
 use Rattle.decl_headers.proofs.Shaped.{counted_when_named}
 use Rattle.decl_table.specs.declared.table.Table.{Table}

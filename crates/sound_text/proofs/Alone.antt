@@ -4,9 +4,9 @@ use Rattle.lang_base.specs.declared.place.Place.{Place}
 use Rattle.lang_base.specs.declared.refusal.Refusal.{Refusal}
 use Rattle.syntax_tokens.specs.declared.token.Token.{Token}
 use Rattle.syntax_tokens.specs.Cutting.{OneCutting}
-use Rattle.syntax_parse.specs.OneProgram.{OneProgram}
-use Rattle.syntax_parse.specs.OneRefusal.{OneRefusal}
-use Rattle.syntax_parse.specs.Program.{IsProgram}
+use Rattle.syntax_grammar.specs.OneProgram.{OneProgram}
+use Rattle.syntax_grammar.specs.OneRefusal.{OneRefusal}
+use Rattle.syntax_grammar.specs.Program.{IsProgram}
 use Rattle.lang_typed.specs.Plain.{PlainProgram}
 use Rattle.tool_front.specs.Front.{first_place, IsFault, IsPassed, IsTokenFault, of_grammar, of_program}
 use Rattle.body_check.specs.Methods.{after_ok}

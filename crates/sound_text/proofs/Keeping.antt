@@ -4,7 +4,7 @@ use Rattle.decl_headers.proofs.Shaped.{counted_when_named}
 use Rattle.syntax_tree.specs.Size.{program_size}
 use Rattle.syntax_tree.proofs.Sizes.{classes_counted}
 use Rattle.syntax_tokens.proofs.Spans.{cuts-stand}
-use Rattle.syntax_parse.proofs.Promised.{named_in, sized_in}
+use Rattle.syntax_grammar.proofs.Promised.{named_in, sized_in}
 use Rattle.sound_bodies.specs.Laws.{AcceptedIsWellTyped}
 use Rattle.sound_text.specs.Laws.{AcceptedIsWidthBounded}
 use Rattle.sound_lemmas.specs.Accepted.{SmallHasRows}

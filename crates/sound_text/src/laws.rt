@@ -6,7 +6,7 @@ use lang_typed::laws::law_resolved;
 use sound_bodies::laws::law_well_typed;
 use sound_lemmas::laws::law_has_rows;
 use syntax_laws::laws::{law_each_reading, law_each_text, law_written};
-use syntax_parse::{one_program, one_refusal};
+use syntax_grammar::{one_program, one_refusal};
 use syntax_tokens::one_cutting;
 
 /// No fork in the code of an accepted program has more branches than a value counts.

@@ -7,8 +7,8 @@ use Rattle.syntax_tree.specs.declared.class.Member.{Member}
 use Rattle.syntax_tree.specs.declared.class.MethodResult.{MethodResult}
 use Rattle.syntax_tree.specs.declared.region.Params.{Params}
 use Rattle.syntax_tree.specs.declared.region.ParamTree.{ParamTree}
-use Rattle.syntax_parse.specs.Taking.{Many, none, some}
-use Rattle.syntax_parse.specs.Classes.{DerivesDeclared, declared, DerivesParams, no_params, params, DerivesResult, void, DerivesFront, constructs, answers, DerivesField, DerivesMethod, named, DerivesMember, members, DerivesClass, class, DerivesProgram, program}
+use Rattle.syntax_grammar.specs.Taking.{Many, none, some}
+use Rattle.syntax_grammar.specs.Classes.{DerivesDeclared, declared, DerivesParams, no_params, params, DerivesResult, void, DerivesFront, constructs, answers, DerivesField, DerivesMethod, named, DerivesMember, members, DerivesClass, class, DerivesProgram, program}
 use Rattle.syntax_laws.specs.Written.{HasParams, HasFront, MemberIsWritten, ClassIsWritten}
 use Rattle.syntax_laws.proofs.Numbers.{Small, Fits, takes, here, join, plainly, following, before, both, changed}
 use Rattle.syntax_laws.proofs.Left.{names_left, type_left, kind_left, params_left, formals_left, summary_left, in_left, front_left, parent_left}

@@ -3,8 +3,8 @@ use Rattle.std.proofs.Common.{ℕ, List, arith}
 use Rattle.syntax_tokens.specs.declared.terminal.Placed.{Placed}
 use Rattle.syntax_tree.specs.declared.region.Named.{Named}
 use Rattle.syntax_tree.specs.Plain.{PlainExpr, PlainExprs}
-use Rattle.syntax_parse.specs.Expressions.{Ending, DerivesLevel, operand, operation, DerivesUnary, operator, postfix, new_array, DerivesPostfix, primary, after_dot, called, indexed, DerivesPrimary, number, yes, no, nothing, receiver, parenthesised, creation, DerivesNewArray, array, DerivesActuals, no_actuals, actuals, DerivesFurther, end, further}
-use Rattle.syntax_parse.specs.Statements.{DerivesCondition, condition, DerivesValue, value, DerivesRange, range}
+use Rattle.syntax_grammar.specs.Expressions.{Ending, DerivesLevel, operand, operation, DerivesUnary, operator, postfix, new_array, DerivesPostfix, primary, after_dot, called, indexed, DerivesPrimary, number, yes, no, nothing, receiver, parenthesised, creation, DerivesNewArray, array, DerivesActuals, no_actuals, actuals, DerivesFurther, end, further}
+use Rattle.syntax_grammar.specs.Statements.{DerivesCondition, condition, DerivesValue, value, DerivesRange, range}
 use Rattle.syntax_laws.specs.Written.{Fitting, AllFitting}
 use Rattle.syntax_laws.proofs.Numbers.{Fits, takes, here, join, fewer, number_taken, plainly, following, before, both}
 use Rattle.syntax_laws.proofs.Left.{args_left, base_left, after_left, suffixes_left, suffixes_fewer}

@@ -6,7 +6,7 @@ use Rattle.lang_base.specs.declared.place.Place.{Place}
 use Rattle.syntax_tokens.specs.declared.terminal.Placed.{Placed}
 use Rattle.syntax_tokens.specs.declared.terminal.Terminal.{Terminal}
 use Rattle.syntax_tokens.specs.declared.terminal.Terminal.TheVariants as terminal
-use Rattle.syntax_parse.specs.Taking.{Takes}
+use Rattle.syntax_grammar.specs.Taking.{Takes}
 
 -- a number that a terminal says has 32 bits
 abbrev pub SaysFitting : Terminal → Type 0

@@ -1,7 +1,7 @@
 -- What tokens say is derived by the grammar within the limits, or refused.
 use Rattle.std.proofs.Common.{inl, inr, refl}
 use Rattle.syntax_tree.specs.declared.class.Program.{Program}
-use Rattle.syntax_parse.specs.OneRefusal.{OneRefusal}
+use Rattle.syntax_grammar.specs.OneRefusal.{OneRefusal}
 use Rattle.syntax_tokens.specs.Says.{distinct_names}
 use Rattle.syntax_laws.specs.Laws.{EachReading}
 use Rattle.syntax_laws.proofs.Said.{said_in}

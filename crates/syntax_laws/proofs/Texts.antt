@@ -15,8 +15,8 @@ use Rattle.syntax_tokens.specs.declared.terminal.Terminal.TheVariants as termina
 use Rattle.syntax_tokens.specs.Says.{CanSay, token_text, Means, MeanAll}
 use Rattle.syntax_tokens.proofs.Order.{order-count, can_say}
 use Rattle.syntax_tree.specs.declared.class.Program.{Program}
-use Rattle.syntax_parse.specs.Program.{IsProgram}
-use Rattle.syntax_parse.proofs.Promised.{named_in, distinct_in, targets_in, sized_in}
+use Rattle.syntax_grammar.specs.Program.{IsProgram}
+use Rattle.syntax_grammar.proofs.Promised.{named_in, distinct_in, targets_in, sized_in}
 use Rattle.syntax_laws.specs.Written.{IsWritten}
 use Rattle.syntax_laws.proofs.Numbers.{SaysFitting, AllSayFitting}
 use Rattle.syntax_laws.proofs.Classes.{program_written}

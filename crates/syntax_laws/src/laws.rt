@@ -2,7 +2,7 @@
 
 ghost use Rattle.syntax_laws.specs.Laws.{EachReading, EachText, TextsAreWritten};
 
-use syntax_parse::one_refusal;
+use syntax_grammar::one_refusal;
 
 /// Each text is cut into tokens, or has a first fault there.
 pub fn law_each_text()

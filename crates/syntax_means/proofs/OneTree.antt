@@ -4,9 +4,9 @@ use Rattle.syntax_tokens.specs.Cutting.{OneCutting}
 use Rattle.syntax_tokens.specs.Says.{MeanAll, distinct_names}
 use Rattle.syntax_tree.specs.declared.class.Class.{Class}
 use Rattle.syntax_tree.specs.declared.class.Program.{Program}
-use Rattle.syntax_parse.specs.Classes.{DerivesProgram}
-use Rattle.syntax_parse.specs.OneTree.{OneTree}
-use Rattle.syntax_parse.proofs.once.OnceText.{terminals_once}
+use Rattle.syntax_grammar.specs.Classes.{DerivesProgram}
+use Rattle.syntax_grammar.specs.OneTree.{OneTree}
+use Rattle.syntax_grammar.proofs.once.OnceText.{terminals_once}
 use Rattle.syntax_means.specs.Accepts.{HasTree}
 
 pub one_tree_of : OneCutting → OneTree → (text : List ℕ) (first second : Program) → HasTree text first → HasTree text second → first ≡ second

@@ -6,7 +6,7 @@ use Rattle.syntax_tokens.specs.Cutting.{Cuts}
 use Rattle.syntax_tokens.specs.declared.terminal.Placed.{Placed}
 use Rattle.syntax_tokens.specs.Says.{MeanAll, distinct_names}
 use Rattle.syntax_tree.specs.declared.class.Program.{Program}
-use Rattle.syntax_parse.specs.Classes.{DerivesProgram}
+use Rattle.syntax_grammar.specs.Classes.{DerivesProgram}
 use Rattle.lang_typed.specs.Plain.{PlainProgram}
 use Rattle.lang_typed.specs.WellTyped.{WellTyped}
 use Rattle.syntax_means.specs.Means.{Means}

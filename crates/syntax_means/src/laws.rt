@@ -2,7 +2,7 @@
 
 ghost use Rattle.syntax_means.specs.Laws.{OneMeaning};
 
-use syntax_parse::one_tree;
+use syntax_grammar::one_tree;
 use syntax_tokens::one_cutting;
 
 /// Whatever well-typed programs a text is accepted as, they have one elision.

@@ -8,18 +8,18 @@ use Rattle.syntax_tokens.specs.declared.token.Keyword.{Keyword}
 use Rattle.syntax_tokens.specs.declared.terminal.Placed.{Placed}
 use Rattle.syntax_tokens.specs.declared.terminal.Terminal.{Terminal}
 use Rattle.syntax_tokens.specs.declared.terminal.Terminal.TheVariants as terminal
-use Rattle.syntax_parse.specs.Words.{is_assign, is_close_bracket, is_dot, is_final, is_name, is_open_bracket}
-use Rattle.syntax_parse.specs.Taking.{Next, TakesIf, TakesOne, place_of}
-use Rattle.syntax_parse.specs.Counted.{counts, Completes}
-use Rattle.syntax_parse.specs.Progress.{ReadsIf}
-use Rattle.syntax_parse.specs.declared.cursor.Cursor.{Cursor}
-use Rattle.syntax_parse.specs.Expecting.{Part, expr, Expected, one, part, choose, next_of, next_is, stmt_parts, base_parts}
-use Rattle.syntax_parse.specs.Expressions.{as_element}
-use Rattle.syntax_parse.specs.Limits.{Counts, Fits, more, more_if, anew, past, inside, Within, nothing, begins, passes, Stops, no_part, no_terminal, too_many, in_part, after_part, after_terminal}
-use Rattle.syntax_parse.specs.Targets.{begins_declaration, follows_a_type, opens_declaration, stmt_begins}
-use Rattle.syntax_parse.proofs.Coming.{comes_next}
+use Rattle.syntax_grammar.specs.Words.{is_assign, is_close_bracket, is_dot, is_final, is_name, is_open_bracket}
+use Rattle.syntax_grammar.specs.Taking.{Next, TakesIf, TakesOne, place_of}
+use Rattle.syntax_exprs.specs.Counted.{counts, Completes}
+use Rattle.syntax_exprs.specs.Progress.{ReadsIf}
+use Rattle.syntax_exprs.specs.declared.cursor.Cursor.{Cursor}
+use Rattle.syntax_grammar.specs.Expecting.{Part, expr, Expected, one, part, choose, next_of, next_is, stmt_parts, base_parts}
+use Rattle.syntax_grammar.specs.Expressions.{as_element}
+use Rattle.syntax_grammar.specs.Limits.{Counts, Fits, more, more_if, anew, past, inside, Within, nothing, begins, passes, Stops, no_part, no_terminal, too_many, in_part, after_part, after_terminal}
+use Rattle.syntax_exprs.specs.Targets.{begins_declaration, follows_a_type, opens_declaration, stmt_begins}
+use Rattle.syntax_exprs.proofs.Coming.{comes_next}
 use Rattle.syntax_parse.proofs.parts.StmtParts.{begins_refused}
-use Rattle.syntax_parse.proofs.Composed.{Refused, refused_first, seq, stops_after, stops_first}
+use Rattle.syntax_exprs.proofs.Composed.{Refused, refused_first, seq, stops_after, stops_first}
 use Rattle.syntax_parse.proofs.Declaring.{split, SplitStops, in_first, in_rest, split_stops, append, stops_append, stops_later, chosen_reads, chosen_stops, NoBracket, name_no_bracket, assign_plain, semicolon_plain, IsInner, Flat, keeps}
 
 -- what may follow a type in a declaration

@@ -5,9 +5,9 @@ use Rattle.syntax_tokens.specs.declared.token.Symbol.{Symbol}
 use Rattle.syntax_tokens.specs.declared.terminal.Placed.{Placed}
 use Rattle.syntax_tokens.specs.declared.terminal.Terminal.{Terminal}
 use Rattle.syntax_tokens.specs.declared.terminal.Terminal.TheVariants as terminal
-use Rattle.syntax_parse.specs.Words.{is_assign, is_close_bracket, is_comma, is_greater, is_hash, is_less, is_name, is_open_bracket, is_semicolon}
-use Rattle.syntax_parse.specs.Expecting.{Part, Expected, one, part, choose, next_of, next_is}
-use Rattle.syntax_parse.specs.Limits.{Counts, Fits, more, more_if, past, inside, outside, Within, nothing, begins, passes, Stops, no_part, no_terminal, too_many, in_part, after_part, after_terminal}
+use Rattle.syntax_grammar.specs.Words.{is_assign, is_close_bracket, is_comma, is_greater, is_hash, is_less, is_name, is_open_bracket, is_semicolon}
+use Rattle.syntax_grammar.specs.Expecting.{Part, Expected, one, part, choose, next_of, next_is}
+use Rattle.syntax_grammar.specs.Limits.{Counts, Fits, more, more_if, past, inside, outside, Within, nothing, begins, passes, Stops, no_part, no_terminal, too_many, in_part, after_part, after_terminal}
 
 -- reading and stopping in two parts
 pub record Split (c : Counts) (x : Expected) (ys : List Expected) (before : List Placed) (e : Counts) (after : List Placed) : Type 0 where

@@ -21,12 +21,12 @@ use Rattle.syntax_tree.specs.declared.region.RplTree.{RplTree}
 use Rattle.syntax_tree.specs.declared.region.TypeTree.{TypeTree}
 use Rattle.syntax_tree.specs.declared.stmt.Stmt.{Stmt}
 use Rattle.syntax_tree.specs.Plain.{plain_stmt, plain_stmts}
-use Rattle.syntax_parse.specs.Taking.{TakesOne, TakesIf, TakesName, TakesSymbol, NoNext, Listed, Many, none, some}
-use Rattle.syntax_parse.specs.Paths.{DerivesRpl, DerivesArgs}
-use Rattle.syntax_parse.specs.Types.{DerivesType}
-use Rattle.syntax_parse.specs.Statements.{DerivesBlock}
-use Rattle.syntax_parse.specs.Classes.{DerivesKind, DerivesParams, no_params, DerivesFormalList, DerivesFormals, DerivesItem, item, DerivesItems, DerivesItemsIf, DerivesSummary, DerivesIn, in_region, DerivesResult, DerivesFront, DerivesField, DerivesMethod, DerivesNamed, named, DerivesMember, DerivesParent, extends, DerivesMembers, members, DerivesClass, DerivesProgram, program, BeginsEffects}
-use Rattle.syntax_parse.proofs.Regions.{atomic_if}
+use Rattle.syntax_grammar.specs.Taking.{TakesOne, TakesIf, TakesName, TakesSymbol, NoNext, Listed, Many, none, some}
+use Rattle.syntax_grammar.specs.Paths.{DerivesRpl, DerivesArgs}
+use Rattle.syntax_grammar.specs.Types.{DerivesType}
+use Rattle.syntax_grammar.specs.Statements.{DerivesBlock}
+use Rattle.syntax_grammar.specs.Classes.{DerivesKind, DerivesParams, no_params, DerivesFormalList, DerivesFormals, DerivesItem, item, DerivesItems, DerivesItemsIf, DerivesSummary, DerivesIn, in_region, DerivesResult, DerivesFront, DerivesField, DerivesMethod, DerivesNamed, named, DerivesMember, DerivesParent, extends, DerivesMembers, members, DerivesClass, DerivesProgram, program, BeginsEffects}
+use Rattle.syntax_parse.proofs.ParamForms.{atomic_if}
 
 pub method_of : {before one two after : List Placed} {params : Params} {answer : MethodResult} {tree : Member} →
     DerivesParams before one params → DerivesResult one two answer → DerivesNamed params answer two after tree → DerivesMember before after tree

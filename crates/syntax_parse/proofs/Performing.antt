@@ -16,19 +16,19 @@ use Rattle.syntax_tree.specs.declared.expr.ExprKind.TheVariants as expr_kind
 use Rattle.syntax_tree.specs.declared.region.RplTree.{RplTree}
 use Rattle.syntax_tree.specs.declared.region.Named.{Named}
 use Rattle.syntax_tree.specs.Plain.{PlainExpr, ExprForm, plain_expr}
-use Rattle.syntax_parse.specs.declared.cursor.Cursor.{Cursor}
-use Rattle.syntax_parse.specs.Words.{is_assign, is_name}
-use Rattle.syntax_parse.specs.Taking.{Next, place_of}
-use Rattle.syntax_parse.specs.Counted.{counts, Completed}
-use Rattle.syntax_parse.specs.Expressions.{Ending, as_value, as_name, DerivesPostfix, DerivesPrimary}
-use Rattle.syntax_parse.specs.Expecting.{Part, Expected, one, part, choose, next_of, next_is, stmt_parts, ending_parts}
-use Rattle.syntax_parse.specs.Limits.{Counts, past, inside, Within, nothing, begins, passes, Stops, no_terminal, in_part}
-use Rattle.syntax_parse.specs.Reading.{ending_of, form_ending, plain_kind}
-use Rattle.syntax_parse.specs.Targets.{IsTarget, Leads, begins_assignment, begins_declaration, holds_others, opens_declaration, rest_of, stmt_begins}
-use Rattle.syntax_parse.proofs.Composed.{Refused}
-use Rattle.syntax_parse.proofs.Coming.{comes_next}
+use Rattle.syntax_exprs.specs.declared.cursor.Cursor.{Cursor}
+use Rattle.syntax_grammar.specs.Words.{is_assign, is_name}
+use Rattle.syntax_grammar.specs.Taking.{Next, place_of}
+use Rattle.syntax_exprs.specs.Counted.{counts, Completed}
+use Rattle.syntax_grammar.specs.Expressions.{Ending, as_value, as_name, DerivesPostfix, DerivesPrimary}
+use Rattle.syntax_grammar.specs.Expecting.{Part, Expected, one, part, choose, next_of, next_is, stmt_parts, ending_parts}
+use Rattle.syntax_grammar.specs.Limits.{Counts, past, inside, Within, nothing, begins, passes, Stops, no_terminal, in_part}
+use Rattle.syntax_grammar.specs.Reading.{ending_of, form_ending, plain_kind}
+use Rattle.syntax_exprs.specs.Targets.{IsTarget, Leads, begins_assignment, begins_declaration, holds_others, opens_declaration, rest_of, stmt_begins}
+use Rattle.syntax_exprs.proofs.Composed.{Refused}
+use Rattle.syntax_exprs.proofs.Coming.{comes_next}
 use Rattle.syntax_parse.proofs.Stating.{ending_is}
-use Rattle.syntax_parse.proofs.Trees.{kind_Int, kind_Bool, kind_Null, kind_This, kind_Local, kind_NewArray, kind_Unary, kind_Binary}
+use Rattle.syntax_grammar.proofs.Trees.{kind_Int, kind_Bool, kind_Null, kind_This, kind_Local, kind_NewArray, kind_Unary, kind_Binary}
 use Rattle.syntax_parse.proofs.Declaring.{assign_only}
 use Rattle.syntax_parse.proofs.Declarations.{begins_name, opened_stops}
 

@@ -14,15 +14,15 @@ use Rattle.syntax_tree.specs.declared.expr.ExprKind.TheVariants as expr_kind
 use Rattle.syntax_tree.specs.declared.stmt.Stmt.{Stmt}
 use Rattle.syntax_tree.specs.declared.stmt.StmtKind.TheVariants as kind
 use Rattle.syntax_tree.specs.Plain.{PlainExpr, expression, PlainStmt, statement, StmtForm, perform, plain_expr, plain_stmt, plain_stmts}
-use Rattle.syntax_parse.specs.Taking.{Takes, TakesSymbol, TakesKeyword, TakesName, TakesOne, TakesNext, TakesIf, Next, NoNext, StandsAt, Many, Listed}
-use Rattle.syntax_parse.specs.Types.{DerivesType}
-use Rattle.syntax_parse.specs.Expressions.{DerivesExpr, DerivesPostfix, as_field, as_element, as_call, as_creation}
-use Rattle.syntax_parse.specs.Statements.{DerivesStmt, DerivesStmts, DerivesBlock, DerivesForm, DerivesCondition, DerivesValue, DerivesRange, DerivesFinal, IsPerformed, cobegin_word, foreach_word}
-use Rattle.syntax_parse.specs.Reading.{plain_kind, plain_stmt_kind, DerivesStmtTree, DerivesPrinted, ending_of, form_ending}
-use Rattle.syntax_parse.proofs.Lists.{many_more}
-use Rattle.syntax_parse.proofs.Taken.{next-takes}
-use Rattle.syntax_parse.proofs.Trees.{plain_node, kind_Field, kind_Element, kind_Call, kind_New}
-use Rattle.syntax_parse.proofs.StmtTrees.{kind_Block, kind_Declare, kind_AssignLocal, kind_AssignField, kind_AssignElement, kind_Do, kind_If_alone, kind_If_else, kind_While, kind_Return_nothing, kind_Return_value, kind_Print, kind_PrintText, kind_Cobegin, kind_Foreach, kind_ForeachParts, kind_Atomic, kind_Region}
+use Rattle.syntax_grammar.specs.Taking.{Takes, TakesSymbol, TakesKeyword, TakesName, TakesOne, TakesNext, TakesIf, Next, NoNext, StandsAt, Many, Listed}
+use Rattle.syntax_grammar.specs.Types.{DerivesType}
+use Rattle.syntax_grammar.specs.Expressions.{DerivesExpr, DerivesPostfix, as_field, as_element, as_call, as_creation}
+use Rattle.syntax_grammar.specs.Statements.{DerivesStmt, DerivesStmts, DerivesBlock, DerivesForm, DerivesCondition, DerivesValue, DerivesRange, DerivesFinal, IsPerformed, cobegin_word, foreach_word}
+use Rattle.syntax_grammar.specs.Reading.{plain_kind, plain_stmt_kind, DerivesStmtTree, DerivesPrinted, ending_of, form_ending}
+use Rattle.syntax_grammar.proofs.Lists.{many_more}
+use Rattle.syntax_exprs.proofs.Taken.{next-takes}
+use Rattle.syntax_grammar.proofs.Trees.{plain_node, kind_Field, kind_Element, kind_Call, kind_New}
+use Rattle.syntax_grammar.proofs.StmtTrees.{kind_Block, kind_Declare, kind_AssignLocal, kind_AssignField, kind_AssignElement, kind_Do, kind_If_alone, kind_If_else, kind_While, kind_Return_nothing, kind_Return_value, kind_Print, kind_PrintText, kind_Cobegin, kind_Foreach, kind_ForeachParts, kind_Atomic, kind_Region}
 
 pub takes_found : {wanted : Terminal} {before after : List Placed} (found : Bool) → TakesIf wanted found before after → found ≡ true → TakesOne wanted before after
 takes_found true takes is = takes

@@ -1,10 +1,4 @@
 pub mod ClassParts
-pub mod ExprParts
 pub mod MemberParts
-pub mod OperatorParts
-pub mod PathParts
-pub mod SelectionParts
+pub mod ParamParts
 pub mod StmtParts
-pub mod TargetParts
-pub mod TypeParts
-pub mod UnaryParts

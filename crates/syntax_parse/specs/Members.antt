@@ -4,10 +4,10 @@ use Rattle.syntax_tokens.specs.declared.token.Symbol.{Symbol}
 use Rattle.syntax_tokens.specs.declared.token.Keyword.{Keyword}
 use Rattle.syntax_tokens.specs.declared.terminal.Placed.{Placed}
 use Rattle.syntax_tokens.specs.declared.terminal.Terminal.TheVariants as terminal
-use Rattle.syntax_parse.specs.Words.{is_atomic, is_name, is_open_paren, is_region}
-use Rattle.syntax_parse.specs.Taking.{Next}
-use Rattle.syntax_parse.specs.Expecting.{Expected, Part, one, part, next_of, next_is, with_next, member_parts}
-use Rattle.syntax_parse.specs.Targets.{rest_of}
+use Rattle.syntax_grammar.specs.Words.{is_atomic, is_name, is_open_paren, is_region}
+use Rattle.syntax_grammar.specs.Taking.{Next}
+use Rattle.syntax_grammar.specs.Expecting.{Expected, Part, one, part, next_of, next_is, with_next, member_parts}
+use Rattle.syntax_exprs.specs.Targets.{rest_of}
 
 -- what a member begins with
 abbrev pub member_begins : List Placed → List Expected

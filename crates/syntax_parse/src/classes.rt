@@ -1,20 +1,20 @@
 ghost use Rattle.std.specs.Prelude.{◌≡◌, IfOk, OnOk, IfErr, [], ◌∷◌};
-ghost use Rattle.syntax_parse.specs.Counted.{Reading, StopsAt};
-ghost use Rattle.syntax_parse.specs.Expecting.{Part, part};
-ghost use Rattle.syntax_parse.specs.Classes.{DerivesClass, DerivesMember, DerivesMembers, DerivesParent, DerivesProgram};
-ghost use Rattle.syntax_parse.specs.Progress.{Keeps, Reads};
-ghost use Rattle.syntax_parse.specs.Taking.{Many};
+ghost use Rattle.syntax_exprs.specs.Counted.{Reading, StopsAt};
+ghost use Rattle.syntax_grammar.specs.Expecting.{Part, part};
+ghost use Rattle.syntax_grammar.specs.Classes.{DerivesClass, DerivesMember, DerivesMembers, DerivesParent, DerivesProgram};
+ghost use Rattle.syntax_exprs.specs.Progress.{Keeps, Reads};
+ghost use Rattle.syntax_grammar.specs.Taking.{Many};
 
-use crate::cursor::Cursor;
 use crate::members::member;
-use crate::region::{args_if, params_if};
+use crate::params::params_if;
 use lang_base::{Items, Stop};
 use std::alloc::Global;
+use syntax_exprs::{Cursor, args_if};
 use syntax_tokens::{Keyword, Symbol};
 use syntax_tree::{Class, Member, Parent};
 
 /// `Class { Class }` up to the end of the text
-#[tactic(auto, using(crate::proofs::Lists::many_more, crate::proofs::Lists::many_one, crate::proofs::MemberForms::program_of, crate::proofs::parts::ClassParts::program_refused, crate::proofs::parts::ClassParts::program_begun, crate::proofs::parts::ClassParts::more_classes_round, crate::proofs::parts::ClassParts::more_classes_end, crate::proofs::parts::ClassParts::more_classes_refused))]
+#[tactic(auto, using(syntax_grammar::proofs::Lists::many_more, syntax_grammar::proofs::Lists::many_one, crate::proofs::MemberForms::program_of, crate::proofs::parts::ClassParts::program_refused, crate::proofs::parts::ClassParts::program_begun, crate::proofs::parts::ClassParts::more_classes_round, crate::proofs::parts::ClassParts::more_classes_end, crate::proofs::parts::ClassParts::more_classes_refused))]
 pub fn classes(alloc: Global, cursor: &mut Cursor) -> Result<Items<Class>, Stop>
     ensures moves { OnOk result (Reads cursor.old cursor.new) }
     ensures reads { OnOk result (Reading (part Part.program ∷ []) cursor.old cursor.new) }
@@ -31,7 +31,7 @@ pub fn classes(alloc: Global, cursor: &mut Cursor) -> Result<Items<Class>, Stop>
 }
 
 /// `Class = "class" Name [ Params ] [ "extends" Name [ Args ] ] "{" { Member } "}"`
-#[tactic(auto, using(crate::specs::Classes::class, crate::proofs::parts::ClassParts::class_reads, crate::proofs::parts::ClassParts::class_refused, crate::proofs::Composed::refused_first, crate::proofs::parts::MemberParts::refused_second, crate::proofs::parts::MemberParts::refused_third, crate::proofs::parts::MemberParts::refused_fourth, crate::proofs::parts::MemberParts::refused_fifth))]
+#[tactic(auto, using(syntax_grammar::specs::Classes::class, crate::proofs::parts::ClassParts::class_reads, crate::proofs::parts::ClassParts::class_refused, syntax_exprs::proofs::Composed::refused_first, syntax_exprs::proofs::InTurn::refused_second, syntax_exprs::proofs::InTurn::refused_third, syntax_exprs::proofs::InTurn::refused_fourth, syntax_exprs::proofs::InTurn::refused_fifth))]
 fn class(alloc: Global, cursor: &mut Cursor) -> Result<Class, Stop>
     ensures moves { OnOk result (Reads cursor.old cursor.new) }
     ensures reads { OnOk result (Reading (part Part.class ∷ []) cursor.old cursor.new) }
@@ -53,7 +53,7 @@ fn class(alloc: Global, cursor: &mut Cursor) -> Result<Class, Stop>
 }
 
 /// `[ "extends" Name [ Args ] ]`
-#[tactic(auto, using(crate::specs::Classes::no_parent, crate::proofs::MemberForms::parent_of, crate::proofs::parts::ClassParts::parent_none, crate::proofs::parts::ClassParts::parent_reads, crate::proofs::parts::ClassParts::parent_lost, crate::proofs::parts::ClassParts::parent_name_refused, crate::proofs::parts::ClassParts::parent_args_refused))]
+#[tactic(auto, using(syntax_grammar::specs::Classes::no_parent, crate::proofs::MemberForms::parent_of, crate::proofs::parts::ClassParts::parent_none, crate::proofs::parts::ClassParts::parent_reads, crate::proofs::parts::ClassParts::parent_lost, crate::proofs::parts::ClassParts::parent_name_refused, crate::proofs::parts::ClassParts::parent_args_refused))]
 fn parent(alloc: Global, cursor: &mut Cursor) -> Result<Option<Parent>, Stop>
     ensures moves { OnOk result (Keeps cursor.old cursor.new) }
     ensures reads { OnOk result (Reading (part Part.parent_if ∷ []) cursor.old cursor.new) }
@@ -69,7 +69,7 @@ fn parent(alloc: Global, cursor: &mut Cursor) -> Result<Option<Parent>, Stop>
 }
 
 /// `"{" { Member } "}"`
-#[tactic(auto, using(crate::proofs::MemberForms::members_of, crate::proofs::parts::ClassParts::members_reads, crate::proofs::parts::ClassParts::members_refused, crate::proofs::Composed::refused_first, crate::proofs::parts::MemberParts::refused_second, crate::proofs::parts::MemberParts::refused_third))]
+#[tactic(auto, using(crate::proofs::MemberForms::members_of, crate::proofs::parts::ClassParts::members_reads, crate::proofs::parts::ClassParts::members_refused, syntax_exprs::proofs::Composed::refused_first, syntax_exprs::proofs::InTurn::refused_second, syntax_exprs::proofs::InTurn::refused_third))]
 fn members(alloc: Global, cursor: &mut Cursor) -> Result<Items<Member>, Stop>
     ensures moves { OnOk result (Reads cursor.old cursor.new) }
     ensures reads { OnOk result (Reading (part Part.members ∷ []) cursor.old cursor.new) }
@@ -83,7 +83,7 @@ fn members(alloc: Global, cursor: &mut Cursor) -> Result<Items<Member>, Stop>
 }
 
 /// `{ Member }`
-#[tactic(auto, using(crate::proofs::Lists::many_more, crate::specs::Taking::none, crate::proofs::parts::ClassParts::member_list_round, crate::proofs::parts::ClassParts::member_list_end, crate::proofs::parts::ClassParts::member_list_refused))]
+#[tactic(auto, using(syntax_grammar::proofs::Lists::many_more, syntax_grammar::specs::Taking::none, crate::proofs::parts::ClassParts::member_list_round, crate::proofs::parts::ClassParts::member_list_end, crate::proofs::parts::ClassParts::member_list_refused))]
 fn member_list(alloc: Global, cursor: &mut Cursor) -> Result<Items<Member>, Stop>
     ensures moves { OnOk result (Keeps cursor.old cursor.new) }
     ensures reads { OnOk result (Reading (part Part.member_list ∷ []) cursor.old cursor.new) }

@@ -1,19 +1,18 @@
 ghost use Rattle.std.specs.Prelude.{◌≡◌, ◌↔◌, IfOk, IsTrue, OnOk, IfErr, [], ◌∷◌};
-ghost use Rattle.syntax_parse.specs.Counted.{Reading, StopsAt};
-ghost use Rattle.syntax_parse.specs.Expecting.{Part, one, part};
+ghost use Rattle.syntax_exprs.specs.Counted.{Reading, StopsAt};
+ghost use Rattle.syntax_grammar.specs.Expecting.{Part, one, part};
 ghost use Rattle.syntax_parse.specs.Members.{BeginsAnswering, BeginsTyped, IsItemsPart, constructor_comes, member_begins, type_begins};
-ghost use Rattle.syntax_parse.specs.Types.{DerivesType};
-ghost use Rattle.syntax_parse.specs.Words.{is_name, is_semicolon};
-ghost use Rattle.syntax_parse.specs.Classes.{BeginsEffects, DerivesField, DerivesFormal, DerivesFormalList, DerivesFormals, DerivesIn, DerivesItem, DerivesItemsIf, DerivesMember, DerivesMethod, DerivesNamed, DerivesResult, DerivesSummary};
-ghost use Rattle.syntax_parse.specs.Progress.{Keeps, Reads};
-ghost use Rattle.syntax_parse.specs.Taking.{Listed};
+ghost use Rattle.syntax_grammar.specs.Types.{DerivesType};
+ghost use Rattle.syntax_grammar.specs.Words.{is_name, is_semicolon};
+ghost use Rattle.syntax_grammar.specs.Classes.{BeginsEffects, DerivesField, DerivesFormal, DerivesFormalList, DerivesFormals, DerivesIn, DerivesItem, DerivesItemsIf, DerivesMember, DerivesMethod, DerivesNamed, DerivesResult, DerivesSummary};
+ghost use Rattle.syntax_exprs.specs.Progress.{Keeps, Reads};
+ghost use Rattle.syntax_grammar.specs.Taking.{Listed};
 
-use crate::cursor::Cursor;
-use crate::region::{begins_kind, kind, names, no_params, params_if, rpl};
+use crate::params::{begins_kind, kind, no_params, params_if};
 use crate::stmts::block;
-use crate::types::{named_type, ty};
 use lang_base::{Items, Stop};
 use std::alloc::Global;
+use syntax_exprs::{Cursor, named_type, names, rpl, ty};
 use syntax_tokens::{Keyword, Symbol, Terminal};
 use syntax_tree::{
     Field, Formal, Item, Member, Method, MethodResult, Named, Params, RplTree, SummaryTree,
@@ -56,7 +55,7 @@ fn kind_of_member(alloc: Global, cursor: &mut Cursor) -> Result<Member, Stop>
 }
 
 /// `Kind Name { "," Name } ";"`
-#[tactic(auto, using(crate::proofs::MemberForms::regions_of, crate::proofs::parts::MemberParts::read_three, crate::proofs::Composed::refused_first, crate::proofs::parts::MemberParts::refused_second, crate::proofs::parts::MemberParts::refused_third))]
+#[tactic(auto, using(crate::proofs::MemberForms::regions_of, syntax_exprs::proofs::InTurn::read_three, syntax_exprs::proofs::Composed::refused_first, syntax_exprs::proofs::InTurn::refused_second, syntax_exprs::proofs::InTurn::refused_third))]
 fn regions(alloc: Global, cursor: &mut Cursor) -> Result<Member, Stop>
     ensures moves { OnOk result (Reads cursor.old cursor.new) }
     ensures reads { OnOk result (Reading (part Part.kind ∷ part Part.names ∷ one is_semicolon ∷ []) cursor.old cursor.new) }
@@ -77,7 +76,7 @@ fn begins_answering(cursor: &Cursor) -> bool
 }
 
 /// `[ Params ] ( Type | "void" ) Name "(" [ Formals ] ")" Summary Block`
-#[tactic(auto, using(crate::proofs::MemberForms::method_of, crate::proofs::parts::MemberParts::answering_reads, crate::proofs::Composed::refused_first, crate::proofs::parts::MemberParts::refused_second, crate::proofs::parts::MemberParts::answering_method_refused))]
+#[tactic(auto, using(crate::proofs::MemberForms::method_of, crate::proofs::parts::MemberParts::answering_reads, syntax_exprs::proofs::Composed::refused_first, syntax_exprs::proofs::InTurn::refused_second, crate::proofs::parts::MemberParts::answering_method_refused))]
 fn answering(alloc: Global, cursor: &mut Cursor) -> Result<Member, Stop>
     ensures moves { OnOk result (Reads cursor.old cursor.new) }
     ensures reads { OnOk result (Reading (part Part.params_if ∷ part Part.result ∷ one is_name ∷ part Part.method_rest ∷ []) cursor.old cursor.new) }
@@ -155,7 +154,7 @@ fn member_type(alloc: Global, cursor: &mut Cursor) -> Result<TypeTree, Stop>
 }
 
 /// `[ "in" Rpl ] ";"`
-#[tactic(auto, using(crate::proofs::MemberForms::field_of, crate::proofs::parts::MemberParts::read_two, crate::proofs::Composed::refused_first, crate::proofs::parts::MemberParts::refused_second))]
+#[tactic(auto, using(crate::proofs::MemberForms::field_of, syntax_exprs::proofs::InTurn::read_two, syntax_exprs::proofs::Composed::refused_first, syntax_exprs::proofs::InTurn::refused_second))]
 fn field(alloc: Global, cursor: &mut Cursor, ty: TypeTree, named: Named) -> Result<Member, Stop>
     ensures moves { OnOk result (Reads cursor.old cursor.new) }
     ensures reads { OnOk result (Reading (part Part.in_if ∷ one is_semicolon ∷ []) cursor.old cursor.new) }
@@ -173,7 +172,7 @@ fn field(alloc: Global, cursor: &mut Cursor, ty: TypeTree, named: Named) -> Resu
 }
 
 /// `[ "in" Rpl ]`
-#[tactic(auto, using(crate::specs::Classes::nowhere, crate::proofs::MemberForms::in_region_of, crate::proofs::parts::MemberParts::in_if_none, crate::proofs::parts::MemberParts::in_if_reads, crate::proofs::parts::MemberParts::in_if_lost, crate::proofs::parts::MemberParts::in_if_refused))]
+#[tactic(auto, using(syntax_grammar::specs::Classes::nowhere, crate::proofs::MemberForms::in_region_of, crate::proofs::parts::MemberParts::in_if_none, crate::proofs::parts::MemberParts::in_if_reads, crate::proofs::parts::MemberParts::in_if_lost, crate::proofs::parts::MemberParts::in_if_refused))]
 fn region_if(alloc: Global, cursor: &mut Cursor) -> Result<Option<RplTree>, Stop>
     ensures moves { OnOk result (Keeps cursor.old cursor.new) }
     ensures reads { OnOk result (Reading (part Part.in_if ∷ []) cursor.old cursor.new) }
@@ -187,7 +186,7 @@ fn region_if(alloc: Global, cursor: &mut Cursor) -> Result<Option<RplTree>, Stop
 }
 
 /// `Name "(" [ Formals ] ")" Summary Block`
-#[tactic(auto, using(crate::specs::Classes::named, crate::proofs::parts::MemberParts::read_two, crate::proofs::Composed::refused_first, crate::proofs::parts::MemberParts::refused_second))]
+#[tactic(auto, using(syntax_grammar::specs::Classes::named, syntax_exprs::proofs::InTurn::read_two, syntax_exprs::proofs::Composed::refused_first, syntax_exprs::proofs::InTurn::refused_second))]
 fn method(
     alloc: Global,
     cursor: &mut Cursor,
@@ -204,7 +203,7 @@ fn method(
 }
 
 /// `"(" [ Formals ] ")" Summary Block`
-#[tactic(auto, using(crate::proofs::MemberForms::method_after, crate::proofs::parts::MemberParts::method_rest_reads, crate::proofs::parts::MemberParts::method_rest_refused, crate::proofs::Composed::refused_first, crate::proofs::parts::MemberParts::refused_second, crate::proofs::parts::MemberParts::refused_third))]
+#[tactic(auto, using(crate::proofs::MemberForms::method_after, crate::proofs::parts::MemberParts::method_rest_reads, crate::proofs::parts::MemberParts::method_rest_refused, syntax_exprs::proofs::Composed::refused_first, syntax_exprs::proofs::InTurn::refused_second, syntax_exprs::proofs::InTurn::refused_third))]
 fn after_name(
     alloc: Global,
     cursor: &mut Cursor,
@@ -232,7 +231,7 @@ fn after_name(
 }
 
 /// `"(" [ Formals ] ")"`
-#[tactic(auto, using(crate::proofs::MemberForms::formals_of, crate::proofs::parts::MemberParts::formals_reads, crate::proofs::parts::MemberParts::formals_refused, crate::proofs::Composed::refused_first, crate::proofs::parts::MemberParts::refused_second, crate::proofs::parts::MemberParts::refused_third))]
+#[tactic(auto, using(crate::proofs::MemberForms::formals_of, crate::proofs::parts::MemberParts::formals_reads, crate::proofs::parts::MemberParts::formals_refused, syntax_exprs::proofs::Composed::refused_first, syntax_exprs::proofs::InTurn::refused_second, syntax_exprs::proofs::InTurn::refused_third))]
 fn formals(alloc: Global, cursor: &mut Cursor) -> Result<Items<Formal>, Stop>
     ensures moves { OnOk result (Reads cursor.old cursor.new) }
     ensures reads { OnOk result (Reading (part Part.formals ∷ []) cursor.old cursor.new) }
@@ -246,7 +245,7 @@ fn formals(alloc: Global, cursor: &mut Cursor) -> Result<Items<Formal>, Stop>
 }
 
 /// `[ Formals ]` with `Formals = Type Name { "," Type Name }`
-#[tactic(auto, using(crate::specs::Classes::no_formals, crate::specs::Classes::formals, crate::proofs::Lists::listed_more, crate::specs::Taking::last, crate::proofs::parts::MemberParts::formal_list_none, crate::proofs::parts::MemberParts::formal_list_refused, crate::proofs::parts::MemberParts::formal_list_begun, crate::proofs::parts::MemberParts::more_formals_round, crate::proofs::parts::MemberParts::more_formals_end, crate::proofs::parts::MemberParts::more_formals_lost, crate::proofs::parts::MemberParts::more_formals_refused))]
+#[tactic(auto, using(syntax_grammar::specs::Classes::no_formals, syntax_grammar::specs::Classes::formals, syntax_grammar::proofs::Lists::listed_more, syntax_grammar::specs::Taking::last, crate::proofs::parts::MemberParts::formal_list_none, crate::proofs::parts::MemberParts::formal_list_refused, crate::proofs::parts::MemberParts::formal_list_begun, crate::proofs::parts::MemberParts::more_formals_round, crate::proofs::parts::MemberParts::more_formals_end, crate::proofs::parts::MemberParts::more_formals_lost, crate::proofs::parts::MemberParts::more_formals_refused))]
 fn formal_list(alloc: Global, cursor: &mut Cursor) -> Result<Items<Formal>, Stop>
     ensures moves { OnOk result (Keeps cursor.old cursor.new) }
     ensures reads { OnOk result (Reading (part Part.formal_list ∷ []) cursor.old cursor.new) }
@@ -265,7 +264,7 @@ fn formal_list(alloc: Global, cursor: &mut Cursor) -> Result<Items<Formal>, Stop
 }
 
 /// `Type Name`
-#[tactic(auto, using(crate::specs::Classes::formal, crate::proofs::parts::MemberParts::formal_reads, crate::proofs::parts::MemberParts::formal_refused, crate::proofs::Composed::refused_first, crate::proofs::parts::MemberParts::refused_second))]
+#[tactic(auto, using(syntax_grammar::specs::Classes::formal, crate::proofs::parts::MemberParts::formal_reads, crate::proofs::parts::MemberParts::formal_refused, syntax_exprs::proofs::Composed::refused_first, syntax_exprs::proofs::InTurn::refused_second))]
 fn formal(alloc: Global, cursor: &mut Cursor) -> Result<Formal, Stop>
     ensures moves { OnOk result (Reads cursor.old cursor.new) }
     ensures reads { OnOk result (Reading (part Part.formal ∷ []) cursor.old cursor.new) }
@@ -282,7 +281,7 @@ fn formal(alloc: Global, cursor: &mut Cursor) -> Result<Formal, Stop>
 }
 
 /// `Summary = [ "pure" | "reads" Items [ "writes" Items ] | "writes" Items ]`
-#[tactic(auto, using(crate::specs::Classes::no_summary, crate::proofs::MemberForms::summary_pure, crate::proofs::MemberForms::summary_effects, crate::proofs::parts::MemberParts::summary_effects_reads, crate::proofs::parts::MemberParts::summary_reads_refused, crate::proofs::parts::MemberParts::summary_writes_refused, crate::proofs::parts::MemberParts::summary_pure_reads, crate::proofs::parts::MemberParts::summary_pure_refused, crate::proofs::parts::MemberParts::summary_none, crate::specs::Members::reads, crate::specs::Members::writes))]
+#[tactic(auto, using(syntax_grammar::specs::Classes::no_summary, crate::proofs::MemberForms::summary_pure, crate::proofs::MemberForms::summary_effects, crate::proofs::parts::MemberParts::summary_effects_reads, crate::proofs::parts::MemberParts::summary_reads_refused, crate::proofs::parts::MemberParts::summary_writes_refused, crate::proofs::parts::MemberParts::summary_pure_reads, crate::proofs::parts::MemberParts::summary_pure_refused, crate::proofs::parts::MemberParts::summary_none, crate::specs::Members::reads, crate::specs::Members::writes))]
 fn summary(alloc: Global, cursor: &mut Cursor) -> Result<Option<SummaryTree>, Stop>
     ensures moves { OnOk result (Keeps cursor.old cursor.new) }
     ensures reads { OnOk result (Reading (part Part.summary ∷ []) cursor.old cursor.new) }
@@ -325,7 +324,7 @@ fn items_if(alloc: Global, cursor: &mut Cursor, keyword: Keyword) -> Result<Item
 }
 
 /// `Items = [ "atomic" ] Rpl { "," [ "atomic" ] Rpl }`
-#[tactic(auto, using(crate::proofs::Lists::listed_more, crate::specs::Taking::last, crate::proofs::parts::MemberParts::items_refused, crate::proofs::parts::MemberParts::items_begun, crate::proofs::parts::MemberParts::more_items_round, crate::proofs::parts::MemberParts::more_items_end, crate::proofs::parts::MemberParts::more_items_lost, crate::proofs::parts::MemberParts::more_items_refused))]
+#[tactic(auto, using(syntax_grammar::proofs::Lists::listed_more, syntax_grammar::specs::Taking::last, crate::proofs::parts::MemberParts::items_refused, crate::proofs::parts::MemberParts::items_begun, crate::proofs::parts::MemberParts::more_items_round, crate::proofs::parts::MemberParts::more_items_end, crate::proofs::parts::MemberParts::more_items_lost, crate::proofs::parts::MemberParts::more_items_refused))]
 fn items(alloc: Global, cursor: &mut Cursor) -> Result<Items<Item>, Stop>
     ensures moves { OnOk result (Reads cursor.old cursor.new) }
     ensures reads { OnOk result (Reading (part Part.items ∷ []) cursor.old cursor.new) }

@@ -6,14 +6,14 @@ ghost use Rattle.syntax_tree.specs.Names.{program_names};
 ghost use Rattle.syntax_tree.specs.Size.{program_size};
 ghost use Rattle.syntax_tree.specs.Shaped.{MemberHasTargets};
 ghost use Rattle.lang_base.specs.Refused.{IfRefused};
-ghost use Rattle.syntax_parse.specs.Classes.{DerivesProgram};
-ghost use Rattle.syntax_parse.specs.Program.{IsGrammarFault, IsProgram};
-ghost use Rattle.syntax_parse.specs.Refusing.{IsRefusedIn, IsWithin};
+ghost use Rattle.syntax_grammar.specs.Classes.{DerivesProgram};
+ghost use Rattle.syntax_grammar.specs.Program.{IsGrammarFault, IsProgram};
+ghost use Rattle.syntax_grammar.specs.Refusing.{IsRefusedIn, IsWithin};
 
 use crate::classes::classes;
-use crate::cursor::Cursor;
 use lang_base::{Items, Place, Stop};
 use std::alloc::Global;
+use syntax_exprs::Cursor;
 use syntax_tokens::{Placed, Terminals, Tokens, terminals};
 use syntax_tree::{Class, Program};
 
@@ -34,7 +34,7 @@ pub fn parse(alloc: Global, bytes: &[u8], tokens: &Tokens) -> Result<Program, St
 }
 
 /// The classes of a text, or where it is refused.
-#[tactic(auto, using(crate::proofs::Refused::refused_in, crate::proofs::parts::ClassParts::read_within))]
+#[tactic(auto, using(syntax_grammar::proofs::Refused::refused_in, crate::proofs::parts::ClassParts::read_within))]
 fn read(alloc: Global, list: &[Placed], end: Place) -> Result<Items<Class>, Stop>
     ensures derives { IfOk result (DerivesProgram list.now) }
     ensures within { OnOk result (IsWithin list.now) }

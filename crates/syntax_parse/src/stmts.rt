@@ -1,20 +1,17 @@
 ghost use Rattle.std.specs.Prelude.{◌≡◌, true, false, ◌≤◌, ◌+◌, ◌<◌, map, OnOk, IfOk, IfErr, [], ◌∷◌};
-ghost use Rattle.syntax_parse.specs.Counted.{Completed, Reading, StopsAt};
-ghost use Rattle.syntax_parse.specs.Expecting.{Part, next_is, next_of, one, part};
-ghost use Rattle.syntax_parse.specs.Targets.{IsTarget, begins_assignment, begins_declaration, holds_others, rest_of, stmt_begins};
-ghost use Rattle.syntax_parse.specs.Words.{is_any, is_assign, is_atomic, is_close_bracket, is_close_paren, is_comma, is_foreach_parts, is_if, is_name, is_open_paren, is_print, is_region, is_return, is_semicolon, is_while};
-ghost use Rattle.syntax_parse.specs.Progress.{Closes, Keeps, Reads};
-ghost use Rattle.syntax_parse.specs.Taking.{Many, Next};
-ghost use Rattle.syntax_parse.specs.Statements.{DerivesBlock, DerivesCondition, DerivesRange, DerivesStmt, DerivesValue, cobegin_word, foreach_word};
-ghost use Rattle.syntax_parse.specs.Reading.{DerivesPrinted, DerivesStmtTree, plain_stmt_kind};
+ghost use Rattle.syntax_exprs.specs.Counted.{Completed, Reading, StopsAt};
+ghost use Rattle.syntax_grammar.specs.Expecting.{Part, next_is, next_of, one, part};
+ghost use Rattle.syntax_exprs.specs.Targets.{IsTarget, begins_assignment, begins_declaration, holds_others, rest_of, stmt_begins};
+ghost use Rattle.syntax_grammar.specs.Words.{is_any, is_assign, is_atomic, is_close_bracket, is_close_paren, is_comma, is_foreach_parts, is_if, is_name, is_open_paren, is_print, is_region, is_return, is_semicolon, is_while};
+ghost use Rattle.syntax_exprs.specs.Progress.{Closes, Keeps, Reads};
+ghost use Rattle.syntax_grammar.specs.Taking.{Many, Next};
+ghost use Rattle.syntax_grammar.specs.Statements.{DerivesBlock, DerivesCondition, DerivesRange, DerivesStmt, DerivesValue, cobegin_word, foreach_word};
+ghost use Rattle.syntax_grammar.specs.Reading.{DerivesPrinted, DerivesStmtTree, plain_stmt_kind};
 ghost use Rattle.syntax_tree.specs.Plain.{plain_expr, plain_stmt, plain_stmts, statement};
 
-use crate::cursor::Cursor;
-use crate::exprs::{expr, target};
-use crate::region::names;
-use crate::types::ty;
 use lang_base::{Boxed, Bytes, Items, Place, Stop};
 use std::alloc::Global;
+use syntax_exprs::{Cursor, expr, names, target, ty};
 use syntax_tokens::{Keyword, Symbol, Terminal};
 use syntax_tree::{Expr, ExprKind, Named, Stmt, StmtKind};
 

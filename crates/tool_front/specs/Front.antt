@@ -5,7 +5,7 @@ use Rattle.lang_base.specs.declared.refusal.Refusal.{Refusal}
 use Rattle.syntax_tokens.specs.declared.token.Token.{Token}
 use Rattle.syntax_tokens.specs.Cutting.{Cuts, FaultsAt}
 use Rattle.syntax_tree.specs.declared.class.Program.{Program}
-use Rattle.syntax_parse.specs.Program.{IsProgram, IsGrammarFault}
+use Rattle.syntax_grammar.specs.Program.{IsProgram, IsGrammarFault}
 use Rattle.lang_typed.specs.Names.{ProgramNames}
 use Rattle.lang_typed.specs.Plain.{PlainProgram}
 use Rattle.tool_front.specs.Judging.{HasNames, IsAccepted, IsFaulty, field_names_in}

@@ -24,10 +24,10 @@ use Rattle.syntax_tokens.proofs.OneCutting.{cuts-unique}
 use Rattle.syntax_tree.specs.declared.class.Class.{Class}
 use Rattle.syntax_tree.specs.declared.class.Program.{Program}
 use Rattle.syntax_tree.specs.declared.class.SummaryTree.{SummaryTree}
-use Rattle.syntax_parse.specs.Classes.{DerivesSummary}
-use Rattle.syntax_parse.proofs.Distinct.{all_distinct}
-use Rattle.syntax_parse.proofs.once.OnceMembers.{summary_once}
-use Rattle.syntax_parse.proofs.once.OnceReader.{come_once}
+use Rattle.syntax_grammar.specs.Classes.{DerivesSummary}
+use Rattle.syntax_grammar.proofs.Distinct.{all_distinct}
+use Rattle.syntax_grammar.proofs.once.OnceMembers.{summary_once}
+use Rattle.syntax_grammar.proofs.once.OnceReader.{come_once}
 use Rattle.syntax_means.specs.Accepts.{Accepts, HasTree}
 use Rattle.syntax_means.specs.Declares.{OwnMethod, all_methods, names_in, params_spelled, spelled}
 use Rattle.syntax_means.specs.Means.{MemberMeans, SummaryMeans, in_method}

@@ -22,8 +22,8 @@ use Rattle.syntax_tree.specs.declared.region.ElemTree.TheVariants as elem
 use Rattle.syntax_tree.specs.declared.region.RplHead.{RplHead}
 use Rattle.syntax_tree.specs.declared.region.RplHead.TheVariants as head
 use Rattle.syntax_tree.specs.declared.region.RplTree.{RplTree}
-use Rattle.syntax_parse.specs.Paths.{DerivesElem, DerivesHead, DerivesNext, DerivesRName, DerivesRpl, DerivesWithin, next, path, two_names}
-use Rattle.syntax_parse.specs.Taking.{Many, StandsAt, Takes}
+use Rattle.syntax_grammar.specs.Paths.{DerivesElem, DerivesHead, DerivesNext, DerivesRName, DerivesRpl, DerivesWithin, next, path, two_names}
+use Rattle.syntax_grammar.specs.Taking.{Many, StandsAt, Takes}
 use Rattle.syntax_means.specs.Declares.{MeansIn, OwnRegion, all_regions, names_in, spelled}
 use Rattle.syntax_means.specs.Paths.{Around, ElemMeans, HeadMeans, PathMeans, RegionMeans}
 use Rattle.body_infer.specs.Lines.{elem_text, head_text, path_text, region_text, within_class}

@@ -31,9 +31,9 @@ use Rattle.syntax_tree.specs.declared.region.ParamTree.{ParamTree}
 use Rattle.syntax_tree.specs.declared.region.RName.{RName}
 use Rattle.syntax_tree.specs.declared.region.RplHead.{RplHead}
 use Rattle.syntax_tree.specs.declared.region.RplTree.{RplTree}
-use Rattle.syntax_parse.specs.Classes.{DerivesAtomic, DerivesClass, DerivesDeclared, DerivesField, DerivesFront, DerivesItem, DerivesItems, DerivesKindOr, DerivesMember, DerivesMembers, DerivesMethod, DerivesNamed, DerivesParam, DerivesParams, DerivesParamsAfter, DerivesProgram, DerivesSummary}
-use Rattle.syntax_parse.specs.Paths.{DerivesElem, DerivesHead, DerivesNext, DerivesRName, DerivesRpl, DerivesWithin}
-use Rattle.syntax_parse.specs.Taking.{Listed, Many, TakesName}
+use Rattle.syntax_grammar.specs.Classes.{DerivesAtomic, DerivesClass, DerivesDeclared, DerivesField, DerivesFront, DerivesItem, DerivesItems, DerivesKindOr, DerivesMember, DerivesMembers, DerivesMethod, DerivesNamed, DerivesParam, DerivesParams, DerivesParamsAfter, DerivesProgram, DerivesSummary}
+use Rattle.syntax_grammar.specs.Paths.{DerivesElem, DerivesHead, DerivesNext, DerivesRName, DerivesRpl, DerivesWithin}
+use Rattle.syntax_grammar.specs.Taking.{Listed, Many, TakesName}
 use Rattle.syntax_laws.proofs.Left.{formals_left, front_left, in_left, kind_left, params_left, parent_left, type_left}
 use Rattle.syntax_laws.proofs.Numbers.{Fits, Leaves, join, takes}
 use Rattle.syntax_laws.proofs.Statements.{block_fits}

@@ -16,8 +16,8 @@ use Rattle.syntax_tokens.specs.declared.terminal.Terminal.TheVariants as termina
 use Rattle.syntax_tokens.specs.Spelling.{keyword_text}
 use Rattle.syntax_tree.specs.declared.class.Item.{Item}
 use Rattle.syntax_tree.specs.declared.class.SummaryTree.{SummaryTree}
-use Rattle.syntax_parse.specs.Classes.{DerivesAtomic, DerivesItem, DerivesItems, DerivesSummary}
-use Rattle.syntax_parse.specs.Taking.{Listed, Takes}
+use Rattle.syntax_grammar.specs.Classes.{DerivesAtomic, DerivesItem, DerivesItems, DerivesSummary}
+use Rattle.syntax_grammar.specs.Taking.{Listed, Takes}
 use Rattle.syntax_means.specs.Declares.{names_in}
 use Rattle.syntax_means.specs.Means.{ItemMeans, SummaryMeans}
 use Rattle.syntax_means.specs.Paths.{Around}

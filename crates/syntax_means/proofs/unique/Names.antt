@@ -4,7 +4,7 @@ use Rattle.std.proofs.lemmas.Slice.Eq.{bytes_eq-Decides}
 use Rattle.std.specs.List.{AllByRecursion, IsDistinct}
 use Rattle.std.specs.Prelude.{slice_get}
 use Rattle.std.specs.Str.{bytes_eq}
-use Rattle.syntax_parse.proofs.Distinct.{all_distinct}
+use Rattle.syntax_grammar.proofs.Distinct.{all_distinct}
 use Rattle.syntax_tree.specs.declared.class.Class.{Class}
 use Rattle.syntax_tree.specs.declared.class.Program.{Program}
 use Rattle.syntax_means.specs.Accepts.{HasTree}

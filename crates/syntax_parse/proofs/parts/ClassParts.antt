@@ -6,18 +6,18 @@ use Rattle.syntax_tokens.specs.declared.token.Symbol.{Symbol}
 use Rattle.syntax_tokens.specs.declared.token.Keyword.{Keyword}
 use Rattle.syntax_tokens.specs.declared.terminal.Placed.{Placed}
 use Rattle.syntax_tokens.specs.declared.terminal.Terminal.TheVariants as terminal
-use Rattle.syntax_parse.specs.declared.cursor.Cursor.{Cursor}
-use Rattle.syntax_parse.specs.Counted.{counts}
-use Rattle.syntax_parse.specs.Refusing.{at_start, IsWithin}
-use Rattle.syntax_parse.specs.Taking.{Next, NoNext}
-use Rattle.syntax_parse.specs.Expecting.{Expected, one, part, choose, next_of}
-use Rattle.syntax_parse.specs.Expecting.Part.{args_if, class, member, member_list, members, more_classes, parent_if, program, params_if}
-use Rattle.syntax_parse.specs.Words.{is_class, is_close_brace, is_extends, is_name, is_open_brace}
-use Rattle.syntax_parse.specs.Limits.{Counts, Within, nothing, in_part}
-use Rattle.syntax_parse.proofs.Coming.{next_comes, symbol_comes_not, keyword_comes, keyword_comes_not}
-use Rattle.syntax_parse.proofs.Composed.{Refused, seq, stops_after, refused_first, read_part, refused_part}
-use Rattle.syntax_parse.proofs.InOrder.{Onward, next_read}
-use Rattle.syntax_parse.proofs.parts.MemberParts.{onward_step, onward_refused, refused_second, refused_third}
+use Rattle.syntax_exprs.specs.declared.cursor.Cursor.{Cursor}
+use Rattle.syntax_exprs.specs.Counted.{counts}
+use Rattle.syntax_grammar.specs.Refusing.{at_start, IsWithin}
+use Rattle.syntax_grammar.specs.Taking.{Next, NoNext}
+use Rattle.syntax_grammar.specs.Expecting.{Expected, one, part, choose, next_of}
+use Rattle.syntax_grammar.specs.Expecting.Part.{args_if, class, member, member_list, members, more_classes, parent_if, program, params_if}
+use Rattle.syntax_grammar.specs.Words.{is_class, is_close_brace, is_extends, is_name, is_open_brace}
+use Rattle.syntax_grammar.specs.Limits.{Counts, Within, nothing, in_part}
+use Rattle.syntax_exprs.proofs.Coming.{next_comes, symbol_comes_not, keyword_comes, keyword_comes_not}
+use Rattle.syntax_exprs.proofs.Composed.{Refused, seq, stops_after, refused_first, read_part, refused_part}
+use Rattle.syntax_exprs.proofs.InOrder.{Onward, next_read}
+use Rattle.syntax_exprs.proofs.InTurn.{onward_step, onward_refused, refused_second, refused_third}
 
 -- a class
 pub class_reads : {c d e f g h : Counts} {a b i j k l : List Placed} → Within c (one is_class ∷ []) a d b → Within d (one is_name ∷ []) b e i →

@@ -1,5 +1,5 @@
 -- The parts of the grammar's Member productions, by what they begin with.
-use Rattle.std.proofs.Common.{◌≡◌, ◌∙◌, ◌≤◌, ℕ, ap, inl, inr, List, [], ◌∷◌, Bool, true, false, cond, ◌||◌, ◌&&◌, sym, Some, refl}
+use Rattle.std.proofs.Common.{◌≡◌, ◌∙◌, ℕ, ap, inl, inr, List, [], ◌∷◌, Bool, true, false, cond, ◌||◌, ◌&&◌, sym, Some, refl}
 use Rattle.lang_base.specs.declared.place.Place.{Place}
 use Rattle.lang_base.specs.declared.refusal.Kind.{Kind}
 use Rattle.lang_base.specs.declared.refusal.Stop.{Stop}
@@ -8,46 +8,22 @@ use Rattle.syntax_tokens.specs.declared.token.Keyword.{Keyword}
 use Rattle.syntax_tokens.specs.declared.terminal.Placed.{Placed}
 use Rattle.syntax_tokens.specs.declared.terminal.Terminal.{Terminal}
 use Rattle.syntax_tokens.specs.declared.terminal.Terminal.TheVariants as terminal
-use Rattle.syntax_parse.specs.declared.cursor.Cursor.{Cursor}
-use Rattle.syntax_parse.specs.Taking.{Next, NoNext, TakesIf}
-use Rattle.syntax_parse.specs.Classes.{BeginsEffects}
+use Rattle.syntax_exprs.specs.declared.cursor.Cursor.{Cursor}
+use Rattle.syntax_grammar.specs.Taking.{Next, NoNext, TakesIf}
+use Rattle.syntax_grammar.specs.Classes.{BeginsEffects}
 use Rattle.syntax_parse.specs.Members.{member_begins, kind_comes, BeginsAnswering, constructor_comes, BeginsTyped, type_begins, IsItemsPart, reads, writes}
-use Rattle.syntax_parse.specs.Targets.{rest_of}
-use Rattle.syntax_parse.specs.Progress.{ReadsIf}
-use Rattle.syntax_parse.specs.Expecting.{Expected, Part, one, part, choose, next_of, next_is, member_parts}
-use Rattle.syntax_parse.specs.Expecting.Part.{member, after_member_name, field_or_method, in_if, result, method_rest, formals, formal_list, formal, more_formals, summary, reads_if, writes_if, items, item, more_items, atomic_if, block, path, type, kind, names, params_if, args_if, suffixes}
-use Rattle.syntax_parse.specs.Words.{is_atomic, is_close_paren, is_comma, is_in, is_name, is_open_paren, is_pure, is_region, is_semicolon, is_void, word}
-use Rattle.syntax_parse.specs.Limits.{Counts, Within, begins, nothing, passes, anew, Stops, no_terminal, too_many, in_part, after_part, after_terminal}
-use Rattle.syntax_parse.specs.Counted.{counts, Reading, StopsAt}
-use Rattle.syntax_parse.proofs.Coming.{comes_next, no_name_comes, next_comes, symbol_comes_not, keyword_comes, keyword_comes_not}
-use Rattle.syntax_parse.proofs.Tested.{word_or_not}
-use Rattle.syntax_parse.proofs.InOrder.{Onward, IsMore, next_read, few_read, listed_at_comma, listed_at_item, listed_end, listed_on, stops_in_list}
-use Rattle.syntax_parse.proofs.Composed.{Refused, seq, stops_first, stops_after, refused_first, refused_after, read_part, refused_part, on_refused}
-
--- a refusal after what was read: the end of the text stays where it is
-pub refused_later : (x : Expected) (ys : List Expected) {c d : Counts} {before between : List Placed} {end end_now : Place} (stop : Stop) →
-    Within c (x ∷ []) before d between → end_now ≡ end → Refused d ys between end_now stop → Refused c (x ∷ ys) before end stop
-refused_later x ys {c = c} {d = d} {before = before} {between = between} {end = end} stop w is r = refused_after c d x ys before between end stop w (rw is at r)
-
-pub refused_second : (x y : Expected) (ys : List Expected) {c d : Counts} {before one_after : List Placed} {end end_one : Place} (stop : Stop) →
-    Within c (x ∷ []) before d one_after → end_one ≡ end → Refused d (y ∷ []) one_after end_one stop → Refused c (x ∷ y ∷ ys) before end stop
-refused_second x y ys {d = d} {one_after = one_after} {end_one = end_one} stop w is r = refused_later x (y ∷ ys) stop w is (refused_first d y ys one_after end_one stop r)
-
-pub refused_third : (x y z : Expected) (ys : List Expected) {c d e : Counts} {before one_after two_after : List Placed} {end end_one end_two : Place} (stop : Stop) →
-    Within c (x ∷ []) before d one_after → end_one ≡ end → Within d (y ∷ []) one_after e two_after → end_two ≡ end_one →
-    Refused e (z ∷ []) two_after end_two stop → Refused c (x ∷ y ∷ z ∷ ys) before end stop
-refused_third x y z ys stop w is v same r = refused_later x (y ∷ z ∷ ys) stop w is (refused_second y z ys stop v same r)
-
-pub refused_fourth : (w x y z : Expected) (ys : List Expected) {c d e f : Counts} {before one_after two_after three_after : List Placed} {end end_one end_two end_three : Place} (stop : Stop) →
-    Within c (w ∷ []) before d one_after → end_one ≡ end → Within d (x ∷ []) one_after e two_after → end_two ≡ end_one → Within e (y ∷ []) two_after f three_after → end_three ≡ end_two →
-    Refused f (z ∷ []) three_after end_three stop → Refused c (w ∷ x ∷ y ∷ z ∷ ys) before end stop
-refused_fourth w x y z ys stop read is others same more equal r = refused_later w (x ∷ y ∷ z ∷ ys) stop read is (refused_third x y z ys stop others same more equal r)
-
-pub refused_fifth : (v w x y z : Expected) (ys : List Expected) {c d e f g : Counts} {before one_after two_after three_after four_after : List Placed}
-    {end end_one end_two end_three end_four : Place} (stop : Stop) →
-    Within c (v ∷ []) before d one_after → end_one ≡ end → Within d (w ∷ []) one_after e two_after → end_two ≡ end_one → Within e (x ∷ []) two_after f three_after → end_three ≡ end_two →
-    Within f (y ∷ []) three_after g four_after → end_four ≡ end_three → Refused g (z ∷ []) four_after end_four stop → Refused c (v ∷ w ∷ x ∷ y ∷ z ∷ ys) before end stop
-refused_fifth v w x y z ys stop read is others same more equal most alike r = refused_later v (w ∷ x ∷ y ∷ z ∷ ys) stop read is (refused_fourth w x y z ys stop others same more equal most alike r)
+use Rattle.syntax_exprs.specs.Targets.{rest_of}
+use Rattle.syntax_exprs.specs.Progress.{ReadsIf}
+use Rattle.syntax_grammar.specs.Expecting.{Expected, Part, one, part, choose, next_of, next_is, member_parts}
+use Rattle.syntax_grammar.specs.Expecting.Part.{member, after_member_name, field_or_method, in_if, result, method_rest, formals, formal_list, formal, more_formals, summary, reads_if, writes_if, items, item, more_items, atomic_if, block, path, type, kind, names, params_if, args_if, suffixes}
+use Rattle.syntax_grammar.specs.Words.{is_atomic, is_close_paren, is_comma, is_in, is_name, is_open_paren, is_pure, is_region, is_semicolon, is_void, word}
+use Rattle.syntax_grammar.specs.Limits.{Counts, Within, begins, nothing, passes, anew, Stops, no_terminal, too_many, in_part, after_part, after_terminal}
+use Rattle.syntax_exprs.specs.Counted.{counts, Reading, StopsAt}
+use Rattle.syntax_exprs.proofs.Coming.{comes_next, no_name_comes, next_comes, symbol_comes_not, keyword_comes, keyword_comes_not}
+use Rattle.syntax_grammar.proofs.Tested.{word_or_not}
+use Rattle.syntax_exprs.proofs.InOrder.{Onward, IsMore, next_read, listed_at_comma, listed_at_item, listed_end, listed_on, stops_in_list}
+use Rattle.syntax_exprs.proofs.InTurn.{refused_later, refused_second, onward_refused}
+use Rattle.syntax_exprs.proofs.Composed.{Refused, seq, stops_after, refused_first, read_part, refused_part, on_refused}
 
 pub formals_reads : {c d e f : Counts} {a b g h : List Placed} →
     Within c (one is_open_paren ∷ []) a d b → Within d (part formal_list ∷ []) b e g → Within e (one is_close_paren ∷ []) g f h → Within c (part formals ∷ []) a f h
@@ -70,21 +46,6 @@ method_rest_reads f s b = read_part _ _ method_rest _ _ _ refl (seq f (seq s b))
 pub method_rest_refused : (c : Counts) (before : List Placed) (end : Place) (stop : Stop) →
     Refused c (part formals ∷ part summary ∷ part block ∷ []) before end stop → Refused c (part method_rest ∷ []) before end stop
 method_rest_refused c before end stop r = refused_part c method_rest _ before end stop refl r
-
--- what is expected is read in turn
-pub read_two : {x y : Expected} {c d e : Counts} {a b g : List Placed} → Within c (x ∷ []) a d b → Within d (y ∷ []) b e g → Within c (x ∷ y ∷ []) a e g
-read_two v w = seq v w
-
-pub read_three : {x y z : Expected} {c d e f : Counts} {a b g h : List Placed} → Within c (x ∷ []) a d b → Within d (y ∷ []) b e g → Within e (z ∷ []) g f h → Within c (x ∷ y ∷ z ∷ []) a f h
-read_three u v w = seq u (seq v w)
-
--- what is read after what was read so far
-pub onward_step : {x y : Expected} {ys xs : List Expected} {c d e : Counts} {a b g : List Placed} → Onward c xs a d (x ∷ y ∷ ys) b → Within d (x ∷ []) b e g → Onward c xs a e (y ∷ ys) g
-onward_step o w = record { reads = λ e after v. o.reads e after (seq w v); stops = λ k here s. o.stops k here (stops_after w s) }
-
-pub onward_refused : {x : Expected} {xs ys : List Expected} {c d : Counts} {a b : List Placed} {end end_now : Place} (stop : Stop) →
-    Onward c xs a d (x ∷ ys) b → end_now ≡ end → Refused d (x ∷ []) b end_now stop → Refused c xs a end stop
-onward_refused {ys = ys} stop o is r = on_refused _ stop (λ k here s. o.stops k here (stops_first ys s)) (rw is at r)
 
 -- the formals of a method
 pub formal_list_none : {c : Counts} {a : List Placed} → Next (terminal.Symbol Symbol.CloseParen) a → Within c (part formal_list ∷ []) a c a
@@ -440,12 +401,6 @@ pub typed_name_refused : {c d : Counts} {a b : List Placed} {end end_now : Place
     Refused d (one is_name ∷ []) b end_now stop → Refused c (member_begins a) a end stop
 typed_name_refused {a = a} stop t w is r = onward_refused stop (typed_begun a t w) is r
 
-pub onward_reads : {c d e : Counts} {xs ys : List Expected} {a b g : List Placed} → Onward c xs a d ys b → Within d ys b e g → Within c xs a e g
-onward_reads {e = e} {g = g} o w = o.reads e g w
-
-pub onward_stops : {c d : Counts} {xs ys : List Expected} {a b : List Placed} {end end_now : Place} (stop : Stop) → Onward c xs a d ys b → end_now ≡ end → Refused d ys b end_now stop → Refused c xs a end stop
-onward_stops stop o is r = on_refused _ stop o.stops (rw is at r)
-
 -- a type comes where nothing else does
 typed_parts : (t : Terminal) → (is_atomic t || is_region t) ≡ false → (t ≡ terminal.Symbol Symbol.Less → ⊥) → (t ≡ terminal.Keyword Keyword.Void → ⊥) → is_name t ≡ false →
     member_parts t ≡ part type ∷ one is_name ∷ part field_or_method ∷ []
@@ -469,7 +424,3 @@ member_reads same w = rw same (read_part _ _ member _ _ _ refl w)
 
 pub member_refused : (c : Counts) (before : List Placed) (end : Place) (stop : Stop) → Refused (anew c) (member_begins before) before end stop → Refused c (part member ∷ []) before end stop
 member_refused c before end stop r = refused_part c member _ before end stop refl r
-
--- what follows a terminal that was read is within the limits, with no more counted
-pub few_still : {test : Terminal → Bool} {joined : ℕ} {c d : Counts} {a b : List Placed} → Within c (one test ∷ []) a d b → joined ≡ d.joined → joined ≤ 32
-few_still w same = rw same (few_read w)

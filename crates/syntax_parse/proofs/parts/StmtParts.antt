@@ -9,16 +9,16 @@ use Rattle.syntax_tokens.specs.declared.token.Symbol.{Symbol}
 use Rattle.syntax_tokens.specs.declared.terminal.Placed.{Placed}
 use Rattle.syntax_tokens.specs.declared.terminal.Terminal.{Terminal}
 use Rattle.syntax_tokens.specs.declared.terminal.Terminal.TheVariants as terminal
-use Rattle.syntax_parse.specs.declared.cursor.Cursor.{Cursor}
-use Rattle.syntax_parse.specs.Expecting.{expr, Expected, one, part, choose, next_of, condition, value, range, return_rest, shown, stmt, stmts, body, block, else_if, stmt_parts}
-use Rattle.syntax_parse.specs.Limits.{Counts, Fits, deeper, inside, Within, nothing, begins, Stops, in_part}
-use Rattle.syntax_parse.specs.Counted.{counts, Completed, Halts, MayCome, Took}
-use Rattle.syntax_parse.specs.Progress.{Reads, ReadsIf}
-use Rattle.syntax_parse.specs.Taking.{Next, TakesIf}
-use Rattle.syntax_parse.specs.Targets.{stmt_begins}
-use Rattle.syntax_parse.specs.Words.{is_any, is_close_brace, is_close_paren, is_else, is_open_brace, is_comma, is_in, is_int, is_name, is_open_paren, is_return, is_semicolon, is_text}
-use Rattle.syntax_parse.proofs.Coming.{halted, keyword_comes_not, next_comes, read_any, symbol_comes_not}
-use Rattle.syntax_parse.proofs.Composed.{Refused, seq, stops_after, stops_first, refused_first, refused_after, read_part, refused_part}
+use Rattle.syntax_exprs.specs.declared.cursor.Cursor.{Cursor}
+use Rattle.syntax_grammar.specs.Expecting.{expr, Expected, one, part, choose, next_of, condition, value, range, return_rest, shown, stmt, stmts, body, block, else_if, stmt_parts}
+use Rattle.syntax_grammar.specs.Limits.{Counts, Fits, deeper, inside, Within, nothing, begins, Stops, in_part}
+use Rattle.syntax_exprs.specs.Counted.{counts, Completed, Halts, MayCome, Took}
+use Rattle.syntax_exprs.specs.Progress.{Reads, ReadsIf}
+use Rattle.syntax_grammar.specs.Taking.{Next, TakesIf}
+use Rattle.syntax_exprs.specs.Targets.{stmt_begins}
+use Rattle.syntax_grammar.specs.Words.{is_any, is_close_brace, is_close_paren, is_else, is_open_brace, is_comma, is_in, is_int, is_name, is_open_paren, is_return, is_semicolon, is_text}
+use Rattle.syntax_exprs.proofs.Coming.{halted, keyword_comes_not, next_comes, read_any, symbol_comes_not}
+use Rattle.syntax_exprs.proofs.Composed.{Refused, seq, stops_after, stops_first, refused_first, refused_after, read_part, refused_part}
 
 -- a refusal after what was read: the end of the text stays where it is
 refused_later : (x : Expected) (ys : List Expected) {c d : Counts} {before between : List Placed} {end end_now : Place} (stop : Stop) →

@@ -1,7 +1,7 @@
 use Rattle.std.proofs.Common.{◌≡◌, ◌==◌, true, false, [], length, rules, arith}
 use Rattle.std.proofs.lemmas.Grind.{common_steps}
 use Rattle.syntax_parse.proofs.classes.classes.Goals as goal
-use Rattle.syntax_parse.proofs.Lists.{many_more}
+use Rattle.syntax_grammar.proofs.Lists.{many_more}
 use Rattle.syntax_parse.proofs.MemberForms.{program_of, no_rest}
 use Rattle.syntax_parse.proofs.parts.ClassParts.{some_rest, more_classes_round, more_classes_end, more_classes_refused}
 

@@ -1,8 +1,8 @@
 use Rattle.std.proofs.Common.{rules}
 use Rattle.syntax_tokens.specs.declared.token.Symbol.{Symbol}
 use Rattle.syntax_tokens.specs.declared.terminal.Terminal.TheVariants as terminal
-use Rattle.syntax_parse.specs.Taking.{NoNext, none}
-use Rattle.syntax_parse.proofs.Lists.{many_more}
+use Rattle.syntax_grammar.specs.Taking.{NoNext, none}
+use Rattle.syntax_grammar.proofs.Lists.{many_more}
 use Rattle.syntax_parse.proofs.classes.member_list.Goals as goal
 use Rattle.syntax_parse.proofs.parts.ClassParts.{onward_start, member_list_round, member_list_refused}
 

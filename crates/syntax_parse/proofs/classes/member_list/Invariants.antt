@@ -1,11 +1,11 @@
 use Rattle.std.proofs.Common.{[], ◌∷◌, length}
-use Rattle.syntax_parse.specs.Progress.{Keeps}
-use Rattle.syntax_parse.specs.Classes.{DerivesMember}
-use Rattle.syntax_parse.specs.Taking.{Many}
-use Rattle.syntax_parse.specs.Expecting.{part}
-use Rattle.syntax_parse.specs.Expecting.{Part as p}
-use Rattle.syntax_parse.specs.Counted.{counts}
-use Rattle.syntax_parse.proofs.InOrder.{Onward}
+use Rattle.syntax_exprs.specs.Progress.{Keeps}
+use Rattle.syntax_grammar.specs.Classes.{DerivesMember}
+use Rattle.syntax_grammar.specs.Taking.{Many}
+use Rattle.syntax_grammar.specs.Expecting.{part}
+use Rattle.syntax_grammar.specs.Expecting.{Part as p}
+use Rattle.syntax_exprs.specs.Counted.{counts}
+use Rattle.syntax_exprs.proofs.InOrder.{Onward}
 use Rattle.syntax_parse.proofs.classes.member_list.Given as goal
 
 abbrev pub invariant-loop-alloc : goal.invariant-loop-alloc

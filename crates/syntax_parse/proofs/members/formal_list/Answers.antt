@@ -1,5 +1,5 @@
 use Rattle.std.proofs.Common.{rules}
-use Rattle.syntax_parse.specs.Taking.{last}
+use Rattle.syntax_grammar.specs.Taking.{last}
 use Rattle.syntax_parse.proofs.members.formal_list.Goals as goal
 use Rattle.syntax_parse.proofs.parts.MemberParts.{formal_list_begun}
 

@@ -1,8 +1,8 @@
 use Rattle.std.proofs.Common.{rules, [], ◌∷◌}
 use Rattle.std.proofs.lemmas.Result.{on_ok_weaker, IfErr-weaker}
-use Rattle.syntax_parse.specs.Expecting.{one}
-use Rattle.syntax_parse.specs.Words.{word}
-use Rattle.syntax_parse.specs.Counted.{Reading}
+use Rattle.syntax_grammar.specs.Expecting.{one}
+use Rattle.syntax_grammar.specs.Words.{word}
+use Rattle.syntax_exprs.specs.Counted.{Reading}
 use Rattle.syntax_parse.proofs.members.items_if.Goals as goal
 use Rattle.syntax_parse.proofs.parts.MemberParts.{items_if_reads, items_if_refused}
 

@@ -2,9 +2,10 @@ use Rattle.std.proofs.Common.{◌∙◌, rules}
 use Rattle.std.proofs.lemmas.Result.{on_ok_weaker, IfErr-weaker}
 use Rattle.syntax_tokens.specs.declared.token.Symbol.{Symbol}
 use Rattle.syntax_tokens.specs.declared.terminal.Terminal.TheVariants as terminal
-use Rattle.syntax_parse.specs.Taking.{NoNext}
+use Rattle.syntax_grammar.specs.Taking.{NoNext}
 use Rattle.syntax_parse.proofs.members.typed.Goals as goal
-use Rattle.syntax_parse.proofs.parts.MemberParts.{onward_step, onward_reads, onward_stops, typed_begun, method_comes, method_refused, field_comes, field_refused}
+use Rattle.syntax_exprs.proofs.InTurn.{onward_step, onward_reads, onward_stops}
+use Rattle.syntax_parse.proofs.parts.MemberParts.{typed_begun, method_comes, method_refused, field_comes, field_refused}
 
 pub returns-then-is_symbol-clause-reads : goal.returns-then-is_symbol-clause-reads
 returns-then-is_symbol-clause-reads c =

@@ -1,7 +1,7 @@
 use Rattle.std.proofs.Common.{rules}
 use Rattle.syntax_tree.specs.declared.class.Program.{Program}
-use Rattle.syntax_parse.specs.Program.{IsProgram}
-use Rattle.syntax_parse.proofs.Promised.{named_in, distinct_in, targets_in, sized_in}
+use Rattle.syntax_grammar.specs.Program.{IsProgram}
+use Rattle.syntax_grammar.proofs.Promised.{named_in, distinct_in, targets_in, sized_in}
 use Rattle.syntax_parse.proofs.program.parse.Goals as goal
 
 pub returns-clause-named : goal.returns-clause-named

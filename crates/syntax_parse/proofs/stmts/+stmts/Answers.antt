@@ -1,6 +1,6 @@
 use Rattle.std.proofs.Common.{[], refl}
 use Rattle.std.proofs.lemmas.Result.{err_from_is_err_and}
-use Rattle.syntax_parse.specs.Statements.{cobegin_word, foreach_word}
+use Rattle.syntax_grammar.specs.Statements.{cobegin_word, foreach_word}
 use Rattle.syntax_parse.proofs.parts.StmtParts.{reads_anew, reads_seen, reads_two, reads_four, refused_second, refused_third, refused_fourth}
 use Rattle.syntax_parse.proofs.Stating.{made_cobegin, made_foreach, made_parts}
 use Rattle.syntax_parse.proofs.stmts.+stmts.Goals as goal

@@ -1,7 +1,7 @@
 use Rattle.std.proofs.Common.{◌+◌, ◌*◌, length}
-use Rattle.syntax_parse.specs.Progress.{Keeps}
-use Rattle.syntax_parse.specs.Taking.{Many}
-use Rattle.syntax_parse.specs.Reading.{DerivesStmtTree}
+use Rattle.syntax_exprs.specs.Progress.{Keeps}
+use Rattle.syntax_grammar.specs.Taking.{Many}
+use Rattle.syntax_grammar.specs.Reading.{DerivesStmtTree}
 use Rattle.syntax_parse.proofs.parts.StmtParts.{Onward}
 use Rattle.syntax_parse.proofs.stmts.+stmts.Given as goal
 

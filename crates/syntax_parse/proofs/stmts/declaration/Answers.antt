@@ -1,6 +1,6 @@
 use Rattle.std.proofs.Common.{[]}
 use Rattle.std.proofs.lemmas.Result.{err_from_is_err_and}
-use Rattle.syntax_parse.proofs.Composed.{refused_first}
+use Rattle.syntax_exprs.proofs.Composed.{refused_first}
 use Rattle.syntax_parse.proofs.Declarations.{Started, declared_reads, declared_refused, final_refused, type_refused}
 use Rattle.syntax_parse.proofs.parts.StmtParts.{reads_three, refused_second, refused_third}
 use Rattle.syntax_parse.proofs.Stating.{made_declaration}

@@ -1,10 +1,10 @@
 use Rattle.std.proofs.Common.{◌≡◌, [], ◌∷◌, Some, inl, inr, ap}
 use Rattle.std.proofs.lemmas.Result.{err_from_is_err_and}
-use Rattle.syntax_parse.specs.Expecting.{one, ending_parts}
-use Rattle.syntax_parse.specs.Words.{is_semicolon}
-use Rattle.syntax_parse.specs.Reading.{ending_of}
+use Rattle.syntax_grammar.specs.Expecting.{one, ending_parts}
+use Rattle.syntax_grammar.specs.Words.{is_semicolon}
+use Rattle.syntax_grammar.specs.Reading.{ending_of}
 use Rattle.syntax_tree.specs.Plain.{plain_expr}
-use Rattle.syntax_parse.proofs.Composed.{refused_first}
+use Rattle.syntax_exprs.proofs.Composed.{refused_first}
 use Rattle.syntax_parse.proofs.parts.StmtParts.{reads_two, refused_second}
 use Rattle.syntax_parse.proofs.Stating.{field_ending, element_ending, call_ending, new_ending, call_performed, new_performed}
 use Rattle.syntax_parse.proofs.Performing.{led_reads, led_refused, is_alone, alone_refused}

@@ -1,6 +1,6 @@
 use Rattle.std.proofs.Common.{◌≡◌, true}
 use Rattle.std.proofs.lemmas.Result.{on_ok_weaker, IfErr-weaker}
-use Rattle.syntax_parse.specs.Targets.{begins_assignment}
+use Rattle.syntax_exprs.specs.Targets.{begins_assignment}
 use Rattle.syntax_parse.proofs.Performing.{assigned_completed, assigned_refused}
 use Rattle.syntax_parse.proofs.stmts.simple.Goals as goal
 

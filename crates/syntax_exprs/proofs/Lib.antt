@@ -1,0 +1,13 @@
+pub mod Taken
+pub mod Regions
+pub mod TypeForms
+pub mod Selecting
+pub mod Spelling
+pub mod Making
+pub mod Coming
+pub mod Composed
+pub mod InOrder
+pub mod InTurn
+pub mod Onwards
+pub mod Few
+pub mod parts

@@ -1,0 +1,4 @@
+pub mod Progress
+pub mod Counted
+pub mod Onward
+pub mod Targets

@@ -1,5 +1,0 @@
-use Rattle.syntax_parse.proofs.once.OnceText.{text_once}
-use Rattle.syntax_parse.proofs.laws.one_program.Goals as goal
-
-pub returns : goal.returns
-returns c = text_once

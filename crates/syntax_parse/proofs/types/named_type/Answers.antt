@@ -1,5 +1,0 @@
-use Rattle.syntax_parse.specs.Types.{class, type_of}
-use Rattle.syntax_parse.proofs.types.named_type.Goals as goal
-
-pub returns-clause-derives : goal.returns-clause-derives
-returns-clause-derives c = type_of c.place-place.ensures.stands (class c.in_ok-name.ensures.takes c.in_ok-args.ensures.derives) c.in_ok-suffixes.ensures.derives
