@@ -34,7 +34,7 @@ use Rattle.sound_bodies.specs.Gathered.{Gathers}
 use Rattle.sound_bodies.specs.Naming.{LocalsName, AllDoneIn, Signed}
 use Rattle.sound_bodies.specs.Ready.{Ready, Room, NdFree}
 use Rattle.sound_bodies.specs.Seen.{can_stand, SupersAgree, Tells, Sees, Returns}
-use Rattle.syntax_laws.specs.Written.{Fitting, StmtsFitting, IsWritten}
+use Rattle.syntax_grammar.specs.Written.{Fitting, StmtsFitting, IsWritten}
 
 -- what the checker accepts is well typed: the aim of this crate, of which the laws below are steps
 abbrev pub AcceptedIsWellTyped : Type 0

@@ -27,7 +27,7 @@ use Rattle.body_check.specs.Around.{method_around}
 use Rattle.body_check.specs.Methods.{body_begun}
 use Rattle.body_check.specs.Walks.{Walk, passes}
 use Rattle.sound_lemmas.specs.Accepted.{IsAccepted}
-use Rattle.syntax_laws.specs.Written.{IsWritten}
+use Rattle.syntax_grammar.specs.Written.{IsWritten}
 use Rattle.sound_bodies.specs.Naming.{Signed}
 use Rattle.sound_bodies.specs.Seen.{SupersAgree, Tells}
 

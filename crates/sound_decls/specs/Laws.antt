@@ -12,7 +12,7 @@ use Rattle.lang_typed.specs.Table.{GoodConstraint, GoodField, class_scope, membe
 use Rattle.lang_typed.specs.Types.{GoodArgs, GoodPath, GoodType}
 use Rattle.body_assembly.specs.Assembled.{PlainBody, program_of}
 use Rattle.sound_lemmas.specs.Accepted.{IsAccepted}
-use Rattle.syntax_laws.specs.Written.{IsWritten}
+use Rattle.syntax_grammar.specs.Written.{IsWritten}
 use Rattle.lang_typed.specs.WellTyped.{GoodMain}
 
 -- a superclass is there, and its region arguments fit: they are fully specified

@@ -23,7 +23,7 @@ use Rattle.syntax_tree.specs.declared.stmt.Stmt.{Stmt}
 use Rattle.syntax_tree.specs.Plain.{plain_stmt, plain_stmts}
 use Rattle.syntax_tree.specs.Shaped.{MemberHasTargets}
 use Rattle.syntax_tree.specs.Targets.{HasTargets, AllHaveTargets}
-use Rattle.syntax_laws.specs.Written.{IsWritten}
+use Rattle.syntax_grammar.specs.Written.{IsWritten}
 use Rattle.lang_typed.specs.Plain.{PlainProgram, PlainClass, PlainMember, TypedStmt, stmts_of}
 use Rattle.syntax_means.specs.Bodies.{AllMean, IsLength}
 use Rattle.syntax_means.specs.Means.{in_class, in_method}

@@ -54,7 +54,7 @@ use Rattle.decl_laws.proofs.Granted.{IsReadOf, granted}
 use Rattle.lang_typed.specs.Plain.{PlainProgram, PlainClass, PlainParent}
 use Rattle.lang_typed.specs.Scope.{class_at}
 use Rattle.body_assembly.specs.Assembled.{PlainBody, class_of, field_of, parent_at}
-use Rattle.syntax_laws.specs.Written.{IsWritten}
+use Rattle.syntax_grammar.specs.Written.{IsWritten}
 use Rattle.sound_lemmas.specs.Accepted.{IsAccepted}
 use Rattle.sound_lemmas.proofs.Free.{append_none, fault_none, joined_free, none_reported}
 use Rattle.sound_lemmas.proofs.Known.{args_known, given_known}

@@ -19,7 +19,7 @@ use Rattle.syntax_tree.specs.declared.region.Named.{Named}
 use Rattle.syntax_tree.specs.declared.region.RplTree.{RplTree}
 use Rattle.syntax_tree.specs.declared.region.Suffix.{Suffix}
 use Rattle.syntax_tree.specs.Plain as tree
-use Rattle.syntax_laws.specs.Written.{Fitting, AllFitting}
+use Rattle.syntax_grammar.specs.Written.{Fitting, AllFitting}
 use Rattle.lang_typed.specs.Plain.{TypedExpr, typed, type_of}
 use Rattle.lang_typed.specs.Plain.{ExprForm as form}
 use Rattle.syntax_means.specs.Bodies.{ExprMeans, ExprsMean, FieldIn}

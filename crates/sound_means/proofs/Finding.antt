@@ -48,7 +48,7 @@ use Rattle.body_assembly.specs.Assembled.{class_of as typed_class, field_of as t
 use Rattle.lang_typed.specs.Plain.{PlainProgram, PlainClass, PlainParent}
 use Rattle.lang_typed.specs.Scope.{class_at}
 use Rattle.lang_typed.specs.Scope.{parent_of as parent_in}
-use Rattle.syntax_laws.specs.Written.{IsWritten}
+use Rattle.syntax_grammar.specs.Written.{IsWritten}
 use Rattle.syntax_means.specs.Declares.{OwnRegion, OwnMethod, member_regions, member_fields, regions_from, all_regions, all_methods, spelled, method_name, ClassNamed, DeclaresRegion, IsMethodOf, DeclaresField, DeclaresMethod, DeclaresConstructor, inherited_fields, MeansIn}
 use Rattle.sound_lemmas.specs.Accepted.{IsAccepted}
 use Rattle.sound_lemmas.proofs.Lists.{some_same, and_then_there, map_there, got_mapped, there}

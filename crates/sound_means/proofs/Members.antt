@@ -37,7 +37,7 @@ use Rattle.decl_reach.specs.Bodies.{class_marks, own_marks}
 use Rattle.lang_typed.specs.Plain.{PlainProgram, PlainClass, PlainMember}
 use Rattle.lang_typed.specs.Scope.{member_at}
 use Rattle.body_assembly.specs.Assembled.{PlainBody, class_of, member_of}
-use Rattle.syntax_laws.specs.Written.{IsWritten}
+use Rattle.syntax_grammar.specs.Written.{IsWritten}
 use Rattle.sound_lemmas.proofs.BodyRules.{start_in}
 use Rattle.sound_lemmas.specs.Accepted.{IsAccepted}
 use Rattle.sound_lemmas.proofs.Free.{append_none}

@@ -21,7 +21,7 @@ use Rattle.body_assembly.specs.Assembled.{PlainBody}
 use Rattle.body_assembly.specs.Named.{text_of, params_named, header_named, class_named, member_named, members_named, region_named}
 use Rattle.body_assembly.specs.Named.{names_in as names_made}
 use Rattle.lang_typed.specs.Names.{Named, NamedRegion}
-use Rattle.syntax_laws.specs.Written.{IsWritten}
+use Rattle.syntax_grammar.specs.Written.{IsWritten}
 use Rattle.syntax_means.specs.Declares.{OwnMethod, OwnRegion, all_methods, all_regions, spelled, params_spelled, names_in}
 use Rattle.sound_lemmas.specs.Accepted.{IsAccepted}
 use Rattle.sound_lemmas.proofs.Assembled.{has_member}

@@ -19,7 +19,7 @@ use Rattle.syntax_tree.specs.declared.region.TypeTree.{TypeTree}
 use Rattle.syntax_tree.specs.Plain.{PlainExpr, expression, PlainStmt, PlainStmts}
 use Rattle.syntax_tree.specs.Plain as tree
 use Rattle.syntax_tree.specs.Targets.{IsField, IsElement, HasTargets, FormHasTargets, AllHaveTargets}
-use Rattle.syntax_laws.specs.Written.{Fitting, StmtFitting, StmtFormFitting, StmtsFitting}
+use Rattle.syntax_grammar.specs.Written.{Fitting, StmtFitting, StmtFormFitting, StmtsFitting}
 use Rattle.lang_typed.specs.Plain.{TypedExpr, type_of, Source, TypedStmt, statement, TypedStmts, stmts_of, branches_of, choice_form}
 use Rattle.lang_typed.specs.Plain as typed
 use Rattle.syntax_means.specs.Bodies.{with_local, ExprMeans, SourceMeans, StmtMeans, PartMeans, AllMean, BranchesMean}

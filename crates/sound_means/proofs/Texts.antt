@@ -20,7 +20,7 @@ use Rattle.syntax_grammar.specs.Program.{IsProgram}
 use Rattle.syntax_grammar.specs.Refusing.{IsWithin}
 use Rattle.syntax_grammar.proofs.once.OnceText.{terminals_once, text_once}
 use Rattle.syntax_grammar.proofs.Promised.{named_in, sized_in}
-use Rattle.syntax_laws.specs.Laws.{TextsAreWritten}
+use Rattle.syntax_grammar.specs.Texts.{TextsAreWritten}
 use Rattle.decl_headers.proofs.Shaped.{counted_when_named}
 use Rattle.decl_table.specs.declared.table.Table.{Table}
 use Rattle.decl_classes.specs.Build.{check_table}

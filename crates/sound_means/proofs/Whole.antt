@@ -42,7 +42,7 @@ use Rattle.decl_laws.proofs.Granted.{granted}
 use Rattle.lang_typed.specs.Plain.{PlainProgram}
 use Rattle.body_assembly.specs.Assembled.{PlainBody, members_of}
 use Rattle.body_assembly.specs.Assembled.{class_of as made_class}
-use Rattle.syntax_laws.specs.Written.{IsWritten}
+use Rattle.syntax_grammar.specs.Written.{IsWritten}
 use Rattle.sound_lemmas.proofs.BodyRules.{checks_in}
 use Rattle.sound_lemmas.specs.Accepted.{IsAccepted}
 use Rattle.sound_lemmas.proofs.Assembled.{facts}

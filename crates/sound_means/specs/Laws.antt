@@ -9,7 +9,7 @@ use Rattle.syntax_means.specs.Means.{Means}
 use Rattle.syntax_tree.specs.declared.class.Program.{Program}
 use Rattle.decl_table.specs.declared.table.Table.{Table}
 use Rattle.body_assembly.specs.Assembled.{PlainBody}
-use Rattle.syntax_laws.specs.Written.{IsWritten}
+use Rattle.syntax_grammar.specs.Written.{IsWritten}
 use Rattle.sound_bodies.specs.Whole.{made_of}
 use Rattle.sound_lemmas.specs.Accepted.{IsAccepted}
 use Rattle.tool_front.specs.Front.{AreFieldNames, AreNames, IsPassed}

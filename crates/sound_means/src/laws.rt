@@ -4,7 +4,7 @@ ghost use Rattle.sound_means.specs.Laws.{AcceptedMeans, FieldNamesMean, NamesMea
 
 use sound_bodies::laws::law_well_typed;
 use sound_lemmas::laws::law_has_rows;
-use syntax_laws::laws::law_written;
+use syntax_grammar::law_written;
 use syntax_tokens::one_cutting;
 
 /// The typed program of an accepted program is what its tree means.

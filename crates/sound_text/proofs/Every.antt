@@ -10,7 +10,7 @@ use Rattle.body_check.specs.Methods.{after_ok}
 use Rattle.tool_front.specs.Front.{first_place, of_grammar, of_program}
 use Rattle.tool_front.specs.Judging.{Judged, IsAccepted, IsFaulty, judge}
 use Rattle.sound_text.specs.Laws.{HasVerdict}
-use Rattle.syntax_laws.specs.Laws.{EachText, EachReading}
+use Rattle.syntax_grammar.specs.Texts.{EachText, EachReading}
 
 -- a program is accepted, or it has a fault
 abbrev IsJudged : Program → Type 0

@@ -9,7 +9,7 @@ use Rattle.sound_bodies.specs.Laws.{AcceptedIsWellTyped}
 use Rattle.sound_text.specs.Laws.{AcceptedIsWidthBounded}
 use Rattle.sound_lemmas.specs.Accepted.{SmallHasRows}
 use Rattle.sound_lemmas.specs.Accepted.{IsAccepted as Passes}
-use Rattle.syntax_laws.specs.Laws.{TextsAreWritten}
+use Rattle.syntax_grammar.specs.Texts.{TextsAreWritten}
 use Rattle.lang_typed.specs.Laws.{WellTypedIsResolved}
 use Rattle.lang_typed.specs.WellTyped.{WellTyped}
 use Rattle.syntax_tree.specs.Nd.{program_uses_nd}

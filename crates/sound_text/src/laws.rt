@@ -5,8 +5,7 @@ ghost use Rattle.sound_text.specs.Laws.{AcceptedIsWidthBounded, PassedKeeps, One
 use lang_typed::laws::law_resolved;
 use sound_bodies::laws::law_well_typed;
 use sound_lemmas::laws::law_has_rows;
-use syntax_laws::laws::{law_each_reading, law_each_text, law_written};
-use syntax_grammar::{one_program, one_refusal};
+use syntax_grammar::{law_each_reading, law_each_text, law_written, one_program, one_refusal};
 use syntax_tokens::one_cutting;
 
 /// No fork in the code of an accepted program has more branches than a value counts.

@@ -23,3 +23,4 @@ pub mod Decided
 pub mod Refused
 pub mod Runs
 pub mod Sampled
+pub mod written

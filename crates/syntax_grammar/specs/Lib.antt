@@ -16,3 +16,5 @@ pub mod ExpectedText
 pub mod Refusing
 pub mod OneRefusal
 pub mod Samples
+pub mod Written
+pub mod Texts

@@ -11,8 +11,16 @@
 //! goes on, `nest` only at one with which it can still become a program. As a lemma for the parser and for laws above
 //! (`Promised`): the tree of a text has at most as many nodes as the text has bytes, and its names are among those
 //! of the text.
+//!
+//! Of every text (`specs/Texts.antt`): it is cut into tokens or has a first fault there, and its tokens derive a program or
+//! are refused. `specs/Written.antt` says what is so of the tree of a text beside its form: numbers have 32 bits, a
+//! statement that is an expression is a call or a creation, constraints come after region parameters, a constructor has
+//! no region parameters. The rules of bodies don't ask it again (`body_check`), and what passes them is well typed because
+//! of it (`sound_bodies`).
 #![tactic(auto)]
 
 mod laws;
+mod texts;
 
 pub use laws::{expected_text, law_samples, one_fault, one_program, one_refusal, one_tree};
+pub use texts::{law_each_reading, law_each_text, law_written};

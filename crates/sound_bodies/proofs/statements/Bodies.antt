@@ -40,7 +40,7 @@ use Rattle.sound_lemmas.proofs.Free.{not_false}
 use Rattle.sound_bodies.specs.Laws.{Stands, BlockPasses}
 use Rattle.sound_bodies.specs.Naming.{Signed}
 use Rattle.sound_bodies.specs.Ready.{Ready, Room, NdFree}
-use Rattle.syntax_laws.specs.Written.{Fitting, StmtFitting, StmtFormFitting, StmtsFitting}
+use Rattle.syntax_grammar.specs.Written.{Fitting, StmtFitting, StmtFormFitting, StmtsFitting}
 use Rattle.sound_bodies.proofs.statements.Expressions.{int_is}
 use Rattle.sound_bodies.proofs.effects.Gathered.{nothing_gathered}
 use Rattle.sound_bodies.proofs.scope.InScopeStatements.{all_names}

@@ -76,7 +76,7 @@ use Rattle.sound_lemmas.proofs.Rules.{leaf_typed, CallOf, Call, CreationOf, Crea
 use Rattle.sound_bodies.specs.Gathered.{Gathers}
 use Rattle.sound_bodies.specs.Laws.{Stands}
 use Rattle.sound_bodies.specs.Seen.{AllStand, RowIs, Tells, Sees, FieldSeen, MethodSeen, ClassSeen}
-use Rattle.syntax_laws.specs.Written.{Fitting, FormFitting, AllFitting}
+use Rattle.syntax_grammar.specs.Written.{Fitting, FormFitting, AllFitting}
 use Rattle.sound_decls.proofs.written.Args.{args_good}
 use Rattle.sound_bodies.proofs.scope.InScope.{stands_with}
 use Rattle.sound_bodies.proofs.scope.Meant.{meant, created_good}

@@ -36,7 +36,7 @@ use Rattle.sound_lemmas.proofs.StatementSteps.{in_block_of}
 use Rattle.sound_lemmas.proofs.BodyRules.{MethodChecking, start_in, fresh_start}
 use Rattle.sound_lemmas.specs.Accepted.{IsAccepted}
 use Rattle.sound_lemmas.proofs.Lists.{ok_same, map_there}
-use Rattle.syntax_laws.specs.Written.{IsWritten}
+use Rattle.syntax_grammar.specs.Written.{IsWritten}
 use Rattle.sound_bodies.specs.Gathered.{InFound}
 use Rattle.sound_bodies.specs.Laws.{BlockPasses}
 use Rattle.sound_bodies.specs.Naming.{AllDoneIn, Signed}

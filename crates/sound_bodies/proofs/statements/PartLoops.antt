@@ -48,7 +48,7 @@ use Rattle.sound_bodies.specs.Laws.{Stands}
 use Rattle.sound_bodies.specs.Naming.{IsIndex, IsRegion, TypeNames, LocalsName, AllDoneIn, Signed}
 use Rattle.sound_bodies.specs.Ready.{Ready, Room, NdFree}
 use Rattle.sound_bodies.specs.Seen.{RowIs, Sees}
-use Rattle.syntax_laws.specs.Written.{Fitting}
+use Rattle.syntax_grammar.specs.Written.{Fitting}
 use Rattle.sound_bodies.proofs.effects.Clashing.{handed, parts_apart}
 use Rattle.sound_bodies.proofs.scope.Declaring.{local_pushed}
 use Rattle.sound_bodies.proofs.statements.Expressions.{part_seen, expression_agrees}

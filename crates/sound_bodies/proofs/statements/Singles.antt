@@ -38,7 +38,7 @@ use Rattle.sound_lemmas.proofs.Free.{noted_reported, not_false}
 use Rattle.sound_lemmas.proofs.Rules.{leaf_typed, CallOf, Call, CreationOf, Creation, Rules, rules}
 use Rattle.sound_bodies.specs.Laws.{Stands, Passing}
 use Rattle.sound_bodies.specs.Seen.{RowIs, Tells, Sees, Returns}
-use Rattle.syntax_laws.specs.Written.{Fitting}
+use Rattle.syntax_grammar.specs.Written.{Fitting}
 use Rattle.sound_bodies.proofs.statements.Expressions.{int_is, boolean_is, expression_agrees}
 use Rattle.sound_bodies.proofs.table.Subtypes.{fits_subtype}
 

@@ -42,7 +42,7 @@ use Rattle.sound_bodies.specs.Laws.{Stands, Passing}
 use Rattle.sound_bodies.specs.Naming.{IsIndex, IsRegion, AllDoneIn, Signed}
 use Rattle.sound_bodies.specs.Ready.{Ready, Room, NdFree}
 use Rattle.sound_bodies.specs.Seen.{can_stand, RowIs}
-use Rattle.syntax_laws.specs.Written.{Fitting, StmtFormFitting}
+use Rattle.syntax_grammar.specs.Written.{Fitting, StmtFormFitting}
 use Rattle.sound_bodies.proofs.effects.Clashing.{same_entered}
 use Rattle.sound_bodies.proofs.statements.Expressions.{boolean_is, expression_agrees}
 use Rattle.sound_bodies.proofs.effects.Gathered.{then_gathered}

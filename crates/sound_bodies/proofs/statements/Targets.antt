@@ -45,7 +45,7 @@ use Rattle.sound_bodies.specs.Gathered.{Gathers}
 use Rattle.sound_bodies.specs.Laws.{Stands, Passing}
 use Rattle.sound_bodies.specs.Naming.{IsIndex, IsRegion, TypeNames, LocalsName, Signed}
 use Rattle.sound_bodies.specs.Seen.{can_stand, Tells, Sees}
-use Rattle.syntax_laws.specs.Written.{Fitting}
+use Rattle.syntax_grammar.specs.Written.{Fitting}
 use Rattle.sound_bodies.proofs.statements.Expressions.{Made, Passed, int_is, part_seen, SeenRight, field_seen, steps_passed, expression_agrees}
 use Rattle.sound_bodies.proofs.effects.Gathered.{one_gathered, use_gathered, then_gathered}
 use Rattle.sound_bodies.proofs.scope.InScope.{stands_with, stands_at, has_names}

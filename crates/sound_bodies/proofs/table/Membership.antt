@@ -35,7 +35,7 @@ use Rattle.sound_lemmas.specs.Accepted.{IsAccepted}
 use Rattle.sound_lemmas.proofs.Assembled.{is_member}
 use Rattle.sound_lemmas.proofs.Free.{none_reported, append_none}
 use Rattle.sound_lemmas.proofs.Lists.{some_same, got_mapped, made_is}
-use Rattle.syntax_laws.specs.Written.{IsWritten, MethodIsWritten}
+use Rattle.syntax_grammar.specs.Written.{IsWritten, MethodIsWritten}
 use Rattle.sound_bodies.specs.Whole.{made_of, StandsAmong}
 use Rattle.sound_bodies.proofs.table.Standing.{InClasses, all_made}
 

@@ -28,7 +28,7 @@ use Rattle.decl_laws.proofs.Granted.{granted}
 use Rattle.sound_lemmas.specs.Accepted.{IsAccepted}
 use Rattle.sound_lemmas.proofs.Assembled.{has_member}
 use Rattle.sound_lemmas.proofs.Lists.{some_same, and_then_there, map_there}
-use Rattle.syntax_laws.specs.Written.{IsWritten}
+use Rattle.syntax_grammar.specs.Written.{IsWritten}
 use Rattle.sound_bodies.specs.Seen.{AllStand, HasNumbers, AllHaveNumbers, FieldSeen, MemberSeen, MethodSeen, ClassSeen, Tells}
 use Rattle.sound_bodies.specs.Whole.{never_forks}
 use Rattle.sound_bodies.proofs.reach.NdFreeParts.{row_there, stays_nd_free}

@@ -26,7 +26,7 @@ use Rattle.sound_lemmas.proofs.BodyRules.{MethodChecking, is_method, MemberCheck
 use Rattle.decl_laws.proofs.Facts.{got_either}
 use Rattle.sound_lemmas.proofs.Free.{append_none}
 use Rattle.sound_lemmas.proofs.Lists.{some_same, got_first, got_later}
-use Rattle.syntax_laws.specs.Written.{MethodIsWritten, MemberIsWritten, ClassIsWritten}
+use Rattle.syntax_grammar.specs.Written.{MethodIsWritten, MemberIsWritten, ClassIsWritten}
 use Rattle.sound_bodies.specs.Whole.{StandsIn, StandsAmong}
 
 -- what a member makes: a method its body, and nothing else one

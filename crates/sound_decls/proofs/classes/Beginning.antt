@@ -33,7 +33,7 @@ use Rattle.sound_lemmas.specs.Accepted.{IsAccepted}
 use Rattle.sound_lemmas.proofs.Assembled.{facts, has_member, number_is}
 use Rattle.sound_lemmas.proofs.Free.{append_none, fault_none, none_reported, not_false, and_split}
 use Rattle.sound_lemmas.proofs.Lists.{some_same, and_then_there, map_there, there, made_there}
-use Rattle.syntax_laws.specs.Written.{IsWritten}
+use Rattle.syntax_grammar.specs.Written.{IsWritten}
 use Rattle.sound_decls.specs.Laws.{AcceptedHasMain}
 use Rattle.sound_decls.proofs.table.ClassesAndMethods.{none_of_class, none_of_member}
 

@@ -56,7 +56,7 @@ use Rattle.lang_typed.specs.Scope.{Scope, class_at}
 use Rattle.lang_typed.specs.Table.{GoodConstraint, GoodField, class_scope}
 use Rattle.lang_typed.specs.Types.{GoodElem, GoodHead, GoodPath, GoodArgs}
 use Rattle.body_assembly.specs.Assembled.{PlainBody, field_of, class_from, class_of, program_of}
-use Rattle.syntax_laws.specs.Written.{IsWritten}
+use Rattle.syntax_grammar.specs.Written.{IsWritten}
 use Rattle.decl_laws.proofs.Facts.{Facts, parent_is}
 use Rattle.decl_laws.proofs.Granted.{IsReadOf, granted}
 use Rattle.sound_lemmas.specs.Accepted.{IsAccepted}

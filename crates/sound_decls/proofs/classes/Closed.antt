@@ -29,7 +29,7 @@ use Rattle.sound_lemmas.specs.Accepted.{IsAccepted}
 use Rattle.sound_lemmas.proofs.Assembled.{facts, has_member}
 use Rattle.sound_lemmas.proofs.Free.{append_none, fault_none, none_reported, and_split}
 use Rattle.sound_lemmas.proofs.Lists.{some_same, and_then_there, map_there, got_mapped}
-use Rattle.syntax_laws.specs.Written.{IsWritten}
+use Rattle.syntax_grammar.specs.Written.{IsWritten}
 use Rattle.sound_decls.proofs.table.Above.{P}
 use Rattle.sound_decls.proofs.table.ClassesAndMethods.{comes, constructs}
 use Rattle.sound_decls.proofs.table.Supers.{last_there, parent_entry}

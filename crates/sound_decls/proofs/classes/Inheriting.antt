@@ -38,7 +38,7 @@ use Rattle.decl_laws.proofs.Facts.{Facts, over_is, named_is, parent_is}
 use Rattle.decl_laws.proofs.Numbers.{owner_of}
 use Rattle.decl_laws.proofs.Stand.{rows_kept}
 use Rattle.decl_laws.proofs.Granted.{granted}
-use Rattle.syntax_laws.specs.Written.{IsWritten}
+use Rattle.syntax_grammar.specs.Written.{IsWritten}
 use Rattle.sound_decls.specs.Laws.{KeepsSuper, AcceptedInherits}
 use Rattle.sound_decls.proofs.table.Above.{P, number, class_there, lower_there, upper_there, args_found}
 use Rattle.sound_decls.proofs.classes.Closed.{constructor_is, extended_open}

@@ -34,7 +34,7 @@ use Rattle.lang_typed.specs.Scope.{class_at, member_at}
 use Rattle.lang_typed.specs.Table.{GoodConstraint, member_scope}
 use Rattle.lang_typed.specs.Types.{GoodPath, GoodType}
 use Rattle.body_assembly.specs.Assembled.{PlainBody, class_of, member_of, program_of}
-use Rattle.syntax_laws.specs.Written.{IsWritten}
+use Rattle.syntax_grammar.specs.Written.{IsWritten}
 use Rattle.sound_lemmas.specs.Accepted.{IsAccepted}
 use Rattle.sound_lemmas.proofs.Assembled.{is_member}
 use Rattle.sound_lemmas.proofs.Free.{append_none}

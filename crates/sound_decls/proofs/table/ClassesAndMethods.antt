@@ -27,7 +27,7 @@ use Rattle.decl_laws.proofs.Granted.{granted}
 use Rattle.body_assembly.specs.Assembled.{PlainBody}
 use Rattle.sound_lemmas.specs.Accepted.{IsAccepted}
 use Rattle.sound_lemmas.proofs.Lists.{some_same, got_mapped}
-use Rattle.syntax_laws.specs.Written.{IsWritten, ClassIsWritten, MemberIsWritten, MethodIsWritten, HasFront}
+use Rattle.syntax_grammar.specs.Written.{IsWritten, ClassIsWritten, MemberIsWritten, MethodIsWritten, HasFront}
 use Rattle.sound_decls.proofs.table.RowSources.{Comes, row_comes, all_at}
 
 map_none : {A B : Type 0} (f : A → B) (xs : List A) → map f xs ≡ [] → xs ≡ []

@@ -21,7 +21,7 @@ use Rattle.decl_table.specs.Table.{headers_of, methods_of}
 use Rattle.body_assembly.specs.Assembled.{PlainBody}
 use Rattle.sound_lemmas.specs.Accepted.{IsAccepted}
 use Rattle.sound_lemmas.proofs.Lists.{some_same}
-use Rattle.syntax_laws.specs.Written.{IsWritten}
+use Rattle.syntax_grammar.specs.Written.{IsWritten}
 use Rattle.sound_decls.proofs.table.ClassesAndMethods.{comes, of_header}
 
 -- one more at the end

@@ -34,12 +34,12 @@ use Rattle.syntax_tree.specs.declared.region.RplTree.{RplTree}
 use Rattle.syntax_grammar.specs.Classes.{DerivesAtomic, DerivesClass, DerivesDeclared, DerivesField, DerivesFront, DerivesItem, DerivesItems, DerivesKindOr, DerivesMember, DerivesMembers, DerivesMethod, DerivesNamed, DerivesParam, DerivesParams, DerivesParamsAfter, DerivesProgram, DerivesSummary}
 use Rattle.syntax_grammar.specs.Paths.{DerivesElem, DerivesHead, DerivesNext, DerivesRName, DerivesRpl, DerivesWithin}
 use Rattle.syntax_grammar.specs.Taking.{Listed, Many, TakesName}
-use Rattle.syntax_laws.proofs.Left.{formals_left, front_left, in_left, kind_left, params_left, parent_left, type_left}
-use Rattle.syntax_laws.proofs.Numbers.{Fits, Leaves, join, takes}
-use Rattle.syntax_laws.proofs.Statements.{block_fits}
+use Rattle.syntax_grammar.proofs.written.Left.{formals_left, front_left, in_left, kind_left, params_left, parent_left, type_left}
+use Rattle.syntax_grammar.proofs.written.Numbers.{Fits, Leaves, join, takes}
+use Rattle.syntax_grammar.proofs.written.Statements.{block_fits}
 use Rattle.syntax_means.specs.Accepts.{HasTree}
 use Rattle.syntax_means.specs.Declares.{spelled}
-use Rattle.syntax_laws.proofs.Numbers.{here as none_left}
+use Rattle.syntax_grammar.proofs.written.Numbers.{here as none_left}
 use Rattle.sound_infer.proofs.reading.Paths.{IsSpelled}
 
 -- a whole number that a token can say

@@ -27,7 +27,7 @@ use Rattle.syntax_tokens.proofs.Faults.{fault-comment, fault-open_comment, fault
 use Rattle.syntax_tokens.proofs.Found.{found-name, found-keyword, found-int, found-text}
 use Rattle.syntax_tokens.proofs.Tables.{symbol-some}
 use Rattle.syntax_tokens.proofs.Texts.{ends-otherwise, bad-no_quote}
-use Rattle.syntax_laws.proofs.Lists.{first_passing, all_keywords, no_keyword, all_symbols, begins, no_symbol, longest}
+use Rattle.syntax_grammar.proofs.written.Lists.{first_passing, all_keywords, no_keyword, all_symbols, begins, no_symbol, longest}
 
 -- what is read of the bytes: a piece, or why there is none
 pub record Answers (bytes : List ℕ) : Type 0 where

@@ -3,8 +3,8 @@ use Rattle.std.proofs.Common.{inl, inr, refl}
 use Rattle.syntax_tree.specs.declared.class.Program.{Program}
 use Rattle.syntax_grammar.specs.OneRefusal.{OneRefusal}
 use Rattle.syntax_tokens.specs.Says.{distinct_names}
-use Rattle.syntax_laws.specs.Laws.{EachReading}
-use Rattle.syntax_laws.proofs.Said.{said_in}
+use Rattle.syntax_grammar.specs.Texts.{EachReading}
+use Rattle.syntax_grammar.proofs.written.Said.{said_in}
 
 pub each_reading : OneRefusal → EachReading
 each_reading one bytes tokens end =

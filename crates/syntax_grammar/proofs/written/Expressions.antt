@@ -5,9 +5,9 @@ use Rattle.syntax_tree.specs.declared.region.Named.{Named}
 use Rattle.syntax_tree.specs.Plain.{PlainExpr, PlainExprs}
 use Rattle.syntax_grammar.specs.Expressions.{Ending, DerivesLevel, operand, operation, DerivesUnary, operator, postfix, new_array, DerivesPostfix, primary, after_dot, called, indexed, DerivesPrimary, number, yes, no, nothing, receiver, parenthesised, creation, DerivesNewArray, array, DerivesActuals, no_actuals, actuals, DerivesFurther, end, further}
 use Rattle.syntax_grammar.specs.Statements.{DerivesCondition, condition, DerivesValue, value, DerivesRange, range}
-use Rattle.syntax_laws.specs.Written.{Fitting, AllFitting}
-use Rattle.syntax_laws.proofs.Numbers.{Fits, takes, here, join, fewer, number_taken, plainly, following, before, both}
-use Rattle.syntax_laws.proofs.Left.{args_left, base_left, after_left, suffixes_left, suffixes_fewer}
+use Rattle.syntax_grammar.specs.Written.{Fitting, AllFitting}
+use Rattle.syntax_grammar.proofs.written.Numbers.{Fits, takes, here, join, fewer, number_taken, plainly, following, before, both}
+use Rattle.syntax_grammar.proofs.written.Left.{args_left, base_left, after_left, suffixes_left, suffixes_fewer}
 
 mutual
   level_fits : {level : ℕ} {before after : List Placed} {e : PlainExpr} → DerivesLevel level before after e → Fits (Fitting e) before after

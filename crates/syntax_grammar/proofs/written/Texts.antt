@@ -17,9 +17,9 @@ use Rattle.syntax_tokens.proofs.Order.{order-count, can_say}
 use Rattle.syntax_tree.specs.declared.class.Program.{Program}
 use Rattle.syntax_grammar.specs.Program.{IsProgram}
 use Rattle.syntax_grammar.proofs.Promised.{named_in, distinct_in, targets_in, sized_in}
-use Rattle.syntax_laws.specs.Written.{IsWritten}
-use Rattle.syntax_laws.proofs.Numbers.{SaysFitting, AllSayFitting}
-use Rattle.syntax_laws.proofs.Classes.{program_written}
+use Rattle.syntax_grammar.specs.Written.{IsWritten}
+use Rattle.syntax_grammar.proofs.written.Numbers.{SaysFitting, AllSayFitting}
+use Rattle.syntax_grammar.proofs.written.Classes.{program_written}
 
 value_fits : (n : ℕ) → n ≤ 2147483647 → FitsSigned w32 (pos n)
 value_fits n small = omega (arith, ints)

@@ -9,10 +9,10 @@ use Rattle.syntax_tree.specs.declared.region.Params.{Params}
 use Rattle.syntax_tree.specs.declared.region.ParamTree.{ParamTree}
 use Rattle.syntax_grammar.specs.Taking.{Many, none, some}
 use Rattle.syntax_grammar.specs.Classes.{DerivesDeclared, declared, DerivesParams, no_params, params, DerivesResult, void, DerivesFront, constructs, answers, DerivesField, DerivesMethod, named, DerivesMember, members, DerivesClass, class, DerivesProgram, program}
-use Rattle.syntax_laws.specs.Written.{HasParams, HasFront, MemberIsWritten, ClassIsWritten}
-use Rattle.syntax_laws.proofs.Numbers.{Small, Fits, takes, here, join, plainly, following, before, both, changed}
-use Rattle.syntax_laws.proofs.Left.{names_left, type_left, kind_left, params_left, formals_left, summary_left, in_left, front_left, parent_left}
-use Rattle.syntax_laws.proofs.Statements.{block_fits}
+use Rattle.syntax_grammar.specs.Written.{HasParams, HasFront, MemberIsWritten, ClassIsWritten}
+use Rattle.syntax_grammar.proofs.written.Numbers.{Small, Fits, takes, here, join, plainly, following, before, both, changed}
+use Rattle.syntax_grammar.proofs.written.Left.{names_left, type_left, kind_left, params_left, formals_left, summary_left, in_left, front_left, parent_left}
+use Rattle.syntax_grammar.proofs.written.Statements.{block_fits}
 
 some_declared : {before after : List Placed} {list : List ParamTree} → DerivesDeclared before after list → list ≡ [] → ⊥
 some_declared (declared d one others) e = cc

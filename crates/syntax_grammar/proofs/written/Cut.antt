@@ -12,9 +12,9 @@ use Rattle.syntax_tokens.specs.Cutting.{Cuts, FaultsAt, token_at}
 use Rattle.syntax_tokens.specs.Place.{next_place, first_place}
 use Rattle.syntax_tokens.specs.Reading.{Reads}
 use Rattle.syntax_tokens.proofs.Steps.{ReadsTo, read-found, cut-all, fault-following}
-use Rattle.syntax_laws.specs.Laws.{EachText}
-use Rattle.syntax_laws.proofs.Parts.{Answers}
-use Rattle.syntax_laws.proofs.Fronts.{front}
+use Rattle.syntax_grammar.specs.Texts.{EachText}
+use Rattle.syntax_grammar.proofs.written.Parts.{Answers}
+use Rattle.syntax_grammar.proofs.written.Fronts.{front}
 
 abbrev HasCut : List ℕ → Type 0
 HasCut bytes = ((tokens : List Token) × (end : Place) × Cuts bytes tokens end) ⊎ ((refusal : Refusal) × FaultsAt bytes refusal)

@@ -1,8 +1,8 @@
-//! The laws of texts and of their trees, the clauses of functions that do nothing but name others.
+//! Laws of every text and every tree.
 
-ghost use Rattle.syntax_laws.specs.Laws.{EachReading, EachText, TextsAreWritten};
+ghost use Rattle.syntax_grammar.specs.Texts.{EachReading, EachText, TextsAreWritten};
 
-use syntax_grammar::one_refusal;
+use crate::laws::one_refusal;
 
 /// Each text is cut into tokens, or has a first fault there.
 pub fn law_each_text()

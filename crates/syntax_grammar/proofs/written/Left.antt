@@ -23,7 +23,7 @@ use Rattle.syntax_grammar.specs.Paths.{DerivesRName, one_name, two_names, Derive
 use Rattle.syntax_grammar.specs.Types.{DerivesBase, DerivesRegion, no_region, region, DerivesIndex, no_index, index, DerivesAfter, following, DerivesSuffix, suffix, DerivesType, type_of}
 use Rattle.syntax_grammar.specs.Statements.{DerivesFinal, not_final, final}
 use Rattle.syntax_grammar.specs.Classes.{DerivesAtomic, plain, atomic, DerivesKind, kind, DerivesParam, param, DerivesKindOr, same, other, DerivesParamsAfter, no_more, DerivesDeclared, declared, DerivesConstr, constraint, DerivesGiven, nothing_given, given, DerivesParams, no_params, params, DerivesFormal, formal, DerivesFormalList, no_formals, formals, DerivesFormals, DerivesItem, item, DerivesItems, DerivesSummary, no_summary, pure, reads, reads_and_writes, writes, DerivesIn, nowhere, in_region, DerivesResult, void, DerivesFront, constructs, answers, DerivesParent, no_parent, extends}
-use Rattle.syntax_laws.proofs.Numbers.{Leaves, takes, here, join, fewer}
+use Rattle.syntax_grammar.proofs.written.Numbers.{Leaves, takes, here, join, fewer}
 
 many : {A : Type 0} (Derives : List Placed → List Placed → A → Type 0) → ((before after : List Placed) (one : A) → Derives before after one → Leaves before after) →
     {before after : List Placed} {all : List A} → Many Derives before after all → Leaves before after

@@ -3,7 +3,7 @@ use Rattle.std.proofs.Common.{ℕ, List, [], ◌∷◌, inl, inr, sym, subst}
 use Rattle.std.proofs.lemmas.Bool.{cases_Bool, cases_eq}
 use Rattle.lang_base.specs.Lexical.{is_blank, is_letter, is_digit}
 use Rattle.syntax_tokens.specs.Piece.{BeginsComment}
-use Rattle.syntax_laws.proofs.Parts.{Answers, line_comment, block_comment, text, blank, word, int, mark}
+use Rattle.syntax_grammar.proofs.written.Parts.{Answers, line_comment, block_comment, text, blank, word, int, mark}
 
 -- where no comment begins
 otherwise : (b : ℕ) (bs : List ℕ) → ¬ (BeginsComment (b ∷ bs)) → Answers (b ∷ bs)

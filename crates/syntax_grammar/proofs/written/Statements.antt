@@ -7,10 +7,10 @@ use Rattle.syntax_tree.specs.Targets.{IsPerformed as IsDone}
 use Rattle.syntax_grammar.specs.Types.{DerivesType}
 use Rattle.syntax_grammar.specs.Expressions.{Ending, as_call, as_creation, DerivesPostfix, primary, called, creation}
 use Rattle.syntax_grammar.specs.Statements.{IsPerformed, DerivesBlock, braces, DerivesStmts, DerivesStmt, at_first, declaration, local_assignment, field_assignment, element_assignment, performed, DerivesForm, blocked, if_alone, if_else, turning, bare_return, return_with, printed, printed_text, branching, spreading, parting, in_one, new_regions}
-use Rattle.syntax_laws.specs.Written.{StmtFitting, StmtFormFitting, StmtsFitting}
-use Rattle.syntax_laws.proofs.Numbers.{Fits, takes, here, join, plainly, following, before, both, all_three, changed}
-use Rattle.syntax_laws.proofs.Left.{type_left, type_fewer, final_left, names_left}
-use Rattle.syntax_laws.proofs.Expressions.{postfix_fits, condition_fits, value_fits, range_fits}
+use Rattle.syntax_grammar.specs.Written.{StmtFitting, StmtFormFitting, StmtsFitting}
+use Rattle.syntax_grammar.proofs.written.Numbers.{Fits, takes, here, join, plainly, following, before, both, all_three, changed}
+use Rattle.syntax_grammar.proofs.written.Left.{type_left, type_fewer, final_left, names_left}
+use Rattle.syntax_grammar.proofs.written.Expressions.{postfix_fits, condition_fits, value_fits, range_fits}
 
 called_done : {before after : List Placed} {e : PlainExpr} → DerivesPostfix as_call before after e → IsDone e
 called_done (primary d) = elim d [ ]

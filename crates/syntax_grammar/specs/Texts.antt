@@ -6,7 +6,7 @@ use Rattle.syntax_tokens.specs.declared.token.Token.{Token}
 use Rattle.syntax_tokens.specs.Cutting.{Cuts, FaultsAt}
 use Rattle.syntax_tree.specs.declared.class.Program.{Program}
 use Rattle.syntax_grammar.specs.Program.{IsProgram, IsGrammarFault}
-use Rattle.syntax_laws.specs.Written.{IsWritten}
+use Rattle.syntax_grammar.specs.Written.{IsWritten}
 
 -- a text is cut into tokens, or it has a first fault
 abbrev pub EachText : Type 0
