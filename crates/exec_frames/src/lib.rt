@@ -16,7 +16,7 @@ mod regions;
 mod stack;
 mod values;
 
-pub use classes::{Seen, class_entered, constructor_of, handed_up, regions_above};
+pub use classes::{Classes, Seen, Superclass, class_entered, constructor_of, regions_above};
 pub use entries::{call_values, entered, fresh_frame};
 pub use frame::Frame;
 pub use lines::{text_line, value_line};

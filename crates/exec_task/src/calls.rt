@@ -12,11 +12,13 @@ ghost use Rattle.exec_task.specs.Tasks.{plain_level, plain_frame, plain_start, p
 
 use crate::action::Answer;
 use crate::answers::name_made;
-use crate::classes::{class_entered, constructor_of, regions_above};
+use crate::classes::{CodeClasses, constructor_of};
 use crate::frames::frame_of;
 use crate::task::{Level, Standing, Start};
 use code_instrs::{Code, MethodCode};
-use exec_frames::{Frame, Seen, Stack, call_values, concrete, concrete_all};
+use exec_frames::{
+    Frame, Seen, Stack, call_values, class_entered, concrete, concrete_all, regions_above,
+};
 use lang_base::{Items, NoMemory, Region, Rpl, Value};
 use std::alloc::Global;
 
@@ -136,7 +138,7 @@ pub fn after_call(
     let Some(receiver) = level.stack.get(call.formals) else {
         return Ok(Standing::Nowhere);
     };
-    let seen = class_entered(alloc, code, call.class, class_seen(answer));
+    let seen = class_entered(alloc, &CodeClasses { code }, call.class, class_seen(answer));
     let Some(method) = method_at(code, seen.class, call.row) else {
         return Ok(Standing::Nowhere);
     };
@@ -166,7 +168,13 @@ fn method_start(
 ) -> Result<Start, NoMemory>
     ensures { IfOk result (λ start. plain_start start ≡ method_start (plain_code code.now) (plain_method method) (plain_seen seen) (map plain_value values) (plain_frame caller.now) own.now) }
 {
-    let regions = regions_above(alloc, code, seen.class, seen.regions, method.owner)?;
+    let regions = regions_above(
+        alloc,
+        &CodeClasses { code },
+        seen.class,
+        seen.regions,
+        method.owner,
+    )?;
     let regions = with_own(alloc, caller, regions, own)?;
     let frame = frame_of(
         alloc,

@@ -6,3 +6,6 @@ ghost-concrete_all a = In_order
 
 abbrev pub ghost-some_long : goal.ghost-some_long
 ghost-some_long a = In_order
+
+abbrev pub ghost-class_entered : goal.ghost-class_entered
+ghost-class_entered a = In_order
