@@ -11,7 +11,7 @@ use Rattle.code_instrs.specs.Machine.{State}
 use Rattle.code_instrs.specs.Plain.{PlainCode}
 use Rattle.exec_heap.specs.Heap.{Object, instance, array, object_at, values_of}
 use Rattle.exec_task.specs.Answers.{IsCounted}
-use Rattle.exec_task.specs.Halts.{Tells}
+use Rattle.exec_task.specs.Halts.{IsActionOf}
 use Rattle.exec_task.specs.declared.action.Action.{Action}
 use Rattle.exec_task.specs.declared.action.Action.TheVariants as action
 use Rattle.exec_task.specs.declared.action.Own.TheVariants as own
@@ -39,14 +39,14 @@ ordinary (action.End x) b e = absurd (e x refl)
 ordinary a b e = record { branch = λ C z n tasks. refl; on = λ h x. refl; out = λ v w k. refl; start = λ C z. tt; no_end = e }
 
 -- a task that makes an action which isn't its end stands where it is answered
-not_finished : (C : PlainCode) (a : Action) (ticks : ℕ) (x : meaning.Ending ℕ) → ((e : Ending) → a ≡ action.End e → ⊥) → Tells C a (Finished ticks x) → ⊥
+not_finished : (C : PlainCode) (a : Action) (ticks : ℕ) (x : meaning.Ending ℕ) → ((e : Ending) → a ≡ action.End e → ⊥) → IsActionOf C a (Finished ticks x) → ⊥
 not_finished C (action.Do o) ticks x n t = cc
 not_finished C (action.Fork forking many) ticks x n t = let e = t.1 in cc
 not_finished C (action.Begin b) ticks x n t = cc
 not_finished C action.Join ticks x n t = cc
 not_finished C (action.End e) ticks x n t = n e refl
 
-pub goes_further : (C : PlainCode) (a : Action) (h : Halt ℕ (ℕ × ℕ)) (x : Answer) → ((e : Ending) → a ≡ action.End e → ⊥) → Tells C a h
+pub goes_further : (C : PlainCode) (a : Action) (h : Halt ℕ (ℕ × ℕ)) (x : Answer) → ((e : Ending) → a ≡ action.End e → ⊥) → IsActionOf C a h
     → (t : Running) × (answered h x ≡ Some t)
 goes_further C a (Asks ticks made act on) x n t = (_, refl)
 goes_further C a (Finished ticks e) x n t = absurd (not_finished C a ticks e n t)

@@ -9,7 +9,7 @@ use Rattle.code_instrs.specs.declared.code.Code.{Code}
 use Rattle.code_instrs.specs.RunsToActions.{Halt, RunsToAction}
 use Rattle.code_instrs.specs.Plain.{PlainCode, plain_code}
 use Rattle.exec_task.specs.Answers.{IsCounted}
-use Rattle.exec_task.specs.Halts.{Tells, front_of}
+use Rattle.exec_task.specs.Halts.{IsActionOf, front_of}
 use Rattle.exec_task.specs.Names.{names_of}
 use Rattle.exec_task.specs.Branches.{starts_at}
 use Rattle.exec_task.specs.Tasks.{state_of, plain_start}
@@ -52,7 +52,7 @@ next_in C r m e s h there at =
           state = state_of s.task;
           made = s.task.made;
           run_to_action = subst (λ f. RunsToAction (names_of e.task) C live.0.made live.0.state f) here (way.way (front_of C s.task) at.stands.halts);
-          tells = subst (λ f. Tells C e.action f) here at.stands.tells;
+          is_action = subst (λ f. IsActionOf C e.action f) here at.stands.is_action;
           number = refl;
           wants = subst (λ n. WantsRightly C (state_of s.task) n e.action e.wants) (sym at.ticks) at.wants;
         };
@@ -119,7 +119,7 @@ module _ (code : Code) (L : Limits) (old new : Run) (m : Moment) (e : Event) whe
       (goes_on e.action (front (plain_code code) e.task e.ticks x.next.stands.made x.next.stands.state) (answer_to m.world e))
   answered_here s keeps x fits no_end on =
       let h : Halt ℕ (ℕ × ℕ) = front (plain_code code) e.task e.ticks x.next.stands.made x.next.stands.state in
-      let further = goes_further (plain_code code) e.action h (answer_to m.world e) no_end x.next.stands.tells in
+      let further = goes_further (plain_code code) e.action h (answer_to m.world e) no_end x.next.stands.is_action in
       answered_one (plain_code code) e.task s (answer_to old.world e) (goes_on e.action h (answer_to m.world e)) x.number
       (counted old.world e.task e.wants e.action fits)
       (ap (λ g. answered g (answer_to old.world e)) (halt_is s x) ∙ ap (λ w. answered h (answer_to w e)) keeps.world ∙ sym (on h (answer_to m.world e))) further.0

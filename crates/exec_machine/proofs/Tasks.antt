@@ -6,7 +6,7 @@ use Rattle.std.specs.Cmp.{nat_cmp_total}
 use Rattle.std.specs.FinMap.{FinMap, get, insert, remove, get-insert, get-remove}
 use Rattle.lang_base.specs.declared.memory.NoMemory.{NoMemory}
 use Rattle.code_instrs.specs.Plain.{PlainCode}
-use Rattle.exec_task.specs.Halts.{Halts, Tells, front_of}
+use Rattle.exec_task.specs.Halts.{Halts, IsActionOf, front_of}
 use Rattle.exec_task.specs.declared.action.Action.{Action}
 use Rattle.exec_tasks.proofs.Numbers.{itself, other_number}
 use Rattle.exec_machine.specs.declared.slot.Slot.{Slot}
@@ -69,7 +69,7 @@ stands_still C k old new (Some t) go stands still = still t go stands
 
 -- where an action is answered, the slot stands at it
 pub stands_at : (C : PlainCode) (o : Option Slot) (s : Slot) (r : Result Action NoMemory) → o ≡ Some s → OnOk r (s.pending ≡ None)
-    → OnOk r (Halts C s.task (front_of C s.task)) → IfOk r (λ a. Tells C a (front_of C s.task)) → IfOk r (λ a. OfSlot o (StandsAt C a))
-stands_at C o s (Ok a) is given halts tells =
-    subst (λ x. OfSlot x (StandsAt C a)) (sym is) (record { given = given; halts = halts; tells = tells })
-stands_at C o s (Err e) is given halts tells = tt
+    → OnOk r (Halts C s.task (front_of C s.task)) → IfOk r (λ a. IsActionOf C a (front_of C s.task)) → IfOk r (λ a. OfSlot o (StandsAt C a))
+stands_at C o s (Ok a) is given halts is_action =
+    subst (λ x. OfSlot x (StandsAt C a)) (sym is) (record { given = given; halts = halts; is_action = is_action })
+stands_at C o s (Err e) is given halts is_action = tt

@@ -12,7 +12,7 @@ use Rattle.code_instrs.specs.Machine.{State, Start, root_start}
 use Rattle.code_instrs.specs.Plain.{PlainCode, plain_code}
 use Rattle.exec_heap.specs.Heap.{instance, with_object}
 use Rattle.exec_task.specs.Branches.{starts_at}
-use Rattle.exec_task.specs.Halts.{Tells}
+use Rattle.exec_task.specs.Halts.{IsActionOf}
 use Rattle.exec_task.specs.Names.{names_of}
 use Rattle.exec_task.specs.declared.action.Action.{Action}
 use Rattle.exec_task.specs.declared.action.Action.TheVariants as action
@@ -39,7 +39,7 @@ pub record Standing (C : PlainCode) (k : ℕ) (t : Running) (e : Event) : Type 0
   pub state : State ℕ (ℕ × ℕ)
   pub made : ℕ
   pub run_to_action : RunsToAction (names_of k) C t.made t.state (front C k e.ticks made state)
-  pub tells : Tells C e.action (front C k e.ticks made state)
+  pub is_action : IsActionOf C e.action (front C k e.ticks made state)
   pub number : e.task ≡ k
   pub wants : WantsRightly C state e.ticks e.action e.wants
 

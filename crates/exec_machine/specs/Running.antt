@@ -8,7 +8,7 @@ use Rattle.code_instrs.specs.RunsToActions.{Halt, Asks, Finished, Dead, RunsToAc
 use Rattle.code_instrs.specs.Machine.{State, Start, begins_at, step}
 use Rattle.code_instrs.specs.Plain.{PlainCode}
 use Rattle.exec_task.specs.Answers.{IsCounted}
-use Rattle.exec_task.specs.Halts.{Halts, stands, front_of, Tells, Ends, Paced}
+use Rattle.exec_task.specs.Halts.{Halts, stands, front_of, IsActionOf, Ends, Paced}
 use Rattle.exec_task.specs.Names.{names_of}
 use Rattle.exec_task.specs.Tasks.{plain_answer, plain_start}
 use Rattle.exec_task.specs.declared.task.Start.{Start as DeclaredStart}
@@ -93,7 +93,7 @@ OfSlot (Some s) P = P s
 pub record StandsAt (C : PlainCode) (action : Action) (s : Slot) : Type 0 where
   pub given : s.pending ≡ None
   pub halts : Halts C s.task (front_of C s.task)
-  pub tells : Tells C action (front_of C s.task)
+  pub is_action : IsActionOf C action (front_of C s.task)
 
 -- it stands for a task that goes on
 pub record CanGo (C : PlainCode) (k : ℕ) (s : Slot) : Type 0 where

@@ -1,7 +1,7 @@
 ghost use Rattle.std.specs.Prelude.{◌≡◌, ◌≢◌, ℕ, All, None, IfOk, OnOk, IfSome};
 ghost use Rattle.code_instrs.specs.Plain.{plain_code};
 ghost use Rattle.exec_task.specs.Answers.{IsCounted};
-ghost use Rattle.exec_task.specs.Halts.{Halts, Tells, IsWidthBounded, front_of};
+ghost use Rattle.exec_task.specs.Halts.{Halts, IsActionOf, IsWidthBounded, front_of};
 ghost use Rattle.exec_machine.specs.Running.{Running, Goes, StandsFor, IsFirst};
 
 use crate::answers::copied;
@@ -69,7 +69,7 @@ impl Slot {
         ensures stands { (k : ℕ) (t : Running) → Goes (plain_code code.now) k t → StandsFor (plain_code code.now) k self.old t → StandsFor (plain_code code.now) k self.new t }
         ensures given { OnOk result (self.new.pending ≡ None) }
         ensures halts { OnOk result (Halts (plain_code code.now) self.new.task (front_of (plain_code code.now) self.new.task)) }
-        ensures tells { IfOk result (λ action. Tells (plain_code code.now) action (front_of (plain_code code.now) self.new.task)) }
+        ensures is_action { IfOk result (λ action. IsActionOf (plain_code code.now) action (front_of (plain_code code.now) self.new.task)) }
     {
         self.deliver(alloc, code)?;
         self.task.run_to_action(alloc, code)

@@ -20,7 +20,7 @@ use Rattle.code_scheme.proofs.RunsToActions.{runs_end}
 use Rattle.code_scheme.proofs.Theorems.{never_stuck}
 use Rattle.code_scheme.proofs.Whole.{laid_out, members_are_compiled}
 use Rattle.exec_task.specs.Branches.{starts_at}
-use Rattle.exec_task.specs.Halts.{Tells}
+use Rattle.exec_task.specs.Halts.{IsActionOf}
 use Rattle.exec_task.specs.Names.{names_of}
 use Rattle.exec_task.specs.Tasks.{Says, plain_answer}
 use Rattle.exec_task.specs.declared.action.Action.{Action}
@@ -148,8 +148,8 @@ module _ (code : Code) (L : Limits) (few : L.steps ≤ 20000000) (Good : Start �
     known : Known k steps task
 
   answered_known : (k steps : ℕ) (t : Running) (ticks regions : ℕ) (a : Action) → ((c : meaning.Ending ℕ) → Says C a (End c) → ⊥) → Known k steps t →
-      (h : Halt ℕ (ℕ × ℕ)) → RunsToAction (names_of k) C t.made t.state h → TellsCounts ticks regions h → Tells C a h → (x : Answer) → Answered k (steps + ticks) h x
-  answered_known k steps t ticks regions a no_end known (Asks n m b f) run_to_action counts tells x = record {
+      (h : Halt ℕ (ℕ × ℕ)) → RunsToAction (names_of k) C t.made t.state h → TellsCounts ticks regions h → IsActionOf C a h → (x : Answer) → Answered k (steps + ticks) h x
+  answered_known k steps t ticks regions a no_end known (Asks n m b f) run_to_action counts is_action x = record {
     task = record { state = f (plain_answer x); made = m };
     goes = refl;
     known = record {
@@ -160,8 +160,8 @@ module _ (code : Code) (L : Limits) (few : L.steps ≤ 20000000) (Good : Start �
           omega (arith, le, before, n_is));
     };
   }
-  answered_known k steps t ticks regions a no_end known (Finished n e) run_to_action counts tells x = absurd (no_end e tells)
-  answered_known k steps t ticks regions a no_end known Dead run_to_action counts tells x = absurd tells
+  answered_known k steps t ticks regions a no_end known (Finished n e) run_to_action counts is_action x = absurd (no_end e is_action)
+  answered_known k steps t ticks regions a no_end known Dead run_to_action counts is_action x = absurd is_action
 
   start_there : (o : Option (Start ℕ (ℕ × ℕ))) → StartsIn C o → (s : Start ℕ (ℕ × ℕ)) × (o ≡ Some s) × (s.body < length C.bodies)
   start_there None x = absurd x
@@ -196,7 +196,7 @@ module _ (code : Code) (L : Limits) (few : L.steps ≤ 20000000) (Good : Start �
 
         next : Answered k (m.world.steps + ticks) halt answer
         next = answered_known k m.world.steps x.task ticks x.stands.made a p.no_end (h.known k x.task x.there) halt x.stands.run_to_action
-            (front_counts C k ticks x.stands.made x.stands.state) x.stands.tells answer
+            (front_counts C k ticks x.stands.made x.stands.state) x.stands.is_action answer
 
         own_is : goes_on a halt answer ≡ Some next.task
         own_is = p.goes halt answer ∙ next.goes
@@ -256,7 +256,7 @@ module _ (code : Code) (L : Limits) (few : L.steps ≤ 20000000) (Good : Start �
 
         next : Answered k (m.world.steps + ticks) halt answer
         next = answered_known k m.world.steps x.task ticks x.stands.made a (λ c e. (cc)) (h.known k x.task x.there) halt x.stands.run_to_action
-            (front_counts C k ticks x.stands.made x.stands.state) x.stands.tells answer
+            (front_counts C k ticks x.stands.made x.stands.state) x.stands.is_action answer
 
         old_below : k < m.world.tree.begun
         old_below = live_below m h k x.task x.there

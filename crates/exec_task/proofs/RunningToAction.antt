@@ -12,7 +12,7 @@ use Rattle.exec_task.specs.declared.action.Own.TheVariants as own
 use Rattle.exec_task.specs.declared.task.Task.{Task}
 use Rattle.exec_task.specs.Advances.{step_at, Advances, StandsAt}
 use Rattle.exec_task.specs.Fuel.{is_well, is_enough, Least, one_least}
-use Rattle.exec_task.specs.Halts.{run_from, Halts, stands, front_of, Tells, IsAsking, Ends as Ending, Paced, Reaches}
+use Rattle.exec_task.specs.Halts.{run_from, Halts, stands, front_of, IsActionOf, IsAsking, Ends as Ending, Paced, Reaches}
 use Rattle.exec_task.specs.Names.{names_of}
 use Rattle.exec_task.specs.Tasks.{state_of}
 use Rattle.exec_task.proofs.Stepping.{goes_on, one_step}
@@ -63,13 +63,13 @@ module _ (C : PlainCode) where
   front_is t h =
       ap (λ b. if b then Asks t.ticks t.made (Do Rest) (λ x. state_of t) else stands t.ticks t.made (step_at C t)) (goes_on C t h)
 
-  pub tells_front : (t : Task) (a : Action) → t.ticks < 4096 → Tells C a (stands t.ticks t.made (step_at C t)) → Tells C a (front_of C t)
-  tells_front t a h s = subst (Tells C a) (sym (front_is t h)) s
+  pub action_at_front : (t : Task) (a : Action) → t.ticks < 4096 → IsActionOf C a (stands t.ticks t.made (step_at C t)) → IsActionOf C a (front_of C t)
+  action_at_front t a h s = subst (IsActionOf C a) (sym (front_is t h)) s
 
-  pub halts_front : (t : Task) (a : Action) → t.ticks < 4096 → Tells C a (stands t.ticks t.made (step_at C t)) → Halts C t (front_of C t)
+  pub halts_front : (t : Task) (a : Action) → t.ticks < 4096 → IsActionOf C a (stands t.ticks t.made (step_at C t)) → Halts C t (front_of C t)
   halts_front t a h s = record { fuel = 1; runs = one_step C t (step_at C t) 0 h refl ∙ by_case (step_at C t) s ∙ ap Some (sym (front_is t h)) }
     where
-      by_case : (o : Stand ℕ (ℕ × ℕ)) → Tells C a (stands t.ticks t.made o)
+      by_case : (o : Stand ℕ (ℕ × ℕ)) → IsActionOf C a (stands t.ticks t.made o)
           → ran_on (names_of t.number) (λ n m s. run_to_action (names_of t.number) C 0 n m s) t.ticks t.made o ≡ Some (stands t.ticks t.made o)
       by_case (Goes s) x = absurd x
       by_case (Ticks s) x = absurd x
@@ -93,8 +93,8 @@ module _ (C : PlainCode) where
         ∙ ap Some (sym (rest_is t h k));
   }
 
-  pub tells_rest : (t : Task) → 4096 ≤ t.ticks → t.ticks ≤ 4096 → Tells C (action.Do own.Rest) (front_of C t)
-  tells_rest t h k = subst (Tells C (action.Do own.Rest)) (sym (rest_is t h k)) refl
+  pub action_at_rest : (t : Task) → 4096 ≤ t.ticks → t.ticks ≤ 4096 → IsActionOf C (action.Do own.Rest) (front_of C t)
+  action_at_rest t h k = subst (IsActionOf C (action.Do own.Rest)) (sym (rest_is t h k)) refl
 
   pub reaches_next : (a b c : Task) → Reaches C a b → b.ticks < 4096 → Advances C b c → c.number ≡ b.number → Paced c
       → (IsAsking (stands b.ticks b.made (step_at C b)) → ⊥) → Reaches C a c

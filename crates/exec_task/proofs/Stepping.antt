@@ -16,7 +16,7 @@ use Rattle.exec_task.specs.declared.task.Level.{Level}
 use Rattle.exec_task.specs.declared.task.Standing.TheVariants as standing
 use Rattle.exec_task.specs.declared.task.Task.{Task}
 use Rattle.exec_task.specs.Advances.{step_at, StepsTo, Advances}
-use Rattle.exec_task.specs.Halts.{run_from, stands, Tells}
+use Rattle.exec_task.specs.Halts.{run_from, stands, IsActionOf}
 use Rattle.exec_task.specs.Names.{names_of}
 use Rattle.exec_task.specs.Steps.{WaitsFor, Comes, Enters, HasNext, with_local}
 use Rattle.exec_task.specs.Tasks.{plain_level, state_in, state_of, plain_ending}
@@ -57,8 +57,8 @@ module _ (C : PlainCode) where
       → step_at C t ≡ Ticks (state_of (record t { level = h }))
   ticks_by_itself t h l e f is = run_at t l e f ∙ is ∙ ap (λ s. Ticks (state_in s h t.callers)) (sym e)
 
-  tells : (o : Stand ℕ (ℕ × ℕ)) (a : Action) → WaitsFor C o a → (n m : ℕ) → Tells C a (stands n m o)
-  tells o a w n m = subst (λ o. Tells C a (stands n m o)) (sym w.waits) w.says
+  is_action : (o : Stand ℕ (ℕ × ℕ)) (a : Action) → WaitsFor C o a → (n m : ℕ) → IsActionOf C a (stands n m o)
+  is_action o a w n m = subst (λ o. IsActionOf C a (stands n m o)) (sym w.waits) w.says
 
   same_task : (t : Task) (h : Level) (hs : List Level) → h ≡ t.level → hs ≡ t.callers → record t { level = h; callers = hs } ≡ t
   same_task t h hs e f = ap (λ g. record t { level = g; callers = hs }) e ∙ ap (λ gs. record t { callers = gs }) f
@@ -85,13 +85,13 @@ module _ (C : PlainCode) where
         e,
       )
       by_case (step_of.Ends x) c = is ∙ c
-      by_case (step_of.Waits a) c = (λ n m. subst (λ o. Tells C a (stands n m o)) (sym is) (tells _ a c.0 n m), same_task t h hs c.1 c.2)
+      by_case (step_of.Waits a) c = (λ n m. subst (λ o. IsActionOf C a (stands n m o)) (sym is) (is_action _ a c.0 n m), same_task t h hs c.1 c.2)
       by_case step_of.Stuck c = is ∙ c
 
   pub rested_steps : (t : Task) (s : Step) → t.standing ≡ standing.Rested
       → Enters C (λ names fs. rested_line names C (slice_get (body_at C t.level.body).lines t.level.at) (plain_level t.level) fs) s → StepsTo C t s t
   rested_steps t (step_of.Waits a) e w =
-      (λ n m. subst (λ o. Tells C a (stands n m o)) (sym (step_rested t e)) (tells _ a (w t.number t.callers) n m), refl)
+      (λ n m. subst (λ o. IsActionOf C a (stands n m o)) (sym (step_rested t e)) (is_action _ a (w t.number t.callers) n m), refl)
   rested_steps t step_of.Stuck e w = step_rested t e ∙ w t.number t.callers
   rested_steps t step_of.Goes e w = absurd (w t.number t.callers)
   rested_steps t (step_of.Makes r) e w = absurd (w t.number t.callers)
@@ -99,7 +99,7 @@ module _ (C : PlainCode) where
 
   pub ended_steps : (t : Task) (x y : Ending) → t.standing ≡ standing.Ended x → y ≡ x → StepsTo C t (step_of.Waits (action.End y)) t
   ended_steps t x y e f =
-      (λ n m. subst (λ o. Tells C (action.End y) (stands n m o)) (sym (step_ended t x e ∙ ap (λ z. Ends (plain_ending z)) (sym f))) refl, refl)
+      (λ n m. subst (λ o. IsActionOf C (action.End y) (stands n m o)) (sym (step_ended t x e ∙ ap (λ z. Ends (plain_ending z)) (sym f))) refl, refl)
 
   pub goes_on : (t : Task) → t.ticks < 4096 → (t.ticks == most_ticks) ≡ false
   unfolding most_ticks

@@ -7,7 +7,7 @@ use Rattle.exec_task.specs.declared.step.Step.{Step}
 use Rattle.exec_task.specs.declared.step.Step.TheVariants as step_of
 use Rattle.exec_task.specs.declared.task.Standing.TheVariants as standing
 use Rattle.exec_task.specs.declared.task.Task.{Task}
-use Rattle.exec_task.specs.Halts.{run_from, stands, Tells}
+use Rattle.exec_task.specs.Halts.{run_from, stands, IsActionOf}
 use Rattle.exec_task.specs.Names.{names_of}
 use Rattle.exec_task.specs.Steps.{with_local, HasNext}
 use Rattle.exec_task.specs.Tasks.{plain_level, plain_ending, state_of}
@@ -28,7 +28,7 @@ StepsTo C old (step_of.Makes r) new =
     (step_at C old ≡ Makes (λ m. On (with_local r m (plain_level new.level)) (map plain_level new.callers))) × HasNext new.level
     × (new.standing ≡ standing.At)
 StepsTo C old (step_of.Ends e) new = step_at C old ≡ Goes (Off (plain_ending e))
-StepsTo C old (step_of.Waits action) new = ((n m : ℕ) → Tells C action (stands n m (step_at C old))) × (new ≡ old)
+StepsTo C old (step_of.Waits action) new = ((n m : ℕ) → IsActionOf C action (stands n m (step_at C old))) × (new ≡ old)
 StepsTo C old step_of.Stuck new = step_at C old ≡ Stuck
 
 -- the way of a task to its action is one step more than that of another
@@ -39,4 +39,4 @@ Advances C old new =
 
 -- the task stands at this action
 abbrev pub StandsAt : PlainCode → Task → Action → Task → Type 0
-StandsAt C old action new = ((n m : ℕ) → Tells C action (stands n m (step_at C old))) × (new ≡ old)
+StandsAt C old action new = ((n m : ℕ) → IsActionOf C action (stands n m (step_at C old))) × (new ≡ old)

@@ -43,10 +43,10 @@ front_of C t =
     else stands t.ticks t.made (step (names_of t.number) C (state_of t))
 
 -- this action is that of a halt
-abbrev pub Tells : PlainCode → Action → Halt ℕ (ℕ × ℕ) → Type 0
-Tells C action (Asks n m a k) = Says C action a
-Tells C action (Finished n e) = Says C action (Ended e)
-Tells C action Dead = ⊥
+abbrev pub IsActionOf : PlainCode → Action → Halt ℕ (ℕ × ℕ) → Type 0
+IsActionOf C action (Asks n m a k) = Says C action a
+IsActionOf C action (Finished n e) = Says C action (Ended e)
+IsActionOf C action Dead = ⊥
 
 -- a task goes on after the answer to where it stood
 abbrev pub Follows : Halt ℕ (ℕ × ℕ) → Answer → Task → Type 0

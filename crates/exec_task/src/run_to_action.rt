@@ -1,6 +1,6 @@
 ghost use Rattle.std.specs.Prelude.{◌≡◌, OnOk, IfOk};
 ghost use Rattle.code_instrs.specs.Plain.{plain_code};
-ghost use Rattle.exec_task.specs.Halts.{Ends, Halts, IsAsking, OnTheWay, Paced, Reaches, Tells, front_of};
+ghost use Rattle.exec_task.specs.Halts.{Ends, Halts, IsAsking, OnTheWay, Paced, Reaches, IsActionOf, front_of};
 
 use crate::action::{Action, Own};
 use crate::run_local::run_local;
@@ -23,7 +23,7 @@ impl Task {
         ensures number { self.new.number ≡ self.old.number }
         ensures running { OnTheWay (plain_code code.now) self.old self.new }
         ensures halts { OnOk result (Halts (plain_code code.now) self.new (front_of (plain_code code.now) self.new)) }
-        ensures tells { IfOk result (λ action. Tells (plain_code code.now) action (front_of (plain_code code.now) self.new)) }
+        ensures is_action { IfOk result (λ action. IsActionOf (plain_code code.now) action (front_of (plain_code code.now) self.new)) }
         ensures again { IsAsking (front_of (plain_code code.now) self.old) → self.new ≡ self.old }
     {
         let task = mem::replace(self, absent(alloc));
@@ -52,7 +52,7 @@ pub fn run_to_action(running: &mut Running, alloc: Global) -> Result<Action, NoM
     ensures reaches { Reaches (plain_code running.old.code.now) running.old.task running.new.task }
     ensures code { running.new.code.now ≡ running.old.code.now }
     ensures halts { OnOk result (Halts (plain_code running.old.code.now) running.new.task (front_of (plain_code running.old.code.now) running.new.task)) }
-    ensures tells { IfOk result (λ action. Tells (plain_code running.old.code.now) action (front_of (plain_code running.old.code.now) running.new.task)) }
+    ensures is_action { IfOk result (λ action. IsActionOf (plain_code running.old.code.now) action (front_of (plain_code running.old.code.now) running.new.task)) }
 {
     run_local(running)?;
     while running.task.ticks < 4096 {

@@ -232,7 +232,7 @@ module _ (code : Code) (P : PlainProgram) (arg : ℤ) (rule : Rule) (L : Limits)
     V = live T k ticks wants a x
 
     A : AskedAt T k ticks wants a x (Do o)
-    A = asked_at T k ticks wants a x (Do o) (acts_at C a (Do o) (λ e i. (cc)) (λ b e. e) (at T k ticks wants a x) x.stands.tells)
+    A = asked_at T k ticks wants a x (Do o) (acts_at C a (Do o) (λ e i. (cc)) (λ b e. e) (at T k ticks wants a x) x.stands.is_action)
 
     own : (q : Own) × (A.both.act ≡ Do q) × OwnLike w o q
     own = own_like A.both.like

@@ -19,7 +19,7 @@ use Rattle.runs_theory.specs.Runs.{Begun, Faithful, Follows, Run, answers, mine}
 use Rattle.runs_theory.proofs.runs.Faithful.{agree_self, same_task, begun_upto, follows_at, next_same}
 use Rattle.runs_theory.proofs.events.Upto.{upto_tail}
 use Rattle.runs_program.specs.Steps.{named_by}
-use Rattle.exec_task.specs.Halts.{Tells}
+use Rattle.exec_task.specs.Halts.{IsActionOf}
 use Rattle.exec_task.specs.Names.{names_of}
 use Rattle.exec_task.specs.Tasks.{Says}
 use Rattle.exec_task.specs.declared.action.Action.{Action as DeclaredAction}
@@ -63,10 +63,10 @@ ActsAt (Finished ticks e) a = ⊥
 ActsAt Dead a = ⊥
 
 pub acts_at : (C : PlainCode) (x : DeclaredAction) (a : ActionIn) → ((e : EndingOver ℕ) → a ≡ End e → ⊥) → ((b : ActionIn) → Says C x b → b ≡ a)
-    → (h : Halt ℕ (ℕ × ℕ)) → Tells C x h → ActsAt h a
-acts_at C x a no_end says (AsksAt ticks made b f) tells = says b tells
-acts_at C x a no_end says (Finished ticks e) tells = absurd (no_end e (sym (says (End e) tells)))
-acts_at C x a no_end says Dead tells = absurd tells
+    → (h : Halt ℕ (ℕ × ℕ)) → IsActionOf C x h → ActsAt h a
+acts_at C x a no_end says (AsksAt ticks made b f) is_action = says b is_action
+acts_at C x a no_end says (Finished ticks e) is_action = absurd (no_end e (sym (says (End e) is_action)))
+acts_at C x a no_end says Dead is_action = absurd is_action
 
 pub both_at : {w : Sight} {h : Halt ℕ (ℕ × ℕ)} {g : HaltOf} (a : ActionIn) → HaltLike w h g → ActsAt h a → BothAt w h g a
 both_at {w} a (asks_like ticks made {a = b} {b = c} {f = f} {g = k} l on) e = record {

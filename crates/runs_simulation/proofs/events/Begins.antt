@@ -143,7 +143,7 @@ module _ (code : Code) (P : PlainProgram) (arg : ℤ) (rule : Rule) (L : Limits)
 
     A : AskedAt code P arg rule L right T k ticks wants (action.Begin b) x (Begin b)
     A = asked_at code P arg rule L right T k ticks wants (action.Begin b) x (Begin b)
-        (acts_at C (action.Begin b) (Begin b) (λ e i. (cc)) (λ c e. e) (at code P arg rule L right T k ticks wants (action.Begin b) x) x.stands.tells)
+        (acts_at C (action.Begin b) (Begin b) (λ e i. (cc)) (λ c e. e) (at code P arg rule L right T k ticks wants (action.Begin b) x) x.stands.is_action)
 
     abbrev V : LiveTied P arg rule C w R m.world.tree.tasks m.tasks k (found code P arg rule L right T k ticks wants (action.Begin b) x).0
     V = live code P arg rule L right T k ticks wants (action.Begin b) x

@@ -30,7 +30,7 @@ use Rattle.runs_theory.proofs.events.Numbers.{begins_step, number_one, number_of
 use Rattle.runs_theory.proofs.events.Upto.{upto_length, upto_none, upto_same, upto_tail}
 use Rattle.runs_program.specs.Interfering as run
 use Rattle.exec_task.specs.Names.{plain_effect}
-use Rattle.exec_task.specs.Halts.{Tells}
+use Rattle.exec_task.specs.Halts.{IsActionOf}
 use Rattle.exec_task.specs.Tasks.{Says, plain_own}
 use Rattle.exec_task.specs.declared.action.Action.{Action as DeclaredAction}
 use Rattle.exec_task.specs.declared.action.Action.TheVariants as action
@@ -233,16 +233,16 @@ module _ (code : Code) (P : PlainProgram) (arg : ℤ) (rule : Rule) (L : Limits)
     pub event_by : (K : Type 0) → ((b : ActionIn) (c : ActionOf) → Says C a b → ActionLike w b c → SameAct C P S.event.act c → K) → K
     event_by K use_it =
         let H = here code P arg rule L right T k ticks wants a x in
-        go H.like x.stands.tells (subst (λ r. SameReply C P r (said H.halt)) asks H.same)
+        go H.like x.stands.is_action (subst (λ r. SameReply C P r (said H.halt)) asks H.same)
       where
-        go : {h : Halt ℕ (ℕ × ℕ)} {g : HaltOf} → HaltLike w h g → Tells C a h → SameReply C P (Next S.event.ticks S.event.act) (said g) → K
-        go (asks_like ticks made {a = b} {b = c} l on) tells same =
+        go : {h : Halt ℕ (ℕ × ℕ)} {g : HaltOf} → HaltLike w h g → IsActionOf C a h → SameReply C P (Next S.event.ticks S.event.act) (said g) → K
+        go (asks_like ticks made {a = b} {b = c} l on) is_action same =
             let acts : c ≡ same.0 = said_same ticks S.event.ticks c same.0 same.1 in
-            use_it b c tells l (subst (λ c. SameAct C P S.event.act c) (sym acts) same.2)
-        go (finished_like ticks {e = e} {f = f} l) tells same =
+            use_it b c is_action l (subst (λ c. SameAct C P S.event.act c) (sym acts) same.2)
+        go (finished_like ticks {e = e} {f = f} l) is_action same =
             let acts : End f ≡ same.0 = said_same ticks S.event.ticks (End f) same.0 same.1 in
-            use_it (End e) (End f) tells (end_like l) (subst (λ c. SameAct C P S.event.act c) (sym acts) same.2)
-        go dead_like tells same = absurd tells
+            use_it (End e) (End f) is_action (end_like l) (subst (λ c. SameAct C P S.event.act c) (sym acts) same.2)
+        go dead_like is_action same = absurd is_action
 
     pub event_like : ActsLike w a S.event.act
     event_like = event_by (ActsLike w a S.event.act) (λ b c says like same. acts_like C P S.event.act like same a says)

@@ -21,7 +21,7 @@ use Rattle.runs_theory.specs.Objects.{Path}
 use Rattle.runs_theory.specs.Runs.{Event, Follows, Run, Upto, answers, count, event_steps, later, mine, now}
 use Rattle.runs_theory.proofs.events.Cost.{total_step}
 use Rattle.runs_theory.proofs.events.Mine.{mine_other, mine_same}
-use Rattle.exec_task.specs.Halts.{Tells, stands}
+use Rattle.exec_task.specs.Halts.{IsActionOf, stands}
 use Rattle.exec_task.specs.Names.{names_of}
 use Rattle.exec_task.specs.Tasks.{plain_ending, plain_slot}
 use Rattle.exec_task.specs.declared.action.Action.TheVariants as action
@@ -86,15 +86,15 @@ end_acts {w} {a} {b} e l is = go (subst (λ z. ActionLike w z b) is l)
     go : {b : ActionOf} → ActionLike w (End e) b → (f : Ending) × (b ≡ End f) × EndingLike w.names e f
     go (end_like {f = f} l) = (f, refl, l)
 
-end_at : {w : Sight} (C : PlainCode) (c : DeclaredEnding) (ticks : ℕ) {h : Halt ℕ (ℕ × ℕ)} {g : HaltOf} → HaltLike w h g → Tells C (action.End c) h → HasTicks ticks h
+end_at : {w : Sight} (C : PlainCode) (c : DeclaredEnding) (ticks : ℕ) {h : Halt ℕ (ℕ × ℕ)} {g : HaltOf} → HaltLike w h g → IsActionOf C (action.End c) h → HasTicks ticks h
     → EndAt w ticks g c
-end_at C c ticks (asks_like n m {a = a} {b = b} l on) tells same =
-    let x = end_acts (plain_ending c) l tells in
+end_at C c ticks (asks_like n m {a = a} {b = b} l on) is_action same =
+    let x = end_acts (plain_ending c) l is_action in
     record { ending = x.0; said_is = ap (λ z. Next z b) same ∙ ap (λ (z : ActionOf). Next ticks z) x.1; like = x.2 }
-end_at {w} C c ticks (finished_like n {e = e} {f = f} l) tells same =
+end_at {w} C c ticks (finished_like n {e = e} {f = f} l) is_action same =
     let is : e ≡ plain_ending c = cc in
     record { ending = f; said_is = ap (λ z. Next z (End f)) same; like = subst (λ z. EndingLike w.names z f) is l }
-end_at C c ticks dead_like tells same = absurd tells
+end_at C c ticks dead_like is_action same = absurd is_action
 
 -- how a task has ended, as both see it
 trap_is : {ns : Names} (c : DeclaredEnding) (x : Ending) → EndingLike ns (plain_ending c) x → machine_trap c ≡ trap_of x None
@@ -175,7 +175,7 @@ module _ (code : Code) (P : PlainProgram) (arg : ℤ) (rule : Rule) (L : Limits)
     meant = (Q P arg rule C).meaning V.path V.task.task (answers (mine R V.path))
 
     E : EndAt w ticks (here code P arg rule L right T k ticks wants (action.End c) x).halt c
-    E = end_at C c ticks (here code P arg rule L right T k ticks wants (action.End c) x).like x.stands.tells (front_ticks C k ticks x.stands.made x.stands.state)
+    E = end_at C c ticks (here code P arg rule L right T k ticks wants (action.End c) x).like x.stands.is_action (front_ticks C k ticks x.stands.made x.stands.state)
 
     acts : (a : Action) × (meant ≡ Next ticks a) × SameAct C P a (End E.ending)
     acts = reply_act C P meant ticks (End E.ending)
@@ -221,8 +221,8 @@ module _ (code : Code) (P : PlainProgram) (arg : ℤ) (rule : Rule) (L : Limits)
         fell = off_run C k V.runs.made (meaning.Trapped f.0 f.1) (at code P arg rule L right T k ticks wants (action.End c) x)
             (subst (λ s. RunsToAction (names_of k) C V.runs.made s (at code P arg rule L right T k ticks wants (action.End c) x)) i (run_here code P arg rule L right T k ticks wants (action.End c) x))
 
-        ends_so : Tells C (action.End c) (Finished 0 (meaning.Trapped f.0 f.1))
-        ends_so = subst (λ h. Tells C (action.End c) h) fell x.stands.tells
+        ends_so : IsActionOf C (action.End c) (Finished 0 (meaning.Trapped f.0 f.1))
+        ends_so = subst (λ h. IsActionOf C (action.End c) h) fell x.stands.is_action
 
     out_is : y.out ≡ printed (event ∷ H.segment)
     out_is = H.out_is ∙ sym (printed_step event H.segment ∙ append-nil (printed H.segment))

@@ -17,7 +17,7 @@ use Rattle.runs_theory.specs.Objects.{Name, LocalRegion}
 use Rattle.runs_theory.specs.Runs.{Event, Follows, Run, answers, mine, now}
 use Rattle.runs_theory.proofs.events.Mine.{mine_same}
 use Rattle.exec_task.specs.Branches.{starts_at}
-use Rattle.exec_task.specs.Halts.{Tells, stands}
+use Rattle.exec_task.specs.Halts.{IsActionOf, stands}
 use Rattle.exec_task.specs.Names.{names_of}
 use Rattle.exec_task.specs.Tasks.{plain_answer}
 use Rattle.exec_task.specs.declared.action.Action.TheVariants as action
@@ -61,11 +61,11 @@ front_step C k ticks made z n m a f e no_rest = go (ticks == most_ticks) e
     go false i = at_stand (step (names_of k) C z) i
 
 -- a fork tells its branches
-pub fork_acts : (C : PlainCode) (forking : Forking) (many : ℕ) (h : Halt ℕ (ℕ × ℕ)) → Tells C (action.Fork forking many) h
+pub fork_acts : (C : PlainCode) (forking : Forking) (many : ℕ) (h : Halt ℕ (ℕ × ℕ)) → IsActionOf C (action.Fork forking many) h
     → (ts : List (Start ℕ (ℕ × ℕ))) × ActsAt h (Fork (record { kind = forking; tasks = ts })) × (length ts ≡ many)
-fork_acts C forking many (AsksAt n m a f) tells = tells
-fork_acts C forking many (Finished n e) tells = absurd (let is = tells.1 in cc)
-fork_acts C forking many Dead tells = absurd tells
+fork_acts C forking many (AsksAt n m a f) is_action = is_action
+fork_acts C forking many (Finished n e) is_action = absurd (let is = is_action.1 in cc)
+fork_acts C forking many Dead is_action = absurd is_action
 
 module _ (code : Code) (P : PlainProgram) (arg : ℤ) (rule : Rule) (L : Limits) (right : RightFor (plain_code code) P) (FJ : ForksAreJoined (plain_code code)) where
   abbrev C : PlainCode
@@ -77,7 +77,7 @@ module _ (code : Code) (P : PlainProgram) (arg : ℤ) (rule : Rule) (L : Limits)
     n = after code m (event_of k ticks wants (action.Fork forking many)) x.stands.state x.stands.made
 
     reported : (ts : List (Start ℕ (ℕ × ℕ))) × ActsAt (at code P arg rule L right T k ticks wants (action.Fork forking many) x) (Fork (record { kind = forking; tasks = ts })) × (length ts ≡ many)
-    reported = fork_acts C forking many (at code P arg rule L right T k ticks wants (action.Fork forking many) x) x.stands.tells
+    reported = fork_acts C forking many (at code P arg rule L right T k ticks wants (action.Fork forking many) x) x.stands.is_action
 
     abbrev forks : ActionIn
     forks = Fork (record { kind = forking; tasks = reported.0 })

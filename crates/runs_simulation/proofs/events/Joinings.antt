@@ -137,7 +137,7 @@ module _ (code : Code) (P : PlainProgram) (arg : ℤ) (rule : Rule) (L : Limits)
 
     A : AskedAt code P arg rule L right T k ticks wants action.Join x Join
     A = asked_at code P arg rule L right T k ticks wants action.Join x Join
-        (acts_at C action.Join Join (λ e i. (cc)) (λ b e. e) (at code P arg rule L right T k ticks wants action.Join x) x.stands.tells)
+        (acts_at C action.Join Join (λ e i. (cc)) (λ b e. e) (at code P arg rule L right T k ticks wants action.Join x) x.stands.is_action)
 
     abbrev V : LiveTied P arg rule C w R m.world.tree.tasks m.tasks k (found code P arg rule L right T k ticks wants action.Join x).0
     V = live code P arg rule L right T k ticks wants action.Join x

@@ -6,7 +6,7 @@ use Rattle.code_instrs.specs.RunsToActions.{Asks, Dead, Halt, RunsToAction, run_
 use Rattle.code_instrs.specs.Machine.{Ends, Makes, Stand, State, Stuck, Ticks, Waits, step}
 use Rattle.code_instrs.specs.Machine.{Goes as GoesTo}
 use Rattle.code_instrs.specs.Plain.{PlainCode}
-use Rattle.exec_task.specs.Halts.{Tells, stands}
+use Rattle.exec_task.specs.Halts.{IsActionOf, stands}
 use Rattle.exec_task.specs.Names.{names_of}
 use Rattle.exec_task.specs.declared.action.Action.{Action}
 use Rattle.exec_task.specs.declared.action.Action.TheVariants as action
@@ -26,7 +26,7 @@ record Front (C : PlainCode) (k : ℕ) (h : Halt ℕ (ℕ × ℕ)) : Type 0 wher
   state : State ℕ (ℕ × ℕ)
   is : front C k ticks made state ≡ h
   action : Action
-  tells : Tells C action h
+  is_action : IsActionOf C action h
 
 abbrev Further : PlainCode → ℕ → ℕ → Type 0
 Further C k fuel =
@@ -45,7 +45,7 @@ module _ (C : PlainCode) (k fuel : ℕ) (more : Further C k fuel) where
     state = z;
     is = ap (λ b. if b then Asks ticks count (Do Rest) (λ x. z) else stands ticks count (step (names_of k) C z)) last ∙ same_halt runs;
     action = action.Do own.Rest;
-    tells = subst (Tells C (action.Do own.Rest)) (same_halt runs) refl;
+    is_action = subst (IsActionOf C (action.Do own.Rest)) (same_halt runs) refl;
   }
   ticked ticks count z h false last runs alive = more ticks count z h last runs alive
 
@@ -65,7 +65,7 @@ module _ (C : PlainCode) (k fuel : ℕ) (more : Further C k fuel) where
           state = z;
           is = here (Waits a kont) e ∙ same_halt runs;
           action = said.0;
-          tells = subst (Tells C said.0) (same_halt runs) said.1;
+          is_action = subst (IsActionOf C said.0) (same_halt runs) said.1;
         }
     by_stand (Ends x) e runs =
         let said = said_by C (End x) tt in record {
@@ -74,7 +74,7 @@ module _ (C : PlainCode) (k fuel : ℕ) (more : Further C k fuel) where
           state = z;
           is = here (Ends x) e ∙ same_halt runs;
           action = said.0;
-          tells = subst (Tells C said.0) (same_halt runs) said.1;
+          is_action = subst (IsActionOf C said.0) (same_halt runs) said.1;
         }
     by_stand Stuck e runs = absurd (alive (sym (same_halt runs)))
 
@@ -103,7 +103,7 @@ next_event C m k goes unfinished ready = (
       state = F.state;
       made = F.made;
       run_to_action = subst (λ h. RunsToAction (names_of k) C live.0.made live.0.state h) (sym F.is) G.run_to_action;
-      tells = subst (Tells C F.action) (sym F.is) F.tells;
+      is_action = subst (IsActionOf C F.action) (sym F.is) F.is_action;
       number = refl;
       wants = wants_rightly C F.state F.ticks F.action;
     };

@@ -30,7 +30,7 @@ use Rattle.lang_base.specs.declared.value.Value.{Value as Constant}
 use Rattle.lang_typed.specs.declared.stmt.Forking.{Forking}
 use Rattle.exec_frames.specs.Names.{plain_value}
 use Rattle.exec_task.specs.declared.action.Ending.{Ending as DeclaredEnding}
-use Rattle.exec_task.specs.Halts.{Tells}
+use Rattle.exec_task.specs.Halts.{IsActionOf}
 use Rattle.exec_task.specs.Branches.{starts_at}
 use Rattle.exec_task.specs.Tasks.{Says, plain_answer}
 use Rattle.exec_task.specs.declared.action.Answer.TheVariants as answer
@@ -125,17 +125,17 @@ module _ (code : Code) (P : PlainProgram) (arg : ℤ) (rule : Rule) (L : Limits)
       asked_by K use_it = go (QR.meaning V.path V.task.task (answers (mine R V.path))) refl
         where
           by_halt : (n : ℕ) (act : Action) → QR.meaning V.path V.task.task (answers (mine R V.path)) ≡ Next n act → {h : Halt ℕ (ℕ × ℕ)} {g : HaltOf} → HaltLike w h g
-              → Tells C a h → SameReply C P (Next n act) (said g) → K
-          by_halt n act e (asks_like i made {a = b} {b = c} l on) tells same =
-              use_it n act b c e tells l (subst (λ c. SameAct C P act c) (sym (said_same i n c same.0 same.1)) same.2)
-          by_halt n act e (finished_like i {e = z} {f = f} l) tells same =
-              use_it n act (End z) (End f) e tells (end_like l) (subst (λ c. SameAct C P act c) (sym (said_same i n (End f) same.0 same.1)) same.2)
-          by_halt n act e dead_like tells same = absurd tells
+              → IsActionOf C a h → SameReply C P (Next n act) (said g) → K
+          by_halt n act e (asks_like i made {a = b} {b = c} l on) is_action same =
+              use_it n act b c e is_action l (subst (λ c. SameAct C P act c) (sym (said_same i n c same.0 same.1)) same.2)
+          by_halt n act e (finished_like i {e = z} {f = f} l) is_action same =
+              use_it n act (End z) (End f) e is_action (end_like l) (subst (λ c. SameAct C P act c) (sym (said_same i n (End f) same.0 same.1)) same.2)
+          by_halt n act e dead_like is_action same = absurd is_action
 
           go : (r : Reply) → QR.meaning V.path V.task.task (answers (mine R V.path)) ≡ r → K
           go (Next n act) e =
               let H = here code P arg rule L right T k ticks wants a x in
-              by_halt n act e H.like x.stands.tells (subst (λ r. SameReply C P r (said H.halt)) e H.same)
+              by_halt n act e H.like x.stands.is_action (subst (λ r. SameReply C P r (said H.halt)) e H.same)
           go Over e = absurd (let H = here code P arg rule L right T k ticks wants a x in never_over H.halt (subst (λ r. SameReply C P r (said H.halt)) e H.same))
           go Unknown e = absurd (let H = here code P arg rule L right T k ticks wants a x in subst (λ r. SameReply C P r (said H.halt)) e H.same)
 
@@ -278,7 +278,7 @@ module _ (code : Code) (P : PlainProgram) (arg : ℤ) (rule : Rule) (L : Limits)
 
       A : AskedAt code P arg rule L right T k ticks wants (action.Begin b) x (Begin b)
       A = asked_at code P arg rule L right T k ticks wants (action.Begin b) x (Begin b)
-          (acts_at C (action.Begin b) (Begin b) (λ e i. (cc)) (λ c e. e) (at code P arg rule L right T k ticks wants (action.Begin b) x) x.stands.tells)
+          (acts_at C (action.Begin b) (Begin b) (λ e i. (cc)) (λ c e. e) (at code P arg rule L right T k ticks wants (action.Begin b) x) x.stands.is_action)
 
       asks : QR.meaning U.path U.task.task (answers (mine R U.path)) ≡ Next ticks (Begin b)
       asks = A.asks ∙ ap (λ c. Next ticks c) (same_begin C P A.act b (subst (λ c. SameAct C P A.act c) (beginning_like A.both.like) A.same))

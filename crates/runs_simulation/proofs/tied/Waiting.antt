@@ -15,7 +15,7 @@ use Rattle.code_instrs.specs.Machine.{root_start, Start, State, Stand, Goes, Tic
 use Rattle.code_instrs.specs.Plain.{PlainCode, plain_code}
 use Rattle.code_instrs.specs.declared.code.Code.{Code}
 use Rattle.exec_task.specs.Branches.{starts_at}
-use Rattle.exec_task.specs.Halts.{Tells, stands}
+use Rattle.exec_task.specs.Halts.{IsActionOf, stands}
 use Rattle.exec_task.specs.Names.{names_of, plain_effect}
 use Rattle.exec_task.specs.Tasks.{Says, plain_answer}
 use Rattle.exec_task.specs.declared.action.Action.{Action as DeclaredAction}
@@ -125,8 +125,8 @@ module _ (C : PlainCode) where
       }
       go false i e = stood i (step (names_of k) C z) (step_leads C k z) e
 
-  reported : (a : DeclaredAction) (h : Halt ℕ (ℕ × ℕ)) (n m : ℕ) (b : ActionIn) (f : ThenIn) → Tells C a h → h ≡ Asks n m b f → Says C a b
-  reported a h n m b f t e = subst (λ h. Tells C a h) e t
+  reported : (a : DeclaredAction) (h : Halt ℕ (ℕ × ℕ)) (n m : ℕ) (b : ActionIn) (f : ThenIn) → IsActionOf C a h → h ≡ Asks n m b f → Says C a b
+  reported a h n m b f t e = subst (λ h. IsActionOf C a h) e t
 
   -- another action than a rest, and no end
   abbrev Passes : ActionIn → Type 0
@@ -137,15 +137,15 @@ module _ (C : PlainCode) where
 
   module _ (k ticks made : ℕ) (z : State ℕ (ℕ × ℕ)) (y : DeclaredAnswer) (t : Running) (waits : Waiting) where
     -- after it no entry follows
-    none_next : (a : DeclaredAction) → Tells C a (front C k ticks made z) → ((b : ActionIn) → Says C a b → Passes b)
+    none_next : (a : DeclaredAction) → IsActionOf C a (front C k ticks made z) → ((b : ActionIn) → Says C a b → Passes b)
         → answered (front C k ticks made z) y ≡ Some t → Noted C waits k t
-    none_next a tells passed e E i = absurd (go (ticks == most_ticks) refl)
+    none_next a is_action passed e E i = absurd (go (ticks == most_ticks) refl)
       where
         A : At z ticks (front C k ticks made z) (plain_answer y) t
         A = at_answer k ticks made z y t e
 
         p : Passes A.act
-        p = passed A.act (reported a (front C k ticks made z) ticks A.made A.act A.then_in tells A.is)
+        p = passed A.act (reported a (front C k ticks made z) ticks A.made A.act A.then_in is_action A.is)
 
         go : (b : Bool) → (ticks == most_ticks) ≡ b → ⊥
         go true s = p.0 (A.spent s)
@@ -154,15 +154,15 @@ module _ (C : PlainCode) where
             let both : None ≡ Some E = sym none ∙ ap (λ s. entry_next C s) (sym A.state) ∙ i in cc
 
     -- after a rest the entry in front of which the task rests
-    rest_next : {first : ℕ} {s : State ℕ (ℕ × ℕ)} → RunsToAction (names_of k) C first s (front C k ticks made z) → Tells C (action.Do own.Rest) (front C k ticks made z)
+    rest_next : {first : ℕ} {s : State ℕ (ℕ × ℕ)} → RunsToAction (names_of k) C first s (front C k ticks made z) → IsActionOf C (action.Do own.Rest) (front C k ticks made z)
         → (wants : Option (List PathEffect)) → WantsRightly C z ticks (action.Do own.Rest) wants → answered (front C k ticks made z) y ≡ Some t → Noted C (rested waits k wants) k t
-    rest_next {first} {s} run_to_action tells wants right e E i = go (ticks == most_ticks) refl
+    rest_next {first} {s} run_to_action is_action wants right e E i = go (ticks == most_ticks) refl
       where
         A : At z ticks (front C k ticks made z) (plain_answer y) t
         A = at_answer k ticks made z y t e
 
         is_rest : A.act ≡ Do Rest
-        is_rest = reported (action.Do own.Rest) (front C k ticks made z) ticks A.made A.act A.then_in tells A.is
+        is_rest = reported (action.Do own.Rest) (front C k ticks made z) ticks A.made A.act A.then_in is_action A.is
 
         entry : entry_next C (A.then_in (plain_answer y)) ≡ Some E
         entry = ap (λ s. entry_next C s) (sym A.state) ∙ i
@@ -190,11 +190,11 @@ module _ (code : Code) (m : Moment) (k ticks : ℕ) (wants : Option (List PathEf
 
   abbrev None_next : (a : DeclaredAction) (x : NextOf C m k (event_of k ticks wants a)) → ((b : ActionIn) → Says C a b → Passes C b) → (t : Running)
       → answered (front C k ticks x.stands.made x.stands.state) (answer_at m.world k a) ≡ Some t → (waits : Waiting) → Noted C waits k t
-  None_next a x p t e waits = none_next C k ticks x.stands.made x.stands.state (answer_at m.world k a) t waits a x.stands.tells p e
+  None_next a x p t e waits = none_next C k ticks x.stands.made x.stands.state (answer_at m.world k a) t waits a x.stands.is_action p e
 
   own_noted : (a : DeclaredAction) (x : NextOf C m k (event_of k ticks wants a)) → Own a x
   own_noted (action.Do own.Rest) x t e =
-      rest_next C k ticks x.stands.made x.stands.state (answer_at m.world k (action.Do own.Rest)) t m.world.waits x.stands.run_to_action x.stands.tells wants x.stands.wants e
+      rest_next C k ticks x.stands.made x.stands.state (answer_at m.world k (action.Do own.Rest)) t m.world.waits x.stands.run_to_action x.stands.is_action wants x.stands.wants e
   own_noted (action.Fork forking many) x t e = None_next (action.Fork forking many) x (λ b s. passes C s.1 (λ r. (cc), λ x r. (cc))) t e _
   own_noted (action.End c) x t e = absurd (cc)
   own_noted a x t e = None_next a x (λ b s. passes C s (λ r. (cc), λ x r. (cc))) t e _
@@ -236,9 +236,9 @@ module _ (code : Code) (L : Limits) (arg : ℤ) where
 -- a task that makes an entry has noted its effects
 pub entry_noted : (C : PlainCode) (m : Moment) (k ticks : ℕ) (wants : Option (List PathEffect)) (effects : List PathEffect) (x : NextOf C m k (event_of k ticks wants (action.Do (own.Enter effects))))
     → AllNoted C m → get m.world.waits k ≡ Some (map noted (map plain_effect effects))
-entry_noted C m k ticks wants effects x all = all k x.task x.there (map plain_effect effects) (at_front (front C k ticks x.stands.made x.stands.state) refl x.stands.tells)
+entry_noted C m k ticks wants effects x all = all k x.task x.there (map plain_effect effects) (at_front (front C k ticks x.stands.made x.stands.state) refl x.stands.is_action)
   where
-    at_front : (h : Halt ℕ (ℕ × ℕ)) → front C k ticks x.stands.made x.stands.state ≡ h → Tells C (action.Do (own.Enter effects)) h
+    at_front : (h : Halt ℕ (ℕ × ℕ)) → front C k ticks x.stands.made x.stands.state ≡ h → IsActionOf C (action.Do (own.Enter effects)) h
         → entry_next C x.task.state ≡ Some (map plain_effect effects)
     at_front (Asks n m a f) e t =
         run_entry C k x.task.made x.task.state (front C k ticks x.stands.made x.stands.state) n m (map plain_effect effects) f x.stands.run_to_action (e ∙ ap (λ b. Asks n m b f) t)
@@ -250,7 +250,7 @@ record Goes_on (C : PlainCode) (h : Halt ℕ (ℕ × ℕ)) (y : DeclaredAnswer) 
   task : Running
   goes : answered h y ≡ Some task
 
-rest_goes_on : (C : PlainCode) (h : Halt ℕ (ℕ × ℕ)) (y : DeclaredAnswer) → Tells C (action.Do own.Rest) h → Goes_on C h y
+rest_goes_on : (C : PlainCode) (h : Halt ℕ (ℕ × ℕ)) (y : DeclaredAnswer) → IsActionOf C (action.Do own.Rest) h → Goes_on C h y
 rest_goes_on C (Asks i j b f) y t = record { task = record { state = f (plain_answer y); made = j }; goes = refl }
 rest_goes_on C (Finished i e) y t = absurd (cc)
 rest_goes_on C Dead y t = absurd t
@@ -286,7 +286,7 @@ module _ (code : Code) (m : Moment) (k ticks : ℕ) (wants : Option (List PathEf
       at = run_rested CA k x.task.made x.task.state (front CA k ticks x.stands.made x.stands.state) r.entry (ap (λ (t : Running). entry_next CA t.state) same ∙ r.next) x.stands.run_to_action
 
       says : Says CA a (Do (Enter r.entry))
-      says = reported CA a (front CA k ticks x.stands.made x.stands.state) 0 x.task.made (Do (Enter r.entry)) at.0 x.stands.tells at.1
+      says = reported CA a (front CA k ticks x.stands.made x.stands.state) 0 x.task.made (Do (Enter r.entry)) at.0 x.stands.is_action at.1
 
   -- another task that has begun goes on as it was
   other_task : (a : DeclaredAction) (x : NextOf CA m k (event_of k ticks wants a)) (j : ℕ) (t : Running) → j ≢ k → m.tasks j ≡ Some t
@@ -326,7 +326,7 @@ module _ (code : Code) (m : Moment) (k ticks : ℕ) (wants : Option (List PathEf
       n = after code m (event_of k ticks wants (action.Do own.Rest)) z x.stands.made
 
       G : Goes_on CA h (answer_at m.world k (action.Do own.Rest))
-      G = rest_goes_on CA h (answer_at m.world k (action.Do own.Rest)) x.stands.tells
+      G = rest_goes_on CA h (answer_at m.world k (action.Do own.Rest)) x.stands.is_action
 
       there : n.tasks k ≡ Some G.task
       there = placed (with_branch CA z (action.Do own.Rest) m.world.tree.begun m.tasks) k _ k refl ∙ G.goes
@@ -335,7 +335,7 @@ module _ (code : Code) (m : Moment) (k ticks : ℕ) (wants : Option (List PathEf
       A = at_answer CA k ticks x.stands.made z (answer_at m.world k (action.Do own.Rest)) G.task G.goes
 
       is_rest : A.act ≡ Do Rest
-      is_rest = reported CA (action.Do own.Rest) h ticks A.made A.act A.then_in x.stands.tells A.is
+      is_rest = reported CA (action.Do own.Rest) h ticks A.made A.act A.then_in x.stands.is_action A.is
 
       rests_with : (V : List PathEffect) → wants ≡ Some V → V ≡ W → (b : Bool) → (ticks == most_ticks) ≡ b → Rests CA n k W
       rests_with V i s true b =

@@ -3,10 +3,10 @@ use Rattle.code_instrs.specs.Plain.{plain_code}
 use Rattle.exec_task.specs.declared.action.Action.TheVariants as action
 use Rattle.exec_task.specs.declared.action.Own.TheVariants as own
 use Rattle.exec_task.specs.Advances.{step_at, Advances}
-use Rattle.exec_task.specs.Halts.{Reaches, Halts, front_of, stands, Tells, IsAsking}
+use Rattle.exec_task.specs.Halts.{Reaches, Halts, front_of, stands, IsActionOf, IsAsking}
 use Rattle.exec_task.specs.StepsLocally.{IsAtOther}
 use Rattle.exec_task.proofs.RunningLocally.{reaches_on}
-use Rattle.exec_task.proofs.RunningToAction.{next_less, not_stuck, least_after, tells_front, halts_front, halts_rest, tells_rest, reaches_next}
+use Rattle.exec_task.proofs.RunningToAction.{next_less, not_stuck, least_after, action_at_front, halts_front, halts_rest, action_at_rest, reaches_next}
 use Rattle.exec_task.proofs.run_to_action.run_to_action.Goals as goal
 use Rattle.exec_task.proofs.run_to_action.run_to_action.Goals.{After-run_local-in-loop-running}
 
@@ -30,12 +30,12 @@ returns-in-Some-clause-halts c =
     (halts_front (plain_code c.loop-running.running.code.now) c.loop-running.running.task c.in-Some.action c.loop-running-test.true
     (o.0 c.loop-running.running.task.ticks c.loop-running.running.task.made)))
 
-pub returns-in-Some-clause-tells : goal.returns-in-Some-clause-tells
-returns-in-Some-clause-tells c =
+pub returns-in-Some-clause-is_action : goal.returns-in-Some-clause-is_action
+returns-in-Some-clause-is_action c =
     let o = rw c.in-Some.is at c.in_ok-action.ensures.ok in
-    subst (λ k. Tells (plain_code k) c.in-Some.action (front_of (plain_code k) c.advance.new.self)) c.loop-running.invariant.code
-    (subst (λ t. Tells (plain_code c.loop-running.running.code.now) c.in-Some.action (front_of (plain_code c.loop-running.running.code.now) t)) (sym o.1)
-    (tells_front (plain_code c.loop-running.running.code.now) c.loop-running.running.task c.in-Some.action c.loop-running-test.true
+    subst (λ k. IsActionOf (plain_code k) c.in-Some.action (front_of (plain_code k) c.advance.new.self)) c.loop-running.invariant.code
+    (subst (λ t. IsActionOf (plain_code c.loop-running.running.code.now) c.in-Some.action (front_of (plain_code c.loop-running.running.code.now) t)) (sym o.1)
+    (action_at_front (plain_code c.loop-running.running.code.now) c.loop-running.running.task c.in-Some.action c.loop-running-test.true
     (o.0 c.loop-running.running.task.ticks c.loop-running.running.task.made)))
 
 pub loop-running-smaller : goal.loop-running-smaller
@@ -75,7 +75,7 @@ returns-clause-halts c =
     subst (λ k. Halts (plain_code k) c.loop-running.running.task (front_of (plain_code k) c.loop-running.running.task)) c.loop-running.invariant.code
     (halts_rest (plain_code c.loop-running.running.code.now) c.loop-running.running.task c.loop-running-test.false c.loop-running.invariant.reaches.paced.ticks)
 
-pub returns-clause-tells : goal.returns-clause-tells
-returns-clause-tells c =
-    subst (λ k. Tells (plain_code k) (action.Do own.Rest) (front_of (plain_code k) c.loop-running.running.task)) c.loop-running.invariant.code
-    (tells_rest (plain_code c.loop-running.running.code.now) c.loop-running.running.task c.loop-running-test.false c.loop-running.invariant.reaches.paced.ticks)
+pub returns-clause-is_action : goal.returns-clause-is_action
+returns-clause-is_action c =
+    subst (λ k. IsActionOf (plain_code k) (action.Do own.Rest) (front_of (plain_code k) c.loop-running.running.task)) c.loop-running.invariant.code
+    (action_at_rest (plain_code c.loop-running.running.code.now) c.loop-running.running.task c.loop-running-test.false c.loop-running.invariant.reaches.paced.ticks)

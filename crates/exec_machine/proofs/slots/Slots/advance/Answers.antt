@@ -30,4 +30,4 @@ returns-clause-stand c = λ tasks go all.
 pub returns-clause-at : goal.returns-clause-at
 returns-clause-at c =
     stands_at (plain_code c.args.code.now) _ c.advance.new.self c.advance.result (got c.self.inside.map c.args.number c.advance.new.self)
-    c.advance.ensures.given c.advance.ensures.halts c.advance.ensures.tells
+    c.advance.ensures.given c.advance.ensures.halts c.advance.ensures.is_action
