@@ -1,5 +1,5 @@
 pub mod Delivering
-pub mod Bursts
+pub mod Repeats
 pub mod Maps
 pub mod Acting
 pub mod Tasks
@@ -8,5 +8,5 @@ pub mod Playing
 pub mod Ends
 pub mod Begins
 pub mod Opening
-pub mod Telling
+pub mod MadeEvents
 mod Aways

@@ -27,7 +27,7 @@ use Rattle.exec_machine.specs.declared.slot.Slot.{Slot}
 use Rattle.exec_machine.specs.Running.{Running, front, answered, OfSlot, OnItsWay, StandsWith, StandsForOne, AllStand, IsFirst, at_start, Goes}
 use Rattle.exec_machine.specs.Replay.{Moment, NextOf, CanBeMade, StartsIn, HasStart, IsStuck, Moves, made, over, after, limited, with_task, with_branch, goes_on, outcome_after, begun}
 use Rattle.exec_machine.specs.Keeping.{Keeps, HasNext, CanStep, IsAt, Comes, made as made_so, over as over_so, with_answer}
-use Rattle.exec_machine.specs.Telling.{NextIn, IsMade, comes_within, comes_beyond, MakesIn, answer_in, at_limit}
+use Rattle.exec_machine.specs.MadeEvents.{NextIn, IsMade, comes_within, comes_beyond, MakesIn, answer_in, at_limit}
 use Rattle.exec_machine.specs.Wants.{WantsRightly}
 use Rattle.exec_machine.proofs.Acting.{IsOrdinary, goes_further, counted}
 use Rattle.exec_machine.proofs.Maps.{got, gone}
@@ -334,7 +334,7 @@ pub can_after : (code : Code) (L : Limits) (old new : Run) (m : Moment) (k q : �
 can_after code L old new m k q can has_next is =
     subst (CanStep code L new m) (sym is) (record { has_next = has_next; later = can.later })
 
--- an event that doesn't fit is told
+-- an event that doesn't fit is refused
 pub no_fit : (b : Bool) (P : Type 0) → (IsTrue b ↔ P) → b ≡ false → P → ⊥
 no_fit true P h e p = absurd (cc)
 no_fit false P h e p = let t : IsTrue false = h.1 p in cc

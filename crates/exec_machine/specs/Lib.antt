@@ -1,9 +1,9 @@
 pub mod Running
-pub mod Bursts
+pub mod Repeats
 pub mod Wants
 pub mod Replay
 pub mod Premise
 pub mod Away
 pub mod Keeping
 pub mod Events
-pub mod Telling
+pub mod MadeEvents

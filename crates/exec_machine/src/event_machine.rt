@@ -1,7 +1,7 @@
 ghost use Rattle.std.specs.Prelude.{◌≡◌, ◌↔◌, ◌++◌, [], None, IsSome, IsTrue, IfOk, IfErr, OnOk, option_to_list, false};
 ghost use Rattle.exec_world.specs.Ready.{IsReady};
 ghost use Rattle.exec_machine.specs.Keeping.{IsAfter, Plays, WhyHaltedAt};
-ghost use Rattle.exec_machine.specs.Telling.{MakesThese};
+ghost use Rattle.exec_machine.specs.MadeEvents.{MakesThese};
 
 use crate::halted::Halted;
 use crate::made_event::MadeEvent;
@@ -25,20 +25,20 @@ pub struct EventMachine {
 impl Model for EventMachine {
     ghost use Rattle.std.specs.Coded.{coded_list};
     ghost use Rattle.exec_machine.specs.Keeping.{played_code};
-    ghost use Rattle.exec_machine.specs.Telling.{Told, told_code, PlaysTold};
+    ghost use Rattle.exec_machine.specs.MadeEvents.{PlayedEvents, played_events_code, PlaysEvents};
     ghost use Rattle.lang_base.specs.contracts.outcome.Limits as limits_row;
     ghost use Rattle.lang_base.specs.contracts.outcome.Outcome as outcome_row;
     ghost use Rattle.code_instrs.specs.contracts.code.Code as code_row;
     ghost use Rattle.exec_world.specs.contracts.world.World as world_row;
     ghost use Rattle.exec_machine.specs.contracts.made_event.MadeEvent as made_event_row;
 
-    ghost Value = { Told };
+    ghost Value = { PlayedEvents };
 
-    ghost coded = { told_code (played_code code_row.the_row.coded limits_row.the_row.coded world_row.the_row.coded outcome_row.the_row.coded) (coded_list made_event_row.the_row.coded) };
+    ghost coded = { played_events_code (played_code code_row.the_row.coded limits_row.the_row.coded world_row.the_row.coded outcome_row.the_row.coded) (coded_list made_event_row.the_row.coded) };
 
     ghost view = { λ m. record { played = record { code = m.code; limits = m.limits; argument = m.argument; schedule = m.run.schedule; world = m.run.world; outcome = m.run.outcome }; made = m.made } };
 
-    ghost invariant = { λ m. PlaysTold m.code m.limits m.argument m.run m.made };
+    ghost invariant = { λ m. PlaysEvents m.code m.limits m.argument m.run m.made };
 }
 
 impl EventMachine {
@@ -94,7 +94,7 @@ impl EventMachine {
             mut made,
             alloc,
         } = self;
-        let event = run.tell(alloc, &code, limits, task)?;
+        let event = run.step_with_event(alloc, &code, limits, task)?;
         keep(&mut made, event)?;
         Ok(EventMachine {
             code,

@@ -10,7 +10,7 @@
 //! It asks one thing of its code (`CanProgress` of `specs/Premise.antt`): wherever a replay leads, the tasks go on.
 //!
 //! A machine is stuck where what a ready task does next can't be done: an object isn't there, a fork, a join, an entry or an
-//! exit comes out of turn, or a branch has no start. A step tells so, and leaves the machine as it was.
+//! exit comes out of turn, or a branch has no start. A step says so, and leaves the machine as it was.
 //!
 //! What a task does up to its event touches nothing but the task. So `prepare` takes many tasks towards their next events side
 //! by side, in threads, ahead of their steps; a contract sees the machine as it was.

@@ -135,7 +135,7 @@ impl Machine {
         ensures done { OnOk result (HasEnded self.new) }
         ensures why { IfErr result (HaltsGreedily self.new) }
     {
-        for _turn in 0..MOST_EVENTS {
+        for _step in 0..MOST_EVENTS {
             if self.finished() {
                 return Ok(());
             }

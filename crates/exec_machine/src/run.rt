@@ -12,7 +12,7 @@ ghost use Rattle.exec_machine.specs.Replay.{Moment, Moves, outcome_after, came_t
 ghost use Rattle.exec_machine.specs.Wants.{WantsRightly};
 ghost use Rattle.exec_machine.specs.Running.{OfSlot, IsFirst};
 ghost use Rattle.exec_machine.specs.Events.{place_at};
-ghost use Rattle.exec_machine.specs.Telling.{Tells, MakesIn, answer_in, is_limit, met_limit};
+ghost use Rattle.exec_machine.specs.MadeEvents.{StepsWith, MakesIn, answer_in, is_limit, met_limit};
 
 use crate::answers::copied as copied_answer;
 use crate::copies::copied;
@@ -61,9 +61,9 @@ impl Run {
         self.make(alloc, code, limits, event)
     }
 
-    /// Lets a ready task make its next event, as `step`, and tells it. It tells none where a limit is met by it. When memory runs out
-    /// the event may have been made.
-    pub fn tell(
+    /// Lets a ready task make its next event, as `step`, and gives it back; none, where a limit is met by it. When
+    /// memory runs out the event may have been made.
+    pub fn step_with_event(
         &mut self,
         alloc: Global,
         code: &Code,
@@ -72,7 +72,7 @@ impl Run {
     ) -> Result<Option<MadeEvent>, Halted>
         requires few { All IsWidthBounded code.now.sites }
         requires can { (m : Moment) × CanStep code.now limits self.old m task }
-        ensures tells { (m : Moment) → CanStep code.now limits self.old m task → IfOk result (Tells code.now limits m task self.new) }
+        ensures steps { (m : Moment) → CanStep code.now limits self.old m task → IfOk result (StepsWith code.now limits m task self.new) }
         ensures noted { OnOk result (self.new.schedule ≡ self.old.schedule ++ task ∷ []) }
         ensures why { (m : Moment) → CanStep code.now limits self.old m task → IfErr result (WhyHalted (plain_code code.now) m task) }
     {

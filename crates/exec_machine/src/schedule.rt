@@ -1,35 +1,35 @@
 ghost use Rattle.std.specs.Prelude.{◌≡◌, ◌+◌, ◌∷◌, ◌++◌, [], fold, length, max, replicate, IfOk, OnOk, OnErr, MatchOption};
 ghost use Rattle.std.specs.List.{flat_map};
-ghost use Rattle.exec_machine.specs.Bursts.{IsFilled};
+ghost use Rattle.exec_machine.specs.Repeats.{IsFilled};
 
 use lang_base::{Items, NoMemory};
 use std::alloc::Global;
 use std::marker::Model;
 
-/// A task, so many times in a row.
+/// A task, `many` times in a row.
 #[derive(Clone, Copy, Debug, PartialEq, Eq)]
-struct Burst {
+struct Repeat {
     task: u32,
     many: u32,
 }
 
-impl Burst {
-    /// The burst with a task after it, where it can have it.
-    fn followed_by(self, task: u32) -> Option<Burst>
+impl Repeat {
+    /// The repeat with a task after it, where it can have it.
+    fn followed_by(self, task: u32) -> Option<Repeat>
         ensures { MatchOption result (IsFilled self) (λ more. replicate more.many more.task ≡ replicate self.many self.task ++ task ∷ []) }
     {
         if self.many == 0 {
-            return Some(Burst { task, many: 1 });
+            return Some(Repeat { task, many: 1 });
         }
         if self.task != task {
             return None;
         }
         let many = self.many.checked_add(1)?;
-        Some(Burst { task, many })
+        Some(Repeat { task, many })
     }
 
     /// How many tasks there are up to the greatest of so many and this one.
-    #[tactic(auto, using(crate::proofs::Bursts::up_to_burst))]
+    #[tactic(auto, using(crate::proofs::Repeats::up_to_repeat))]
     fn tasks_with(self, tasks: u64) -> u64
         ensures { result ≡ fold (λ most task. max most (task + 1)) tasks (replicate self.many self.task) }
     {
@@ -40,38 +40,38 @@ impl Burst {
         }
     }
 
-    /// The burst without its last event.
-    fn shorter(self) -> Burst
+    /// The repeat without its last event.
+    fn shorter(self) -> Repeat
         requires { IsFilled self }
         ensures { replicate self.many self.task ≡ replicate result.many result.task ++ self.task ∷ [] }
     {
-        Burst {
+        Repeat {
             task: self.task,
             many: self.many - 1,
         }
     }
 }
 
-/// The tasks of events, in their order. A contract sees the list; it takes memory for each burst of events of one task.
+/// The tasks of events, in their order. A contract sees the list; it takes memory once for the events of one task in a row.
 #[derive(Debug, Drop)]
 pub struct Schedule {
-    /// The bursts before the last.
-    closed: Items<Burst>,
+    /// The repeats before the last.
+    earlier: Items<Repeat>,
     /// The last one, which has no event where there are none.
-    open: Burst,
+    last: Repeat,
     len: usize,
 }
 
 impl Model for Schedule {
     ghost use Rattle.std.specs.Prelude.{◌≡◌, ℕ, List, All, length};
     ghost use Rattle.std.specs.List.{flat_map};
-    ghost use Rattle.exec_machine.specs.Bursts.{IsFilled, tasks_in};
+    ghost use Rattle.exec_machine.specs.Repeats.{IsFilled, tasks_in};
 
     ghost Value = { List ℕ };
 
-    ghost view = { λ s. tasks_in s.closed s.open };
+    ghost view = { λ s. tasks_in s.earlier s.last };
 
-    ghost invariant = { λ s. All IsFilled s.closed × (s.len ≡ length (tasks_in s.closed s.open)) };
+    ghost invariant = { λ s. All IsFilled s.earlier × (s.len ≡ length (tasks_in s.earlier s.last)) };
 }
 
 impl Schedule {
@@ -80,8 +80,8 @@ impl Schedule {
         ensures { result ≡ [] }
     {
         Schedule {
-            closed: Items::new(alloc),
-            open: Burst { task: 0, many: 0 },
+            earlier: Items::new(alloc),
+            last: Repeat { task: 0, many: 0 },
             len: 0,
         }
     }
@@ -94,11 +94,11 @@ impl Schedule {
     }
 
     /// How many tasks there are up to the greatest.
-    #[tactic(auto, using(crate::proofs::Bursts::one_by_one))]
+    #[tactic(auto, using(crate::proofs::Repeats::one_by_one))]
     pub fn tasks(&self) -> u64
         ensures { result ≡ fold (λ most task. max most (task + 1)) 0 self.now }
     {
-        self.open.tasks_with(tasks_up_to(self.closed.as_slice()))
+        self.last.tasks_with(tasks_up_to(self.earlier.as_slice()))
     }
 
     /// Puts the task of an event last. When memory runs out, the schedule is as it was.
@@ -109,11 +109,11 @@ impl Schedule {
         let Some(len) = self.len.checked_add(1) else {
             return Err(NoMemory);
         };
-        match self.open.followed_by(task) {
-            Some(more) => self.open = more,
+        match self.last.followed_by(task) {
+            Some(more) => self.last = more,
             None => {
-                self.closed.push(self.open)?;
-                self.open = Burst { task, many: 1 };
+                self.earlier.push(self.last)?;
+                self.last = Repeat { task, many: 1 };
             }
         }
         self.len = len;
@@ -124,12 +124,12 @@ impl Schedule {
     pub fn pop(&mut self) -> Option<u32>
         ensures { MatchOption result ((self.old ≡ []) × (self.new ≡ [])) (λ last. self.old ≡ self.new ++ last ∷ []) }
     {
-        let last = if self.open.many == 0 {
-            self.closed.pop()?
+        let last = if self.last.many == 0 {
+            self.earlier.pop()?
         } else {
-            self.open
+            self.last
         };
-        self.open = last.shorter();
+        self.last = last.shorter();
         self.len -= 1;
         Some(last.task)
     }
@@ -138,40 +138,40 @@ impl Schedule {
     pub fn to_items(&self, alloc: Global) -> Result<Items<u32>, NoMemory>
         ensures { IfOk result (λ tasks. tasks ≡ self.now) }
     {
-        let mut tasks = tasks_of(alloc, self.closed.as_slice())?;
-        repeat(&mut tasks, self.open)?;
+        let mut tasks = tasks_of(alloc, self.earlier.as_slice())?;
+        push_repeat(&mut tasks, self.last)?;
         Ok(tasks)
     }
 }
 
-/// How many tasks there are up to the greatest of bursts.
-#[tactic(auto, using(crate::proofs::Bursts::one_by_one))]
-fn tasks_up_to(bursts: &[Burst]) -> u64
-    ensures { result ≡ fold (λ most task. max most (task + 1)) 0 (flat_map (λ s. replicate s.many s.task) bursts.now) }
+/// How many tasks there are up to the greatest of repeats.
+#[tactic(auto, using(crate::proofs::Repeats::one_by_one))]
+fn tasks_up_to(repeats: &[Repeat]) -> u64
+    ensures { result ≡ fold (λ most task. max most (task + 1)) 0 (flat_map (λ s. replicate s.many s.task) repeats.now) }
 {
     let mut most = 0;
-    for burst in bursts {
-        most = burst.tasks_with(most);
+    for repeat in repeats {
+        most = repeat.tasks_with(most);
     }
     most
 }
 
-/// The tasks of bursts, one by one.
-fn tasks_of(alloc: Global, bursts: &[Burst]) -> Result<Items<u32>, NoMemory>
-    ensures { IfOk result (λ tasks. tasks ≡ flat_map (λ s. replicate s.many s.task) bursts.now) }
+/// The tasks of repeats, one by one.
+fn tasks_of(alloc: Global, repeats: &[Repeat]) -> Result<Items<u32>, NoMemory>
+    ensures { IfOk result (λ tasks. tasks ≡ flat_map (λ s. replicate s.many s.task) repeats.now) }
 {
     let mut tasks = Items::new(alloc);
-    for burst in bursts {
-        repeat(&mut tasks, *burst)?;
+    for repeat in repeats {
+        push_repeat(&mut tasks, *repeat)?;
     }
     Ok(tasks)
 }
 
-fn repeat(tasks: &mut Items<u32>, burst: Burst) -> Result<(), NoMemory>
-    ensures { OnOk result (tasks.new ≡ tasks.old ++ replicate burst.many burst.task) }
+fn push_repeat(tasks: &mut Items<u32>, repeat: Repeat) -> Result<(), NoMemory>
+    ensures { OnOk result (tasks.new ≡ tasks.old ++ replicate repeat.many repeat.task) }
 {
-    for _turn in 0..burst.many {
-        tasks.push(burst.task)?;
+    for _copy in 0..repeat.many {
+        tasks.push(repeat.task)?;
     }
     Ok(())
 }

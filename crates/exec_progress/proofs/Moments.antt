@@ -37,7 +37,7 @@ use Rattle.exec_world.specs.declared.world.World.{World}
 use Rattle.exec_machine.specs.Premise.{GoesOn, CanProgress}
 use Rattle.exec_machine.specs.Replay.{Moment, NextOf, CanBeMade, StartsIn, Moves, made, over, Opens, opened, no_room, LeadsTo, with_task, with_branch, goes_on, begun, after, root_alone, limited}
 use Rattle.exec_machine.specs.Running.{Running, Goes, at_start, answered, front}
-use Rattle.exec_progress.proofs.RunsToActions.{run_counted, TellsCounts, front_counts, ComesTo, at_first, next_run, comes_on, never_dead}
+use Rattle.exec_progress.proofs.RunsToActions.{run_counted, HasCounts, front_counts, ComesTo, at_first, next_run, comes_on, never_dead}
 use Rattle.exec_progress.specs.Progress.{CodeMakesProgress}
 use Rattle.exec_progress.proofs.Trees.{IsLive, root_live, changed_live, begun_live, ended_live, ended_begun}
 
@@ -148,7 +148,7 @@ module _ (code : Code) (L : Limits) (few : L.steps ≤ 20000000) (Good : Start �
     known : Known k steps task
 
   answered_known : (k steps : ℕ) (t : Running) (ticks regions : ℕ) (a : Action) → ((c : meaning.Ending ℕ) → Says C a (End c) → ⊥) → Known k steps t →
-      (h : Halt ℕ (ℕ × ℕ)) → RunsToAction (names_of k) C t.made t.state h → TellsCounts ticks regions h → IsActionOf C a h → (x : Answer) → Answered k (steps + ticks) h x
+      (h : Halt ℕ (ℕ × ℕ)) → RunsToAction (names_of k) C t.made t.state h → HasCounts ticks regions h → IsActionOf C a h → (x : Answer) → Answered k (steps + ticks) h x
   answered_known k steps t ticks regions a no_end known (Asks n m b f) run_to_action counts is_action x = record {
     task = record { state = f (plain_answer x); made = m };
     goes = refl;

@@ -40,16 +40,16 @@ module _ {N M : Type 0} (names : Naming N M) (C : PlainCode) where
   run_counted zero ticks made s n m a k e = absurd (cc)
   run_counted (suc fuel) ticks made s n m a k e = stand_counted (λ t q s. run_to_action names C fuel t q s) (run_counted fuel) ticks made (step names C s) n m a k e
 
--- where a task stands tells its ticks and its local regions
-abbrev pub TellsCounts : ℕ → ℕ → Halt ℕ (ℕ × ℕ) → Type 0
-TellsCounts ticks made (Asks n m a k) = (n ≡ ticks) × (m ≡ made)
-TellsCounts ticks made (Finished n e) = Unit {0}
-TellsCounts ticks made Dead = Unit {0}
+-- where a task stands has its ticks and its local regions
+abbrev pub HasCounts : ℕ → ℕ → Halt ℕ (ℕ × ℕ) → Type 0
+HasCounts ticks made (Asks n m a k) = (n ≡ ticks) × (m ≡ made)
+HasCounts ticks made (Finished n e) = Unit {0}
+HasCounts ticks made Dead = Unit {0}
 
-pub front_counts : (C : PlainCode) (k ticks made : ℕ) (z : State ℕ (ℕ × ℕ)) → TellsCounts ticks made (front C k ticks made z)
+pub front_counts : (C : PlainCode) (k ticks made : ℕ) (z : State ℕ (ℕ × ℕ)) → HasCounts ticks made (front C k ticks made z)
 front_counts C k ticks made z = go (ticks == most_ticks)
   where
-    at : (o : Stand ℕ (ℕ × ℕ)) → TellsCounts ticks made (stands ticks made o)
+    at : (o : Stand ℕ (ℕ × ℕ)) → HasCounts ticks made (stands ticks made o)
     at (Waits a k) = (refl, refl)
     at (Ends e) = tt
     at (Goes s) = tt
@@ -57,7 +57,7 @@ front_counts C k ticks made z = go (ticks == most_ticks)
     at (Makes k) = tt
     at Stuck = tt
 
-    go : (b : Bool) → TellsCounts ticks made (if b then Asks ticks made (Do Rest) (λ x. z) else stands ticks made (step (names_of k) C z))
+    go : (b : Bool) → HasCounts ticks made (if b then Asks ticks made (Do Rest) (λ x. z) else stands ticks made (step (names_of k) C z))
     go true = (refl, refl)
     go false = at (step (names_of k) C z)
 

@@ -64,8 +64,8 @@ module _ (a m : Played) (seed state next task : ℕ) (steps : SeededOn a seed st
   pub breaks_off : (n : Played) (h : Halted) → n ≡ m → WhyHaltedAt m task h → SeedBreaksOff a seed n h
   breaks_off n h same why = subst (λ p. SeedBreaksOff a seed p h) (sym same) (record { state = state; steps = steps; task = task; drawn = drawn_so; why = why })
 
-pub longer : (m n : Played) (task turn : ℕ) → IsAfter m task n → turn ≤ length m.schedule → turn + 1 ≤ length n.schedule
-longer m n task turn after le = omega (arith, le, ap length after.schedule, length-append m.schedule (task ∷ []))
+pub longer : (m n : Played) (task step : ℕ) → IsAfter m task n → step ≤ length m.schedule → step + 1 ≤ length n.schedule
+longer m n task step after le = omega (arith, le, ap length after.schedule, length-append m.schedule (task ∷ []))
 
 -- steps leave the code, the limits and the argument
 pub same_run : (a : Played) (seed : ℕ) (b : Played) (state : ℕ) → SeededOn a seed state b → IsReplayed b → IsSameRun a b

@@ -51,7 +51,7 @@ fn finish_seeded(machine: &mut Machine, seed: u32) -> Result<(), Halted>
     ensures why { IfErr result (SeedBreaksOff machine.old seed machine.new) }
 {
     let mut state = seed as u64;
-    for _turn in 0..MOST_EVENTS {
+    for _step in 0..MOST_EVENTS {
         if machine.finished() {
             return Ok(());
         }

@@ -77,7 +77,7 @@ impl Listed {
 fn repeat(numbers: &mut Items<u32>, task: u32, many: u64) -> Result<(), NoMemory>
     ensures { OnOk result (numbers.new ≡ numbers.old ++ replicate many task) }
 {
-    for _turn in 0..many {
+    for _copy in 0..many {
         numbers.push(task)?;
     }
     Ok(())

@@ -8,7 +8,7 @@ use Rattle.exec_machine.specs.Keeping.{Played, IsReplayed, IsAfter}
 use Rattle.exec_machine.specs.declared.made_event.MadeEvent.{MadeEvent}
 use Rattle.exec_machine.specs.Events.{Makes}
 use Rattle.exec_machine.specs.Replay.{Moment, LeadsTo, Moves}
-use Rattle.exec_machine.specs.Telling.{MakesThese}
+use Rattle.exec_machine.specs.MadeEvents.{MakesThese}
 use Rattle.exec_run.specs.declared.history.replaying.ReplayStop.{ReplayStop}
 use Rattle.exec_run.specs.declared.history.replaying.ReplayStop.TheVariants.{Bad, Stuck, NoMemory}
 use Rattle.exec_run.specs.history.Showing.{Shows}

@@ -12,7 +12,7 @@ use Rattle.code_instrs.specs.Machine.{Start, Off, step}
 use Rattle.code_instrs.specs.Plain.{PlainCode, plain_code}
 use Rattle.code_instrs.specs.declared.code.Code.{Code}
 use Rattle.code_scheme.specs.Compiled.{Compiled, SameAct, SameReply}
-use Rattle.exec_progress.proofs.RunsToActions.{TellsCounts, front_counts}
+use Rattle.exec_progress.proofs.RunsToActions.{HasCounts, front_counts}
 use Rattle.runs_theory.specs.Actions.{Task, Own, Answer, Action, Do, Next, Rule}
 use Rattle.runs_theory.specs.Objects.{Path, Name, LocalRegion}
 use Rattle.runs_theory.specs.Runs.{Event, Follows, Run, answers, later, mine, now}
@@ -151,7 +151,7 @@ module _ (code : Code) (P : PlainProgram) (arg : ℤ) (rule : Rule) (L : Limits)
         both = both_at b here.like acts
 
         ticks_are : both.ticks ≡ ticks
-        ticks_are = (subst (λ h. TellsCounts ticks x.stands.made h) both.is_in (front_counts C k ticks x.stands.made x.stands.state)).0
+        ticks_are = (subst (λ h. HasCounts ticks x.stands.made h) both.is_in (front_counts C k ticks x.stands.made x.stands.state)).0
 
         r : (act : Action) × ((Q P arg rule C).meaning live.path live.task.task (answers (mine R live.path)) ≡ Next both.ticks act) × SameAct C P act both.act
         r = reply_act C P ((Q P arg rule C).meaning live.path live.task.task (answers (mine R live.path))) both.ticks both.act

@@ -3,7 +3,7 @@ use Rattle.std.proofs.Common.{◌≡◌, ◌<◌, ◌≤◌, ◌∙◌, sym, sub
 use Rattle.std.specs.FinMap.{get}
 use Rattle.code_instrs.specs.Plain.{plain_code}
 use Rattle.exec_machine.specs.Keeping.{IsAt}
-use Rattle.exec_machine.specs.Telling.{MakesIn}
+use Rattle.exec_machine.specs.MadeEvents.{MakesIn}
 use Rattle.exec_machine.proofs.Stepping.{next_in, of_some, no_start, no_body, bodies_counted, began, apart}
 use Rattle.exec_machine.proofs.run.Run.make_begin.Goals as goal
 

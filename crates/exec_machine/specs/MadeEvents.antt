@@ -67,23 +67,23 @@ pub data IsMade (code : Code) (L : Limits) (m : Moment) (e : Event) (x : NextOf 
 abbrev pub MakesIn : Code → Limits → Moment → Event → Option Slot → Run → Type 0
 MakesIn code L m e o new = OfSlot o (λ s. (x : NextIn (plain_code code) m e s) × IsMade code L m e x.next new)
 
--- the next event of a task was made, and is told; or it would have been over a limit
-pub data Tells (code : Code) (L : Limits) (m : Moment) (k : ℕ) (new : Run) : Option MadeEvent → Type 0 where
-  told : (x : MadeEvent) (y : MakesNext (plain_code code) m k x) → CanBeMade (plain_code code) m.world x.event y.next.stands.state → Within code m.world x.event
-      → Keeps (plain_code code) new (after code m x.event y.next.stands.state y.next.stands.made) → Tells code L m k new (Some x)
+-- the next event of a task was made, and is this one; or it would have been over a limit
+pub data StepsWith (code : Code) (L : Limits) (m : Moment) (k : ℕ) (new : Run) : Option MadeEvent → Type 0 where
+  with_event : (x : MadeEvent) (y : MakesNext (plain_code code) m k x) → CanBeMade (plain_code code) m.world x.event y.next.stands.state → Within code m.world x.event
+      → Keeps (plain_code code) new (after code m x.event y.next.stands.state y.next.stands.made) → StepsWith code L m k new (Some x)
   over_limit : (x : MadeEvent) (y : MakesNext (plain_code code) m k x) → CanBeMade (plain_code code) m.world x.event y.next.stands.state
-      → (Within code m.world x.event → ⊥) → Keeps (plain_code code) new (at_limit L m) → Tells code L m k new None
+      → (Within code m.world x.event → ⊥) → Keeps (plain_code code) new (at_limit L m) → StepsWith code L m k new None
 
 -- what a contract sees of a machine that keeps its events
-pub record Told : Type 0 where
+pub record PlayedEvents : Type 0 where
   pub played : Played
   pub made : List MadeEvent
 
-abbrev pub told_code : Coded Played → Coded (List MadeEvent) → Coded Told
-told_code played made = code_by (Played × List MadeEvent) (coded× played made) (λ t. (t.played, t.made)) (λ q. record { played = q.0; made = q.1 }) (λ _. refl)
+abbrev pub played_events_code : Coded Played → Coded (List MadeEvent) → Coded PlayedEvents
+played_events_code played made = code_by (Played × List MadeEvent) (coded× played made) (λ t. (t.played, t.made)) (λ q. record { played = q.0; made = q.1 }) (λ _. refl)
 
 -- its fields are those of a machine, whose schedule makes these events
-pub record PlaysTold (code : Code) (limits : Limits) (argument : ℤ) (r : Run) (xs : List MadeEvent) : Type 0 where
+pub record PlaysEvents (code : Code) (limits : Limits) (argument : ℤ) (r : Run) (xs : List MadeEvent) : Type 0 where
   pub moment : Moment
   pub makes : Makes code limits argument (reverse r.schedule) (reverse xs) moment
   pub keeps : Keeps (plain_code code) r moment

@@ -1,4 +1,4 @@
--- What a machine tells of the events that it makes.
+-- A machine that keeps the events that it makes.
 use Rattle.std.proofs.Common.{◌≡◌, ℕ, ℤ, ◌==◌, if◌then◌else◌, Bool, true, false, true≢false, List, [], ◌∷◌, ◌++◌, reverse, Option, Some, None, refl, sym, ap, subst, ◌∙◌}
 use Rattle.std.specs.Prelude.{option_to_list}
 use Rattle.std.proofs.lemmas.List.{append-nil, reverse-append}
@@ -26,7 +26,7 @@ use Rattle.exec_machine.specs.Events.{place_at, Makes, opens, makes, meets_limit
 use Rattle.exec_machine.specs.Keeping.{Keeps, Plays, CanStep, IsAfter, WhyHalted, WhyHaltedAt}
 use Rattle.exec_machine.specs.Replay.{Moment, Moves, made, over, Opens, LeadsTo, outcome_after, ended, came_to, after}
 use Rattle.exec_machine.specs.Running.{OfSlot}
-use Rattle.exec_machine.specs.Telling.{comes_within, comes_beyond, MakesIn, Tells, told, over_limit, PlaysTold, answer_in, at_limit, is_limit, met_limit, MakesThese}
+use Rattle.exec_machine.specs.MadeEvents.{comes_within, comes_beyond, MakesIn, StepsWith, with_event, over_limit, PlaysEvents, answer_in, at_limit, is_limit, met_limit, MakesThese}
 use Rattle.exec_machine.proofs.Playing.{played, can_step, is_after, why_at}
 
 -- the end of the root is no limit
@@ -48,22 +48,22 @@ unmet v w k (action.End e) = ends_unmet v w k e
 unmet v w k a = refl
 
 module _ (code : Code) (L : Limits) (m : Moment) (e : Event) (new : Run) where
-  -- where no limit was met, the event is told
-  pub tells_event : (o : Option Slot) (answer : Answer) (place : Option Place) → MakesIn code L m e o new
+  -- where no limit was met, the event was made
+  pub steps_with_event : (o : Option Slot) (answer : Answer) (place : Option Place) → MakesIn code L m e o new
       → OfSlot o (λ s. place ≡ place_at (plain_code code) (state_of s.task)) → met_limit new.outcome ≡ false → answer ≡ answer_in (get new.slots e.task)
-      → Tells code L m e.task new (Some (record { event = e; answer = answer; place = place }))
-  tells_event None answer place here at none is = absurd here
-  tells_event (Some s) answer place (x, comes_within can inside keeps gave) at none is =
-      told (record { event = e; answer = answer; place = place })
+      → StepsWith code L m e.task new (Some (record { event = e; answer = answer; place = place }))
+  steps_with_event None answer place here at none is = absurd here
+  steps_with_event (Some s) answer place (x, comes_within can inside keeps gave) at none is =
+      with_event (record { event = e; answer = answer; place = place })
       (record { next = x.next; answer = is ∙ gave; place = at ∙ ap (place_at (plain_code code)) (sym x.state) }) can inside keeps
-  tells_event (Some s) answer place (x, comes_beyond can refused keeps) at none is = absurd (true≢false (sym (ap met_limit keeps.outcome) ∙ none))
+  steps_with_event (Some s) answer place (x, comes_beyond can refused keeps) at none is = absurd (true≢false (sym (ap met_limit keeps.outcome) ∙ none))
 
   -- and else it wasn't made
-  pub tells_none : (o : Option Slot) → MakesIn code L m e o new → met_limit new.outcome ≡ true → Tells code L m e.task new None
-  tells_none None here met = absurd here
-  tells_none (Some s) (x, comes_within can inside keeps gave) met =
+  pub steps_over_limit : (o : Option Slot) → MakesIn code L m e o new → met_limit new.outcome ≡ true → StepsWith code L m e.task new None
+  steps_over_limit None here met = absurd here
+  steps_over_limit (Some s) (x, comes_within can inside keeps gave) met =
       absurd (true≢false (sym met ∙ ap met_limit keeps.outcome ∙ unmet m.world (world_after code m.world e) e.task e.action))
-  tells_none (Some s) (x, comes_beyond can refused keeps) met =
+  steps_over_limit (Some s) (x, comes_beyond can refused keeps) met =
       over_limit (record { event = e; answer = answer_to m.world e; place = place_at (plain_code code) x.next.stands.state })
       (record { next = x.next; answer = refl; place = refl }) can refused keeps
 
@@ -74,12 +74,12 @@ module _ (code : Code) (L : Limits) (argument : ℤ) where
   leads (makes {before = before} k x y earlier can inside is) = (before, leads earlier, made x.event y.next can inside is)
   leads (meets_limit {before = before} k x y earlier can refused is) = (before, leads earlier, over x.event y.next can refused is)
 
-  abbrev pub plays : (r : Run) (xs : List MadeEvent) → PlaysTold code L argument r xs → Plays code L argument r
+  abbrev pub plays : (r : Run) (xs : List MadeEvent) → PlaysEvents code L argument r xs → Plays code L argument r
   plays r xs p = record { moment = p.moment; leads = leads p.makes; keeps = p.keeps; goes = p.goes; few = p.few }
 
   -- at the start no event was made
-  pub told_nothing : (r : Run) (xs : List MadeEvent) → Plays code L argument r → r.schedule ≡ [] → xs ≡ [] → PlaysTold code L argument r xs
-  told_nothing r xs p none empty =
+  pub no_events : (r : Run) (xs : List MadeEvent) → Plays code L argument r → r.schedule ≡ [] → xs ≡ [] → PlaysEvents code L argument r xs
+  no_events r xs p none empty =
       let first : Opens code L argument p.moment = subst (λ ks. LeadsTo code L argument (reverse ks) p.moment) none p.leads in
       record {
         moment = p.moment;
@@ -90,10 +90,10 @@ module _ (code : Code) (L : Limits) (argument : ℤ) where
         few = p.few;
       }
 
-  module _ (old new : Run) (xs : List MadeEvent) (p : PlaysTold code L argument old xs) (k : ℕ) (noted : new.schedule ≡ old.schedule ++ k ∷ []) where
-    -- what was told is put last
-    pub plays_on : (o : Option MadeEvent) → Tells code L p.moment k new o → PlaysTold code L argument new (xs ++ option_to_list o)
-    plays_on _ (told x y can inside keeps) =
+  module _ (old new : Run) (xs : List MadeEvent) (p : PlaysEvents code L argument old xs) (k : ℕ) (noted : new.schedule ≡ old.schedule ++ k ∷ []) where
+    -- what was made is put last
+    pub plays_on : (o : Option MadeEvent) → StepsWith code L p.moment k new o → PlaysEvents code L argument new (xs ++ option_to_list o)
+    plays_on _ (with_event x y can inside keeps) =
         let n : Moment = after code p.moment x.event y.next.stands.state y.next.stands.made in
         record {
           moment = n;
@@ -116,22 +116,22 @@ module _ (code : Code) (L : Limits) (argument : ℤ) where
           few = p.few;
         }
 
-    pub tells_moves : (o : Option MadeEvent) → Tells code L p.moment k new o → (n : Moment) × Moves code L p.moment k n × Keeps (plain_code code) new n
-    tells_moves _ (told x y can inside keeps) =
+    pub step_moves : (o : Option MadeEvent) → StepsWith code L p.moment k new o → (n : Moment) × Moves code L p.moment k n × Keeps (plain_code code) new n
+    step_moves _ (with_event x y can inside keeps) =
         (after code p.moment x.event y.next.stands.state y.next.stands.made, made x.event y.next can inside refl, keeps)
-    tells_moves _ (over_limit x y can refused keeps) = (at_limit L p.moment, over x.event y.next can refused refl, keeps)
+    step_moves _ (over_limit x y can refused keeps) = (at_limit L p.moment, over x.event y.next can refused refl, keeps)
 
-    pub told_after : (o : Option MadeEvent) → Tells code L p.moment k new o → IsAfter (played code L argument old) k (played code L argument new)
-    told_after o tells =
-        let went = tells_moves o tells in is_after code L argument old new (plays old xs p) k went.0 went.1 went.2 noted
+    pub after_step : (o : Option MadeEvent) → StepsWith code L p.moment k new o → IsAfter (played code L argument old) k (played code L argument new)
+    after_step o steps =
+        let went = step_moves o steps in is_after code L argument old new (plays old xs p) k went.0 went.1 went.2 noted
 
   -- a ready task of a run that hasn't finished can step
-  pub can_tell : (r : Run) (xs : List MadeEvent) (p : PlaysTold code L argument r xs) (k : ℕ) → r.outcome ≡ None → IsReady r.world k → CanStep code L r p.moment k
-  can_tell r xs p k unfinished ready = can_step code L argument r (plays r xs p) k unfinished ready
+  pub can_make : (r : Run) (xs : List MadeEvent) (p : PlaysEvents code L argument r xs) (k : ℕ) → r.outcome ≡ None → IsReady r.world k → CanStep code L r p.moment k
+  can_make r xs p k unfinished ready = can_step code L argument r (plays r xs p) k unfinished ready
 
-  pub why_untold : (r : Run) (xs : List MadeEvent) (p : PlaysTold code L argument r xs) (k : ℕ) (h : Halted) → WhyHalted (plain_code code) p.moment k h
+  pub why_none : (r : Run) (xs : List MadeEvent) (p : PlaysEvents code L argument r xs) (k : ℕ) (h : Halted) → WhyHalted (plain_code code) p.moment k h
       → WhyHaltedAt (played code L argument r) k h
-  why_untold r xs p k h why = why_at code L argument r (plays r xs p) k h why
+  why_none r xs p k h why = why_at code L argument r (plays r xs p) k h why
 
-  pub makes_these : (r : Run) (xs : List MadeEvent) → PlaysTold code L argument r xs → MakesThese (played code L argument r) xs
+  pub makes_these : (r : Run) (xs : List MadeEvent) → PlaysEvents code L argument r xs → MakesThese (played code L argument r) xs
   makes_these r xs p = record { moment = p.moment; makes = p.makes; outcome = p.keeps.outcome }
