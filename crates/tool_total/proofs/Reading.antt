@@ -8,7 +8,7 @@ use Rattle.std.specs.Str.Parse.{AllDigits, digits_value}
 use Rattle.std.proofs.lemmas.List.{append_cancel_left}
 use Rattle.lang_base.specs.declared.outcome.Limits.{Limits}
 use Rattle.tool_trace.specs.Pieces.{IsCut, IsNumber}
-use Rattle.tool_trace.specs.Reading.{AreLimits, Fits, IsEvents, IsMisfit, IsRun, IsSettings, IsTrace, IsUnfinished, Leads, Reported, TellsRun, begun, listing, next, nothing, settings, start, whole}
+use Rattle.tool_trace.specs.Reading.{AreLimits, Fits, IsEvents, IsMisfit, IsRun, IsSettings, IsTrace, IsUnfinished, Leads, Reported, IsRunLine, begun, listing, next, nothing, settings, start, whole}
 use Rattle.tool_trace.specs.Runs.{last_of}
 use Rattle.tool_trace.specs.Text.{events_text, settings_text}
 use Rattle.tool_trace.specs.declared.reading.Trace.{Trace}
@@ -110,7 +110,7 @@ number_decided text =
 
 -- the line of a run
 abbrev ManyOf : List ℕ → ℕ → Type 0
-ManyOf text task = (many : List ℕ) × TellsRun text task many
+ManyOf text task = (many : List ℕ) × IsRunLine text task many
 
 many_decided : (text : List ℕ) (task : ℕ) → Decided (ManyOf text task)
 many_decided text task =
@@ -132,12 +132,12 @@ run_decided text before =
       record {
         task = found.0;
         many = found.1.1.0;
-        tells = found.1.1.1;
+        is_line = found.1.1.1;
         other = found.1.0;
         adds = refl;
       },
     ))
-    (λ none. inr (λ h. none h.1.task h.1.tells.task_allowed (h.1.other, (h.1.many, h.1.tells))))
+    (λ none. inr (λ h. none h.1.task h.1.is_line.task_allowed (h.1.other, (h.1.many, h.1.is_line))))
     (found_decided {P = λ task. (last_of before ≡ Some task → ⊥) × ManyOf text task} (2 ^ 32) (λ task. decided_both (other_decided task) (many_decided text task)))
   where
     other_decided : (task : ℕ) → Decided (last_of before ≡ Some task → ⊥)

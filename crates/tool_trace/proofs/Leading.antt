@@ -9,7 +9,7 @@ use Rattle.std.proofs.lemmas.List.{drop_at, length-replicate}
 use Rattle.lang_base.specs.declared.outcome.Limits.{Limits}
 use Rattle.tool_trace.specs.Pieces.{IsCut}
 use Rattle.tool_trace.specs.Text.{line, settings_text, events_text, run_text, schedule_text, trace_text}
-use Rattle.tool_trace.specs.Reading.{AreLimits, Reported, nothing, begun, settings, listing, whole, TellsRun, IsRun, IsProgram, Fits, Leads, start, next, IsUnfinished, IsMisfit, IsTrace}
+use Rattle.tool_trace.specs.Reading.{AreLimits, Reported, nothing, begun, settings, listing, whole, IsRunLine, IsRun, IsProgram, Fits, Leads, start, next, IsUnfinished, IsMisfit, IsTrace}
 use Rattle.tool_trace.proofs.Splitting.{schedule_text-more}
 use Rattle.tool_trace.proofs.Spelling.{own}
 use Rattle.tool_trace.proofs.Cutting.{cut-unique}
@@ -46,7 +46,7 @@ leads-less bytes _ _ _ start = omega arith
 leads-less bytes _ _ _ (next {n} {before} {after} {rest} {text} {following} leads cut fits) =
     omega (arith, leads-less bytes n before rest leads, ap length cut.is, length-append text (10 ∷ following))
 
--- the text that lines have which tell this
+-- the text of the lines that say this
 abbrev pub reported_text : Reported → List ℕ
 reported_text nothing = []
 reported_text begun = line (codes "dpj-trace 1")
@@ -68,10 +68,10 @@ abbrev pub Follows : Reported → List ℕ → Reported → Type 0
 Follows before text after = IsSmall before × (reported_text after ≡ reported_text before ++ line text)
 
 -- a line of a run is its text
-run_text-is : (text : List ℕ) (task : ℕ) (many : List ℕ) → TellsRun text task many → digits_value 10 many < 2 ^ 64
+run_text-is : (text : List ℕ) (task : ℕ) (many : List ℕ) → IsRunLine text task many → digits_value 10 many < 2 ^ 64
     → text ≡ run_text (record { task = task; many = digits_value 10 many })
-run_text-is text task many tells small =
-    tells.is ∙ ap (λ ds. decimal task ++ codes " " ++ ds) (sym (decimal-digits_value own many tells.number.digits tells.number.some tells.number.plain small))
+run_text-is text task many is_line small =
+    is_line.is ∙ ap (λ ds. decimal task ++ codes " " ++ ds) (sym (decimal-digits_value own many is_line.number.digits is_line.number.some is_line.number.plain small))
 
 follows-run : (arg : ℤ) (limits : Limits) (events : ℕ) (schedule text longer : List ℕ) → IsRun text schedule longer → length longer < 2 ^ 64
     → Follows (listing arg limits events schedule) text (listing arg limits events longer)
@@ -83,9 +83,9 @@ follows-run arg limits events schedule text longer r small =
     let head = line (codes "dpj-trace 1") ++ line (settings_text arg limits) ++ line (events_text events) in (
       omega (arith, small, long, sizes),
       ap (λ s. head ++ schedule_text s) r.adds
-          ∙ ap (λ t. head ++ t) (schedule_text-more schedule r.task n r.tells.some r.other)
+          ∙ ap (λ t. head ++ t) (schedule_text-more schedule r.task n r.is_line.some r.other)
           ∙ sym (append_assoc head (schedule_text schedule) _)
-          ∙ ap (λ t. head ++ schedule_text schedule ++ line t) (sym (run_text-is text r.task r.many r.tells (omega (arith, small, long, sizes, size)))),
+          ∙ ap (λ t. head ++ schedule_text schedule ++ line t) (sym (run_text-is text r.task r.many r.is_line (omega (arith, small, long, sizes, size)))),
     )
 
 -- what fits is a line more
@@ -125,7 +125,7 @@ small-replicate : (n k : ℕ) → k < 2 ^ 32 → AllByRecursion (λ k. k < 2 ^ 3
 small-replicate zero k small = tt
 small-replicate (suc n) k small = (small, small-replicate n k small)
 
--- what lines have told has numbers of 32 bits
+-- what lines say has numbers of 32 bits
 abbrev pub HasNumbers : Reported → Type 0
 HasNumbers nothing = Unit {0}
 HasNumbers begun = Unit {0}
@@ -138,7 +138,7 @@ fits-numbers nothing text after has f = subst HasNumbers (sym f.1) tt
 fits-numbers begun text after has (arg, limits, f, is) = subst HasNumbers (sym is) f.arg_allowed
 fits-numbers (settings arg limits) text after has (events, f, is) = subst HasNumbers (sym is) (has, tt)
 fits-numbers (listing arg limits events schedule) text after has (inl (longer, r, is)) =
-    let more = small-append schedule _ has.1 (small-replicate (digits_value 10 r.many) r.task r.tells.task_allowed) in
+    let more = small-append schedule _ has.1 (small-replicate (digits_value 10 r.many) r.task r.is_line.task_allowed) in
     subst HasNumbers (sym is) (has.0, subst (AllByRecursion (λ k. k < 2 ^ 32)) (sym r.adds) more)
 fits-numbers (listing arg limits events schedule) text after has (inr (p, is)) = subst HasNumbers (sym is) has
 fits-numbers (whole arg limits schedule) text after has f = absurd f

@@ -1,4 +1,4 @@
--- What lines tell, they tell in one way; over plain variables.
+-- What lines say, they say in one way; over plain variables.
 use Rattle.std.proofs.Common.{◌≡◌, ℕ, ℤ, pos, negsuc, zero, suc, ◌+◌, ◌-◌, ◌*◌, ◌<◌, ◌≤◌, ◌^◌, inl, inr, List, [], ◌∷◌, ◌++◌, replicate, codes, FitsSigned, refl, sym, ap, ◌∙◌, subst, ⊎_elim, arith, eqb, Bool, eq-eqb, true, false, not}
 use lib.Signed.{mag}
 use Rattle.std.specs.Int.{w32}
@@ -11,9 +11,9 @@ use Rattle.std.proofs.lemmas.List.{append_cancel_left}
 use Rattle.lang_base.specs.declared.outcome.Limits.{Limits}
 use Rattle.tool_trace.specs.Pieces.{IsCut}
 use Rattle.tool_trace.specs.Text.{limits_text}
-use Rattle.tool_trace.specs.Reading.{AreLimits, Reported, nothing, begun, settings, listing, whole, IsSettings, TellsRun, IsRun, Fits, Leads, start, next, IsMisfit}
+use Rattle.tool_trace.specs.Reading.{AreLimits, Reported, nothing, begun, settings, listing, whole, IsSettings, IsRunLine, IsRun, Fits, Leads, start, next, IsMisfit}
 use Rattle.tool_trace.proofs.Cutting.{Without, cut-unique, uncut}
-use Rattle.tool_trace.proofs.Telling.{limits-begins, limits-cut, limits-pieces, settings-begins, settings-cut, settings-pieces, run-cut, run-pieces}
+use Rattle.tool_trace.proofs.Lines.{limits-begins, limits-cut, limits-pieces, settings-begins, settings-cut, settings-pieces, run-cut, run-pieces}
 
 not-both : (b : Bool) → b ≡ true → not b ≡ true → ⊥
 not-both true e f = cc
@@ -57,7 +57,7 @@ settings-same text a b L K f g =
       limits-same L K f.limits_allowed g.limits_allowed pieces.1,
     )
 
--- what lines have told is in its range
+-- what lines say is in its range
 abbrev Right : Reported → Type 0
 Right nothing = Unit {0}
 Right begun = Unit {0}
@@ -77,15 +77,15 @@ leads-right : (bytes : List ℕ) (n : ℕ) (reported : Reported) (rest : List �
 leads-right bytes _ _ _ start = tt
 leads-right bytes _ _ _ (next {n} {before} {after} {rest} {text} {following} leads cut fits) = fits-right before text after (leads-right bytes n before rest leads) fits
 
-no-run : (text : List ℕ) (task : ℕ) (many : List ℕ) → TellsRun text task many → text ≡ codes "program" → ⊥
-no-run text task many tells is =
-    uncut 32 text (decimal task) many (subst (Without 32) (sym is) (without-tested 32 (codes "program") refl)) (run-cut text task many tells)
+no-run : (text : List ℕ) (task : ℕ) (many : List ℕ) → IsRunLine text task many → text ≡ codes "program" → ⊥
+no-run text task many is_line is =
+    uncut 32 text (decimal task) many (subst (Without 32) (sym is) (without-tested 32 (codes "program") refl)) (run-cut text task many is_line)
 
 runs-same : (text before a b : List ℕ) → IsRun text before a → IsRun text before b → a ≡ b
 runs-same text before a b f g =
-    let pieces = run-pieces text (decimal f.task) f.many g.task g.many (run-cut text f.task f.many f.tells) g.tells in
-    let fs : f.task < 2 ^ 32 = f.tells.task_allowed in
-    let gs : g.task < 2 ^ 32 = g.tells.task_allowed in
+    let pieces = run-pieces text (decimal f.task) f.many g.task g.many (run-cut text f.task f.many f.is_line) g.is_line in
+    let fs : f.task < 2 ^ 32 = f.is_line.task_allowed in
+    let gs : g.task < 2 ^ 32 = g.is_line.task_allowed in
     let task : f.task ≡ g.task = decimal_injective f.task g.task (omega (arith, fs)) (omega (arith, gs)) pieces.0 in
     f.adds ∙ ap (λ t. before ++ replicate (digits_value 10 f.many) t) task ∙ ap (λ m. before ++ replicate (digits_value 10 m) g.task) pieces.1 ∙ sym g.adds
 
@@ -103,8 +103,8 @@ fits-unique (settings arg limits) text a b right (events, f, is) (events', g, is
     is ∙ ap (λ n. listing arg limits n []) same ∙ sym is'
 fits-unique (listing arg limits events schedule) text a b right (inl (longer, r, is)) (inl (longer', r', is')) =
     is ∙ ap (listing arg limits events) (runs-same text schedule longer longer' r r') ∙ sym is'
-fits-unique (listing arg limits events schedule) text a b right (inl (longer, r, is)) (inr (p, is')) = absurd (no-run text r.task r.many r.tells p.is)
-fits-unique (listing arg limits events schedule) text a b right (inr (p, is)) (inl (longer, r, is')) = absurd (no-run text r.task r.many r.tells p.is)
+fits-unique (listing arg limits events schedule) text a b right (inl (longer, r, is)) (inr (p, is')) = absurd (no-run text r.task r.many r.is_line p.is)
+fits-unique (listing arg limits events schedule) text a b right (inr (p, is)) (inl (longer, r, is')) = absurd (no-run text r.task r.many r.is_line p.is)
 fits-unique (listing arg limits events schedule) text a b right (inr (p, is)) (inr (p', is')) = is ∙ sym is'
 fits-unique (whole arg limits schedule) text a b right f g = absurd f
 

@@ -7,10 +7,10 @@ use Rattle.std.proofs.lemmas.Fmt.{decimal_injective}
 use Rattle.std.proofs.lemmas.List.{length-replicate}
 use Rattle.tool_trace.specs.declared.listed.Listed.{Listed}
 use Rattle.tool_trace.specs.declared.listed.Reported.{Reported}
-use Rattle.tool_trace.specs.Listing.{Lists, TellsAbout, Takes}
-use Rattle.tool_trace.specs.Reading.{TellsRun}
+use Rattle.tool_trace.specs.Listing.{Lists, IsLineOf, Takes}
+use Rattle.tool_trace.specs.Reading.{IsRunLine}
 use Rattle.tool_trace.proofs.Splitting.{last_after}
-use Rattle.tool_trace.proofs.Telling.{run-pieces, run-cut}
+use Rattle.tool_trace.proofs.Lines.{run-pieces, run-cut}
 
 -- a run more
 pub lists-add : (old new : Listed) (schedule : List ℕ) (task reported n : ℕ) → Lists old schedule → 0 < n → reported ≡ min n 1000000000000000 → new.events ≡ old.events
@@ -29,26 +29,26 @@ lists-add old new schedule task reported n lists some is events few total last n
           ∙ ap (λ k. schedule ++ replicate k task) reported_all;
     }
 
--- a line tells of one run at most
-tells-same : (text : List ℕ) (t u : ℕ) (m o : List ℕ) → TellsRun text t m → TellsRun text u o → t ≡ u
-tells-same text t u m o a b =
+-- a line is that of one run at most
+same-task : (text : List ℕ) (t u : ℕ) (m o : List ℕ) → IsRunLine text t m → IsRunLine text u o → t ≡ u
+same-task text t u m o a b =
     let t_small : t < 2 ^ 32 = a.task_allowed in
     let u_small : u < 2 ^ 32 = b.task_allowed in
     decimal_injective t u (omega (arith, t_small)) (omega (arith, u_small)) (run-pieces text _ _ u o (run-cut text t m a) b).0
 
 -- a run of the last task doesn't fit
-pub takes-no-same : (old : Listed) (new : Listed) (text schedule : List ℕ) (reported : Reported) → TellsAbout text reported → old.last ≡ Some reported.task → Lists old schedule
+pub takes-no-same : (old : Listed) (new : Listed) (text schedule : List ℕ) (reported : Reported) → IsLineOf text reported → old.last ≡ Some reported.task → Lists old schedule
     → Takes false text schedule new
-takes-no-same old new text schedule reported tells same lists = λ longer r.
-    r.other (sym lists.last ∙ same ∙ ap Some (tells-same text reported.task r.task tells.many r.many tells.tells r.tells))
+takes-no-same old new text schedule reported is_line same lists = λ longer r.
+    r.other (sym lists.last ∙ same ∙ ap Some (same-task text reported.task r.task is_line.many r.many is_line.is_line r.is_line))
 
 -- another run fits
-pub takes-other : (old new : Listed) (text schedule : List ℕ) (reported : Reported) → TellsAbout text reported → (old.last ≡ Some reported.task → ⊥) → Lists old schedule
+pub takes-other : (old new : Listed) (text schedule : List ℕ) (reported : Reported) → IsLineOf text reported → (old.last ≡ Some reported.task → ⊥) → Lists old schedule
     → ((many : ℕ) → 0 < many → reported.many ≡ min many 1000000000000000 → Lists new (schedule ++ replicate many reported.task)) → Takes true text schedule new
-takes-other old new text schedule reported tells other lists added = (
-  schedule ++ replicate (digits_value 10 tells.many) reported.task,
-  record { task = reported.task; many = tells.many; tells = tells.tells; other = λ e. other (lists.last ∙ e); adds = refl },
-  added (digits_value 10 tells.many) tells.tells.some tells.length,
+takes-other old new text schedule reported is_line other lists added = (
+  schedule ++ replicate (digits_value 10 is_line.many) reported.task,
+  record { task = reported.task; many = is_line.many; is_line = is_line.is_line; other = λ e. other (lists.last ∙ e); adds = refl },
+  added (digits_value 10 is_line.many) is_line.is_line.some is_line.length,
 )
 
 -- what a comparison with the last task says

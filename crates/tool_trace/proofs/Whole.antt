@@ -11,7 +11,7 @@ use Rattle.tool_trace.specs.declared.runs.Run.{Run}
 use Rattle.tool_trace.specs.Pieces.{IsCut}
 use Rattle.tool_trace.specs.Runs.{put_first, runs_of, last_of}
 use Rattle.tool_trace.specs.Text.{line, limits_text, settings_text, events_text, run_text, schedule_text, trace_text}
-use Rattle.tool_trace.specs.Reading.{AreLimits, Reported, nothing, begun, settings, listing, whole, TellsRun, IsRun, Leads, start, next, IsUnfinished, IsMisfit, IsTrace}
+use Rattle.tool_trace.specs.Reading.{AreLimits, Reported, nothing, begun, settings, listing, whole, IsRunLine, IsRun, Leads, start, next, IsUnfinished, IsMisfit, IsTrace}
 use Rattle.tool_trace.proofs.Splitting.{last_after}
 use Rattle.tool_trace.proofs.Spelling.{number-of}
 use Rattle.tool_trace.proofs.Cutting.{Without, without-append, decimal-without, signed-without}
@@ -80,9 +80,9 @@ run-plain r task many =
     (without-append 10 (decimal r.task) (codes " ") (decimal-without 10 r.task (omega arith) task) (without-tested 10 (codes " ") refl))
     (decimal-without 10 r.many (omega arith) many)
 
--- a run's line tells of it
-tells-run : (r : Run) → r.task < 2 ^ 32 → 0 < r.many → r.many < 1000000000000000 → TellsRun (run_text r) r.task (decimal r.many)
-tells-run r task some small =
+-- a run's text is its line
+run-line : (r : Run) → r.task < 2 ^ 32 → 0 < r.many → r.many < 1000000000000000 → IsRunLine (run_text r) r.task (decimal r.many)
+run-line r task some small =
     let n = number-of (decimal r.many) r.many small refl in
     record { task_allowed = task; number = n.0; some = omega (arith, some, n.1); is = refl }
 
@@ -91,7 +91,7 @@ is-run : (s : List ℕ) (r : Run) → (last_of s ≡ Some r.task → ⊥) → r.
 is-run s r other task some small = record {
   task = r.task;
   many = decimal r.many;
-  tells = tells-run r task some small;
+  is_line = run-line r task some small;
   other = other;
   adds = ap (λ n. s ++ replicate n r.task) (sym (number-of (decimal r.many) r.many small refl).1);
 }

@@ -1,4 +1,4 @@
--- Which lines of a trace fit, and what they tell.
+-- Which lines of a trace fit, and what they say.
 use Rattle.std.specs.Prelude.{◌≡◌, ℕ, suc, ℤ, ◌+◌, ◌*◌, ◌≤◌, ◌<◌, ◌^◌, ◌⊎◌, List, [], ◌++◌, length, drop, replicate, codes, Some, FitsSigned}
 use Rattle.std.specs.Fmt.{decimal}
 use Rattle.std.specs.Int.{w32}
@@ -19,7 +19,7 @@ pub record AreLimits (limits : Limits) : Type 0 where
   pub cells_least : 1 ≤ limits.cells
   pub cells_most : limits.cells ≤ 16777216
 
--- what the lines up to here have told
+-- what the lines up to here say
 pub data Reported : Type 0 where
   nothing : Reported
   -- that this is a trace
@@ -35,13 +35,13 @@ pub record IsSettings (text : List ℕ) (arg : ℤ) (limits : Limits) : Type 0 w
   pub arg_allowed : FitsSigned w32 arg
   pub is : text ≡ settings_text arg limits
 
--- the line that tells how many events there are, at most so many
+-- the line that says how many events there are, at most so many
 pub record IsEvents (text : List ℕ) (most events : ℕ) : Type 0 where
   pub few : events ≤ most
   pub is : text ≡ events_text events
 
 -- a line of a task, and how many numbers of it there are, one at least
-pub record TellsRun (text : List ℕ) (task : ℕ) (many : List ℕ) : Type 0 where
+pub record IsRunLine (text : List ℕ) (task : ℕ) (many : List ℕ) : Type 0 where
   pub task_allowed : task < 2 ^ 32
   pub number : IsNumber many
   pub some : 0 < digits_value 10 many
@@ -51,7 +51,7 @@ pub record TellsRun (text : List ℕ) (task : ℕ) (many : List ℕ) : Type 0 wh
 pub record IsRun (text before after : List ℕ) : Type 0 where
   pub task : ℕ
   pub many : List ℕ
-  pub tells : TellsRun text task many
+  pub is_line : IsRunLine text task many
   pub other : last_of before ≡ Some task → ⊥
   pub adds : after ≡ before ++ replicate (digits_value 10 many) task
 

@@ -1,7 +1,7 @@
 //! The text of the events of a run, a line for each.
 mod acting;
+mod event_lines;
 mod naming;
-mod telling;
 mod text;
 mod thing;
 mod walk;

@@ -5,7 +5,7 @@ ghost use Rattle.tool_trace.specs.Listing.{IsHead};
 use crate::pieces::cut;
 use crate::settings::{Settings, read_events, read_settings};
 
-/// What the first three lines of a trace tell, and the lines after them.
+/// What the first three lines of a trace say, and the lines after them.
 #[derive(Clone, Copy)]
 pub struct Head<'a> {
     pub settings: Settings,

@@ -1,6 +1,6 @@
 ghost use Rattle.std.specs.Prelude.{◌≡◌, ◌<◌, ◌≤◌, ◌++◌, [], ℕ, List, min, replicate, IfOk, OnOk, MatchOption};
-ghost use Rattle.tool_trace.specs.Listing.{Lists, Takes, TellsAbout};
-ghost use Rattle.tool_trace.specs.Reading.{TellsRun};
+ghost use Rattle.tool_trace.specs.Listing.{Lists, Takes, IsLineOf};
+ghost use Rattle.tool_trace.specs.Reading.{IsRunLine};
 
 use crate::numbers::{GREATEST, number, value};
 use crate::pieces::cut;
@@ -19,7 +19,7 @@ pub struct Listed {
     pub total: u64,
 }
 
-/// What a line tells of a run.
+/// What a line says of a run.
 #[derive(Clone, Copy)]
 pub struct Reported {
     pub task: u32,
@@ -40,7 +40,7 @@ impl Listed {
         }
     }
 
-    /// Goes on by a line, if it tells of a run that may come next; answers whether it does.
+    /// Goes on by a line, if it is that of a run that may come next; answers whether it does.
     pub fn take(&mut self, line: &[u8]) -> Result<bool, NoMemory>
         requires few { self.old.events ≤ 40000002 }
         requires total { self.old.total ≤ 1000000000000000 }
@@ -83,9 +83,9 @@ fn repeat(numbers: &mut Items<u32>, task: u32, many: u64) -> Result<(), NoMemory
     Ok(())
 }
 
-/// What a line tells of a run, if it has that form.
+/// What a line says of a run, if it has that form.
 fn reported_by(line: &[u8]) -> Option<Reported>
-    ensures { MatchOption result ((task : ℕ) (many : List ℕ) → TellsRun line.now task many → ⊥) (TellsAbout line.now) }
+    ensures { MatchOption result ((task : ℕ) (many : List ℕ) → IsRunLine line.now task many → ⊥) (IsLineOf line.now) }
 {
     let (task, many) = cut(line, b' ')?;
     let task = number(task, 0, 4294967295)? as u32;

@@ -8,7 +8,7 @@ use crate::pieces::cut;
 use lang_base::{Items, Limits, NoMemory};
 use std::alloc::Global;
 
-/// What a trace text tells.
+/// What a trace text says.
 #[derive(Debug, Drop)]
 pub struct Trace {
     pub arg: i32,

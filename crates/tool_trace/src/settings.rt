@@ -14,7 +14,7 @@ pub struct Settings {
     pub limits: Limits,
 }
 
-/// What the line of the settings tells.
+/// What the line of the settings says.
 pub fn read_settings(text: &[u8]) -> Option<Settings>
     ensures { MatchOption result
         ((arg : ℤ) (limits : IsLimits) → IsSettings text.now arg limits → ⊥)
@@ -26,7 +26,7 @@ pub fn read_settings(text: &[u8]) -> Option<Settings>
     Some(Settings { arg, limits })
 }
 
-/// The limits that its second part tells.
+/// The limits that its second part says.
 fn read_limits(text: &[u8]) -> Option<Limits>
     ensures { MatchOption result
         ((limits : IsLimits) → AreLimits limits → text.now ≡ limits_text limits → ⊥)
@@ -38,7 +38,7 @@ fn read_limits(text: &[u8]) -> Option<Limits>
     Some(Limits { steps, cells })
 }
 
-/// The number of events, at most so many, that its line tells.
+/// The number of events, at most so many, that its line says.
 pub fn read_events(text: &[u8], most: u64) -> Option<u64>
     requires { most ≤ 40000002 }
     ensures { MatchOption result ((events : ℕ) → IsEvents text.now most events → ⊥) (IsEvents text.now most) }

@@ -71,7 +71,7 @@ action_text s w (action.Begin branch) = codes "begin " ++ decimal w.begun
 action_text s w action.Join = codes "join"
 action_text s w (action.End e) = ending_text s.names w e
 
--- what it is answered, where the line tells it
+-- what it is answered, where the line says it
 abbrev pub answer_text : ProgramNames → Walk → Answer → List ℕ
 answer_text names w (answer.Got value) = codes " = " ++ value_text names w.things value
 answer_text names w (answer.Length len) = codes " = " ++ decimal len

@@ -2,7 +2,7 @@ ghost use Rattle.std.specs.Prelude.{◌≡◌, IfOk};
 ghost use Rattle.tool_trace.specs.events.Names.{spelling_of};
 ghost use Rattle.tool_trace.specs.events.Text.{events_text};
 
-use crate::events::telling::lines;
+use crate::events::event_lines::lines;
 use crate::writing::{events_line, settings_line};
 use exec_machine::MadeEvent;
 use lang_base::{Bytes, Ending, Items, Limits, NoMemory};

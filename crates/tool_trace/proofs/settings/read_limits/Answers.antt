@@ -1,5 +1,5 @@
 use Rattle.std.specs.Fmt.{decimal}
-use Rattle.tool_trace.proofs.Telling.{limits-cut, limits-pieces, limits-cells}
+use Rattle.tool_trace.proofs.Lines.{limits-cut, limits-pieces, limits-cells}
 use Rattle.tool_trace.proofs.settings.read_limits.Goals as goal
 
 pub returns-in_err-steps : goal.returns-in_err-steps

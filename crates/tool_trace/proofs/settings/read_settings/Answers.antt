@@ -1,4 +1,4 @@
-use Rattle.tool_trace.proofs.Telling.{settings-cut, settings-pieces}
+use Rattle.tool_trace.proofs.Lines.{settings-cut, settings-pieces}
 use Rattle.tool_trace.proofs.settings.read_settings.Goals as goal
 
 pub returns-in_err-arg : goal.returns-in_err-arg

@@ -1,6 +1,6 @@
 use Rattle.std.proofs.Common.{◌∙◌}
 use Rattle.std.proofs.lemmas.Result.{IfOk-weaker}
-use Rattle.tool_trace.proofs.Telling.{run-written}
+use Rattle.tool_trace.proofs.Lines.{run-written}
 use Rattle.tool_trace.proofs.writing.run_line.Goals as goal
 
 pub returns : goal.returns

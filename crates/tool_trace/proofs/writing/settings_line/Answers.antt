@@ -1,7 +1,7 @@
 use Rattle.std.proofs.Common.{◌∙◌}
 use Rattle.std.proofs.Math.Facts.{to_z-of_z}
 use Rattle.std.proofs.lemmas.Result.{IfOk-weaker}
-use Rattle.tool_trace.proofs.Telling.{settings-written}
+use Rattle.tool_trace.proofs.Lines.{settings-written}
 use Rattle.tool_trace.proofs.writing.settings_line.Goals as goal
 
 pub returns : goal.returns

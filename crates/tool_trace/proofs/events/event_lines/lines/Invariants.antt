@@ -1,7 +1,7 @@
 use Rattle.std.proofs.Common.{◌≡◌, ◌++◌, ◌+◌, ◌≤◌, drop}
 use Rattle.tool_trace.specs.events.Names.{spelling_of}
 use Rattle.tool_trace.specs.events.Text.{lines_from, walk_at_start}
-use Rattle.tool_trace.proofs.events.telling.lines.Given as goal
+use Rattle.tool_trace.proofs.events.event_lines.lines.Given as goal
 
 abbrev pub invariant-loop-at : goal.invariant-loop-at
 invariant-loop-at l = record {

@@ -2,7 +2,7 @@ use Rattle.std.proofs.Common.{◌∙◌}
 use Rattle.std.specs.Fmt.{decimal}
 use Rattle.std.proofs.lemmas.Result.{IfOk-weaker}
 use Rattle.tool_trace.proofs.events.Putting.{line_put}
-use Rattle.tool_trace.proofs.events.telling.line.Goals as goal
+use Rattle.tool_trace.proofs.events.event_lines.line.Goals as goal
 
 pub returns : goal.returns
 returns c =

@@ -1,4 +1,4 @@
--- What the lines of a trace tell, over plain variables.
+-- The lines of a trace, over plain variables.
 use Rattle.std.proofs.Common.{◌≡◌, ℕ, ℤ, ◌<◌, ◌≤◌, ◌^◌, List, [], ◌∷◌, ◌++◌, Option, Some, None, MatchOption, codes, FitsSigned, sym, ap, ◌∙◌, arith, append_assoc}
 use Rattle.std.specs.Int.{w32}
 use Rattle.std.specs.Fmt.{decimal, signed_decimal}
@@ -7,7 +7,7 @@ use Rattle.lang_base.specs.declared.outcome.Limits.{Limits}
 use Rattle.tool_trace.specs.Pieces.{IsCut}
 use Rattle.tool_trace.specs.Text.{line, limits_text, settings_text, run_text}
 use Rattle.tool_trace.specs.declared.runs.Run.{Run}
-use Rattle.tool_trace.specs.Reading.{AreLimits, IsSettings, IsEvents, TellsRun}
+use Rattle.tool_trace.specs.Reading.{AreLimits, IsSettings, IsEvents, IsRunLine}
 use Rattle.tool_trace.proofs.Cutting.{cut-unique, decimal-without, signed-without}
 
 limits-shape : (L : Limits) → limits_text L ≡ codes "steps " ++ (decimal L.steps ++ 32 ∷ (codes "cells " ++ decimal L.cells))
@@ -69,15 +69,15 @@ events-reported text x most None begins h = λ n e. h n (omega arith) e.few (app
 events-reported text x most (Some n) begins h = record { few = h.1; is = begins ∙ ap (λ t. codes "events " ++ t) h.2 }
 
 -- a line of a run
-pub run-cut : (text : List ℕ) (task : ℕ) (many : List ℕ) → TellsRun text task many → IsCut 32 text (decimal task) many
-run-cut text task many tells =
-    let small : task < 2 ^ 32 = tells.task_allowed in record {
-      is = tells.is ∙ append_assoc (decimal task) (32 ∷ []) many;
+pub run-cut : (text : List ℕ) (task : ℕ) (many : List ℕ) → IsRunLine text task many → IsCut 32 text (decimal task) many
+run-cut text task many is_line =
+    let small : task < 2 ^ 32 = is_line.task_allowed in record {
+      is = is_line.is ∙ append_assoc (decimal task) (32 ∷ []) many;
       first = decimal-without 32 task (omega arith) (omega (arith, small));
     }
 
-pub run-pieces : (text s r : List ℕ) (task : ℕ) (many : List ℕ) → IsCut 32 text s r → TellsRun text task many → (s ≡ decimal task) × (r ≡ many)
-run-pieces text s r task many cut tells = cut-unique 32 text s r (decimal task) many cut (run-cut text task many tells)
+pub run-pieces : (text s r : List ℕ) (task : ℕ) (many : List ℕ) → IsCut 32 text s r → IsRunLine text task many → (s ≡ decimal task) × (r ≡ many)
+run-pieces text s r task many cut is_line = cut-unique 32 text s r (decimal task) many cut (run-cut text task many is_line)
 
 -- the pieces of a line as they are written
 settings-flat : (a s c : List ℕ) → (codes "arg " ++ (a ++ 32 ∷ (codes "steps " ++ (s ++ 32 ∷ (codes "cells " ++ c))))) ++ 10 ∷ []
