@@ -48,7 +48,7 @@ impl Ended {
 ///
 /// The report is made whole before its first byte is written. Words that give no job take nothing from the
 /// source, nor does a demo, which makes its text. A read fault, a write fault and being out of memory have statuses of their own.
-/// `gate` is called by each worker of a run before each of its turns.
+/// `gate` is called by each worker of a run before each of its steps.
 pub fn dpj<R: Threads + Wait + Sync, S: Source, K: Sink, G: Gate + Sync>(
     rt: &R,
     alloc: Global,
