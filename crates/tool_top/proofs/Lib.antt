@@ -8,6 +8,6 @@ pub mod Owed
 pub mod Once
 pub mod Schedules
 pub mod Following
-pub mod Telling
+pub mod MadeEvents
 pub mod Rounds
 pub mod OnTraces

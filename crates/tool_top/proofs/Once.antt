@@ -17,7 +17,7 @@ use Rattle.tool_words.specs.declared.job.Job.{Job}
 use Rattle.tool_words.specs.Reports.{ending_status, status_of}
 use Rattle.tool_words.specs.declared.verdict.Verdict.TheVariants.{Effects, Listed, Refused}
 use Rattle.tool_top.specs.declared.answered.Answered.{Answered}
-use Rattle.tool_top.specs.Answer.{IsAcceptedAs, AreAlike, IsAnswer, IsAnswerOn, IsListing, IsRan, IsShown, IsWithin, OneAnswer, asks_run, faulty, limits_of, of_program, only, verdict_of, to_check, to_effects, to_events, to_elide, to_list, to_run, too_long, TellsEffects}
+use Rattle.tool_top.specs.Answer.{IsAcceptedAs, AreAlike, IsAnswer, IsAnswerOn, IsListing, IsRan, IsShown, IsWithin, OneAnswer, asks_run, faulty, limits_of, of_program, only, verdict_of, to_check, to_effects, to_events, to_elide, to_list, to_run, too_long, IsSummaries}
 use Rattle.tool_top.specs.Keeps.{KeepsGuarantee}
 use Rattle.tool_top.proofs.Promised.{made_run}
 
@@ -66,10 +66,10 @@ listed_once : OneNaming → (text : List ℕ) (typed : PlainProgram) (first seco
 listed_once naming text typed first second a b =
     a.lists ∙ ap (λ names. only (Listed (plain_listing (titles_of typed names) (compiled typed)))) (naming text a.names b.names a.are_names b.are_names) ∙ sym b.lists
 
-effects_once : OneNaming → OneInferred → (text : List ℕ) (typed : PlainProgram) (first second : Answered) → TellsEffects text typed first → TellsEffects text typed second → first ≡ second
+effects_once : OneNaming → OneInferred → (text : List ℕ) (typed : PlainProgram) (first second : Answered) → IsSummaries text typed first → IsSummaries text typed second → first ≡ second
 effects_once naming least text typed first second a b =
-    a.tells ∙ ap (λ P. only (Effects (lines_of P a.names))) (least typed a.kept b.kept a.inferred b.inferred)
-    ∙ ap (λ names. only (Effects (lines_of (program_kept b.kept typed) names))) (naming text a.names b.names a.are_names b.are_names) ∙ sym b.tells
+    a.is ∙ ap (λ P. only (Effects (lines_of P a.names))) (least typed a.kept b.kept a.inferred b.inferred)
+    ∙ ap (λ names. only (Effects (lines_of (program_kept b.kept typed) names))) (naming text a.names b.names a.are_names b.are_names) ∙ sym b.is
 
 -- an answer on a program, by its command
 unlike : (job : Job) (c d : Command) → job.command ≡ c → job.command ≡ d → (c ≡ d → ⊥) → ⊥

@@ -29,7 +29,7 @@ use Rattle.runs_simulation.specs.Laws.{EventForEvent, MachinesRecord, SomeTaskIs
 use Rattle.runs_theorem.specs.Readiness.{MachinesAreReadyAsTheirRuns}
 use Rattle.tool_top.proofs.Following.{right_not_wrong}
 use Rattle.tool_top.proofs.Rounds.{rounds_in_source}
-use Rattle.tool_top.proofs.Telling.{told_events}
+use Rattle.tool_top.proofs.MadeEvents.{made_events}
 use Rattle.exec_run.specs.declared.replaying.Replayed.TheVariants as replayed
 use Rattle.tool_trace.specs.Reading.{AreLimits}
 use Rattle.code_instrs.specs.Plain.{plain_code}
@@ -48,7 +48,7 @@ use Rattle.tool_top.specs.Answer.{IsAcceptedAs, IsElided, IsRan, IsRunBy, IsWith
 use Rattle.sound_means.specs.Laws.{FieldNamesMean, NamesMean, PassedMeans}
 use Rattle.tool_top.specs.Guarantee.{ComesOutBy, elision_for}
 use Rattle.tool_top.specs.Refusing.{RefusalsAreRight}
-use Rattle.tool_top.specs.Keeps.{FollowsReduced, GoesOn, IsMade, KeepsGuarantee, MadeReduced, TellsElision, TellsReduced}
+use Rattle.tool_top.specs.Keeps.{FollowsReduced, GoesOn, IsMade, KeepsGuarantee, MadeReduced, VerdictIsElision, VerdictIsReduced}
 
 module _ (typed : PlainProgram) (keeps : Keeps typed) (L : Limits) (argument : ℤ) (few : L.steps ≤ 20000000) (fits : FitsSigned w32 argument) where
   few_steps : (p : Played) → IsRunOf typed L argument p → p.limits.steps ≤ 20000000
@@ -60,7 +60,7 @@ module _ (typed : PlainProgram) (keeps : Keeps typed) (L : Limits) (argument : �
   same_elision : (p : Played) → IsRunOf typed L argument p → elision typed p.limits p.argument ≡ elision typed L argument
   same_elision p is = ap (λ k. elision typed k p.argument) is.limits ∙ ap (λ a. elision typed L a) is.is_argument
 
-  -- a machine that has finished a run tells the outcome of the elision
+  -- a machine that has finished a run has the outcome of the elision
   pub reported_elision : MachinesComeOutAsElided → typed.uses_nd ≡ false → (p : Played) (o : Outcome) → IsRunOf typed L argument p → p.outcome ≡ Some o → o ≡ elision typed L argument
   reported_elision machines none p o is come =
       machines typed p o keeps.well_typed none keeps.resolved keeps.has_main is.is_code (few_steps p is) (fits_there p is) is.replayed come ∙ same_elision p is
@@ -195,7 +195,7 @@ keeps_guarantee machines greedy reduce inside never_stuck goes passed with_infer
         }
 
     run : (job : Job) (text : List ℕ) (place : Place) (typed : PlainProgram) (answered : Answered) → IsWithin job → IsAcceptedAs text place typed
-        → typed.uses_nd ≡ false → IsRan job text typed answered → TellsElision job text typed answered
+        → typed.uses_nd ≡ false → IsRan job text typed answered → VerdictIsElision job text typed answered
     run job text place typed answered within accepted none ran =
         let r = ran.made in
         let m = made job typed r ran.run in
@@ -207,7 +207,7 @@ keeps_guarantee machines greedy reduce inside never_stuck goes passed with_infer
         }
 
     reduces : (job : Job) (text : List ℕ) (place : Place) (typed : PlainProgram) (answered : Answered) → IsWithin job → IsAcceptedAs text place typed
-        → IsRan job text typed answered → (well_typed : WellTyped typed) → TellsReduced job text typed well_typed answered
+        → IsRan job text typed answered → (well_typed : WellTyped typed) → VerdictIsReduced job text typed well_typed answered
     reduces job text place typed answered within accepted ran well_typed =
         let keeps = record (kept text place typed accepted) { well_typed = well_typed } in
         let r = ran.made in
@@ -236,7 +236,7 @@ keeps_guarantee machines greedy reduce inside never_stuck goes passed with_infer
             inside = inside_so typed keeps (limits_of job) job.arg within.0.steps_most within.1 inside r.record.machine r.outcome m.0 m.1;
           };
           elided = λ none. reported_elision typed keeps (limits_of job) job.arg within.0.steps_most within.1 machines none r.record.machine r.outcome m.0 m.1;
-          told = told_events each records alike typed (limits_of job) job.arg keeps.resolved keeps.has_main within.0.steps_most r.record.machine.schedule reduced.outcome reduced.finished;
+          are_events = made_events each records alike typed (limits_of job) job.arg keeps.resolved keeps.has_main within.0.steps_most r.record.machine.schedule reduced.outcome reduced.finished;
         }
 
     shows : (job : Job) (text : List ℕ) (place : Place) (typed : PlainProgram) (r : Recorded) (shown : Shown) → IsWithin job → IsAcceptedAs text place typed

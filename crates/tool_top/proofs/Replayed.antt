@@ -14,7 +14,7 @@ use Rattle.tool_words.specs.declared.verdict.Verdict.{Verdict}
 use Rattle.tool_words.specs.declared.verdict.Verdict.TheVariants.{Refused, Ran}
 use Rattle.tool_top.specs.declared.answered.Answered.{Answered}
 use Rattle.tool_top.specs.Answer.{only}
-use Rattle.tool_top.specs.Call.{AnswersBy, AnswersSome, Appends, Tells}
+use Rattle.tool_top.specs.Call.{AnswersBy, AnswersSome, Appends, ReportsAnswer}
 use Rattle.tool_top.specs.Guarantee.{IsReported, MustRefuse, MustReplay, RefusesReplay, ReportsReplay, WhyRefused, for_schedule, for_text, not_for_schedule}
 use Rattle.tool_top.specs.Keeps.{KeepsGuarantee}
 use Rattle.tool_top.specs.Replaying.{IsAnswerOnTrace, IsReplayed, faulty, followed, long_program, no_trace, of_trace, program_of, ran, too_long, unfit}
@@ -29,28 +29,28 @@ none_some e = cc
 
 -- the bytes that a replay is on, and the answer to them
 module _ (words : List (List ℕ)) (read left before after : Option (List ℕ)) (status : Status) (recorded : Option Record)
-    (tells : Tells words read left before after status recorded) (job : Job) (said : job_of words ≡ Some job) (replays : job.command ≡ command.Replay) where
-  there : AnswersSome job read left tells.answered
-  there = given_answer words read left job tells.answered said tells.is_answered
+    (reports : ReportsAnswer words read left before after status recorded) (job : Job) (said : job_of words ≡ Some job) (replays : job.command ≡ command.Replay) where
+  there : AnswersSome job read left reports.answered
+  there = given_answer words read left job reports.answered said reports.is_answered
 
   abbrev bytes : List ℕ
   bytes = there.text
 
-  answer : IsReplayed bytes tells.answered
-  answer = subst (λ c. AnswersBy c job bytes tells.answered) replays there.answers
+  answer : IsReplayed bytes reports.answered
+  answer = subst (λ c. AnswersBy c job bytes reports.answered) replays there.answers
 
-  reported_so : (v : Verdict) → tells.answered.verdict ≡ v → IsReported v before after status
-  reported_so v is = (tells.status_reported ∙ ap status_of is, subst (λ v. Appends before after (report_of v)) is tells.report_reported)
+  reported_so : (v : Verdict) → reports.answered.verdict ≡ v → IsReported v before after status
+  reported_so v is = (reports.status_reported ∙ ap status_of is, subst (λ v. Appends before after (report_of v)) is reports.report_reported)
 
   -- of which a run is recorded
   module _ (keeps : KeepsGuarantee) (r : Record) (some : recorded ≡ Some r) where
-    is_some : tells.answered.recorded ≡ Some r
-    is_some = sym tells.run_recorded ∙ some
+    is_some : reports.answered.recorded ≡ Some r
+    is_some = sym reports.run_recorded ∙ some
 
-    no_record : (v : Verdict) → tells.answered ≡ only v → ⊥
+    no_record : (v : Verdict) → reports.answered ≡ only v → ⊥
     no_record v same = none_some (sym (ap (λ (a : Answered). a.recorded) same) ∙ is_some)
 
-    on_trace : (trace : Trace) → IsTrace bytes trace → IsAnswerOnTrace bytes trace tells.answered → ReportsReplay job read left before after status r
+    on_trace : (trace : Trace) → IsTrace bytes trace → IsAnswerOnTrace bytes trace reports.answered → ReportsReplay job read left before after status r
     on_trace trace is (long_program long same) = absurd (no_record _ same)
     on_trace trace is (faulty refusal short fault same) = absurd (no_record _ same)
     on_trace trace is (followed place typed accepted (unfit at f same)) = absurd (no_record _ same)
@@ -73,7 +73,7 @@ module _ (words : List (List ℕ)) (read left before after : Option (List ℕ)) 
           reported = reported_so (Ran made.outcome) (ap (λ (a : Answered). a.verdict) same);
         }
 
-    by_answer : IsReplayed bytes tells.answered → ReportsReplay job read left before after status r
+    by_answer : IsReplayed bytes reports.answered → ReportsReplay job read left before after status r
     by_answer (too_long long same) = absurd (no_record _ same)
     by_answer (no_trace line short misfit same) = absurd (no_record _ same)
     by_answer (of_trace trace short is on) = on_trace trace is on
@@ -83,7 +83,7 @@ module _ (words : List (List ℕ)) (read left before after : Option (List ℕ)) 
 
   -- that is refused
   module _ (keeps : KeepsGuarantee) (is_refused : status ≡ ended.Refused) where
-    refused_so : (refusal : Refusal) → tells.answered ≡ only (Refused refusal) → WhyRefused bytes refusal → RefusesReplay job read left before after status
+    refused_so : (refusal : Refusal) → reports.answered ≡ only (Refused refusal) → WhyRefused bytes refusal → RefusesReplay job read left before after status
     refused_so refusal same why = record {
       bytes = bytes;
       is_text = there.is_text;
@@ -92,11 +92,11 @@ module _ (words : List (List ℕ)) (read left before after : Option (List ℕ)) 
       reported = reported_so (Refused refusal) (ap (λ (a : Answered). a.verdict) same);
     }
 
-    why_on_trace : (trace : Trace) → IsTrace bytes trace → IsAnswerOnTrace bytes trace tells.answered → RefusesReplay job read left before after status
+    why_on_trace : (trace : Trace) → IsTrace bytes trace → IsAnswerOnTrace bytes trace reports.answered → RefusesReplay job read left before after status
     why_on_trace trace is (long_program long same) = refused_so _ same (not_for_schedule (λ e. cc))
     why_on_trace trace is (faulty refusal short fault same) = refused_so refusal same (for_text trace is fault)
     why_on_trace trace is (followed place typed accepted (ran made f same)) =
-        absurd (ending_status-no-refusal made.outcome.ending (sym (ap (λ (a : Answered). status_of a.verdict) same) ∙ sym tells.status_reported ∙ is_refused))
+        absurd (ending_status-no-refusal made.outcome.ending (sym (ap (λ (a : Answered). status_of a.verdict) same) ∙ sym reports.status_reported ∙ is_refused))
     why_on_trace trace is (followed place typed accepted (unfit at f same)) =
         let meant = keeps.means (program_of bytes trace) place typed accepted in
         refused_so _ same (for_schedule (record {
@@ -110,7 +110,7 @@ module _ (words : List (List ℕ)) (read left before after : Option (List ℕ)) 
           is = refl;
         }))
 
-    why_refused : IsReplayed bytes tells.answered → RefusesReplay job read left before after status
+    why_refused : IsReplayed bytes reports.answered → RefusesReplay job read left before after status
     why_refused (too_long long same) = refused_so _ same (not_for_schedule (λ e. cc))
     why_refused (no_trace line short misfit same) = refused_so _ same (not_for_schedule (λ e. cc))
     why_refused (of_trace trace short is on) = why_on_trace trace is on
@@ -119,11 +119,11 @@ module _ (words : List (List ℕ)) (read left before after : Option (List ℕ)) 
     refusal_so = why_refused answer
 
 pub owed_replay : KeepsGuarantee → (words : List (List ℕ)) (read left before after : Option (List ℕ)) (status : Status) (recorded : Option Record)
-    → Tells words read left before after status recorded → MustReplay words read left before after status recorded
-owed_replay keeps words read left before after status recorded tells job r said replays some =
-    replay_so words read left before after status recorded tells job said replays keeps r some
+    → ReportsAnswer words read left before after status recorded → MustReplay words read left before after status recorded
+owed_replay keeps words read left before after status recorded reports job r said replays some =
+    replay_so words read left before after status recorded reports job said replays keeps r some
 
 pub owed_refusal : KeepsGuarantee → (words : List (List ℕ)) (read left before after : Option (List ℕ)) (status : Status) (recorded : Option Record)
-    → Tells words read left before after status recorded → status ≡ ended.Refused → MustRefuse words read left before after status
-owed_refusal keeps words read left before after status recorded tells is_refused job said replays =
-    refusal_so words read left before after status recorded tells job said replays keeps is_refused
+    → ReportsAnswer words read left before after status recorded → status ≡ ended.Refused → MustRefuse words read left before after status
+owed_refusal keeps words read left before after status recorded reports is_refused job said replays =
+    refusal_so words read left before after status recorded reports job said replays keeps is_refused

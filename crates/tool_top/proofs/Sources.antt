@@ -18,7 +18,7 @@ use Rattle.tool_top.specs.declared.call.Reply.{Reply}
 use Rattle.tool_top.specs.declared.call.Unread.{Unread}
 use Rattle.tool_top.specs.declared.call.Unread.TheVariants.{ReadFault}
 use Rattle.tool_top.specs.Answer.{IsAnswer, too_long, only, refused_at_start, most_bytes, makes_run}
-use Rattle.tool_top.specs.Call.{Answers, AnswersBy, AnswersSome, IsAnswered, IsTold, ReadToEnd, asks_text, makes_text, text_for, told_by}
+use Rattle.tool_top.specs.Call.{Answers, AnswersBy, AnswersSome, IsAnswered, IsKnown, ReadToEnd, asks_text, makes_text, text_for, known_by}
 use Rattle.tool_top.specs.Replaying.{too_long as trace_too_long}
 use Rattle.tool_top.proofs.Traces.{replay-no-usage}
 use Rattle.tool_top.proofs.Verdicts.{answer-no-usage}
@@ -56,19 +56,19 @@ by-too-long command.Events asked bytes answered is long = long-answer asked byte
 by-too-long command.Effects asked bytes answered is long = long-answer asked bytes answered is long
 by-too-long command.Cost asked bytes answered is long = long-answer asked bytes answered is long
 
--- a job that makes no text is on the one that is told
-told_unmade : (asked : Job) (told : Option (List ℕ)) (text : List ℕ) → makes_text asked.command ≡ false → IsTold told text → IsTold (text_for asked told) text
-told_unmade asked told text unmade is = subst (λ made. IsTold (cond made (Some (demo_text asked.n)) told) text) (sym unmade) is
+-- a job that makes no text is on the one that is known
+known_unmade : (asked : Job) (known : Option (List ℕ)) (text : List ℕ) → makes_text asked.command ≡ false → IsKnown known text → IsKnown (text_for asked known) text
+known_unmade asked known text unmade is = subst (λ made. IsKnown (cond made (Some (demo_text asked.n)) known) text) (sym unmade) is
 
 long_text : (asked : Job) (left : Option (List ℕ)) (text : List ℕ) (answered : Answered) → makes_text asked.command ≡ false → answered ≡ only (refused_at_start TooLong)
-    → IsTold left text → most_bytes asked.command < length text → AnswersSome asked None left answered
-long_text asked left text answered unmade is told long = record {
+    → IsKnown left text → most_bytes asked.command < length text → AnswersSome asked None left answered
+long_text asked left text answered unmade is known long = record {
   text = text;
-  is_text = record { is_told = told_unmade asked left text unmade told; is_long = λ _ _. long };
+  is_text = record { is_known = known_unmade asked left text unmade known; is_long = λ _ _. long };
   answers = by-too-long asked.command asked text answered is long;
 }
 
--- a source that tells nothing held some text that is too long
+-- a source that says nothing held some text that is too long
 source_too_long : (asked : Job) (left : Option (List ℕ)) (answered : Answered) → makes_text asked.command ≡ false → answered ≡ only (refused_at_start TooLong)
     → IfSome left (λ bytes. most_bytes asked.command < length bytes) → AnswersSome asked None left answered
 source_too_long asked None answered unmade is long =
@@ -90,7 +90,7 @@ some_read e = absurd (cc e)
 pub source-read : (asked : Job) (left : Option (List ℕ)) (text : List ℕ) (answered : Answered) → makes_text asked.command ≡ false → Answers asked text answered → AnswersSome asked (Some text) left answered
 source-read asked left text answered unmade is = record {
   text = text;
-  is_text = record { is_told = told_unmade asked (Some text) text unmade refl; is_long = λ _ e. some_read e };
+  is_text = record { is_known = known_unmade asked (Some text) text unmade refl; is_long = λ _ e. some_read e };
   answers = is;
 }
 
@@ -101,7 +101,7 @@ demo-read asked read left answered demo is =
     record {
       text = demo_text asked.n;
       is_text = record {
-        is_told = subst (λ b. IsTold (cond b (Some (demo_text asked.n)) (told_by read left)) (demo_text asked.n)) (sym made) refl;
+        is_known = subst (λ b. IsKnown (cond b (Some (demo_text asked.n)) (known_by read left)) (demo_text asked.n)) (sym made) refl;
         is_long = λ unmade _. absurd (false≢true (sym unmade ∙ made));
       };
       answers = subst (λ c. AnswersBy c asked (demo_text asked.n) answered) (sym demo) is;

@@ -37,7 +37,7 @@ use Rattle.exec_run.specs.declared.recorded.Recorded.{Recorded}
 use Rattle.tool_front.specs.Front.{AreFieldNames, AreNames, IsFault}
 use Rattle.tool_trace.specs.events.Text.{events_text}
 use Rattle.tool_top.specs.declared.answered.Answered.{Answered}
-use Rattle.tool_top.specs.Answer.{IsAcceptedAs, IsAnswer, too_long, faulty, of_program, IsRan, IsRunBy, IsElided, IsListing, IsShown, IsAnswerOn, to_check, to_run, to_events, to_elide, to_list, to_effects, TellsEffects, verdict_by, verdict_of, limits_of, only, asks_run, makes_run, max_text, shown_verdict}
+use Rattle.tool_top.specs.Answer.{IsAcceptedAs, IsAnswer, too_long, faulty, of_program, IsRan, IsRunBy, IsElided, IsListing, IsShown, IsAnswerOn, to_check, to_run, to_events, to_elide, to_list, to_effects, IsSummaries, verdict_by, verdict_of, limits_of, only, asks_run, makes_run, max_text, shown_verdict}
 use Rattle.tool_top.specs.Keeps.{IsMade}
 
 pub ending_status-no-usage : (ending : Ending) → ending_status ending ≡ ended.Usage → ⊥
@@ -84,7 +84,7 @@ program-no-usage job text typed answered (to_events asked is) e = shown-no-usage
 program-no-usage job text typed answered (to_elide asked is) e =
     ending_status-no-usage is.outcome.ending (ap (λ (a : Answered). status_of a.verdict) (sym is.is) ∙ e)
 program-no-usage job text typed answered (to_list asked is) e = listed-no-usage _ answered is.lists e
-program-no-usage job text typed answered (to_effects asked is) e = effects-no-usage _ answered is.tells e
+program-no-usage job text typed answered (to_effects asked is) e = effects-no-usage _ answered is.is e
 
 -- the answer to a job isn't reported as usage
 pub answer-no-usage : (job : Job) (text : List ℕ) (answered : Answered) → IsAnswer job text answered → status_of answered.verdict ≡ ended.Usage → ⊥
@@ -109,9 +109,9 @@ list-answer asked text typed (Ok answered) is lists = to_list is lists
 list-answer asked text typed (Err none) is lists = tt
 
 pub effects-answer : (asked : Job) (text : List ℕ) (typed : PlainProgram) (result : Result Answered NoMemory) → asked.command ≡ command.Effects
-    → IfOk result (TellsEffects text typed) → IfOk result (IsAnswerOn asked text typed)
-effects-answer asked text typed (Ok answered) is tells = to_effects is tells
-effects-answer asked text typed (Err none) is tells = tt
+    → IfOk result (IsSummaries text typed) → IfOk result (IsAnswerOn asked text typed)
+effects-answer asked text typed (Ok answered) is summaries = to_effects is summaries
+effects-answer asked text typed (Err none) is summaries = tt
 
 -- any other command than these of which no run is made and that is no replay is to check
 pub is-check : (c : Command) → makes_run c ≡ false → c ≢ command.Elide → c ≢ command.«List» → c ≢ command.Effects → c ≢ command.Replay → c ≡ command.Check
@@ -212,16 +212,16 @@ listing-so text made typed own names code listed answered plain same named are_n
 
 -- the lines of the inferred summaries of a program, with its names
 pub effects-so : (text : List ℕ) (made typed : PlainProgram) (own names : ProgramNames) (kept : Keeping) (lines : List ℕ) (answered : Answered) → made ≡ typed → own ≡ names
-    → AreNames text names → IsInferred made kept → lines ≡ lines_of (program_kept kept made) own → answered ≡ only (Effects lines) → TellsEffects text typed answered
+    → AreNames text names → IsInferred made kept → lines ≡ lines_of (program_kept kept made) own → answered ≡ only (Effects lines) → IsSummaries text typed answered
 effects-so text made typed own names kept lines answered same named are_names inferred is reported = record {
   names = names;
   are_names = are_names;
   kept = kept;
   inferred = subst (λ P. IsInferred P kept) same inferred;
-  tells = reported ∙ ap (λ l. only (Effects l)) (is ∙ ap (λ P. lines_of (program_kept kept P) own) same ∙ ap (lines_of (program_kept kept typed)) named);
+  is = reported ∙ ap (λ l. only (Effects l)) (is ∙ ap (λ P. lines_of (program_kept kept P) own) same ∙ ap (lines_of (program_kept kept typed)) named);
 }
 
--- the verdict on the run of a program whose events are told
+-- the verdict on the run of a program whose events are shown
 pub shown-so : (asked : Job) (text : List ℕ) (made typed : PlainProgram) (own names : ProgramNames) (given fields : List (List (List ℕ))) (r : Recorded) (schedule : List ℕ) (events : List MadeEvent) (verdict : Verdict)
     → made ≡ typed → own ≡ names → AreNames text names → given ≡ fields → AreFieldNames text fields
     → IsRunBy asked.mode typed (limits_of asked) asked.arg asked.workers (Some r) → schedule ≡ r.record.machine.schedule → AreEvents typed (limits_of asked) asked.arg schedule (Made events)
@@ -256,11 +256,11 @@ shown-made (Unfit at) made never = made
 shown-made Halted made never = made
 
 -- the text of events on what equals an argument, limits, names and events
-pub events-as : (typed : PlainProgram) (names : ProgramNames) (a argument : ℤ) (L limits : Limits) (given fields : List (List (List ℕ))) (told events : List MadeEvent) (ending : Ending)
-    → a ≡ argument → L ≡ limits → given ≡ fields → told ≡ events
-    → events_text a L (record { program = typed; names = names; fields = given }) told ending ≡ events_text argument limits (record { program = typed; names = names; fields = fields }) events ending
-events-as typed names a argument L limits given fields told events ending same within spelled are =
-    ap (λ z. events_text z L (record { program = typed; names = names; fields = given }) told ending) same
-    ∙ ap (λ k. events_text argument k (record { program = typed; names = names; fields = given }) told ending) within
-    ∙ ap (λ f. events_text argument limits (record { program = typed; names = names; fields = f }) told ending) spelled
+pub events-as : (typed : PlainProgram) (names : ProgramNames) (a argument : ℤ) (L limits : Limits) (given fields : List (List (List ℕ))) (made events : List MadeEvent) (ending : Ending)
+    → a ≡ argument → L ≡ limits → given ≡ fields → made ≡ events
+    → events_text a L (record { program = typed; names = names; fields = given }) made ending ≡ events_text argument limits (record { program = typed; names = names; fields = fields }) events ending
+events-as typed names a argument L limits given fields made events ending same within spelled are =
+    ap (λ z. events_text z L (record { program = typed; names = names; fields = given }) made ending) same
+    ∙ ap (λ k. events_text argument k (record { program = typed; names = names; fields = given }) made ending) within
+    ∙ ap (λ f. events_text argument limits (record { program = typed; names = names; fields = f }) made ending) spelled
     ∙ ap (λ xs. events_text argument limits (record { program = typed; names = names; fields = fields }) xs ending) are

@@ -98,7 +98,7 @@ tasks_of schedule = fold (λ most task. max most (task + 1)) 0 schedule
 abbrev pub figures_of : List ℕ → ℕ → Figures
 figures_of schedule rounds = record { events = length schedule; tasks = tasks_of schedule; rounds = rounds }
 
--- The verdict on a run of a text, by its schedule, the number of its rounds, and how it came out: a demo tells what it made, a trace is reported in place
+-- The verdict on a run of a text, by its schedule, the number of its rounds, and how it came out: a demo says what it made, a trace is reported in place
 -- of a report, and its cost beside it
 abbrev pub verdict_by : Command → Job → List ℕ → List ℕ → ℕ → Outcome → Verdict
 verdict_by command.Demo job text schedule rounds outcome = Demo job.n (length text) outcome
@@ -121,7 +121,7 @@ pub record IsRan (job : Job) (text : List ℕ) (typed : PlainProgram) (answered 
   pub run : IsRunBy job.mode typed (limits_of job) job.arg job.workers (Some made)
   pub is : answered ≡ record { verdict = verdict_of job text made.record.machine.schedule made.record.rounds made.outcome; recorded = Some made.record }
 
--- what is told of a run in place of its report: its events, and how it came out
+-- what is shown of a run in place of its report: its events, and how it came out
 abbrev pub shown_verdict : Job → Spelling → List MadeEvent → Outcome → Verdict
 shown_verdict job spelling events outcome = Shown outcome (events_text job.arg (limits_of job) spelling events outcome.ending)
 
@@ -144,12 +144,12 @@ pub record IsListing (text : List ℕ) (typed : PlainProgram) (answered : Answer
   pub lists : answered ≡ only (Listed (plain_listing (titles_of typed names) (compiled typed)))
 
 -- the lines of its inferred summaries, with the names of the text
-pub record TellsEffects (text : List ℕ) (typed : PlainProgram) (answered : Answered) : Type 0 where
+pub record IsSummaries (text : List ℕ) (typed : PlainProgram) (answered : Answered) : Type 0 where
   pub names : ProgramNames
   pub are_names : AreNames text names
   pub kept : Keeping
   pub inferred : IsInferred typed kept
-  pub tells : answered ≡ only (Effects (lines_of (program_kept kept typed) names))
+  pub is : answered ≡ only (Effects (lines_of (program_kept kept typed) names))
 
 -- the answer to a job on the accepted program of a text
 pub data IsAnswerOn (job : Job) (text : List ℕ) (typed : PlainProgram) (answered : Answered) : Type 0 where
@@ -158,7 +158,7 @@ pub data IsAnswerOn (job : Job) (text : List ℕ) (typed : PlainProgram) (answer
   to_events : job.command ≡ command.Events → IsShown job text typed answered → IsAnswerOn job text typed answered
   to_elide : job.command ≡ command.Elide → IsElided job typed answered → IsAnswerOn job text typed answered
   to_list : job.command ≡ command.«List» → IsListing text typed answered → IsAnswerOn job text typed answered
-  to_effects : job.command ≡ command.Effects → TellsEffects text typed answered → IsAnswerOn job text typed answered
+  to_effects : job.command ≡ command.Effects → IsSummaries text typed answered → IsAnswerOn job text typed answered
 
 -- the text isn't too long, and is accepted as this typed program, of which the first token stands at the place
 abbrev pub IsAcceptedAs : List ℕ → Place → PlainProgram → Type 0
@@ -174,11 +174,11 @@ pub data IsAnswer (job : Job) (text : List ℕ) : Answered → Type 0 where
   faulty : (refusal : Refusal) → length text ≤ max_text → IsFault text refusal → IsAnswer job text (only (Refused refusal))
   of_program : (place : Place) (typed : PlainProgram) (answered : Answered) → IsAcceptedAs text place typed → IsAnswerOn job text typed answered → IsAnswer job text answered
 
--- answers to a command are the same; those that tell events tell of runs with one status
+-- answers to a command are the same; those that show events are of runs with one status
 abbrev pub AreAlike : Command → Answered → Answered → Type 0
 AreAlike command.Events first second = status_of first.verdict ≡ status_of second.verdict
 AreAlike _ first second = first ≡ second
 
--- there is one answer at most to a job on a text, for each run that was recorded; of one that tells events it is said of the status
+-- there is one answer at most to a job on a text, for each run that was recorded; of one that shows events it is said of the status
 abbrev pub OneAnswer : Type 0
 OneAnswer = (job : Job) (text : List ℕ) (first second : Answered) → IsWithin job → IsAnswer job text first → IsAnswer job text second → first.recorded ≡ second.recorded → AreAlike job.command first second

@@ -1,4 +1,4 @@
--- Of which run of the source events are told.
+-- Of which run of the source events are shown.
 use Rattle.std.specs.Prelude.{ℕ, List, [], reverse}
 use Rattle.lang_base.specs.declared.outcome.Limits.{Limits}
 use Rattle.exec_machine.specs.declared.made_event.MadeEvent.{MadeEvent}

@@ -40,12 +40,12 @@ use Rattle.tool_top.specs.Refusing.{CannotGoOn}
 use Rattle.tool_top.specs.Replaying.{program_of}
 use Rattle.tool_top.specs.Rounds.{IsByRounds}
 
--- a status that tells of a program, and of no refusal
-abbrev pub TellsOfProgram : Status → Type 0
-TellsOfProgram ended.Done = Unit {0}
-TellsOfProgram ended.Trapped = Unit {0}
-TellsOfProgram ended.Limited = Unit {0}
-TellsOfProgram _ = ⊥
+-- a status of a program, and of no refusal
+abbrev pub IsProgramStatus : Status → Type 0
+IsProgramStatus ended.Done = Unit {0}
+IsProgramStatus ended.Trapped = Unit {0}
+IsProgramStatus ended.Limited = Unit {0}
+IsProgramStatus _ = ⊥
 
 -- the serial elision of a program on the argument of a job, within the job's limits
 abbrev pub elision_for : Job → PlainProgram → Outcome
@@ -128,7 +128,7 @@ MustReplay words read left before after status recorded =
     (job : Job) (made : Record) → job_of words ≡ Some job → job.command ≡ command.Replay → recorded ≡ Some made → ReportsReplay job read left before after status made
 
 -- There is a text that the job is on, and a well-typed program that it means. A run of it is recorded, on the job's argument and within its limits, and
--- what is reported is how it came out, and its events, told with the names of the tree.
+-- what is reported is how it came out, and its events, with the names of the tree.
 pub record ReportsEvents (job : Job) (read left before after : Option (List ℕ)) (status : Status) (recorded : Option Record) : Type 0 where
   pub text : List ℕ
   pub is_text : IsTextOf job read left text
@@ -145,8 +145,8 @@ pub record ReportsEvents (job : Job) (read left before after : Option (List ℕ)
   pub reported : IsReported (shown_verdict job (record { program = typed; names = names_in tree; fields = field_names_in tree }) events outcome) before after status
 
 -- so where words ask for events
-abbrev pub MustTell : List (List ℕ) → Option (List ℕ) → Option (List ℕ) → Option (List ℕ) → Option (List ℕ) → Status → Option Record → Type 0
-MustTell words read left before after status recorded =
+abbrev pub MustShow : List (List ℕ) → Option (List ℕ) → Option (List ℕ) → Option (List ℕ) → Option (List ℕ) → Status → Option Record → Type 0
+MustShow words read left before after status recorded =
     (job : Job) → job_of words ≡ Some job → job.command ≡ command.Events → ReportsEvents job read left before after status recorded
 
 -- bytes are a trace of a text that means a well-typed program, and refused at the line of the first number of its schedule by which the run of the

@@ -39,14 +39,14 @@ use Rattle.tool_top.specs.Refusing.{RefusalsAreRight}
 use Rattle.tool_top.specs.Rounds.{IsByRounds}
 
 -- the verdict is on the program's serial elision, whatever schedule was made, by however many rounds
-pub record TellsElision (job : Job) (text : List ℕ) (typed : PlainProgram) (answered : Answered) : Type 0 where
+pub record VerdictIsElision (job : Job) (text : List ℕ) (typed : PlainProgram) (answered : Answered) : Type 0 where
   pub schedule : List ℕ
   pub rounds : ℕ
   pub is : answered.verdict ≡ verdict_of job text schedule rounds (elision_for job typed)
 
 -- on the job's argument and within its limits the schedule that is recorded leads to a run that comes out as the verdict says, in rounds where these
 -- were asked
-pub record TellsReduced (job : Job) (text : List ℕ) (typed : PlainProgram) (well_typed : WellTyped typed) (answered : Answered) : Type 0 where
+pub record VerdictIsReduced (job : Job) (text : List ℕ) (typed : PlainProgram) (well_typed : WellTyped typed) (answered : Answered) : Type 0 where
   pub made : Recorded
   pub is : answered ≡ record { verdict = verdict_of job text made.record.machine.schedule made.record.rounds made.outcome; recorded = Some made.record }
   pub comes : ComesOutBy typed well_typed (limits_of job) job.arg made.record.machine.schedule made.outcome
@@ -63,7 +63,7 @@ pub record FollowsReduced (typed : PlainProgram) (well_typed : WellTyped typed) 
 pub record MadeReduced (job : Job) (typed : PlainProgram) (well_typed : WellTyped typed) (made : Recorded) : Type 0 where
   pub comes : ComesOutBy typed well_typed (limits_of job) job.arg made.record.machine.schedule made.outcome
   pub elided : typed.uses_nd ≡ false → made.outcome ≡ elision_for job typed
-  pub told : (events : List MadeEvent) → AreEvents typed (limits_of job) job.arg made.record.machine.schedule (Made events)
+  pub are_events : (events : List MadeEvent) → AreEvents typed (limits_of job) job.arg made.record.machine.schedule (Made events)
       → AreEventsOf (recorded_run comes.reduced.finished) events
 
 -- a schedule makes its events, and neither a number is unfit nor can the run not go on
@@ -94,10 +94,10 @@ pub record KeepsGuarantee : Type 0 where
   -- and where it can't be, the run of the source can't go on
   pub unfit : RefusalsAreRight
   pub run : (job : Job) (text : List ℕ) (place : Place) (typed : PlainProgram) (answered : Answered) → IsWithin job → IsAcceptedAs text place typed
-      → typed.uses_nd ≡ false → IsRan job text typed answered → TellsElision job text typed answered
+      → typed.uses_nd ≡ false → IsRan job text typed answered → VerdictIsElision job text typed answered
   pub reduce : (job : Job) (text : List ℕ) (place : Place) (typed : PlainProgram) (answered : Answered) → IsWithin job → IsAcceptedAs text place typed
-      → IsRan job text typed answered → (well_typed : WellTyped typed) → TellsReduced job text typed well_typed answered
-  -- so of a run whose events are told, and its schedule makes them
+      → IsRan job text typed answered → (well_typed : WellTyped typed) → VerdictIsReduced job text typed well_typed answered
+  -- so of a run whose events are shown, and its schedule makes them
   pub made : (job : Job) (text : List ℕ) (place : Place) (typed : PlainProgram) (made : Recorded) → IsWithin job → IsAcceptedAs text place typed
       → IsRunBy job.mode typed (limits_of job) job.arg job.workers (Some made) → (well_typed : WellTyped typed) → MadeReduced job typed well_typed made
   pub shows : (job : Job) (text : List ℕ) (place : Place) (typed : PlainProgram) (made : Recorded) (shown : Shown) → IsWithin job → IsAcceptedAs text place typed

@@ -6,8 +6,8 @@ ghost use Rattle.tool_words.specs.Demo.{demo_text};
 ghost use Rattle.tool_words.specs.Jobs.{job, IsInRange};
 ghost use Rattle.tool_words.specs.Reports.{report_of, status_of};
 ghost use Rattle.tool_top.specs.Answer.{IsAnswer, most_bytes, only};
-ghost use Rattle.tool_top.specs.Guarantee.{MustReport, MustRefuse, MustReplay, MustTell, TellsOfProgram};
-ghost use Rattle.tool_top.specs.Call.{Answers, AnswersSome, IsAnswered, IsTold, TellsOfVerdict, Tells, BreaksOff, ReadToEnd, Appends, AppendsPart, asks_text, makes_text};
+ghost use Rattle.tool_top.specs.Guarantee.{MustReport, MustRefuse, MustReplay, MustShow, IsProgramStatus};
+ghost use Rattle.tool_top.specs.Call.{Answers, AnswersSome, IsAnswered, IsKnown, IsVerdictStatus, ReportsAnswer, BreaksOff, ReadToEnd, Appends, AppendsPart, asks_text, makes_text};
 
 use crate::answered::Answered;
 use crate::answers::{MAX_TEXT, answer_by_run, answer_without_run};
@@ -57,28 +57,28 @@ pub fn dpj<R: Threads + Wait + Sync, S: Source, K: Sink, G: Gate + Sync>(
     sink: &mut K,
     gate: &G,
 ) -> Ended
-    // There is a text that the words are on: what was read to its end, else what the source tells, else one that is too long. The answer to it
+    // There is a text that the words are on: what was read to its end, else what the source says it holds, else one that is too long. The answer to it
     // is reported by its status and its whole report, and its record is kept.
-    ensures answered { TellsOfVerdict result.status
-        → Tells (map string_bytes words.now) (option_map vec_items result.read) (S.left source.old) (K.held sink.old) (K.held sink.new) result.status result.recorded }
+    ensures answered { IsVerdictStatus result.status
+        → ReportsAnswer (map string_bytes words.now) (option_map vec_items result.read) (S.left source.old) (K.held sink.old) (K.held sink.new) result.status result.recorded }
     ensures usage { result.status ≡ Status.Usage → job (map string_bytes words.now) ≡ None }
-    // The promise: what is told of a program is told of one that the text means, and that is well typed. Without nd constructs a run of it is
+    // The promise: what is reported of a program is of one that the text means, and that is well typed. Without nd constructs a run of it is
     // reported by its serial elision, whatever the workers did; with them or without, the recorded run is one of the source that can be
     // gathered, whose deterministic constructs can be put in sequence, and it is what is reported; and what `effects` reports may stand in
     // place of the written summaries.
-    ensures promised { TellsOfProgram result.status
+    ensures promised { IsProgramStatus result.status
         → MustReport (map string_bytes words.now) (option_map vec_items result.read) (S.left source.old) (K.held sink.old) (K.held sink.new) result.status result.recorded }
     // So is a run that a replay has made, which is reported by its outcome: without nd constructs that is the elision.
-    ensures replayed { TellsOfProgram result.status
+    ensures replayed { IsProgramStatus result.status
         → MustReplay (map string_bytes words.now) (option_map vec_items result.read) (S.left source.old) (K.held sink.old) (K.held sink.new) result.status result.recorded }
     // And so is one whose events are reported: line by line these are the events of the run of the source.
-    ensures events { TellsOfProgram result.status
-        → MustTell (map string_bytes words.now) (option_map vec_items result.read) (S.left source.old) (K.held sink.old) (K.held sink.new) result.status result.recorded }
+    ensures events { IsProgramStatus result.status
+        → MustShow (map string_bytes words.now) (option_map vec_items result.read) (S.left source.old) (K.held sink.old) (K.held sink.new) result.status result.recorded }
     // A replay that is refused for its schedule is one by whose next number the run of the source can't go on.
     ensures refused { result.status ≡ Status.Refused
         → MustRefuse (map string_bytes words.now) (option_map vec_items result.read) (S.left source.old) (K.held sink.old) (K.held sink.new) result.status }
-    // What was read is what the source held, where it tells it.
-    ensures told { IfSome result.read (λ text. IsTold (S.left source.old) (vec_items text)) }
+    // What was read is what the source held, where it says so.
+    ensures known { IfSome result.read (λ text. IsKnown (S.left source.old) (vec_items text)) }
 
     // Every other status has its cause, and being out of memory alone needs none.
     ensures read_fault { result.status ≡ Status.ReadFault → Rose (S.faults source.old) (S.faults source.new) }
@@ -99,7 +99,7 @@ pub fn dpj<R: Threads + Wait + Sync, S: Source, K: Sink, G: Gate + Sync>(
 {
     promise();
     match answer_to(rt, alloc, words, source, gate) {
-        Ok(reply) => tell(alloc, reply, sink),
+        Ok(reply) => write_reply(alloc, reply, sink),
         Err(Unread::ReadFault) => Ended::without(Status::ReadFault),
         Err(Unread::NoMemory) => Ended::without(Status::NoMemory),
     }
@@ -151,7 +151,7 @@ fn answer_to<R: Threads + Wait + Sync, S: Source, G: Gate + Sync>(
     gate: &G,
 ) -> Result<Reply, Unread>
     ensures ok { IfOk result (λ reply. IsAnswered (map string_bytes words.now) (option_map vec_items reply.read) (S.left source.old) reply.answered) }
-    ensures told { IfOk result (λ reply. IfSome reply.read (λ text. IsTold (S.left source.old) (vec_items text))) }
+    ensures known { IfOk result (λ reply. IfSome reply.read (λ text. IsKnown (S.left source.old) (vec_items text))) }
     ensures usage { IfOk result (λ reply. status_of reply.answered.verdict ≡ Status.Usage → job (map string_bytes words.now) ≡ None) }
     ensures asked { IfErr result (λ unread. unread ≡ Unread.ReadFault → asks_text (job (map string_bytes words.now)) ≡ true) }
     ensures read_fault { IfErr result (λ unread. unread ≡ Unread.ReadFault → Rose (S.faults source.old) (S.faults source.new)) }
@@ -216,7 +216,7 @@ fn answer_source<R: Threads + Wait + Sync, S: Source, G: Gate + Sync>(
     requires in_range { IsInRange job.now }
     requires read { makes_text job.now.command ≡ false }
     ensures ok { IfOk result (λ reply. AnswersSome job.now (option_map vec_items reply.read) (S.left source.old) reply.answered) }
-    ensures told { IfOk result (λ reply. IfSome reply.read (λ text. IsTold (S.left source.old) (vec_items text))) }
+    ensures known { IfOk result (λ reply. IfSome reply.read (λ text. IsKnown (S.left source.old) (vec_items text))) }
     ensures no_usage { IfOk result (λ reply. status_of reply.answered.verdict ≢ Status.Usage) }
     ensures read_fault { IfErr result (λ unread. unread ≡ Unread.ReadFault → Rose (S.faults source.old) (S.faults source.new)) }
     ensures read_to_end { OnOk result (IfSome (S.left source.old) (λ text. length text ≤ most_bytes job.now.command → S.left source.new ≡ Some [])) }
@@ -247,8 +247,8 @@ fn most_bytes(command: Command) -> usize
 }
 
 /// Writes the report of an answer, once it is whole.
-fn tell<K: Sink>(alloc: Global, reply: Reply, sink: &mut K) -> Ended
-    ensures whole { TellsOfVerdict result.status
+fn write_reply<K: Sink>(alloc: Global, reply: Reply, sink: &mut K) -> Ended
+    ensures whole { IsVerdictStatus result.status
         → (result.status ≡ status_of reply.answered.verdict) × Appends (K.held sink.old) (K.held sink.new) (report_of reply.answered.verdict) }
     ensures part { result.status ≡ Status.WriteFault → AppendsPart (K.held sink.old) (K.held sink.new) (report_of reply.answered.verdict) }
     ensures no_room { result.status ≡ Status.WriteFault → IfSome (K.room sink.old) (λ room. room < length (report_of reply.answered.verdict)) }

@@ -6,7 +6,7 @@ ghost use Rattle.lang_typed.specs.Plain.{plain_program};
 ghost use Rattle.lang_typed.specs.Resolved.{Resolved, HasMain};
 ghost use Rattle.tool_words.specs.Jobs.{IsInRange};
 ghost use Rattle.tool_words.specs.declared.command.Command.TheVariants.{Replay};
-ghost use Rattle.tool_top.specs.Answer.{IsAcceptedAs, IsAnswer, IsElided, IsListing, IsRan, IsRunBy, IsShown, TellsEffects, limits_of, makes_run, verdict_of};
+ghost use Rattle.tool_top.specs.Answer.{IsAcceptedAs, IsAnswer, IsElided, IsListing, IsRan, IsRunBy, IsShown, IsSummaries, limits_of, makes_run, verdict_of};
 
 use crate::answered::{Answered, limits};
 use crate::figures::figures;
@@ -109,7 +109,7 @@ pub fn shown<R: Threads + Wait + Sync, G: Gate + Sync>(
     let Recorded { record, outcome } = run;
     let tasks = record.machine.schedule().to_items(alloc)?;
     let schedule = tasks.as_slice();
-    let Shown::Made(told) = events(alloc, &typed, limits(job), job.arg, schedule)? else {
+    let Shown::Made(made_events) = events(alloc, &typed, limits(job), job.arg, schedule)? else {
         unreachable!("a schedule that was recorded makes its events")
     };
     let text = events_text(
@@ -118,7 +118,7 @@ pub fn shown<R: Threads + Wait + Sync, G: Gate + Sync>(
         limits(job),
         &typed,
         fields.as_slice(),
-        told.as_slice(),
+        made_events.as_slice(),
         outcome.ending,
     )?;
     let verdict = Verdict::Shown { outcome, text };
@@ -190,7 +190,7 @@ fn elided(alloc: Global, job: &Job, passed: Passed) -> Result<Answered, NoMemory
 /// The inferred summaries of an accepted program.
 fn inferred(alloc: Global, text: &[u8], passed: Passed) -> Result<Answered, NoMemory>
     requires { AreNames text.now (names_of_passed passed) }
-    ensures { IfOk result (TellsEffects text.now (typed_of passed)) }
+    ensures { IfOk result (IsSummaries text.now (typed_of passed)) }
 {
     let typed = passed.typed(alloc)?;
     let kept = infer(alloc, &typed)?;

@@ -34,7 +34,7 @@ pub fn one_answer()
 /// The promise of the language. What is accepted is what the text means, and well typed, and its runs come out. A run of an accepted program without
 /// nd constructs is answered by the outcome of its serial elision, whatever schedule it made; of every accepted program a run is one of the source,
 /// whose unordered events that conflict lie in atomic blocks, gathered by blocks it comes out the same, and so it does with its deterministic
-/// constructs in sequence, and with both; so is a run that a replay has made. The events that are told of a run are those of the run of the source,
+/// constructs in sequence, and with both; so is a run that a replay has made. The events that are shown of a run are those of the run of the source,
 /// its rounds are of the tasks that are ready there, and by a schedule that is refused it can't go on. And an elision is answered by the outcome of
 /// the elision, as which the run comes out in which the greatest ready task always goes on. With its inferred summaries it is well typed too.
 pub fn promise()

@@ -2,7 +2,7 @@
 //! writes one report to a sink.
 //!
 //! What it promises: what the sink holds afterwards and the status are the definition's answer for the words
-//! and for the bytes that were read, which the call gives back and which are those that the source held, where it tells them; and the
+//! and for the bytes that were read, which the call gives back and which are those that the source held, where it says so; and the
 //! record is that of the run that was made. A fault of reading or writing is answered only where the source or the sink counted one in
 //! this call. Nothing is written before the report is whole.
 #![tactic(auto)]

@@ -104,7 +104,7 @@ module _ (passed : PassedKeeps) (verdict : OneVerdict) (going : CodeMakesProgres
         let names = named text place typed accepted.1 in
         let least = inferred typed in (
           only (Effects (lines_of (program_kept least.0 typed) names.0)),
-          to_effects is (record { names = names.0; are_names = names.1; kept = least.0; inferred = least.1; tells = refl }),
+          to_effects is (record { names = names.0; are_names = names.1; kept = least.0; inferred = least.1; is = refl }),
         )
 
     by_command : (c : Command) → job.command ≡ c → c ≢ command.Replay → Answer

@@ -177,7 +177,7 @@ module _ (short : SchedulesAreShort) (keeps : EachKeeps) (going : CodeMakesProgr
       on place typed a accepted (to_events c h) e = absurd (let never : shown_verdict job (record { program = typed; names = h.names; fields = h.fields }) h.events h.made.outcome ≡ Traced outcome bytes = sym (ap (λ (b : Answered). b.verdict) h.is) ∙ e in cc)
       on place typed a accepted (to_elide c h) e = absurd (let never = no_other _ a h.is e in cc)
       on place typed a accepted (to_list c h) e = absurd (let never = no_other _ a h.lists e in cc)
-      on place typed a accepted (to_effects c h) e = absurd (let never = no_other _ a h.tells e in cc)
+      on place typed a accepted (to_effects c h) e = absurd (let never = no_other _ a h.is e in cc)
 
       by : {a : Answered} → IsAnswer job text a → a.verdict ≡ Traced outcome bytes → TellsTrace job text a outcome bytes
       by (too_long h) e = absurd (cc e)

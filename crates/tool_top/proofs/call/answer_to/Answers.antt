@@ -25,7 +25,7 @@ returns-in_default-command g c =
     let read = not-made c.in-Ok.job.command c.in_default-command.not-Demo in
     record {
       ok = on-source words c.in-Ok.job c.in-Ok.ensures.given read (g.S.Source.left c.args.source.now) c.answer_source.result c.answer_source.ensures.ok;
-      told = c.answer_source.ensures.told;
+      known = c.answer_source.ensures.known;
       usage = no-usage-so words c.in-Ok.job c.in-Ok.ensures.given read c.answer_source.result c.answer_source.ensures.no_usage;
       asked = asked-so words c.in-Ok.job c.in-Ok.ensures.given read c.answer_source.result;
       read_fault = c.answer_source.ensures.read_fault;

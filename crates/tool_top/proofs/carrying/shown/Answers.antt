@@ -56,10 +56,10 @@ unreachable-requires-in_default-2 g c =
     let runs : IsRunBy job.mode (typed_of c.args.passed) L job.arg job.workers (Some run) =
     subst (λ r. IsRunBy job.mode (typed_of c.args.passed) L job.arg job.workers r) c.in-Some.is
     (subst (λ P. IsRunBy job.mode P L job.arg job.workers c.in_ok-run.field-0) c.in_ok-typed.ensures.typed c.in_ok-run.ensures.run) in
-    let are : AreEvents (typed_of c.args.passed) L job.arg run.record.machine.schedule c.in_ok-told.field-0 =
-    shown-as (plain_program c.in_ok-typed.typed) (typed_of c.args.passed) c.limits.result L _ job.arg c.as_slice-schedule.result.now run.record.machine.schedule c.in_ok-told.field-0 c.in_ok-typed.ensures.typed
-    c.limits.ensures (to_z-of_z fits) (c.as_slice-schedule.ensures ∙ c.in_ok-tasks.ensures ∙ c.schedule.ensures.schedule) c.in_ok-told.ensures in
-    shown-made c.in_ok-told.field-0 (c.promise.ensures.shows job c.args.text.now c.args.passed.place (typed_of c.args.passed) run c.in_ok-told.field-0 (c.requires.in_range, fits) c.requires.accepted runs are)
+    let are : AreEvents (typed_of c.args.passed) L job.arg run.record.machine.schedule c.in_ok-made_events.field-0 =
+    shown-as (plain_program c.in_ok-typed.typed) (typed_of c.args.passed) c.limits.result L _ job.arg c.as_slice-schedule.result.now run.record.machine.schedule c.in_ok-made_events.field-0 c.in_ok-typed.ensures.typed
+    c.limits.ensures (to_z-of_z fits) (c.as_slice-schedule.ensures ∙ c.in_ok-tasks.ensures ∙ c.schedule.ensures.schedule) c.in_ok-made_events.ensures in
+    shown-made c.in_ok-made_events.field-0 (c.promise.ensures.shows job c.args.text.now c.args.passed.place (typed_of c.args.passed) run c.in_ok-made_events.field-0 (c.requires.in_range, fits) c.requires.accepted runs are)
     c.in_default-2.not-Made
 
 pub returns : goal.returns
@@ -71,12 +71,12 @@ returns g c =
     let runs : IsRunBy job.mode (typed_of c.args.passed) L job.arg job.workers (Some run) =
     subst (λ r. IsRunBy job.mode (typed_of c.args.passed) L job.arg job.workers r) c.in-Some.is
     (subst (λ P. IsRunBy job.mode P L job.arg job.workers c.in_ok-run.field-0) c.in_ok-typed.ensures.typed c.in_ok-run.ensures.run) in
-    let are : AreEvents (typed_of c.args.passed) L job.arg c.as_slice-schedule.result.now (Made c.in-Made.told) =
+    let are : AreEvents (typed_of c.args.passed) L job.arg c.as_slice-schedule.result.now (Made c.in-Made.made_events) =
     subst (λ s. AreEvents (typed_of c.args.passed) L job.arg c.as_slice-schedule.result.now s) c.in-Made.is
-    (shown-as (plain_program c.in_ok-typed.typed) (typed_of c.args.passed) c.limits.result L _ job.arg c.as_slice-schedule.result.now c.as_slice-schedule.result.now c.in_ok-told.field-0 c.in_ok-typed.ensures.typed
-    c.limits.ensures (to_z-of_z fits) refl c.in_ok-told.ensures) in
+    (shown-as (plain_program c.in_ok-typed.typed) (typed_of c.args.passed) c.limits.result L _ job.arg c.as_slice-schedule.result.now c.as_slice-schedule.result.now c.in_ok-made_events.field-0 c.in_ok-typed.ensures.typed
+    c.limits.ensures (to_z-of_z fits) refl c.in_ok-made_events.ensures) in
     let reported = ap (Shown run.outcome) (c.in_ok-text.ensures
-    ∙ events-as (plain_program c.in_ok-typed.typed) (names_of c.in_ok-typed.typed) _ job.arg c.limits-2.result L c.as_slice.result.now c.in_ok-typed.fields c.as_slice-2.result.now c.in-Made.told
+    ∙ events-as (plain_program c.in_ok-typed.typed) (names_of c.in_ok-typed.typed) _ job.arg c.limits-2.result L c.as_slice.result.now c.in_ok-typed.fields c.as_slice-2.result.now c.in-Made.made_events
     run.outcome.ending (to_z-of_z fits) c.limits-2.ensures c.as_slice.ensures c.as_slice-2.ensures) in
     shown-so job c.args.text.now (plain_program c.in_ok-typed.typed) (typed_of c.args.passed) (names_of c.in_ok-typed.typed) (names_of_passed c.args.passed) c.in_ok-typed.fields c.args.passed.fields
-    run c.as_slice-schedule.result.now c.in-Made.told _ c.in_ok-typed.ensures.typed c.in_ok-typed.ensures.named c.requires.named c.in_ok-typed.ensures.fields c.requires.fields runs (c.as_slice-schedule.ensures ∙ c.in_ok-tasks.ensures ∙ c.schedule.ensures.schedule) are reported
+    run c.as_slice-schedule.result.now c.in-Made.made_events _ c.in_ok-typed.ensures.typed c.in_ok-typed.ensures.named c.requires.named c.in_ok-typed.ensures.fields c.requires.fields runs (c.as_slice-schedule.ensures ∙ c.in_ok-tasks.ensures ∙ c.schedule.ensures.schedule) are reported

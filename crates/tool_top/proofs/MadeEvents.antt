@@ -80,8 +80,8 @@ module _ (keeps : EachKeeps) (records : MachinesRecord) (alike : EventForEvent) 
   at_start [] ran = ran
   at_start (e ∷ R) ran = absurd ran
 
-  none_told : (events : List MadeEvent) → reverse events ≡ [] → AreEventsOf [] events
-  none_told events none = record {
+  no_events : (events : List MadeEvent) → reverse events ≡ [] → AreEventsOf [] events
+  no_events events none = record {
     sight = record { names = []; paths = [] };
     is_sight = record {
       distinct = record { one = λ n m x a b. absurd (let both : None ≡ Some x = a in cc) };
@@ -103,27 +103,27 @@ module _ (keeps : EachKeeps) (records : MachinesRecord) (alike : EventForEvent) 
         let h = subst (λ z. Records Q L ks z) come (records code P L arg is resolved main few ks m (makes_leads made)) in
         not_limited x (ap (λ (z : Declared). z.ending) (h.2 ∙ ap reported (finished_once Q D L ks ks h.0 o refl h.1 finished)) ∙ same)
 
-  told : {ks : List ℕ} {o : Outcome} (code : Code) → plain_code code ≡ compiled P → (events : List MadeEvent) (m : Moment) → Makes code L arg ks (reverse events) m
+  are_events : {ks : List ℕ} {o : Outcome} (code : Code) → plain_code code ≡ compiled P → (events : List MadeEvent) (m : Moment) → Makes code L arg ks (reverse events) m
       → (finished : Finished Q L ks o) → AreEventsOf (recorded_run finished) events
-  told {ks = ks} {o = o} code is events m made (ended R ran comes) = by (numbers made)
+  are_events {ks = ks} {o = o} code is events m made (ended R ran comes) = by (numbers made)
     where
       by : Numbers L ks (reverse events) m → AreEventsOf R events
       by (all_made same) = of_run code is ks events m made R (subst (λ js. Ran Q L js R) (sym same) ran)
       by (but_last k same come) =
           absurd (within_limit code is ks events m made o (ended R ran comes) (ending_of (trapped comes.sorted) comes.end) (ap (λ (z : Outcome). (reported z).ending) comes.outcome) come)
-  told code is events m made (over k js R e ran ready beyond) = by (numbers made)
+  are_events code is events m made (over k js R e ran ready beyond) = by (numbers made)
     where
       by : Numbers L (k ∷ js) (reverse events) m → AreEventsOf R events
       by (all_made same) =
           let A = alike code P L arg is resolved main few (k ∷ js) (reverse events) m made (λ none. absurd (some_made k js (reverse events) same none)) in
           absurd (over_not_ran Q D L k js R e A.0 ran ready beyond (subst (λ is. Ran Q L is A.0) same A.2))
       by (but_last j same come) = of_run code is (k ∷ js) events m made R (subst (λ is. Ran Q L is R) (sym (tail_same same)) ran)
-  told code is events m made (no_room beyond) = by (numbers made)
+  are_events code is events m made (no_room beyond) = by (numbers made)
     where
       by : Numbers L [] (reverse events) m → AreEventsOf [] events
-      by (all_made same) = none_told events (none_made (reverse events) same)
+      by (all_made same) = no_events events (none_made (reverse events) same)
       by (but_last j same come) = absurd (cc)
 
-  pub told_events : (schedule : List ℕ) (o : Outcome) (finished : Finished Q L (reverse schedule) o) (events : List MadeEvent) → AreEvents P L arg schedule (Made events)
+  pub made_events : (schedule : List ℕ) (o : Outcome) (finished : Finished Q L (reverse schedule) o) (events : List MadeEvent) → AreEvents P L arg schedule (Made events)
       → AreEventsOf (recorded_run finished) events
-  told_events schedule o finished events (AreEvents.made code _ m is those come) = told code is events m those finished
+  made_events schedule o finished events (AreEvents.made code _ m is those come) = are_events code is events m those finished
