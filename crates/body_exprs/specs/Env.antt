@@ -15,7 +15,7 @@ use Rattle.decl_resolve.specs.declared.scope.Site.TheVariants as site
 use Rattle.decl_resolve.specs.Classes.{params_in}
 use Rattle.decl_resolve.specs.Names.{Names}
 use Rattle.decl_resolve.specs.Scopes.{PlainScope, param_meant}
-use Rattle.decl_resolve.specs.Scoped.{no_names, names_in, place_in, value_in, values_in, with_name, names_left}
+use Rattle.decl_resolve.specs.Scoped.{no_names, place_in, value_in, values_in, with_name, names_left}
 use Rattle.decl_table.specs.declared.rows.MethodRow.{MethodRow}
 use Rattle.decl_table.specs.declared.table.Table.{Table}
 use Rattle.decl_table.specs.Table.{headers_of, given_of, all_given, numbered}
@@ -88,17 +88,6 @@ scope_of env = record {
 -- a region parameter of the class or the method has the name
 abbrev pub is_param_name : Env → ℕ → Bool
 is_param_name env name = is_some (param_meant (scope_of env) name)
-
--- the names of the locals in scope, and the slots of those that may stand in an index
-abbrev pub local_names : Env → List ℕ
-local_names env = names_in env.variables
-
-abbrev pub index_slots : Env → List (Option ℕ)
-index_slots env = values_in env.variables
-
--- the names of the local regions in scope
-abbrev pub region_names : Env → List ℕ
-region_names env = names_in env.regions
 
 -- how many local regions the member has declared so far
 abbrev pub declared_in : Env → ℕ

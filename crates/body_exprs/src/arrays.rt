@@ -40,7 +40,7 @@ fn own_path(
     rpl: Option<&RplTree>,
     around: IndexNames,
 ) -> Result<Rpl, Stop>
-    ensures answer { Says result (λ own. Ok own) Err (λ a. own_path env.now (plain_index around.entry) (option_copied rpl.entry) ≡ a) }
+    ensures { Says result (λ own. Ok own) Err (λ a. own_path env.now (plain_index around.entry) (option_copied rpl.entry) ≡ a) }
 {
     match rpl {
         Some(tree) => written_path(alloc, env, tree, around),
@@ -49,7 +49,7 @@ fn own_path(
 }
 
 fn written_path(alloc: Global, env: &Env, tree: &RplTree, around: IndexNames) -> Result<Rpl, Stop>
-    ensures answer { Says result (λ own. Ok own) Err (λ a. own_path env.now (plain_index around.entry) (Some tree.now) ≡ a) }
+    ensures { Says result (λ own. Ok own) Err (λ a. own_path env.now (plain_index around.entry) (Some tree.now) ≡ a) }
 {
     match read_path(alloc, env, tree, around)? {
         Some(rpl) => Ok(rpl),
@@ -96,7 +96,7 @@ pub fn array_creation(
     around: IndexNames,
     place: Place,
 ) -> Result<Ty, Stop>
-    ensures answer { Says result (λ ty. Ok (plain_type ty)) Err (λ a. created_array env.now (plain_index around.entry) read (value_type length.now) (option_copied rpl.entry) place ≡ a) }
+    ensures { Says result (λ ty. Ok (plain_type ty)) Err (λ a. created_array env.now (plain_index around.entry) read (value_type length.now) (option_copied rpl.entry) place ≡ a) }
 {
     let own = own_path(alloc, env, rpl, around)?;
     let own_place = own_place(rpl, place);
@@ -115,7 +115,7 @@ fn array_with(
     own_place: Place,
     place: Place,
 ) -> Result<Ty, Stop>
-    ensures answer { Says result (λ ty. Ok (plain_type ty)) Err (λ a. array_with env.now (plain_index around.entry) read is_length (Ok own) own_place place ≡ a) }
+    ensures { Says result (λ ty. Ok (plain_type ty)) Err (λ a. array_with env.now (plain_index around.entry) read is_length (Ok own) own_place place ≡ a) }
 {
     let mut faults = Faults::by_kind();
     note_if(&mut faults, !is_length, Kind::Type, place);

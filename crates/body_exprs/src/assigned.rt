@@ -1,4 +1,4 @@
-ghost use Rattle.std.specs.Prelude.{◌≡◌, false, Ok, Err, option_map, OnOk, IsTrue};
+ghost use Rattle.std.specs.Prelude.{◌≡◌, false, Ok, Err, option_map, OnOk};
 ghost use Rattle.lang_base.specs.Refused.{IfRefused};
 ghost use Rattle.syntax_tree.specs.Plain.{expression, plain_expr};
 ghost use Rattle.syntax_tree.specs.Plain.{ExprForm as form};
@@ -57,8 +57,7 @@ pub fn read_target(
     found: &mut Found,
     e: &Tree,
 ) -> Result<Option<Target>, Stop>
-    ensures answer { Says result (λ target. aims (option_map plain_target target) found.new) misses (Targeting env.now (plain_expr e.now) found.old) }
-    ensures nd { OnOk result (IsTrue found.old.reaches_nd → IsTrue found.new.reaches_nd) }
+    ensures { Says result (λ target. aims (option_map plain_target target) found.new) misses (Targeting env.now (plain_expr e.now) found.old) }
 {
     match &e.kind {
         ExprKind::Field { of, name } => {
@@ -87,8 +86,7 @@ fn field_target(
     name: u32,
     place: Place,
 ) -> Result<Option<Target>, Stop>
-    ensures answer { Says result (λ target. aims (option_map plain_target target) found.new) misses (Targeting env.now (expression place (form.field (plain_expr of.now) name)) found.old) }
-    ensures nd { OnOk result (IsTrue found.old.reaches_nd → IsTrue found.new.reaches_nd) }
+    ensures { Says result (λ target. aims (option_map plain_target target) found.new) misses (Targeting env.now (expression place (form.field (plain_expr of.now) name)) found.old) }
 {
     match measured(env, of, name) {
         Some(_) => Err(refused(Kind::Type, place)),
@@ -138,8 +136,7 @@ fn element_target(
     index: &Tree,
     place: Place,
 ) -> Result<Option<Target>, Stop>
-    ensures answer { Says result (λ target. aims (option_map plain_target target) found.new) misses (Targeting env.now (expression place (form.element (plain_expr array.now) (plain_expr index.now))) found.old) }
-    ensures nd { OnOk result (IsTrue found.old.reaches_nd → IsTrue found.new.reaches_nd) }
+    ensures { Says result (λ target. aims (option_map plain_target target) found.new) misses (Targeting env.now (expression place (form.element (plain_expr array.now) (plain_expr index.now))) found.old) }
 {
     match env.part(array) {
         Some(row) => {

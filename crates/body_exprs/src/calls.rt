@@ -1,4 +1,4 @@
-ghost use Rattle.std.specs.Prelude.{◌≡◌, ◌++◌, false, true, None, Some, Ok, Err, map, IfOk, OnOk, IsTrue};
+ghost use Rattle.std.specs.Prelude.{◌≡◌, ◌++◌, false, true, None, Some, Ok, Err, map, IfOk, OnOk};
 ghost use Rattle.std.specs.List.{list_all};
 ghost use Rattle.lang_base.specs.Types.{plain_type, type_with};
 ghost use Rattle.decl_resolve.specs.Constraints.{all_hold};
@@ -129,8 +129,7 @@ pub fn call(
     actuals: Items<Typed>,
     place: Place,
 ) -> Result<Typed, Stop>
-    ensures answer { Says result (λ given. gives (plain_typed given) found.new) refused (λ a. type_call env.now (plain_typed of) name regions (map plain_typed actuals) place found.old ≡ a) }
-    ensures nd { OnOk result (IsTrue found.old.reaches_nd → IsTrue found.new.reaches_nd) }
+    ensures { Says result (λ given. gives (plain_typed given) found.new) refused (λ a. type_call env.now (plain_typed of) name regions (map plain_typed actuals) place found.old ≡ a) }
 {
     match of {
         Typed::Known(of) => {
@@ -169,8 +168,7 @@ fn call_on(
     actuals: Items<Typed>,
     place: Place,
 ) -> Result<Expr, Stop>
-    ensures answer { Says result (λ e. gives (Some (plain_node e)) found.new) refused (λ a. type_call_on env.now (plain_node of) name regions (map plain_typed actuals) place found.old ≡ a) }
-    ensures nd { OnOk result (IsTrue found.old.reaches_nd → IsTrue found.new.reaches_nd) }
+    ensures { Says result (λ e. gives (Some (plain_node e)) found.new) refused (λ a. type_call_on env.now (plain_node of) name regions (map plain_typed actuals) place found.old ≡ a) }
 {
     let (class, row, owned) = called_method(alloc, env, &of.ty, name, place)?;
     let owned = owned.as_slice();
@@ -188,7 +186,7 @@ fn called_method<'e>(
     name: u32,
     place: Place,
 ) -> Result<(u32, &'e MethodRow, Items<Rpl>), Stop>
-    ensures answer { Says result (λ found. Ok (found.0, found.1.now, found.2)) Err (λ a. method_through (table_of env.now) (plain_type of.now) name place ≡ a) }
+    ensures { Says result (λ found. Ok (found.0, found.1.now, found.2)) Err (λ a. method_through (table_of env.now) (plain_type of.now) name place ≡ a) }
 {
     let Ty::Class { class, args } = of else {
         return Err(refused(Kind::Type, place));
@@ -218,8 +216,7 @@ fn call_of(
     actuals: Items<Typed>,
     place: Place,
 ) -> Result<Expr, Stop>
-    ensures answer { Says result (λ e. gives (Some (plain_node e)) found.new) refused (λ a. type_call_of env.now (plain_node of) class row.now owned.now regions (map plain_typed actuals) place found.old ≡ a) }
-    ensures nd { OnOk result (IsTrue found.old.reaches_nd → IsTrue found.new.reaches_nd) }
+    ensures { Says result (λ e. gives (Some (plain_node e)) found.new) refused (λ a. type_call_of env.now (plain_node of) class row.now owned.now regions (map plain_typed actuals) place found.old ≡ a) }
 {
     let mut faults = Faults::by_kind();
     match fit_args(alloc, &mut faults, regions, row.regions.as_slice(), place)? {
@@ -269,7 +266,6 @@ fn call_with(
     ensures reported { Says result (λ ty. None) Some (λ t. use_reported env.now faults args.now (map value_type actuals.now) row.now.params partial (all_hold (given_in env.now) args.now row.now.given) place ≡ t) }
     ensures ty { IfOk result (λ ty. plain_type ty ≡ type_with args.now (plain_type row.now.result)) }
     ensures found { OnOk result (found.new ≡ with_call (table_of env.now) found.old row.now args.now) }
-    ensures nd { OnOk result (IsTrue found.old.reaches_nd → IsTrue found.new.reaches_nd) }
 {
     check_use(
         alloc,

@@ -1,4 +1,4 @@
-ghost use Rattle.std.specs.Prelude.{◌≡◌, false, None, Some, Ok, Err, map, IfOk, OnOk, IsTrue};
+ghost use Rattle.std.specs.Prelude.{◌≡◌, false, None, Some, Ok, Err, map, IfOk, OnOk};
 ghost use Rattle.lang_base.specs.Types.{plain_type};
 ghost use Rattle.lang_base.specs.Types.{PlainType as plain};
 ghost use Rattle.decl_resolve.specs.Classes.{params_in};
@@ -66,8 +66,7 @@ pub fn creation(
     actuals: Items<Typed>,
     place: Place,
 ) -> Result<Expr, Stop>
-    ensures answer { Says result (λ e. gives (Some (plain_node e)) found.new) refused (λ a. type_creation env.now class regions (map plain_typed actuals) place found.old ≡ a) }
-    ensures nd { OnOk result (IsTrue found.old.reaches_nd → IsTrue found.new.reaches_nd) }
+    ensures { Says result (λ e. gives (Some (plain_node e)) found.new) refused (λ a. type_creation env.now class regions (map plain_typed actuals) place found.old ≡ a) }
 {
     match env.table().headers().class(class.name) {
         Some(number) => creation_of(alloc, env, found, number, regions, actuals, place),
@@ -85,8 +84,7 @@ fn creation_of(
     actuals: Items<Typed>,
     place: Place,
 ) -> Result<Expr, Stop>
-    ensures answer { Says result (λ e. gives (Some (plain_node e)) found.new) refused (λ a. type_creation_of env.now class regions (map plain_typed actuals) place found.old ≡ a) }
-    ensures nd { OnOk result (IsTrue found.old.reaches_nd → IsTrue found.new.reaches_nd) }
+    ensures { Says result (λ e. gives (Some (plain_node e)) found.new) refused (λ a. type_creation_of env.now class regions (map plain_typed actuals) place found.old ≡ a) }
 {
     let mut faults = Faults::by_kind();
     match fit_args(alloc, &mut faults, regions, class_params(env, class), place)? {
@@ -121,7 +119,6 @@ fn creation_with(
     ensures reported { Says result (λ ty. None) Some (λ t. use_reported env.now faults args (map value_type actuals.now) (formals_of (table_of env.now) class) false (all_hold (given_in env.now) args (given_of (table_of env.now) class)) place ≡ t) }
     ensures ty { IfOk result (λ ty. plain_type ty ≡ plain.class class args) }
     ensures found { OnOk result (found.new ≡ with_constructor (table_of env.now) found.old (constructor_of (table_of env.now) class) args) }
-    ensures nd { OnOk result (IsTrue found.old.reaches_nd → IsTrue found.new.reaches_nd) }
 {
     check_use(
         alloc,
@@ -157,7 +154,6 @@ fn add_constructor(
     args: &[Rpl],
 ) -> Result<(), NoMemory>
     ensures whole { OnOk result (found.new ≡ with_constructor (table_of env.now) found.old (constructor_of (table_of env.now) class) args.now) }
-    ensures nd { OnOk result (IsTrue found.old.reaches_nd → IsTrue found.new.reaches_nd) }
 {
     match env.table().constructor(class) {
         Some(row) => found.call(alloc, env.table(), row, args),

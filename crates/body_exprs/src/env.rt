@@ -29,7 +29,7 @@ pub struct LocalRow {
 const PART_SLOTS: u32 = 4;
 
 /// How much is in scope.
-#[derive(Clone, Copy, Debug, PartialEq, Eq)]
+#[derive(Clone, Copy)]
 pub struct Mark {
     pub locals: usize,
     pub regions: usize,
@@ -75,13 +75,12 @@ pub fn length_name(program: &Program) -> Option<u32>
 }
 
 impl<'a> Env<'a> {
-    ghost use Rattle.std.specs.Prelude.{◌≡◌, ◌↔◌, ◌∷◌, ◌++◌, [], take, IsTrue, IfOk, OnOk};
-    ghost use Rattle.decl_table.specs.Table.{given_of};
+    ghost use Rattle.std.specs.Prelude.{◌≡◌, ◌↔◌, IsTrue, IfOk, OnOk};
     ghost use Rattle.std.specs.Option.{option_copied};
     ghost use Rattle.lang_base.specs.Types.{plain_type};
     ghost use Rattle.decl_resolve.specs.Scopes.{plain_scope};
     ghost use Rattle.syntax_tree.specs.Plain.{plain_expr};
-    ghost use Rattle.body_exprs.specs.Env.{table_of, locals_in, local_names, index_slots, region_names, declared_in, slots_in, HasRoom, mark_of, local_row, part_row, with_row_in, with_local, with_part, with_region, left_to, bare, at_class, at_method, is_param_name, local_of, index_variable_of, part_of, is_length_name, given_in, regions_in, has_region, scope_of, this_type_of, IsFresh};
+    ghost use Rattle.body_exprs.specs.Env.{table_of, declared_in, slots_in, HasRoom, mark_of, with_row_in, with_local, with_part, with_region, left_to, bare, at_class, at_method, is_param_name, local_of, index_variable_of, part_of, is_length_name, given_in, has_region, scope_of, this_type_of, IsFresh};
 
     /// What is around the members of class 0, before one is entered.
     pub fn new(alloc: Global, table: &'a Table, length: Option<u32>) -> Env<'a>
@@ -113,10 +112,7 @@ impl<'a> Env<'a> {
 
     /// Goes over to a class. Its constraints are in force.
     pub fn enter_class(&mut self, alloc: Global, class: u32) -> Result<(), NoMemory>
-        ensures whole { OnOk result (self.new ≡ at_class self.old class) }
-        ensures class { self.new.class ≡ class }
-        ensures given { OnOk result (given_in self.new ≡ given_of (table_of self.old) class) }
-        ensures locals { locals_in self.new ≡ [] }
+        ensures { OnOk result (self.new ≡ at_class self.old class) }
     {
         self.clear();
         self.class = class;
@@ -132,11 +128,7 @@ impl<'a> Env<'a> {
     /// Goes over to a constructor or method of the class. Its region parameters are in scope and its constraints in
     /// force, and no local is in scope yet.
     pub fn enter_method(&mut self, alloc: Global, method: u32) -> Result<(), NoMemory>
-        ensures whole { OnOk result (self.new ≡ at_method self.old method) }
-        ensures method { self.new.method ≡ method }
-        ensures locals { locals_in self.new ≡ [] }
-        ensures names { local_names self.new ≡ [] }
-        ensures regions { regions_in self.new ≡ [] }
+        ensures { OnOk result (self.new ≡ at_method self.old method) }
     {
         self.clear();
         self.method = method;
@@ -182,15 +174,10 @@ impl<'a> Env<'a> {
         self.slots < u32::MAX - PART_SLOTS && self.declared < u32::MAX
     }
 
-    /// Puts a local in scope, in the next slot, and gives this slot. A final int may stand in an index.
-    pub fn declare(&mut self, name: u32, ty: Ty, is_final: bool) -> Result<u32, NoMemory>
+    /// Puts a local in scope, in the next slot. A final int may stand in an index.
+    pub fn declare(&mut self, name: u32, ty: Ty, is_final: bool) -> Result<(), NoMemory>
         requires { HasRoom self.old }
-        ensures whole { OnOk result (self.new ≡ with_local self.old name ty is_final) }
-        ensures slot { IfOk result (λ slot. slot ≡ slots_in self.old) }
-        ensures locals { OnOk result (locals_in self.new ≡ locals_in self.old ++ local_row self.old name ty is_final ∷ []) }
-        ensures names { OnOk result (local_names self.new ≡ local_names self.old ++ name ∷ []) }
-        ensures regions { regions_in self.new ≡ regions_in self.old }
-        ensures given { given_in self.new ≡ given_in self.old }
+        ensures { OnOk result (self.new ≡ with_local self.old name ty is_final) }
     {
         let slot = self.slots;
         self.put(LocalRow {
@@ -201,18 +188,13 @@ impl<'a> Env<'a> {
             is_part: false,
         })?;
         self.slots = slot + 1;
-        Ok(slot)
+        Ok(())
     }
 
-    /// Puts a part of an array of that type in scope, in the next four slots, and gives the first of them.
-    pub fn declare_part(&mut self, name: u32, ty: Ty) -> Result<u32, NoMemory>
+    /// Puts a part of an array of that type in scope, in the next four slots.
+    pub fn declare_part(&mut self, name: u32, ty: Ty) -> Result<(), NoMemory>
         requires { HasRoom self.old }
-        ensures whole { OnOk result (self.new ≡ with_part self.old name ty) }
-        ensures slot { IfOk result (λ slot. slot ≡ slots_in self.old) }
-        ensures locals { OnOk result (locals_in self.new ≡ locals_in self.old ++ part_row self.old name ty ∷ []) }
-        ensures names { OnOk result (local_names self.new ≡ local_names self.old ++ name ∷ []) }
-        ensures regions { regions_in self.new ≡ regions_in self.old }
-        ensures given { given_in self.new ≡ given_in self.old }
+        ensures { OnOk result (self.new ≡ with_part self.old name ty) }
     {
         let slot = self.slots;
         self.put(LocalRow {
@@ -223,14 +205,12 @@ impl<'a> Env<'a> {
             is_part: true,
         })?;
         self.slots = slot + PART_SLOTS;
-        Ok(slot)
+        Ok(())
     }
 
     /// Puts a row in scope, by its name too.
     fn put(&mut self, row: LocalRow) -> Result<(), NoMemory>
-        ensures whole { OnOk result (self.new ≡ with_row_in self.old row) }
-        ensures regions { regions_in self.new ≡ regions_in self.old }
-        ensures given { given_in self.new ≡ given_in self.old }
+        ensures { OnOk result (self.new ≡ with_row_in self.old row) }
     {
         let index = index_slot(&row);
         let name = row.name;
@@ -243,20 +223,15 @@ impl<'a> Env<'a> {
         entered
     }
 
-    /// Puts a local region in scope, and gives the number of its declaration.
-    pub fn declare_region(&mut self, name: u32) -> Result<u32, NoMemory>
+    /// Puts a local region in scope, with the next number of a declaration.
+    pub fn declare_region(&mut self, name: u32) -> Result<(), NoMemory>
         requires { HasRoom self.old }
-        ensures whole { OnOk result (self.new ≡ with_region self.old name) }
-        ensures number { IfOk result (λ decl. decl ≡ declared_in self.old) }
-        ensures names { OnOk result (region_names self.new ≡ region_names self.old ++ name ∷ []) }
-        ensures regions { OnOk result (regions_in self.new ≡ regions_in self.old ++ declared_in self.old ∷ []) }
-        ensures locals { locals_in self.new ≡ locals_in self.old }
-        ensures given { given_in self.new ≡ given_in self.old }
+        ensures { OnOk result (self.new ≡ with_region self.old name) }
     {
         let decl = self.declared;
         self.regions.enter(name, decl)?;
         self.declared = decl + 1;
-        Ok(decl)
+        Ok(())
     }
 
     /// What is in scope now, to be left again.
@@ -271,33 +246,11 @@ impl<'a> Env<'a> {
 
     /// Takes what came into scope after a mark out of it. Its slots and numbers aren't given again.
     pub fn leave(&mut self, mark: Mark)
-        ensures whole { self.new ≡ left_to self.old mark }
-        ensures locals { locals_in self.new ≡ take mark.locals (locals_in self.old) }
-        ensures names { local_names self.new ≡ take mark.locals (local_names self.old) }
-        ensures indices { index_slots self.new ≡ take mark.locals (index_slots self.old) }
-        ensures regions { regions_in self.new ≡ take mark.regions (regions_in self.old) }
-        ensures region_names { region_names self.new ≡ take mark.regions (region_names self.old) }
-        ensures given { given_in self.new ≡ given_in self.old }
-        ensures declared { declared_in self.new ≡ declared_in self.old }
-        ensures slots { slots_in self.new ≡ slots_in self.old }
+        ensures { self.new ≡ left_to self.old mark }
     {
         self.rows.truncate(mark.locals);
         self.variables.leave(mark.locals);
         self.regions.leave(mark.regions);
-    }
-
-    /// The locals in scope, in the order of their declarations.
-    pub fn locals(&self) -> &[LocalRow]
-        ensures { result.now ≡ locals_in self.now }
-    {
-        self.rows.as_slice()
-    }
-
-    /// The declarations of the local regions in scope, in their order.
-    pub fn local_regions(&self) -> &[u32]
-        ensures { result.now ≡ regions_in self.now }
-    {
-        self.regions.values()
     }
 
     /// The local of that name: the last, where there are two.

@@ -1,4 +1,4 @@
-ghost use Rattle.std.specs.Prelude.{◌≡◌, Ok, Err, option_map, IfOk, OnOk, IsTrue};
+ghost use Rattle.std.specs.Prelude.{◌≡◌, Ok, Err, option_map, IfOk};
 ghost use Rattle.region_types.specs.Access.{plain_element};
 ghost use Rattle.lang_base.specs.Types.{plain_type};
 ghost use Rattle.syntax_tree.specs.Plain.{plain_expr};
@@ -34,7 +34,7 @@ pub struct FieldAt {
 
 /// The field of that name through a receiver of a class type.
 pub fn field_at(alloc: Global, env: &Env, of: &Ty, name: u32, place: Place) -> Result<FieldAt, Stop>
-    ensures answer { Says result (λ field. Ok (plain_field field)) Err (λ a. field_through (table_of env.now) (plain_type of.now) name place ≡ a) }
+    ensures { Says result (λ field. Ok (plain_field field)) Err (λ a. field_through (table_of env.now) (plain_type of.now) name place ≡ a) }
 {
     let Ty::Class { class, args } = of else {
         return Err(refused(Kind::Type, place));
@@ -75,8 +75,7 @@ pub fn read_field(
     name: u32,
     place: Place,
 ) -> Result<Typed, Stop>
-    ensures answer { Says result (λ given. gives (plain_typed given) found.new) refused (λ a. read_field env.now (plain_typed of) name place found.old ≡ a) }
-    ensures nd { OnOk result (IsTrue found.old.reaches_nd → IsTrue found.new.reaches_nd) }
+    ensures { Says result (λ given. gives (plain_typed given) found.new) refused (λ a. read_field env.now (plain_typed of) name place found.old ≡ a) }
 {
     let Typed::Known(of) = of else {
         return Ok(Typed::Any);
@@ -120,7 +119,7 @@ pub fn element_at(
     at: &Typed,
     place: Place,
 ) -> Result<Option<Element>, Stop>
-    ensures answer { Says result (λ element. Ok (option_map plain_element element)) Err (λ a. element_through (value_type array.now) (index_of env.now (plain_expr index.now)) (value_type at.now) place ≡ a) }
+    ensures { Says result (λ element. Ok (option_map plain_element element)) Err (λ a. element_through (value_type array.now) (index_of env.now (plain_expr index.now)) (value_type at.now) place ≡ a) }
 {
     if !at.is_int() {
         return Err(refused(Kind::Type, place));
@@ -144,8 +143,7 @@ pub fn read_element(
     at: Typed,
     place: Place,
 ) -> Result<Typed, Stop>
-    ensures answer { Says result (λ given. gives (plain_typed given) found.new) refused (λ a. read_element env.now (plain_typed array) (plain_expr index.now) (plain_typed at) place found.old ≡ a) }
-    ensures nd { OnOk result (IsTrue found.old.reaches_nd → IsTrue found.new.reaches_nd) }
+    ensures { Says result (λ given. gives (plain_typed given) found.new) refused (λ a. read_element env.now (plain_typed array) (plain_expr index.now) (plain_typed at) place found.old ≡ a) }
 {
     let Some(element) = element_at(alloc, env, &array, index, &at, place)? else {
         return Ok(Typed::Any);
@@ -205,8 +203,7 @@ pub fn read_part(
     at: Typed,
     place: Place,
 ) -> Result<Typed, Stop>
-    ensures answer { Says result (λ given. gives (plain_typed given) found.new) refused (λ a. read_part row.now (plain_typed at) place found.old ≡ a) }
-    ensures nd { OnOk result (IsTrue found.old.reaches_nd → IsTrue found.new.reaches_nd) }
+    ensures { Says result (λ given. gives (plain_typed given) found.new) refused (λ a. read_part row.now (plain_typed at) place found.old ≡ a) }
 {
     let Some(element) = part_element(alloc, row, &at, place)? else {
         return Ok(Typed::Any);

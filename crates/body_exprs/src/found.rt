@@ -14,10 +14,8 @@ pub struct Found {
 }
 
 impl Found {
-    ghost use Rattle.std.specs.Prelude.{◌≡◌, ◌∷◌, ◌++◌, [], false, map, OnOk, OnErr};
-    ghost use Rattle.lang_base.specs.Effects.{added, gathered};
+    ghost use Rattle.std.specs.Prelude.{◌≡◌, [], false, OnOk};
     ghost use Rattle.body_exprs.specs.Answer.{with_access, with_part_use, with_summary, with_call};
-    ghost use Rattle.body_exprs.specs.Found.{access_to, part_access, effect_with};
 
     pub fn new(alloc: Global) -> Found
         ensures { result ≡ record { effects = []; uses = []; reaches_nd = false } }
@@ -31,10 +29,7 @@ impl Found {
 
     /// Adds a plain read or write.
     pub fn access(&mut self, rpl: Rpl, access: Access) -> Result<(), NoMemory>
-        ensures whole { OnOk result (self.new ≡ with_access self.old rpl access) }
-        ensures ok { OnOk result (self.new.effects ≡ added self.old.effects (access_to rpl access)) }
-        ensures err { OnErr result (self.new.effects ≡ self.old.effects) }
-        ensures apart { self.new.uses ≡ self.old.uses }
+        ensures { OnOk result (self.new ≡ with_access self.old rpl access) }
     {
         self.effects.add(Effect {
             access,
@@ -45,10 +40,7 @@ impl Found {
 
     /// Adds a read or a write through a part of an array.
     pub fn part_use(&mut self, view: u32, rpl: Rpl, access: Access) -> Result<(), NoMemory>
-        ensures whole { OnOk result (self.new ≡ with_part_use self.old view rpl access) }
-        ensures ok { OnOk result (self.new.uses ≡ self.old.uses ++ part_access view rpl access ∷ []) }
-        ensures err { OnErr result (self.new.uses ≡ self.old.uses) }
-        ensures apart { self.new.effects ≡ self.old.effects }
+        ensures { OnOk result (self.new ≡ with_part_use self.old view rpl access) }
     {
         self.uses.push(PartUse { view, rpl, access })
     }
@@ -69,9 +61,7 @@ impl Found {
 
     /// Adds the effects of a summary, with region arguments put in.
     fn summary(&mut self, alloc: Global, summary: &EffectSet, args: &[Rpl]) -> Result<(), NoMemory>
-        ensures whole { OnOk result (self.new ≡ with_summary self.old summary.now args.now) }
-        ensures ok { OnOk result (self.new.effects ≡ gathered self.old.effects (map (effect_with args.now) summary.now)) }
-        ensures apart { self.new.uses ≡ self.old.uses }
+        ensures { OnOk result (self.new ≡ with_summary self.old summary.now args.now) }
     {
         for effect in summary.as_slice() {
             self.effects.add(Effect {

@@ -1,5 +1,5 @@
 ghost use Rattle.std.specs.Option.{option_copied};
-ghost use Rattle.std.specs.Prelude.{◌≡◌, Some, map, OnOk, IsTrue};
+ghost use Rattle.std.specs.Prelude.{◌≡◌, Some, map};
 ghost use Rattle.lang_base.specs.Types.{PlainType as ty};
 ghost use Rattle.syntax_tree.specs.Plain.{expression, plain_expr, plain_exprs};
 ghost use Rattle.syntax_tree.specs.Plain.{ExprForm as form};
@@ -34,8 +34,7 @@ use syntax_tree::{BaseTree, Expr as Tree, ExprKind, InfixOp, Named, RplTree, Suf
 /// the tree holds them.
 #[cycle(exprs)]
 pub fn expr(alloc: Global, env: &Env, found: &mut Found, e: &Tree) -> Result<Typed, Stop>
-    ensures answer { Says result (λ given. gives (plain_typed given) found.new) refused (Typing env.now (plain_expr e.now) found.old) }
-    ensures nd { OnOk result (IsTrue found.old.reaches_nd → IsTrue found.new.reaches_nd) }
+    ensures { Says result (λ given. gives (plain_typed given) found.new) refused (Typing env.now (plain_expr e.now) found.old) }
 {
     let place = e.place;
     match &e.kind {
@@ -81,8 +80,7 @@ fn field(
     name: u32,
     place: Place,
 ) -> Result<Typed, Stop>
-    ensures answer { Says result (λ given. gives (plain_typed given) found.new) refused (Typing env.now (expression place (form.field (plain_expr of.now) name)) found.old) }
-    ensures nd { OnOk result (IsTrue found.old.reaches_nd → IsTrue found.new.reaches_nd) }
+    ensures { Says result (λ given. gives (plain_typed given) found.new) refused (Typing env.now (expression place (form.field (plain_expr of.now) name)) found.old) }
 {
     let of = of.get();
     match measured(env, of, name) {
@@ -104,8 +102,7 @@ fn element(
     index: &Boxed<Tree>,
     place: Place,
 ) -> Result<Typed, Stop>
-    ensures answer { Says result (λ given. gives (plain_typed given) found.new) refused (Typing env.now (expression place (form.element (plain_expr array.now) (plain_expr index.now))) found.old) }
-    ensures nd { OnOk result (IsTrue found.old.reaches_nd → IsTrue found.new.reaches_nd) }
+    ensures { Says result (λ given. gives (plain_typed given) found.new) refused (Typing env.now (expression place (form.element (plain_expr array.now) (plain_expr index.now))) found.old) }
 {
     let array = array.get();
     let index = index.get();
@@ -134,8 +131,7 @@ fn method_call(
     actuals: &Items<Tree>,
     place: Place,
 ) -> Result<Typed, Stop>
-    ensures answer { Says result (λ given. gives (plain_typed given) found.new) refused (Typing env.now (expression place (form.call (plain_expr of.now) regions.now name (plain_exprs (map plain_expr actuals.now)))) found.old) }
-    ensures nd { OnOk result (IsTrue found.old.reaches_nd → IsTrue found.new.reaches_nd) }
+    ensures { Says result (λ given. gives (plain_typed given) found.new) refused (Typing env.now (expression place (form.call (plain_expr of.now) regions.now name (plain_exprs (map plain_expr actuals.now)))) found.old) }
 {
     let of = expr(alloc, env, found, of.get())?;
     let regions = read_call_args(alloc, env, &of, name, regions.as_slice())?;
@@ -154,8 +150,7 @@ fn new_object(
     actuals: &Items<Tree>,
     place: Place,
 ) -> Result<Typed, Stop>
-    ensures answer { Says result (λ given. gives (plain_typed given) found.new) refused (Typing env.now (expression place (form.create class regions.now (plain_exprs (map plain_expr actuals.now)))) found.old) }
-    ensures nd { OnOk result (IsTrue found.old.reaches_nd → IsTrue found.new.reaches_nd) }
+    ensures { Says result (λ given. gives (plain_typed given) found.new) refused (Typing env.now (expression place (form.create class regions.now (plain_exprs (map plain_expr actuals.now)))) found.old) }
 {
     let regions = read_new_args(alloc, env, class, regions.as_slice())?;
     let actuals = exprs(alloc, env, found, actuals.as_slice())?;
@@ -176,8 +171,7 @@ fn new_array(
     index: &Option<Named>,
     place: Place,
 ) -> Result<Typed, Stop>
-    ensures answer { Says result (λ given. gives (plain_typed given) found.new) refused (Typing env.now (expression place (form.create_array base.now suffixes.now (plain_expr length.now) rpl.now index.now)) found.old) }
-    ensures nd { OnOk result (IsTrue found.old.reaches_nd → IsTrue found.new.reaches_nd) }
+    ensures { Says result (λ given. gives (plain_typed given) found.new) refused (Typing env.now (expression place (form.create_array base.now suffixes.now (plain_expr length.now) rpl.now index.now)) found.old) }
 {
     let around = IndexNames {
         suffixes: suffixes.as_slice(),
@@ -201,8 +195,7 @@ fn one_operand(
     arg: &Boxed<Tree>,
     place: Place,
 ) -> Result<Typed, Stop>
-    ensures answer { Says result (λ given. gives (plain_typed given) found.new) refused (Typing env.now (expression place (form.unary op (plain_expr arg.now))) found.old) }
-    ensures nd { OnOk result (IsTrue found.old.reaches_nd → IsTrue found.new.reaches_nd) }
+    ensures { Says result (λ given. gives (plain_typed given) found.new) refused (Typing env.now (expression place (form.unary op (plain_expr arg.now))) found.old) }
 {
     let arg = expr(alloc, env, found, arg.get())?;
     Ok(Typed::Known(unary(alloc, op, arg, place)?))
@@ -219,8 +212,7 @@ fn two_operands(
     right: &Boxed<Tree>,
     place: Place,
 ) -> Result<Typed, Stop>
-    ensures answer { Says result (λ given. gives (plain_typed given) found.new) refused (Typing env.now (expression place (form.binary op (plain_expr left.now) (plain_expr right.now))) found.old) }
-    ensures nd { OnOk result (IsTrue found.old.reaches_nd → IsTrue found.new.reaches_nd) }
+    ensures { Says result (λ given. gives (plain_typed given) found.new) refused (Typing env.now (expression place (form.binary op (plain_expr left.now) (plain_expr right.now))) found.old) }
 {
     let left = expr(alloc, env, found, left.get())?;
     let right = expr(alloc, env, found, right.get())?;
@@ -230,8 +222,7 @@ fn two_operands(
 /// Several expressions.
 #[cycle(exprs)]
 fn exprs(alloc: Global, env: &Env, found: &mut Found, all: &[Tree]) -> Result<Items<Typed>, Stop>
-    ensures answer { Says result (λ made. all_give (map plain_typed made) found.new) one_refused (TypingAll env.now (plain_exprs (map plain_expr all.now)) found.old) }
-    ensures nd { OnOk result (IsTrue found.old.reaches_nd → IsTrue found.new.reaches_nd) }
+    ensures { Says result (λ made. all_give (map plain_typed made) found.new) one_refused (TypingAll env.now (plain_exprs (map plain_expr all.now)) found.old) }
 {
     let mut made = Items::new(alloc);
     for e in all {

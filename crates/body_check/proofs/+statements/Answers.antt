@@ -52,7 +52,7 @@ statements::block-returns-clause-checks t c =
     c.args.out.now c.new-inner.result
     c.statements.new.out c.take_in.new.out c.leave.new.self c.mark-scope.result c.from_here-leaving.result (map typed_stmt c.in_ok-done.done.stmts)
     c.new-inner.ensures
-    c.in_ok-done.ensures.checks c.mark-scope.ensures c.leave.ensures.whole c.from_here-leaving.ensures c.in_ok-take_in.ensures
+    c.in_ok-done.ensures.checks c.mark-scope.ensures c.leave.ensures c.from_here-leaving.ensures c.in_ok-take_in.ensures
 
 pub statements::scoped-returns-in_err-done-clause-checks : goal.statements::scoped-returns-in_err-done-clause-checks
 statements::scoped-returns-in_err-done-clause-checks t c =
@@ -67,7 +67,7 @@ statements::scoped-returns-clause-checks t c =
     (subst (λ z. check_stmt c.args.body.now.atomic_params c.args.around false (plain_stmt c.args.stmt.now) (walk_of c.args.body.now c.args.out.now) ≡
     passes (typed_stmt z) (walk_of c.statement.new.body c.statement.new.out))
     (sym c.in_ok-stmt.ensures) c.in_ok-done.ensures.checks)
-    c.mark-scope.ensures c.leave.ensures.whole
+    c.mark-scope.ensures c.leave.ensures
 
 pub statements::statement-returns-in-Block-clause-checks : goal.statements::statement-returns-in-Block-clause-checks
 statements::statement-returns-in-Block-clause-checks t c =
@@ -443,7 +443,7 @@ constructs::foreach-returns-in_err-settle_iterations-clause-checks t c =
     } in
     let left : Left c.args.body.now c.scoped.new.body c.args.nd c.slots-slot.result c.leave.new.self c.scoped.new.out c.reach_nd.new.found = record {
       home = c.in_ok-done.ensures.home ∙ c.in_ok-declare_variable.ensures.home;
-      env_is = ap bare c.leave.ensures.whole;
+      env_is = ap bare c.leave.ensures;
       slot_is = c.slots-slot.ensures;
       iteration_is = c.reach_nd.ensures;
     } in
@@ -477,7 +477,7 @@ constructs::foreach-returns-clause-checks t c =
     } in
     let left : Left c.args.body.now c.scoped.new.body c.args.nd c.slots-slot.result c.leave.new.self c.scoped.new.out c.reach_nd.new.found = record {
       home = c.in_ok-done.ensures.home ∙ c.in_ok-declare_variable.ensures.home;
-      env_is = ap bare c.leave.ensures.whole;
+      env_is = ap bare c.leave.ensures;
       slot_is = c.slots-slot.ensures;
       iteration_is = c.reach_nd.ensures;
     } in
@@ -492,7 +492,7 @@ constructs::foreach-returns-clause-checks t c =
     (sym
     (closed_is c.args.body.now c.scoped.new.body c.leave.new.self c.mark-scope.result c.from_here-leaving.result c.marks_after.result (marks_after c.args.nd)
     c.int-2.new.out c.int-2.new.out c.reach_nd.new.found (with_nd c.args.nd c.scoped.new.out) c.scoped.new.out c.take_in.new.out c.mark-scope.ensures
-    c.leave.ensures.whole c.from_here-leaving.ensures c.marks_after.ensures c.reach_nd.ensures c.in_ok-take_in.ensures))
+    c.leave.ensures c.from_here-leaving.ensures c.marks_after.ensures c.reach_nd.ensures c.in_ok-take_in.ensures))
 
 pub parts::foreach_parts-returns-in_err-whole-clause-checks : goal.parts::foreach_parts-returns-in_err-whole-clause-checks
 parts::foreach_parts-returns-in_err-whole-clause-checks t c =
@@ -556,7 +556,7 @@ parts::foreach_parts-returns-in_err-settle_parts-clause-checks t c =
     (form.foreach_parts c.args.view.now c.args.var.now (plain_expr c.args.array.now) (plain_expr c.args.count.now) (plain_stmt c.args.iteration.now)) (walk_of c.args.body.now c.args.out.now) ≡ v)
     c.from_residual-in_err-settle_parts.result _ c.in_err-settle_parts.field-0.0 c.from_residual-in_err-settle_parts.ensures.1
     (λ q d. parts_are c.slots-part.result c.leave.new.self (verdict.refused q) part (c.in_ok-done.ensures.home ∙ c.in_ok-open.ensures.home)
-    (ap bare c.leave.ensures.whole) c.slots-part.ensures d)
+    (ap bare c.leave.ensures) c.slots-part.ensures d)
     (c.in_err-settle_parts.ensures made after)
 
 pub parts::foreach_parts-returns-clause-checks : goal.parts::foreach_parts-returns-clause-checks
@@ -581,7 +581,7 @@ parts::foreach_parts-returns-clause-checks t c =
     (typed_stmt c.in_ok-done.done.stmt) in
     let after = parts_closed c.args.body.now c.scoped.new.body c.args.out.now c.in_ok-whole.whole c.int.new.out c.scoped.new.out in
     parts_are c.slots-part.result c.leave.new.self (passes made after) part (c.in_ok-done.ensures.home ∙ c.in_ok-open.ensures.home)
-    (ap bare c.leave.ensures.whole) c.slots-part.ensures (c.in_ok-settle_parts.ensures made after)
+    (ap bare c.leave.ensures) c.slots-part.ensures (c.in_ok-settle_parts.ensures made after)
     ∙ passes_so (typed_stmt c.parted.result) made (walk_from c.leave.new.self c.take_in.new.out) after
     (parts_formed c.args.count.now c.into_node-count.result (plain_typed c.in_ok-given.given) c.args.node.place c.slots-part.result
     (slots_in c.args.body.now.env) (plain_source c.in_ok-whole.whole.source) (typed_stmt c.in_ok-done.done.stmt) (typed_stmt c.parted.result)
@@ -590,7 +590,7 @@ parts::foreach_parts-returns-clause-checks t c =
     (closed_is c.args.body.now c.scoped.new.body c.leave.new.self c.mark-scope.result c.from_here-leaving.result marks.Dropped marks.Dropped c.args.out.now
     c.int.new.out c.in_ok-inner.inner
     (handed_on (part_slot c.args.body.now.env) (outer_part (plain_source c.in_ok-whole.whole.source)) c.scoped.new.out) c.scoped.new.out c.take_in.new.out
-    c.mark-scope.ensures c.leave.ensures.whole c.from_here-leaving.ensures refl
+    c.mark-scope.ensures c.leave.ensures c.from_here-leaving.ensures refl
     (c.in_ok-inner.ensures ∙ ap (λ z. handed_on c.slots-part.result z c.scoped.new.out) c.outer_part.ensures
     ∙ ap (λ z. handed_on z (outer_part (plain_source c.in_ok-whole.whole.source)) c.scoped.new.out) c.slots-part.ensures) c.in_ok-take_in.ensures))
 

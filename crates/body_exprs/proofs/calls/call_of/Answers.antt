@@ -8,8 +8,8 @@ use Rattle.body_exprs.proofs.Calling.{CallReported, given_for, noted_for, all_fo
 use Rattle.body_exprs.proofs.Passing.{passed_on}
 use Rattle.body_exprs.proofs.calls.call_of.Goals as goal
 
-pub returns-in_err-ty-in-Some-clause-answer : goal.returns-in_err-ty-in-Some-clause-answer
-returns-in_err-ty-in-Some-clause-answer c =
+pub returns-in_err-ty-in-Some : goal.returns-in_err-ty-in-Some
+returns-in_err-ty-in-Some c =
     let env = c.args.env.now in
     let row = c.args.row.now in
     let shown = c.as_slice-in-Some-2.result.now in
@@ -27,8 +27,8 @@ returns-in_err-ty-in-Some-clause-answer c =
     c.is_partial-partial.ensures c.as_slice-in-Some-2.ensures d)
     c.in_err-ty-in-Some.ensures.reported
 
-pub returns-in_ok-call-in-Some-clause-answer : goal.returns-in_ok-call-in-Some-clause-answer
-returns-in_ok-call-in-Some-clause-answer c =
+pub returns-in_ok-call-in-Some : goal.returns-in_ok-call-in-Some
+returns-in_ok-call-in-Some c =
     let env = c.args.env.now in
     let row = c.args.row.now in
     of_used env (plain_node c.args.of) c.args.class row c.args.owned.now c.args.regions c.args.actuals c.as_slice-in-Some-2.result.now c.args.place c.args.found.now c.call_with.new.found
@@ -42,8 +42,8 @@ returns-in_ok-call-in-Some-clause-answer c =
     c.is_partial-partial.ensures c.as_slice-in-Some-2.ensures c.in_ok-ty-in-Some.ensures.reported c.in_ok-ty-in-Some.ensures.ty c.in_ok-ty-in-Some.ensures.found
     (c.row-number.ensures ∙ ap (λ (z : Table). row_of z row.id) c.table.ensures) c.in_ok-actuals-in-Some.ensures c.in_ok-call-in-Some.ensures
 
-pub returns-in-None-clause-answer : goal.returns-in-None-clause-answer
-returns-in-None-clause-answer c =
+pub returns-in-None : goal.returns-in-None
+returns-in-None c =
     let row = c.args.row.now in
     of_unknown c.args.env.now (plain_node c.args.of) c.args.class row c.args.owned.now c.args.regions c.args.actuals c.as_slice-in-None.result.now c.args.place c.args.found.now
     c.fit_args.new.faults c.shapes_fit-fit.result c.unknown_args.result

@@ -8,8 +8,8 @@ use Rattle.body_exprs.proofs.Creating.{params_at, CreationReported, of_used, of_
 use Rattle.body_exprs.proofs.Passing.{passed_on}
 use Rattle.body_exprs.proofs.creations.creation_of.Goals as goal
 
-pub returns-in_err-ty-in-Some-clause-answer : goal.returns-in_err-ty-in-Some-clause-answer
-returns-in_err-ty-in-Some-clause-answer c =
+pub returns-in_err-ty-in-Some : goal.returns-in_err-ty-in-Some
+returns-in_err-ty-in-Some c =
     let env = c.args.env.now in
     let params = params_at env c.args.class in
     let shown = c.as_slice-shown.result.now in
@@ -24,8 +24,8 @@ returns-in_err-ty-in-Some-clause-answer c =
     c.as_slice-shown.ensures d)
     c.in_err-ty-in-Some.ensures.reported
 
-pub returns-in_ok-actuals-in-Some-clause-answer : goal.returns-in_ok-actuals-in-Some-clause-answer
-returns-in_ok-actuals-in-Some-clause-answer c =
+pub returns-in_ok-actuals-in-Some : goal.returns-in_ok-actuals-in-Some
+returns-in_ok-actuals-in-Some c =
     let params = params_at c.args.env.now c.args.class in
     of_used c.args.env.now c.args.class c.args.regions c.args.actuals c.as_slice-shown.result.now c.args.place c.args.found.now c.creation_with.new.found
     c.in-Some.args c.fit_args.new.faults c.in_ok-ty-in-Some.ty c.in_ok-actuals-in-Some.actuals (plain_node c.create.result)
@@ -34,8 +34,8 @@ returns-in_ok-actuals-in-Some-clause-answer c =
     c.fit_args.ensures.faults c.by_kind-faults.ensures c.class_params.ensures)
     c.as_slice-shown.ensures c.in_ok-ty-in-Some.ensures.reported c.in_ok-ty-in-Some.ensures.ty c.in_ok-ty-in-Some.ensures.found c.in_ok-actuals-in-Some.ensures c.create.ensures
 
-pub returns-in-None-clause-answer : goal.returns-in-None-clause-answer
-returns-in-None-clause-answer c =
+pub returns-in-None : goal.returns-in-None
+returns-in-None c =
     let params = params_at c.args.env.now c.args.class in
     of_unknown c.args.env.now c.args.class c.args.regions c.args.actuals c.as_slice.result.now c.args.place c.args.found.now
     c.fit_args.new.faults c.shapes_fit-fit.result c.unknown_args.result
