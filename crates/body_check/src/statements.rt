@@ -93,7 +93,7 @@ pub fn statement(
         StmtKind::If { test, then, other } => {
             branching(body, around, node, test, then.get(), other.as_ref(), out)
         }
-        StmtKind::While { test, body: turn } => repeat(body, around, node, test, turn.get(), out),
+        StmtKind::While { test, body: each } => repeat(body, around, node, test, each.get(), out),
         StmtKind::Return(value) => returning(body, around, node, value.as_ref(), out),
         StmtKind::Print(value) => print(body, node, value, out),
         StmtKind::PrintText(text) => print_text(body, node, text),
@@ -105,15 +105,15 @@ pub fn statement(
             var,
             start,
             count,
-            body: turn,
-        } => foreach(body, around, node, *nd, *var, start, count, turn.get(), out),
+            body: each,
+        } => foreach(body, around, node, *nd, *var, start, count, each.get(), out),
         StmtKind::ForeachParts {
             view,
             var,
             array,
             count,
-            body: turn,
-        } => foreach_parts(body, around, node, view, var, array, count, turn.get(), out),
+            body: each,
+        } => foreach_parts(body, around, node, view, var, array, count, each.get(), out),
         StmtKind::Atomic(all) => atomic(body, around, node, all.as_slice(), out),
         StmtKind::Region { names } => declare_regions(body, node, names.as_slice()),
     }
@@ -192,24 +192,24 @@ fn choose(place: Place, test: TypedExpr, first: Part, second: Option<Part>) -> C
     }
 }
 
-/// `while (test) turn`
+/// `while (test) iteration`
 #[cycle(statements)]
 fn repeat(
     body: &mut Body,
     around: Around,
     node: Node,
     test: &Expr,
-    turn: &Stmt,
+    iteration: &Stmt,
     out: &mut Found,
 ) -> Result<Checked, Stop>
     ensures completes { IfOk result (λ done. done.completes ≡ true) }
     ensures home { OnOk result (home_of body.new ≡ home_of body.old) }
-    ensures checks { Says result (λ made. passes (typed_stmt made.stmt) (walk_of body.new out.new)) refused (λ v. check_form body.old.atomic_params around node (form.while_loop (plain_expr test.now) (plain_stmt turn.now)) (walk_of body.old out.old) ≡ v) }
+    ensures checks { Says result (λ made. passes (typed_stmt made.stmt) (walk_of body.new out.new)) refused (λ v. check_form body.old.atomic_params around node (form.while_loop (plain_expr test.now) (plain_stmt iteration.now)) (walk_of body.old out.old) ≡ v) }
 {
     let place = node.place;
     let mut node = node;
     let given = body.boolean(test, out, &mut node)?;
-    let done = scoped(body, around, turn, out)?;
+    let done = scoped(body, around, iteration, out)?;
     let form = StmtForm::While {
         test: given.into_node(test.place),
         body: done.stmt,

@@ -344,13 +344,13 @@ statements::statements-returns-clause-checks t c =
 pub statements::repeat-returns-in_err-given-clause-checks : goal.statements::repeat-returns-in_err-given-clause-checks
 statements::repeat-returns-in_err-given-clause-checks t c =
     stopped (λ q. Typing c.args.body.now.env (plain_expr c.args.test.now) c.args.out.now (refused q))
-    (λ v. check_form c.args.body.now.atomic_params c.args.around c.args.node (form.while_loop (plain_expr c.args.test.now) (plain_stmt c.args.turn.now)) (walk_of c.args.body.now c.args.out.now) ≡ v) c.from_residual.result _ c.in_err-given.field-0.0 c.from_residual.ensures.1 (λ q d. rw d) c.in_err-given.ensures.answer
+    (λ v. check_form c.args.body.now.atomic_params c.args.around c.args.node (form.while_loop (plain_expr c.args.test.now) (plain_stmt c.args.iteration.now)) (walk_of c.args.body.now c.args.out.now) ≡ v) c.from_residual.result _ c.in_err-given.field-0.0 c.from_residual.ensures.1 (λ q d. rw d) c.in_err-given.ensures.answer
 
 pub statements::repeat-returns-in_err-done-clause-checks : goal.statements::repeat-returns-in_err-done-clause-checks
 statements::repeat-returns-in_err-done-clause-checks t c =
     stopped
-    (λ q. check_scope c.args.body.now.atomic_params c.args.around (plain_stmt c.args.turn.now) (walk_of c.args.body.now c.boolean.new.out) ≡ verdict.refused q)
-    (λ v. check_form c.args.body.now.atomic_params c.args.around c.args.node (form.while_loop (plain_expr c.args.test.now) (plain_stmt c.args.turn.now)) (walk_of c.args.body.now c.args.out.now) ≡ v) c.from_residual-in_err-done.result _ c.in_err-done.field-0.0 c.from_residual-in_err-done.ensures.1
+    (λ q. check_scope c.args.body.now.atomic_params c.args.around (plain_stmt c.args.iteration.now) (walk_of c.args.body.now c.boolean.new.out) ≡ verdict.refused q)
+    (λ v. check_form c.args.body.now.atomic_params c.args.around c.args.node (form.while_loop (plain_expr c.args.test.now) (plain_stmt c.args.iteration.now)) (walk_of c.args.body.now c.args.out.now) ≡ v) c.from_residual-in_err-done.result _ c.in_err-done.field-0.0 c.from_residual-in_err-done.ensures.1
     (λ q d. rw (c.in_ok-given.ensures.answer, d)) c.in_err-done.ensures.checks
 
 pub statements::repeat-returns-clause-home : goal.statements::repeat-returns-clause-home
@@ -359,7 +359,7 @@ statements::repeat-returns-clause-home t c = anyhow c.judge.result c.in_ok-done.
 pub statements::repeat-returns-clause-checks : goal.statements::repeat-returns-clause-checks
 statements::repeat-returns-clause-checks t c =
     judged_so
-    (check_form c.args.body.now.atomic_params c.args.around c.args.node (form.while_loop (plain_expr c.args.test.now) (plain_stmt c.args.turn.now)) (walk_of c.args.body.now c.args.out.now)) _ _ _ c.judge.result _
+    (check_form c.args.body.now.atomic_params c.args.around c.args.node (form.while_loop (plain_expr c.args.test.now) (plain_stmt c.args.iteration.now)) (walk_of c.args.body.now c.args.out.now)) _ _ _ c.judge.result _
     (rw (
       c.in_ok-given.ensures.answer,
       c.in_ok-done.ensures.checks,

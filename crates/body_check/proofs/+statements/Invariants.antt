@@ -31,7 +31,7 @@ abbrev pub decreases-statements::branching : goal.decreases-statements::branchin
 decreases-statements::branching l = 4 * max (size-Stmt l.then.now) (option_map_or (λ part. size-Stmt part.now) l.other 0) + 3
 
 abbrev pub decreases-statements::repeat : goal.decreases-statements::repeat
-decreases-statements::repeat l = 4 * size-Stmt l.turn.now + 3
+decreases-statements::repeat l = 4 * size-Stmt l.iteration.now + 3
 
 abbrev pub decreases-constructs::foreach : goal.decreases-constructs::foreach
 decreases-constructs::foreach l = 4 * size-Stmt l.iteration.now + 2
