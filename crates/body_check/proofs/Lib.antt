@@ -1,5 +1,4 @@
 pub mod Atomics
-mod Fits
 pub mod Forks
 mod Fresh
 pub mod Homes

@@ -159,6 +159,7 @@ in_order (row ∷ rows) = list_all (λ later. nat_lt row.class later.class) rows
 -- around no class yet
 abbrev pub around_classes : Table → Option ℕ → Env
 around_classes table length_name = record {
+  alloc = record { memory = record { seal = tt } };
   table = table;
   class = 0;
   method = 0;

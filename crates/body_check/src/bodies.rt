@@ -34,7 +34,7 @@ pub fn check(alloc: Global, program: &Program, table: &Table) -> Result<Accepted
     ensures nd { IfOk result (λ found. found.uses_nd ≡ program_uses_nd program.now) }
     ensures checks { Says result (λ found. Ok (map plain_body found.bodies)) Err (BodiesChecking program.now table.now) }
 {
-    let mut body = Body::new(alloc, Env::new(alloc, table, length_name(program)));
+    let mut body = Body::new(Env::new(alloc, table, length_name(program)));
     let bodies = check_classes(&mut body, program.classes.as_slice())?;
     Ok(Accepted {
         uses_nd: uses_nd(program),
@@ -45,7 +45,7 @@ pub fn check(alloc: Global, program: &Program, table: &Table) -> Result<Accepted
 fn check_classes(body: &mut Body, classes: &[Class]) -> Result<Items<MemberBody>, Stop>
     ensures checks { Says result (λ bodies. Ok (map plain_body bodies)) Err (λ v. check_classes body.old.env 0 classes.now 0 ≡ v) }
 {
-    let mut bodies = Items::new(body.alloc);
+    let mut bodies = Items::new(body.env.alloc);
     let mut methods = 0;
     for (number, class) in classes.iter().enumerate() {
         let done = check_class(body, class, number_at(number), methods)?;
@@ -80,7 +80,7 @@ fn check_class(body: &mut Body, class: &Class, number: u32, first: u32) -> Resul
     let params = body.atomic_params.len();
     let mut done = ClassBodies {
         next: first,
-        bodies: Items::new(body.alloc),
+        bodies: Items::new(body.env.alloc),
     };
     for member in class.members.as_slice() {
         let made = check_member(body, member, params, done.next)?;
@@ -126,10 +126,10 @@ fn check_method(body: &mut Body, method: &Method, number: u32) -> Result<MemberB
     ensures checks { (around : Env) → body.old.env ≡ at_method around number → Says result (λ made. Ok (plain_body made)) Err (λ v. check_method around body.old.atomic_params number method.now ≡ v) }
 {
     let row = body.env.table().numbered(number);
-    let nothing = EffectSet::new(body.alloc);
+    let nothing = EffectSet::new(body.env.alloc);
     declare_formals(body, method.formals.as_slice(), types_of(row))?;
     let has_slots = body.has_room();
-    let mut done = Found::new(body.alloc);
+    let mut done = Found::new(body.env.alloc);
     let checked = check_body(body, method, &mut done)?;
     let covered = summary_of(row, &nothing).set_covers(&done.effects);
     settle_method(method, checked.completes, covered, has_slots)?;
@@ -210,7 +210,7 @@ fn declare_formals(body: &mut Body, formals: &[Formal], types: &[Ty]) -> Result<
     ensures home { OnOk result (home_of body.new ≡ home_of body.old) }
 {
     for (formal, ty) in formals.iter().zip(types) {
-        let ty = ty.copy(body.alloc)?;
+        let ty = ty.copy(body.env.alloc)?;
         body.declare(formal.name, ty, false)?;
     }
     Ok(())

@@ -2,13 +2,11 @@ use crate::node::{Around, Node};
 use body_exprs::{Env, Found, Typed, expr, fits};
 use decl_headers::ParamRow;
 use lang_base::{Items, Kind, NoMemory, Place, Stop, Ty};
-use std::alloc::Global;
 use syntax_tree::{Expr, Named};
 
 /// The bodies that are being checked, and what is in scope in the one at hand.
 #[derive(Drop)]
 pub struct Body<'a> {
-    pub alloc: Global,
     pub env: Env<'a>,
     /// Of each region parameter, those of the class first, whether it is atomic.
     pub atomic_params: Items<bool>,
@@ -18,14 +16,11 @@ impl<'a> Body<'a> {
     ghost use Rattle.std.specs.Prelude.{◌≡◌};
 
     /// No class is entered.
-    pub fn new(alloc: Global, env: Env<'a>) -> Body<'a>
+    pub fn new(env: Env<'a>) -> Body<'a>
         ensures { result.env ≡ env.entry }
     {
-        Body {
-            alloc,
-            env,
-            atomic_params: Items::new(alloc),
-        }
+        let atomic_params = Items::new(env.alloc);
+        Body { env, atomic_params }
     }
 }
 
@@ -51,7 +46,7 @@ impl Body<'_> {
         ensures env { OnOk result (self.new.env ≡ at_class self.old.env class) }
         ensures atomic { OnOk result (self.new.atomic_params ≡ class_params (table_of self.old.env) class) }
     {
-        self.env.enter_class(self.alloc, class)?;
+        self.env.enter_class(class)?;
         self.atomic_params.truncate(0);
         let table = self.env.table();
         match table.headers().header(class) {
@@ -65,7 +60,7 @@ impl Body<'_> {
         ensures env { OnOk result (self.new.env ≡ at_method self.old.env method) }
         ensures atomic { OnOk result (self.new.atomic_params ≡ take class_params self.old.atomic_params ++ own_params (table_of self.old.env) method) }
     {
-        self.env.enter_method(self.alloc, method)?;
+        self.env.enter_method(method)?;
         self.atomic_params.truncate(class_params);
         let table = self.env.table();
         match table.numbered(method) {
@@ -88,7 +83,7 @@ impl Body<'_> {
     pub fn typed(&self, e: &Expr, out: &mut Found) -> Result<Typed, Stop>
         ensures answer { Says result (λ typed. gives (plain_typed typed) out.new) refused (Typing self.now.env (plain_expr e.now) out.old) }
     {
-        expr(self.alloc, &self.env, out, e)
+        expr(&self.env, out, e)
     }
 
     /// An expression that is to be an int.
@@ -115,7 +110,7 @@ impl Body<'_> {
     pub fn fits(&self, value: &Typed, declared: &Ty) -> Result<bool, NoMemory>
         ensures { IfOk result (λ fit. fit ≡ fits_as (supers_of self.now.env) (value_type value.now) (plain_type declared.now)) }
     {
-        fits(self.alloc, &self.env, value, declared)
+        fits(&self.env, value, declared)
     }
 
     /// Whether the value may be returned. Where the method has no result that is asked of `void` alone.

@@ -43,13 +43,13 @@ pub fn cobegin(
     ensures checks { Says result (λ made. passes (typed_stmt made.stmt) (walk_of body.new out.new)) refused (λ v. check_form body.old.atomic_params around node (form.cobegin nd (plain_stmts (map plain_stmt branches.now))) (walk_of body.old out.old) ≡ v) }
 {
     let place = node.place;
-    let mut effects = Items::new(body.alloc);
-    let mut locals = Items::new(body.alloc);
-    let mut made = Items::new(body.alloc);
+    let mut effects = Items::new(body.env.alloc);
+    let mut locals = Items::new(body.env.alloc);
+    let mut made = Items::new(body.env.alloc);
     for branch in branches {
         let leaving = Leaving::from_here(&body.env, marks_after(nd));
-        let mut inner = Found::new(body.alloc);
-        let names = touched(body.alloc, branch)?;
+        let mut inner = Found::new(body.env.alloc);
+        let names = touched(body.env.alloc, branch)?;
         let copies = slots_of(body, names.writes.as_slice())?;
         let done = scoped(body, around.inside(), branch, &mut inner)?;
         let checked = done.stmt.into_inner();
@@ -58,11 +58,11 @@ pub fn cobegin(
             body: checked,
         })?;
         locals.push(names)?;
-        effects.push(all_effects(body.alloc, &inner)?)?;
+        effects.push(all_effects(body.env.alloc, &inner)?)?;
         take_in(out, inner, leaving)?;
     }
     reach_nd(out, nd);
-    let clash = has_clash(body.alloc, locals.as_slice())?;
+    let clash = has_clash(body.env.alloc, locals.as_slice())?;
     settle_branches(body, node, nd, clash, effects.as_slice())?;
     Ok(Checked {
         completes: true,
@@ -74,7 +74,7 @@ pub fn cobegin(
 fn slots_of(body: &Body, names: &[u32]) -> Result<Items<Slot>, NoMemory>
     ensures { IfOk result (λ slots. map (λ slot. slot.number) slots ≡ slots_of body.now.env names.now) }
 {
-    let mut slots = Items::new(body.alloc);
+    let mut slots = Items::new(body.env.alloc);
     for name in names {
         add_slot(body, *name, &mut slots)?;
     }
@@ -115,7 +115,7 @@ pub fn foreach(
     body.note_declaration(var.name, var.place, &mut node);
     let slot = body.env.slots();
     let leaving = Leaving::from_here(&body.env, marks_after(nd));
-    let mut inner = Found::new(body.alloc);
+    let mut inner = Found::new(body.env.alloc);
     let scope = body.env.mark();
     body.declare_variable(var)?;
     let done = scoped(body, around.inside(), iteration, &mut inner)?;
@@ -146,11 +146,11 @@ pub fn atomic(
     let place = node.place;
     let mut node = node;
     let leaving = Leaving::from_here(&body.env, Marks::Set);
-    let mut inner = Found::new(body.alloc);
+    let mut inner = Found::new(body.env.alloc);
     let done = block(body, around.inside(), stmts, &mut inner)?;
     node.note_if(Kind::AtomicBody, inner.reaches_nd);
     let form = StmtForm::Atomic {
-        effects: entered(body.alloc, &inner)?,
+        effects: entered(body.env.alloc, &inner)?,
         body: done.stmts,
     };
     take_in(out, inner, leaving)?;

@@ -56,7 +56,7 @@ pub fn settle_iterations(
     ensures { (made : TypedStmt) (w : Walk) → Says result (λ _. passes made w) refused (λ v. meeting node (assigns_outer (plain_stmt iteration.now)) (interference nd) (iterations_clash (given_in body.now.env) (declared_atomic body.now.atomic_params nd body.now.env) slot (with_uses found.now.effects found.now.uses)) made w ≡ v) }
 {
     let mut node = node;
-    node.note_if(Kind::Assign, assigns_outer(body.alloc, iteration)?);
+    node.note_if(Kind::Assign, assigns_outer(body.env.alloc, iteration)?);
     node.settle()?;
     let clash = iterations_interfere(body, nd, found, slot)?;
     node.note_if(interference(nd), clash);
@@ -76,7 +76,7 @@ pub fn settle_parts(
     ensures { (made : TypedStmt) (w : Walk) → Says result (λ _. passes made w) refused (λ v. meeting node (assigns_outer (plain_stmt iteration.now)) Kind.Interferes (parts_interfere (given_in body.now.env) part (part + 4) found.now.effects found.now.uses) made w ≡ v) }
 {
     let mut node = node;
-    node.note_if(Kind::Assign, assigns_outer(body.alloc, iteration)?);
+    node.note_if(Kind::Assign, assigns_outer(body.env.alloc, iteration)?);
     node.settle()?;
     let pass = parts_pass(body, found, part, part + 4)?;
     node.note_if(Kind::Interferes, !pass);
@@ -123,7 +123,7 @@ fn branches_pass(body: &Body, nd: bool, branches: &[EffectSet]) -> Result<bool, 
         return Ok(false);
     }
     let atomic = declared_atomic(body, nd);
-    branches_apart(body.alloc, branches, body.env.given(), atomic)
+    branches_apart(body.env.alloc, branches, body.env.given(), atomic)
 }
 
 fn branches_apart(
@@ -151,7 +151,7 @@ fn iterations_interfere(
     if iteration.uses.is_empty() {
         return effects_interfere(body, nd, &iteration.effects, slot);
     }
-    effects_interfere(body, nd, &all_effects(body.alloc, iteration)?, slot)
+    effects_interfere(body, nd, &all_effects(body.env.alloc, iteration)?, slot)
 }
 
 fn effects_interfere(
@@ -163,7 +163,7 @@ fn effects_interfere(
     ensures { IfOk result (λ clash. clash ≡ iterations_clash (given_in body.now.env) (declared_atomic body.now.atomic_params nd body.now.env) slot iteration.now) }
 {
     let atomic = declared_atomic(body, nd);
-    iterations_clash(body.alloc, iteration, slot, body.env.given(), atomic)
+    iterations_clash(body.env.alloc, iteration, slot, body.env.given(), atomic)
 }
 
 /// Whether no branch of a `foreach_parts` interferes with another. The part and the loop variable have these slots.
@@ -172,5 +172,12 @@ fn parts_pass(body: &Body, iteration: &Found, part: u32, variable: u32) -> Resul
 {
     let given = body.env.given();
     let uses = iteration.uses.as_slice();
-    check_parts(body.alloc, &iteration.effects, uses, part, variable, given)
+    check_parts(
+        body.env.alloc,
+        &iteration.effects,
+        uses,
+        part,
+        variable,
+        given,
+    )
 }

@@ -57,7 +57,7 @@ pub fn foreach_parts(
     let mut node = node;
     let part = body.env.slots();
     let leaving = Leaving::from_here(&body.env, Marks::Dropped);
-    let mut inner = Found::new(body.alloc);
+    let mut inner = Found::new(body.env.alloc);
     let scope = body.env.mark();
     let whole = whole_of(body, array, out)?;
     node.note_found(whole.fault);
@@ -67,7 +67,7 @@ pub fn foreach_parts(
     let done = scoped(body, around.inside(), iteration, &mut inner)?;
     body.env.leave(scope);
     settle_parts(body, node, iteration, &inner, part)?;
-    let inner = hand_on_uses(body.alloc, inner, part, outer_part(&source))?;
+    let inner = hand_on_uses(body.env.alloc, inner, part, outer_part(&source))?;
     take_in(out, inner, leaving)?;
     let count = given.into_node(count.place);
     Ok(Checked {
@@ -107,7 +107,7 @@ fn whole_of(body: &Body, array: &Expr, out: &mut Found) -> Result<Whole, Stop>
         return Ok(whole);
     }
     let given = body.typed(array, out)?;
-    Ok(array_whole(body.alloc, array, given)?)
+    Ok(array_whole(body.env.alloc, array, given)?)
 }
 
 /// What the array expression is, which gives this.
@@ -153,7 +153,7 @@ fn part_of_part(body: &Body, array: &Expr) -> Result<Option<Whole>, NoMemory>
         return Ok(None);
     };
     Ok(Some(Whole {
-        ty: row.ty.copy(body.alloc)?,
+        ty: row.ty.copy(body.env.alloc)?,
         source: PartSource::Part(Slot { number: row.slot }),
         fault: None,
     }))

@@ -46,7 +46,7 @@ pub fn declare(
     let fits = body.fits(&given, &declared)?;
     node.note_if(Kind::Type, !fits);
     let slot = body.env.slots();
-    let ty = declared.copy(body.alloc)?;
+    let ty = declared.copy(body.env.alloc)?;
     body.declare(name, ty, is_final)?;
     let form = StmtForm::Declare {
         slot: Slot { number: slot },
@@ -64,7 +64,7 @@ fn declared_type(body: &Body, tree: &TypeTree) -> Result<Ty, Stop>
     ensures reported { IfErr result (λ stop. IfRefused stop (λ refusal. declared_reported body.now.env tree.now ≡ Some refusal)) }
 {
     let mut faults = Faults::by_kind();
-    match ty(body.alloc, &body.env.scope(), &mut faults, tree)? {
+    match ty(body.env.alloc, &body.env.scope(), &mut faults, tree)? {
         Some(ty) => Ok(ty),
         None => Ok(Ty::Void),
     }
@@ -116,7 +116,7 @@ pub fn assign_place(
     ensures completes { IfOk result (λ done. done.completes ≡ true) }
     ensures checks { Says result (λ made. passes (typed_stmt made.stmt) (walk_of body.now out.new)) refused (λ v. assign_place node (plain_expr written.now) (plain_expr value.now) (walk_of body.now out.old) ≡ v) }
 {
-    let target = read_target(body.alloc, &body.env, out, written)?;
+    let target = read_target(&body.env, out, written)?;
     let given = body.typed(value, out)?;
     match target {
         Some(target) => assign_target(body, node, written.place, target, given, value.place, out),
@@ -240,7 +240,7 @@ pub fn print_text(body: &Body, node: Node, text: &Bytes) -> Result<Checked, Stop
     ensures checks { (found : Found) → Says result (λ made. passes (typed_stmt made.stmt) (walk_of body.now found)) refused (λ v. judged (fault_of node) (typed.statement node.place (typed.print_text text.now)) (walk_of body.now found) ≡ v) }
 {
     let place = node.place;
-    let form = StmtForm::PrintText(text.copy(body.alloc)?);
+    let form = StmtForm::PrintText(text.copy(body.env.alloc)?);
     Checked::judge(node, true, Stmt { place, form })
 }
 
@@ -259,7 +259,7 @@ pub fn declare_regions(body: &mut Body, node: Node, names: &[Named]) -> Result<C
 {
     let place = node.place;
     let mut node = node;
-    let mut regions = Items::new(body.alloc);
+    let mut regions = Items::new(body.env.alloc);
     for named in names {
         note_region(body, *named, &mut node);
         regions.push(LocalRegion {

@@ -249,7 +249,7 @@ pub fn block(
 {
     let scope = body.env.mark();
     let leaving = Leaving::from_here(&body.env, Marks::Kept);
-    let mut inner = Found::new(body.alloc);
+    let mut inner = Found::new(body.env.alloc);
     let done = statements(body, around, stmts, &mut inner)?;
     body.env.leave(scope);
     take_in(out, inner, leaving)?;
@@ -268,7 +268,7 @@ fn statements(
     ensures checks { Says result (λ made. passes (map typed_stmt made.stmts) (walk_of body.new out.new)) refused (λ v. check_all body.old.atomic_params around true (plain_stmts (map plain_stmt stmts.now)) (walk_of body.old out.old) ≡ v) }
 {
     let mut completes = true;
-    let mut made = Items::new(body.alloc);
+    let mut made = Items::new(body.env.alloc);
     for stmt in stmts {
         let done = statement(body, around, stmt, !completes, out)?;
         completes = completes && done.completes;
@@ -290,7 +290,7 @@ pub fn scoped(body: &mut Body, around: Around, stmt: &Stmt, out: &mut Found) -> 
     let scope = body.env.mark();
     let done = statement(body, around, stmt, false, out)?;
     body.env.leave(scope);
-    let stmt = Boxed::new(body.alloc, done.stmt)?;
+    let stmt = Boxed::new(body.env.alloc, done.stmt)?;
     Ok(Part {
         completes: done.completes,
         stmt,

@@ -1,9 +1,8 @@
--- Values that fit types, by tests and by their places.
+-- Values that fit types, by tests.
 use Rattle.std.specs.Bool.{Decides}
-use Rattle.std.proofs.Common.{◌≡◌, ◌↔◌, ℕ, zero, suc, ◌<◌, Bool, true, false, IsTrue, List, [], ◌∷◌, Option, Some, None, map, length, get_or, refl, ap, subst, arith}
+use Rattle.std.proofs.Common.{◌≡◌, ◌∙◌, ◌↔◌, ℕ, suc, ◌+◌, ◌<◌, Bool, true, false, ◌&&◌, IsTrue, List, [], ◌∷◌, Option, Some, None, Result, Ok, Err, IfOk, map, length, drop, get_or, refl, sym, ap}
 use Rattle.std.proofs.lemmas.Bool.{false≢true}
-use Rattle.std.proofs.lemmas.Bool.Decides.{Decides-and, Decides-like, same_from_decides}
-use Rattle.std.proofs.lemmas.List.{get_or_read}
+use Rattle.std.proofs.lemmas.Bool.Decides.{Decides-and, same_from_decides}
 use Rattle.lang_base.specs.declared.region.Rpl.{Rpl}
 use Rattle.lang_base.specs.declared.ty.Super.{Super}
 use Rattle.lang_base.specs.declared.ty.Ty.{Ty}
@@ -14,7 +13,8 @@ use Rattle.region_types.specs.Same.{same_type}
 use Rattle.region_types.proofs.Equal.{same_type-is, same_type-from}
 use Rattle.body_exprs.specs.declared.typed.Typed.{Typed}
 use Rattle.body_exprs.specs.Fits.{is_subtype, fits_as, all_fit}
-use Rattle.body_exprs.specs.Typed.{value_type, FitsAs, Fits, ActualsFit}
+use Rattle.body_exprs.specs.Typed.{value_type, FitsAs}
+use Rattle.body_exprs.proofs.Several.{next_is}
 
 true_is : {P : Type 0} → P → Decides true P
 true_is p = (λ _. p, λ _. refl)
@@ -39,33 +39,33 @@ pub fits_is : (supers : List Super) (value : Option PlainType) (declared : Plain
 fits_is supers (Some t) declared = subtype_is supers t declared
 fits_is supers None declared = true_is tt
 
--- a value that was read from a list, and fits the type that was read from another
-pub fits_at : (supers : List Super) (args : List Rpl) (values : List Typed) (declared : List Ty) (i : ℕ) (x : Typed) (y : Ty) (fit : Bool) → i < length values → i < length declared → x ≡ get_or values i x → y ≡ get_or declared i y → IsTrue fit ↔ Fits supers x (type_with args (plain_type y)) → IsTrue fit → (v : Typed) (t : Ty) → Fits supers (get_or values i v) (type_with args (plain_type (get_or declared i t)))
-fits_at supers args values declared i x y fit p q e f reported h v t =
-    subst
-    (λ (z : Typed). Fits supers z (type_with args (plain_type (get_or declared i t))))
-    (get_or_read values i x p e v)
-    (subst (λ (z : Ty). Fits supers x (type_with args (plain_type z))) (get_or_read declared i y q f t) (reported.0 h))
+-- what the code tells of a value with a type
+pub fits_so : {E : Type 0} (supers : List Super) (t declared : PlainType) (r : Result Bool E) →
+    IfOk r (λ fit. IsTrue fit ↔ Subtype supers t declared) → IfOk r (λ fit. fit ≡ is_subtype supers t declared)
+fits_so supers t declared (Ok fit) h = same_from_decides fit (is_subtype supers t declared) h (subtype_is supers t declared)
+fits_so supers t declared (Err e) h = tt
 
--- the same told by places, and one after the other
-each_place : (supers : List Super) (args : List Rpl) (v : Typed) (vs : List Typed) (t : Ty) (ts : List Ty) →
-    Fits supers v (type_with args (plain_type t)) →
-    ((i : ℕ) (w : Typed) (u : Ty) → i < length vs → Fits supers (get_or vs i w) (type_with args (plain_type (get_or ts i u)))) →
-    (i : ℕ) (w : Typed) (u : Ty) → i < length (v ∷ vs) → Fits supers (get_or (v ∷ vs) i w) (type_with args (plain_type (get_or (t ∷ ts) i u)))
-each_place supers args v vs t ts first rest zero w u less = first
-each_place supers args v vs t ts first rest (suc i) w u less = rest i w u (omega arith)
+and_false : (b : Bool) → (b && false) ≡ false
+and_false false = refl
+and_false true = refl
 
-all_fit_is : (supers : List Super) (args : List Rpl) (values : List Typed) (declared : List Ty) →
-    Decides (all_fit supers args (map value_type values) declared) (ActualsFit supers args values declared)
-all_fit_is supers args [] [] = true_is (refl, λ i v t less. absurd (omega (arith, less)))
-all_fit_is supers args [] (t ∷ ts) = false_is (λ h. omega (arith, h.0))
-all_fit_is supers args (v ∷ vs) [] = false_is (λ h. omega (arith, h.0))
-all_fit_is supers args (v ∷ vs) (t ∷ ts) =
-    Decides-like (all_fit supers args (map value_type (v ∷ vs)) (t ∷ ts)) (λ both. (ap suc both.1.0, each_place supers args v vs t ts both.0 both.1.1))
-    (λ h. let same : length vs ≡ length ts = omega (arith, h.0) in (h.1 0 v t (omega arith), (same, λ i w u less. h.1 (suc i) w u (omega arith))))
-    (Decides-and (fits_as supers (value_type v) (type_with args (plain_type t))) (all_fit supers args (map value_type vs) ts)
-    (fits_is supers (value_type v) (type_with args (plain_type t))) (all_fit_is supers args vs ts))
+-- fewer values than types, or more, don't fit
+pub not_as_many : (supers : List Super) (args : List Rpl) (values : List Typed) (declared : List Ty) → (length values ≡ length declared → ⊥) →
+    false ≡ all_fit supers args (map value_type values) declared
+not_as_many supers args [] [] differ = absurd (differ refl)
+not_as_many supers args [] (t ∷ ts) differ = refl
+not_as_many supers args (v ∷ vs) [] differ = refl
+not_as_many supers args (v ∷ vs) (t ∷ ts) differ =
+    let fits : Bool = fits_as supers (value_type v) (type_with args (plain_type t)) in
+    sym (and_false fits) ∙ ap (λ z. fits && z) (not_as_many supers args vs ts (λ same. differ (ap suc same)))
 
-pub all_fit_test : (supers : List Super) (args : List Rpl) (values : List Typed) (declared : List Ty) (fit : Bool) →
-    IsTrue fit ↔ ActualsFit supers args values declared → fit ≡ all_fit supers args (map value_type values) declared
-all_fit_test supers args values declared fit reported = same_from_decides fit _ reported (all_fit_is supers args values declared)
+-- the value at a place fits, or doesn't
+pub fits_here : (supers : List Super) (args : List Rpl) (values : List Typed) (declared : List Ty) (i : ℕ) (v : Typed) (t with_args : Ty) (fit : Bool) →
+    i < length values → i < length declared → v ≡ get_or values i v → t ≡ get_or declared i t → plain_type with_args ≡ type_with args (plain_type t) →
+    fit ≡ fits_as supers (value_type v) (plain_type with_args) →
+    all_fit supers args (map value_type (drop i values)) (drop i declared) ≡ (fit && all_fit supers args (map value_type (drop (i + 1) values)) (drop (i + 1) declared))
+fits_here supers args values declared i v t with_args fit p q v_is t_is put tested =
+    ap (λ z. all_fit supers args (map value_type z) (drop i declared)) (next_is values i v p v_is)
+    ∙ ap (λ z. all_fit supers args (value_type v ∷ map value_type (drop (i + 1) values)) z) (next_is declared i t q t_is)
+    ∙ ap (λ z. fits_as supers (value_type v) z && all_fit supers args (map value_type (drop (i + 1) values)) (drop (i + 1) declared)) (sym put)
+    ∙ ap (λ z. z && all_fit supers args (map value_type (drop (i + 1) values)) (drop (i + 1) declared)) (sym tested)

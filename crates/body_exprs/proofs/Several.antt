@@ -43,7 +43,8 @@ map_more (y ∷ made) x = ap (λ rest. plain_typed y ∷ rest) (map_more made x)
 pub none_so_far : (env : Env) (all : List Expr) (f : Found) → SoFar env all f 0 [] f
 none_so_far env all f = sym (after_none (type_all env (several all) f))
 
-next_is : (all : List Expr) (i : ℕ) (e : Expr) → i < length all → e ≡ get_or all i e → drop i all ≡ e ∷ drop (i + 1) all
+-- what is left of a list from a place on
+pub next_is : {T : Type 0} (all : List T) (i : ℕ) (e : T) → i < length all → e ≡ get_or all i e → drop i all ≡ e ∷ drop (i + 1) all
 next_is all i e below is = drop-cons all i e below ∙ ap (λ x. x ∷ drop (suc i) all) (sym is) ∙ ap (λ k. e ∷ drop k all) (sym (add-one i))
 
 -- what the expressions from one on give

@@ -1,10 +1,10 @@
 -- What is known of the types of expressions, and where they fit.
-use Rattle.std.specs.Prelude.{◌≡◌, ◌⊎◌, ℕ, ◌<◌, Bool, true, false, List, [], ◌∷◌, length, slice_index_or, Option, Some, None, option_map}
+use Rattle.std.specs.Prelude.{◌≡◌, ◌⊎◌, Bool, true, false, List, [], ◌∷◌, Option, Some, None, option_map}
 use Rattle.lang_base.specs.declared.place.Place.{Place}
 use Rattle.lang_base.specs.declared.ty.Ty.{Ty}
 use Rattle.lang_base.specs.declared.ty.Super.{Super}
 use Rattle.lang_base.specs.declared.region.Rpl.{Rpl}
-use Rattle.lang_base.specs.Types.{PlainType, plain_type, type_with, Ordered, Subtype}
+use Rattle.lang_base.specs.Types.{PlainType, plain_type, Ordered, Subtype}
 use Rattle.lang_base.specs.Types.PlainType.{int, boolean, void, null, class, array}
 use Rattle.lang_typed.specs.declared.expr.Expr.{Expr}
 use Rattle.lang_typed.specs.declared.expr.ExprForm.{ExprForm, fold-ExprForm}
@@ -84,12 +84,3 @@ AreTaken rows taken = (Ordered rows × (taken ≡ rows)) ⊎ (¬ Ordered rows ×
 abbrev pub FitsAs : List Super → Option PlainType → PlainType → Type 0
 FitsAs supers (Some t) declared = Subtype supers t declared
 FitsAs supers None declared = Unit {0}
-
-abbrev pub Fits : List Super → Typed → PlainType → Type 0
-Fits supers t declared = FitsAs supers (value_type t) declared
-
--- as many values as declared types, each of which fits the one at its place with region arguments put in
-abbrev pub ActualsFit : List Super → List Rpl → List Typed → List Ty → Type 0
-ActualsFit supers args values declared =
-    (length values ≡ length declared)
-    × ((i : ℕ) (v : Typed) (t : Ty) → i < length values → Fits supers (slice_index_or values i v) (type_with args (plain_type (slice_index_or declared i t))))

@@ -1,12 +1,11 @@
-ghost use Rattle.std.specs.Prelude.{◌≡◌, ◌↔◌, None, Some, map, IsTrue, IfOk};
-ghost use Rattle.lang_base.specs.Types.{plain_type, type_with};
+ghost use Rattle.std.specs.Prelude.{◌≡◌, None, Some, map, IfOk};
 ghost use Rattle.decl_headers.specs.Faults.{reported, all_noted, settled};
 ghost use Rattle.decl_headers.specs.Passes.{fault_if};
 ghost use Rattle.decl_resolve.specs.Constraints.{all_hold};
 ghost use Rattle.body_exprs.specs.Answer.{Says};
 ghost use Rattle.body_exprs.specs.Env.{supers_of, given_in};
 ghost use Rattle.body_exprs.specs.Fits.{all_fit};
-ghost use Rattle.body_exprs.specs.Typed.{value_type, Fits, ActualsFit};
+ghost use Rattle.body_exprs.specs.Typed.{value_type};
 ghost use Rattle.body_exprs.specs.Uses.{use_faults, use_reported, unknown_reported};
 
 use crate::env::Env;
@@ -16,7 +15,6 @@ use decl_headers::Faults;
 use decl_resolve::constraints_hold;
 use lang_base::{Constraint, Kind, NoMemory, Place, Rpl, Stop, Ty};
 use region_types::subst_type;
-use std::alloc::Global;
 
 /// Notes a fault where something is so.
 pub fn note_if(faults: &mut Faults, is_so: bool, kind: Kind, place: Place)
@@ -30,7 +28,6 @@ pub fn note_if(faults: &mut Faults, is_so: bool, kind: Kind, place: Place)
 /// Tells what is wrong in a call or a creation whose region arguments are known, after the faults that are noted
 /// already.
 pub fn check_use(
-    alloc: Global,
     env: &Env,
     faults: Faults,
     args: &[Rpl],
@@ -42,8 +39,8 @@ pub fn check_use(
 ) -> Result<(), Stop>
     ensures { Says result (λ u. None) Some (λ t. use_reported env.now faults args.now (map value_type actuals.now) declared.now partial (all_hold (given_in env.now) args.now constraints.now) place ≡ t) }
 {
-    let fit = all_fit(alloc, env, actuals, declared, args)?;
-    let hold = constraints_hold(alloc, constraints, args, env.given())?;
+    let fit = all_fit(env, actuals, declared, args)?;
+    let hold = constraints_hold(env.alloc, constraints, args, env.given())?;
     tell_use(faults, partial, fit, hold, place)?;
     Ok(())
 }
@@ -74,47 +71,15 @@ pub fn unknown_args(faults: Faults, fit: bool, place: Place) -> Stop
 
 /// Whether there are as many values as declared types, and each fits the one at its place with region arguments put
 /// in.
-fn all_fit(
-    alloc: Global,
-    env: &Env,
-    actuals: &[Typed],
-    declared: &[Ty],
-    args: &[Rpl],
-) -> Result<bool, NoMemory>
+fn all_fit(env: &Env, actuals: &[Typed], declared: &[Ty], args: &[Rpl]) -> Result<bool, NoMemory>
     ensures { IfOk result (λ fit. fit ≡ all_fit (supers_of env.now) args.now (map value_type actuals.now) declared.now) }
-{
-    let fit = actuals_fit(alloc, env, actuals, declared, args)?;
-    Ok(fit)
-}
-
-/// Whether a value fits a declared type with region arguments put in.
-fn fits_with(
-    alloc: Global,
-    env: &Env,
-    value: &Typed,
-    declared: &Ty,
-    args: &[Rpl],
-) -> Result<bool, NoMemory>
-    ensures { IfOk result (λ fit. IsTrue fit ↔ Fits (supers_of env.now) value.now (type_with args.now (plain_type declared.now))) }
-{
-    fits(alloc, env, value, &subst_type(alloc, declared, args)?)
-}
-
-/// The same, told by places.
-fn actuals_fit(
-    alloc: Global,
-    env: &Env,
-    actuals: &[Typed],
-    declared: &[Ty],
-    args: &[Rpl],
-) -> Result<bool, NoMemory>
-    ensures { IfOk result (λ fit. IsTrue fit ↔ ActualsFit (supers_of env.now) args.now actuals.now declared.now) }
 {
     if actuals.len() != declared.len() {
         return Ok(false);
     }
     for i in 0..actuals.len() {
-        if !fits_with(alloc, env, &actuals[i], &declared[i], args)? {
+        let ty = subst_type(env.alloc, &declared[i], args)?;
+        if !fits(env, &actuals[i], &ty)? {
             return Ok(false);
         }
     }

@@ -16,54 +16,32 @@ use crate::typed::Typed;
 use decl_headers::Faults;
 use decl_resolve::{IndexNames, Need, ReadType, array_made, path, read_type, root};
 use lang_base::{Kind, Place, Rpl, Stop, Ty};
-use std::alloc::Global;
 use syntax_tree::{BaseTree, RplTree};
 
 /// Reads what stands in front of the length of an array creation.
-pub fn read_array(
-    alloc: Global,
-    env: &Env,
-    base: &BaseTree,
-    around: IndexNames,
-) -> Result<ReadType, Stop>
+pub fn read_array(env: &Env, base: &BaseTree, around: IndexNames) -> Result<ReadType, Stop>
     ensures read { IfOk result (λ read. read ≡ front_of env.now (plain_index around.entry) base.now) }
     ensures reported { Says result (λ read. None) Some (λ t. front_reported env.now (plain_index around.entry) base.now ≡ t) }
 {
     let mut faults = Faults::by_kind();
-    read_type(alloc, &env.scope(), &mut faults, base, around)
+    read_type(env.alloc, &env.scope(), &mut faults, base, around)
 }
 
 /// The region of the elements of a created array: `Root` where none is written.
-fn own_path(
-    alloc: Global,
-    env: &Env,
-    rpl: Option<&RplTree>,
-    around: IndexNames,
-) -> Result<Rpl, Stop>
+fn own_path(env: &Env, rpl: Option<&RplTree>, around: IndexNames) -> Result<Rpl, Stop>
     ensures { Says result (λ own. Ok own) Err (λ a. own_path env.now (plain_index around.entry) (option_copied rpl.entry) ≡ a) }
 {
-    match rpl {
-        Some(tree) => written_path(alloc, env, tree, around),
-        None => Ok(root(alloc)),
-    }
-}
-
-fn written_path(alloc: Global, env: &Env, tree: &RplTree, around: IndexNames) -> Result<Rpl, Stop>
-    ensures { Says result (λ own. Ok own) Err (λ a. own_path env.now (plain_index around.entry) (Some tree.now) ≡ a) }
-{
-    match read_path(alloc, env, tree, around)? {
+    let Some(tree) = rpl else {
+        return Ok(root(env.alloc));
+    };
+    match read_path(env, tree, around)? {
         Some(rpl) => Ok(rpl),
         None => Err(refused(Kind::Unknown, tree.place)),
     }
 }
 
 /// Reads the region path, which is to be fully specified.
-fn read_path(
-    alloc: Global,
-    env: &Env,
-    tree: &RplTree,
-    around: IndexNames,
-) -> Result<Option<Rpl>, Stop>
+fn read_path(env: &Env, tree: &RplTree, around: IndexNames) -> Result<Option<Rpl>, Stop>
     ensures read { IfOk result (λ rpl. rpl ≡ path_meant (scope_of env.now) (around_own (plain_index around.entry)) tree.now) }
     ensures reported { Says result (λ rpl. None) Some (λ t. reported_first (path_faults (scope_of env.now) (around_own (plain_index around.entry)) full_path tree.now) ≡ t) }
 {
@@ -73,7 +51,7 @@ fn read_path(
         atomic: false,
     };
     let around = around.at_suffix(around.suffixes.len());
-    path(alloc, &env.scope(), &mut faults, tree, need, &around)
+    path(env.alloc, &env.scope(), &mut faults, tree, need, &around)
 }
 
 /// The place of a written path, else that of the creation.
@@ -88,7 +66,6 @@ fn own_place(rpl: Option<&RplTree>, place: Place) -> Place
 
 /// The type of an array creation whose parts are read up to its length.
 pub fn array_creation(
-    alloc: Global,
     env: &Env,
     read: ReadType,
     length: &Typed,
@@ -98,15 +75,14 @@ pub fn array_creation(
 ) -> Result<Ty, Stop>
     ensures { Says result (λ ty. Ok (plain_type ty)) Err (λ a. created_array env.now (plain_index around.entry) read (value_type length.now) (option_copied rpl.entry) place ≡ a) }
 {
-    let own = own_path(alloc, env, rpl, around)?;
+    let own = own_path(env, rpl, around)?;
     let own_place = own_place(rpl, place);
     let is_length = length.is_int();
-    array_with(alloc, env, read, is_length, own, around, own_place, place)
+    array_with(env, read, is_length, own, around, own_place, place)
 }
 
 /// The same with the region of the elements, where the length is an int or not.
 fn array_with(
-    alloc: Global,
     env: &Env,
     read: ReadType,
     is_length: bool,
@@ -121,7 +97,7 @@ fn array_with(
     note_if(&mut faults, !is_length, Kind::Type, place);
     let scope = env.scope();
     let made = array_made(
-        alloc,
+        env.alloc,
         &scope,
         &mut faults,
         read,

@@ -51,20 +51,13 @@ pub struct Target {
 
 /// Reads the target of an assignment, a field or an element. It isn't read itself, and the write comes with
 /// `Target::write`. None where the target comes from a part of what is no array: every value fits there.
-pub fn read_target(
-    alloc: Global,
-    env: &Env,
-    found: &mut Found,
-    e: &Tree,
-) -> Result<Option<Target>, Stop>
+pub fn read_target(env: &Env, found: &mut Found, e: &Tree) -> Result<Option<Target>, Stop>
     ensures { Says result (λ target. aims (option_map plain_target target) found.new) misses (Targeting env.now (plain_expr e.now) found.old) }
 {
     match &e.kind {
-        ExprKind::Field { of, name } => {
-            field_target(alloc, env, found, of.get(), *name, e.place)
-        }
+        ExprKind::Field { of, name } => { field_target(env, found, of.get(), *name, e.place) }
         ExprKind::Element { array, index } => {
-            element_target(alloc, env, found, array.get(), index.get(), e.place)
+            element_target(env, found, array.get(), index.get(), e.place)
         }
         _ => Err(no_target(e)),
     }
@@ -79,7 +72,6 @@ fn no_target(e: &Tree) -> Stop
 }
 
 fn field_target(
-    alloc: Global,
     env: &Env,
     found: &mut Found,
     of: &Tree,
@@ -91,20 +83,14 @@ fn field_target(
     match measured(env, of, name) {
         Some(_) => Err(refused(Kind::Type, place)),
         None => {
-            let of = expr(alloc, env, found, of)?;
-            through(alloc, env, of, name, place)
+            let of = expr(env, found, of)?;
+            through(env, of, name, place)
         }
     }
 }
 
 /// The field of that name through what a receiver gives, as a target.
-fn through(
-    alloc: Global,
-    env: &Env,
-    of: Typed,
-    name: u32,
-    place: Place,
-) -> Result<Option<Target>, Stop>
+fn through(env: &Env, of: Typed, name: u32, place: Place) -> Result<Option<Target>, Stop>
     ensures { Says result (λ target. Ok (option_map plain_target target)) Err (λ a. field_target env.now (plain_typed of) name place ≡ a) }
 {
     let Typed::Known(of) = of else {
@@ -117,7 +103,7 @@ fn through(
         rpl,
         may_write,
         ..
-    } = field_at(alloc, env, &of.ty, name, place)?;
+    } = field_at(env, &of.ty, name, place)?;
     let class = ClassId { number: class };
     let field = FieldSlot { number: slot };
     Ok(Some(Target {
@@ -129,7 +115,6 @@ fn through(
 }
 
 fn element_target(
-    alloc: Global,
     env: &Env,
     found: &mut Found,
     array: &Tree,
@@ -140,13 +125,13 @@ fn element_target(
 {
     match env.part(array) {
         Some(row) => {
-            let at = expr(alloc, env, found, index)?;
-            in_part(alloc, row, at, place)
+            let at = expr(env, found, index)?;
+            in_part(env.alloc, row, at, place)
         }
         None => {
-            let array = expr(alloc, env, found, array)?;
-            let at = expr(alloc, env, found, index)?;
-            in_array(alloc, env, array, index, at, place)
+            let array = expr(env, found, array)?;
+            let at = expr(env, found, index)?;
+            in_array(env, array, index, at, place)
         }
     }
 }
@@ -171,7 +156,6 @@ fn in_part(alloc: Global, row: &LocalRow, at: Typed, place: Place) -> Result<Opt
 
 /// The element of an array at an index, which is written and gives something, as a target.
 fn in_array(
-    alloc: Global,
     env: &Env,
     array: Typed,
     index: &Tree,
@@ -180,7 +164,7 @@ fn in_array(
 ) -> Result<Option<Target>, Stop>
     ensures { Says result (λ target. Ok (option_map plain_target target)) Err (λ a. element_target env.now (plain_typed array) (plain_expr index.now) (plain_typed at) place ≡ a) }
 {
-    let Some(element) = element_at(alloc, env, &array, index, &at, place)? else {
+    let Some(element) = element_at(env, &array, index, &at, place)? else {
         return Ok(None);
     };
     let Element {

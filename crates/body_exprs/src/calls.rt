@@ -25,19 +25,14 @@ use std::alloc::Global;
 use syntax_tree::RplTree;
 
 /// Reads region arguments that are to be fully specified.
-pub fn read_full_args(
-    alloc: Global,
-    env: &Env,
-    trees: &[RplTree],
-    params: &[ParamRow],
-) -> Result<ReadArgs, Stop>
+pub fn read_full_args(env: &Env, trees: &[RplTree], params: &[ParamRow]) -> Result<ReadArgs, Stop>
     ensures read { IfOk result (λ args. args ≡ args_of env.now trees.now) }
     ensures reported { Says result (λ args. None) Some (λ t. args_reported env.now params.now trees.now ≡ t) }
 {
     let mut faults = Faults::by_kind();
     let around = IndexNames::none();
     read_args(
-        alloc,
+        env.alloc,
         &env.scope(),
         &mut faults,
         trees,
@@ -48,17 +43,11 @@ pub fn read_full_args(
 }
 
 /// Reads the region arguments of a call.
-pub fn read_call_args(
-    alloc: Global,
-    env: &Env,
-    of: &Typed,
-    name: u32,
-    trees: &[RplTree],
-) -> Result<ReadArgs, Stop>
+pub fn read_call_args(env: &Env, of: &Typed, name: u32, trees: &[RplTree]) -> Result<ReadArgs, Stop>
     ensures read { IfOk result (λ args. args ≡ args_of env.now trees.now) }
     ensures reported { Says result (λ args. None) Some (λ t. args_reported env.now (callee_params (table_of env.now) (value_type of.now) name) trees.now ≡ t) }
 {
-    read_full_args(alloc, env, trees, callee_params(env, of, name))
+    read_full_args(env, trees, callee_params(env, of, name))
 }
 
 /// The region parameters of the method that a call names.
@@ -120,7 +109,6 @@ fn put_copies(alloc: Global, paths: &mut Items<Rpl>, more: &[Rpl]) -> Result<(),
 
 /// A call whose parts are read. On what fits everywhere the call does.
 pub fn call(
-    alloc: Global,
     env: &Env,
     found: &mut Found,
     of: Typed,
@@ -133,7 +121,7 @@ pub fn call(
 {
     match of {
         Typed::Known(of) => {
-            let called = call_on(alloc, env, found, of, name, regions, actuals, place)?;
+            let called = call_on(env, found, of, name, regions, actuals, place)?;
             Ok(Typed::Known(called))
         }
         Typed::Any => {
@@ -159,7 +147,6 @@ fn all_values(actuals: &[Typed]) -> bool
 
 /// A call on a receiver that is known.
 fn call_on(
-    alloc: Global,
     env: &Env,
     found: &mut Found,
     of: Expr,
@@ -170,17 +157,14 @@ fn call_on(
 ) -> Result<Expr, Stop>
     ensures { Says result (λ e. gives (Some (plain_node e)) found.new) refused (λ a. type_call_on env.now (plain_node of) name regions (map plain_typed actuals) place found.old ≡ a) }
 {
-    let (class, row, owned) = called_method(alloc, env, &of.ty, name, place)?;
+    let (class, row, owned) = called_method(env, &of.ty, name, place)?;
     let owned = owned.as_slice();
-    call_of(
-        alloc, env, found, of, class, row, owned, regions, actuals, place,
-    )
+    call_of(env, found, of, class, row, owned, regions, actuals, place)
 }
 
 /// The class of a receiver of a class type, the method of that name there, and the region arguments of the class that
 /// declares it.
 fn called_method<'e>(
-    alloc: Global,
     env: &'e Env,
     of: &Ty,
     name: u32,
@@ -196,7 +180,7 @@ fn called_method<'e>(
     };
     let owned = env
         .table()
-        .args_at(alloc, *class, args.as_slice(), row.owner)?;
+        .args_at(env.alloc, *class, args.as_slice(), row.owner)?;
     match owned {
         Some(owned) => Ok((*class, row, owned)),
         None => Err(refused(Kind::Type, place)),
@@ -205,7 +189,6 @@ fn called_method<'e>(
 
 /// A call of a method. The class that declares it has the region arguments `owned`.
 fn call_of(
-    alloc: Global,
     env: &Env,
     found: &mut Found,
     of: Expr,
@@ -219,13 +202,18 @@ fn call_of(
     ensures { Says result (λ e. gives (Some (plain_node e)) found.new) refused (λ a. type_call_of env.now (plain_node of) class row.now owned.now regions (map plain_typed actuals) place found.old ≡ a) }
 {
     let mut faults = Faults::by_kind();
-    match fit_args(alloc, &mut faults, regions, row.regions.as_slice(), place)? {
+    match fit_args(
+        env.alloc,
+        &mut faults,
+        regions,
+        row.regions.as_slice(),
+        place,
+    )? {
         Some(regions) => {
-            let args = joined(alloc, owned, regions.as_slice())?;
+            let args = joined(env.alloc, owned, regions.as_slice())?;
             let partial = is_partial(row, owned);
             let args = args.as_slice();
             let ty = call_with(
-                alloc,
                 env,
                 found,
                 faults,
@@ -236,8 +224,8 @@ fn call_of(
                 place,
             )?;
             let number = env.table().row(row.id);
-            let actuals = nodes::nodes(alloc, actuals, place)?;
-            Ok(nodes::call(alloc, place, ty, of, class, number, regions, actuals)?)
+            let actuals = nodes::nodes(env.alloc, actuals, place)?;
+            Ok(nodes::call(env.alloc, place, ty, of, class, number, regions, actuals)?)
         }
         None => {
             let fit = shapes_fit(
@@ -253,7 +241,6 @@ fn call_of(
 /// The type of a call of a method with region arguments, through a receiver that may be partial. Faults may be noted
 /// already.
 fn call_with(
-    alloc: Global,
     env: &Env,
     found: &mut Found,
     faults: Faults,
@@ -268,7 +255,6 @@ fn call_with(
     ensures found { OnOk result (found.new ≡ with_call (table_of env.now) found.old row.now args.now) }
 {
     check_use(
-        alloc,
         env,
         faults,
         args,
@@ -278,6 +264,6 @@ fn call_with(
         partial,
         place,
     )?;
-    found.call(alloc, env.table(), row, args)?;
-    Ok(subst_type(alloc, &row.result, args)?)
+    found.call(env.alloc, env.table(), row, args)?;
+    Ok(subst_type(env.alloc, &row.result, args)?)
 }

@@ -21,20 +21,14 @@ use decl_headers::{Faults, ParamRow};
 use decl_resolve::{ReadArgs, fit_args};
 use lang_base::{Items, Kind, NoMemory, Place, Rpl, Stop, Ty};
 use lang_typed::Expr;
-use std::alloc::Global;
 use syntax_tree::{Named, RplTree};
 
 /// Reads the region arguments of the creation of an object.
-pub fn read_new_args(
-    alloc: Global,
-    env: &Env,
-    class: Named,
-    trees: &[RplTree],
-) -> Result<ReadArgs, Stop>
+pub fn read_new_args(env: &Env, class: Named, trees: &[RplTree]) -> Result<ReadArgs, Stop>
     ensures read { IfOk result (λ args. args ≡ args_of env.now trees.now) }
     ensures reported { Says result (λ args. None) Some (λ t. args_reported env.now (created_params (table_of env.now) class) trees.now ≡ t) }
 {
-    read_full_args(alloc, env, trees, created_params(env, class))
+    read_full_args(env, trees, created_params(env, class))
 }
 
 /// The region parameters of the class that a creation names.
@@ -58,7 +52,6 @@ fn class_params<'e>(env: &'e Env, class: u32) -> &'e [ParamRow]
 
 /// The creation of an object, whose parts are read.
 pub fn creation(
-    alloc: Global,
     env: &Env,
     found: &mut Found,
     class: Named,
@@ -69,14 +62,13 @@ pub fn creation(
     ensures { Says result (λ e. gives (Some (plain_node e)) found.new) refused (λ a. type_creation env.now class regions (map plain_typed actuals) place found.old ≡ a) }
 {
     match env.table().headers().class(class.name) {
-        Some(number) => creation_of(alloc, env, found, number, regions, actuals, place),
+        Some(number) => creation_of(env, found, number, regions, actuals, place),
         None => Err(refused(Kind::Unknown, class.place)),
     }
 }
 
 /// The creation of an object of a class.
 fn creation_of(
-    alloc: Global,
     env: &Env,
     found: &mut Found,
     class: u32,
@@ -87,11 +79,17 @@ fn creation_of(
     ensures { Says result (λ e. gives (Some (plain_node e)) found.new) refused (λ a. type_creation_of env.now class regions (map plain_typed actuals) place found.old ≡ a) }
 {
     let mut faults = Faults::by_kind();
-    match fit_args(alloc, &mut faults, regions, class_params(env, class), place)? {
+    match fit_args(
+        env.alloc,
+        &mut faults,
+        regions,
+        class_params(env, class),
+        place,
+    )? {
         Some(args) => {
             let shown = actuals.as_slice();
-            let ty = creation_with(alloc, env, found, faults, class, args, shown, place)?;
-            let actuals = nodes::nodes(alloc, actuals, place)?;
+            let ty = creation_with(env, found, faults, class, args, shown, place)?;
+            let actuals = nodes::nodes(env.alloc, actuals, place)?;
             Ok(nodes::create(place, ty, actuals))
         }
         None => {
@@ -107,7 +105,6 @@ fn creation_of(
 
 /// The type with region arguments, where faults may be noted already.
 fn creation_with(
-    alloc: Global,
     env: &Env,
     found: &mut Found,
     faults: Faults,
@@ -121,7 +118,6 @@ fn creation_with(
     ensures found { OnOk result (found.new ≡ with_constructor (table_of env.now) found.old (constructor_of (table_of env.now) class) args) }
 {
     check_use(
-        alloc,
         env,
         faults,
         args.as_slice(),
@@ -131,7 +127,7 @@ fn creation_with(
         false,
         place,
     )?;
-    add_constructor(alloc, env, found, class, args.as_slice())?;
+    add_constructor(env, found, class, args.as_slice())?;
     Ok(Ty::Class { class, args })
 }
 
@@ -146,17 +142,11 @@ fn formals<'e>(env: &'e Env, class: u32) -> &'e [Ty]
 }
 
 /// Adds what the constructor does, where there is one.
-fn add_constructor(
-    alloc: Global,
-    env: &Env,
-    found: &mut Found,
-    class: u32,
-    args: &[Rpl],
-) -> Result<(), NoMemory>
+fn add_constructor(env: &Env, found: &mut Found, class: u32, args: &[Rpl]) -> Result<(), NoMemory>
     ensures whole { OnOk result (found.new ≡ with_constructor (table_of env.now) found.old (constructor_of (table_of env.now) class) args.now) }
 {
     match env.table().constructor(class) {
-        Some(row) => found.call(alloc, env.table(), row, args),
+        Some(row) => found.call(env.alloc, env.table(), row, args),
         None => Ok(()),
     }
 }

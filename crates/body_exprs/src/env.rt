@@ -38,6 +38,8 @@ pub struct Mark {
 /// What is around an expression.
 #[derive(Drop)]
 pub struct Env<'a> {
+    /// What everything that is made of an expression is allocated with.
+    pub alloc: Global,
     table: TableRef<'a>,
     pub class: u32,
     /// The number of the method.
@@ -87,6 +89,7 @@ impl<'a> Env<'a> {
         ensures { IsFresh table.now length result }
     {
         Env {
+            alloc,
             table: TableRef::of(table),
             class: 0,
             method: 0,
@@ -111,7 +114,7 @@ impl<'a> Env<'a> {
     }
 
     /// Goes over to a class. Its constraints are in force.
-    pub fn enter_class(&mut self, alloc: Global, class: u32) -> Result<(), NoMemory>
+    pub fn enter_class(&mut self, class: u32) -> Result<(), NoMemory>
         ensures { OnOk result (self.new ≡ at_class self.old class) }
     {
         self.clear();
@@ -120,14 +123,14 @@ impl<'a> Env<'a> {
         self.given.truncate(0);
         self.class_given = 0;
         let table = self.table.get();
-        put_constraints(alloc, &mut self.given, table.given(class))?;
+        put_constraints(self.alloc, &mut self.given, table.given(class))?;
         self.class_given = self.given.len();
         Ok(())
     }
 
     /// Goes over to a constructor or method of the class. Its region parameters are in scope and its constraints in
     /// force, and no local is in scope yet.
-    pub fn enter_method(&mut self, alloc: Global, method: u32) -> Result<(), NoMemory>
+    pub fn enter_method(&mut self, method: u32) -> Result<(), NoMemory>
         ensures { OnOk result (self.new ≡ at_method self.old method) }
     {
         self.clear();
@@ -137,7 +140,7 @@ impl<'a> Env<'a> {
         let Some(row) = table.numbered(method) else {
             return Ok(());
         };
-        put_constraints(alloc, &mut self.given, row.given.as_slice())?;
+        put_constraints(self.alloc, &mut self.given, row.given.as_slice())?;
         put_params(&mut self.params, row.regions.as_slice())
     }
 
@@ -323,10 +326,10 @@ impl<'a> Env<'a> {
     }
 
     /// The type of `this`.
-    pub fn this_type(&self, alloc: Global) -> Result<Ty, NoMemory>
+    pub fn this_type(&self) -> Result<Ty, NoMemory>
         ensures { IfOk result (λ ty. plain_type ty ≡ this_type_of self.now) }
     {
-        let args = param_paths(alloc, self.scope().class_params(self.class).len())?;
+        let args = param_paths(self.alloc, self.scope().class_params(self.class).len())?;
         Ok(Ty::Class {
             class: self.class,
             args,

@@ -33,7 +33,7 @@ pub struct FieldAt {
 }
 
 /// The field of that name through a receiver of a class type.
-pub fn field_at(alloc: Global, env: &Env, of: &Ty, name: u32, place: Place) -> Result<FieldAt, Stop>
+pub fn field_at(env: &Env, of: &Ty, name: u32, place: Place) -> Result<FieldAt, Stop>
     ensures { Says result (λ field. Ok (plain_field field)) Err (λ a. field_through (table_of env.now) (plain_type of.now) name place ≡ a) }
 {
     let Ty::Class { class, args } = of else {
@@ -44,11 +44,11 @@ pub fn field_at(alloc: Global, env: &Env, of: &Ty, name: u32, place: Place) -> R
     };
     let owned = env
         .table()
-        .args_at(alloc, *class, args.as_slice(), row.owner)?;
+        .args_at(env.alloc, *class, args.as_slice(), row.owner)?;
     let Some(owned) = owned else {
         return Err(refused(Kind::Type, place));
     };
-    Ok(field_with(alloc, *class, row, owned.as_slice())?)
+    Ok(field_with(env.alloc, *class, row, owned.as_slice())?)
 }
 
 /// A field with region arguments put in. Where one of them isn't fully specified, the field may not be written if
@@ -68,7 +68,6 @@ fn field_with(alloc: Global, class: u32, row: &FieldRow, args: &[Rpl]) -> Result
 
 /// The read of a field, or the length of an array.
 pub fn read_field(
-    alloc: Global,
     env: &Env,
     found: &mut Found,
     of: Typed,
@@ -81,7 +80,7 @@ pub fn read_field(
         return Ok(Typed::Any);
     };
     if matches!(of.ty, Ty::Array { .. }) && env.is_length(name) {
-        return Ok(Typed::Known(nodes::length(alloc, place, of)?));
+        return Ok(Typed::Known(nodes::length(env.alloc, place, of)?));
     }
     let FieldAt {
         class,
@@ -90,12 +89,12 @@ pub fn read_field(
         rpl,
         may_read,
         ..
-    } = field_at(alloc, env, &of.ty, name, place)?;
+    } = field_at(env, &of.ty, name, place)?;
     if !may_read {
         return Err(refused(Kind::PartialWrite, place));
     }
     found.access(rpl, Access::Read)?;
-    Ok(Typed::Known(nodes::field(alloc, place, ty, of, class, slot)?))
+    Ok(Typed::Known(nodes::field(env.alloc, place, ty, of, class, slot)?))
 }
 
 /// What an index expression is in the region of an element. None for one that doesn't keep its value.
@@ -112,7 +111,6 @@ fn index_of(env: &Env, index: &Expr) -> Option<Index>
 /// The element of an array at an index, which is written and gives something. None where the array fits everywhere, and
 /// with it the element.
 pub fn element_at(
-    alloc: Global,
     env: &Env,
     array: &Typed,
     index: &Expr,
@@ -127,7 +125,7 @@ pub fn element_at(
     let Typed::Known(array) = array else {
         return Ok(None);
     };
-    match element(alloc, &array.ty, index_of(env, index))? {
+    match element(env.alloc, &array.ty, index_of(env, index))? {
         Some(found) => Ok(Some(found)),
         None => Err(refused(Kind::Type, place)),
     }
@@ -135,7 +133,6 @@ pub fn element_at(
 
 /// The read of an element.
 pub fn read_element(
-    alloc: Global,
     env: &Env,
     found: &mut Found,
     array: Typed,
@@ -145,7 +142,7 @@ pub fn read_element(
 ) -> Result<Typed, Stop>
     ensures { Says result (λ given. gives (plain_typed given) found.new) refused (λ a. read_element env.now (plain_typed array) (plain_expr index.now) (plain_typed at) place found.old ≡ a) }
 {
-    let Some(element) = element_at(alloc, env, &array, index, &at, place)? else {
+    let Some(element) = element_at(env, &array, index, &at, place)? else {
         return Ok(Typed::Any);
     };
     let Element {
@@ -160,7 +157,7 @@ pub fn read_element(
     found.access(rpl, Access::Read)?;
     let array = array.into_node(place);
     let at = at.into_node(place);
-    Ok(Typed::Known(nodes::element(alloc, place, ty, array, at)?))
+    Ok(Typed::Known(nodes::element(env.alloc, place, ty, array, at)?))
 }
 
 /// An element of an array part, as it is used through the part.

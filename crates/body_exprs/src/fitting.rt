@@ -1,16 +1,16 @@
-ghost use Rattle.std.specs.Prelude.{◌≡◌, ◌↔◌, IsTrue, IfOk};
+ghost use Rattle.std.specs.Prelude.{◌≡◌, IfOk};
 ghost use Rattle.lang_base.specs.Types.{plain_type};
 ghost use Rattle.body_exprs.specs.Env.{supers_of};
+ghost use Rattle.body_exprs.specs.Fits.{fits_as};
 ghost use Rattle.body_exprs.specs.Partial.{param_number, mentions_partial, rigid_in_partial};
 ghost use Rattle.body_exprs.specs.Refusing.{refusal_at};
-ghost use Rattle.body_exprs.specs.Typed.{Fits};
+ghost use Rattle.body_exprs.specs.Typed.{value_type};
 
 use crate::env::Env;
 use crate::typed::Typed;
 use lang_base::{Kind, NoMemory, Place, Refusal, Rpl, Stop, Ty};
 use region_paths::is_full;
 use region_types::{mentions, rigid};
-use std::alloc::Global;
 
 /// A refusal as what stops a pass.
 pub fn refused(kind: Kind, place: Place) -> Stop
@@ -20,11 +20,11 @@ pub fn refused(kind: Kind, place: Place) -> Stop
 }
 
 /// Whether a value may stand where the type is declared.
-pub fn fits(alloc: Global, env: &Env, value: &Typed, declared: &Ty) -> Result<bool, NoMemory>
-    ensures { IfOk result (λ fit. IsTrue fit ↔ Fits (supers_of env.now) value.now (plain_type declared.now)) }
+pub fn fits(env: &Env, value: &Typed, declared: &Ty) -> Result<bool, NoMemory>
+    ensures { IfOk result (λ fit. fit ≡ fits_as (supers_of env.now) (value_type value.now) (plain_type declared.now)) }
 {
     match value {
-        Typed::Known(value) => env.supers.fit(alloc, &value.ty, declared),
+        Typed::Known(value) => env.supers.fit(env.alloc, &value.ty, declared),
         Typed::Any => Ok(true),
     }
 }

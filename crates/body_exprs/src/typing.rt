@@ -25,7 +25,6 @@ use crate::typed::Typed;
 use decl_resolve::IndexNames;
 use lang_base::{Boxed, Items, Kind, Place, Plain, Stop, Ty, UnaryOp};
 use lang_typed::{Expr, ExprForm};
-use std::alloc::Global;
 use syntax_tree::{BaseTree, Expr as Tree, ExprKind, InfixOp, Named, RplTree, Suffix};
 
 /// The typed expression that an expression gives. Its effects are added to those that were found.
@@ -33,7 +32,7 @@ use syntax_tree::{BaseTree, Expr as Tree, ExprKind, InfixOp, Named, RplTree, Suf
 /// A function fills the room of all its arms at each call, so each form has a function of its own. It takes the parts as
 /// the tree holds them.
 #[cycle(exprs)]
-pub fn expr(alloc: Global, env: &Env, found: &mut Found, e: &Tree) -> Result<Typed, Stop>
+pub fn expr(env: &Env, found: &mut Found, e: &Tree) -> Result<Typed, Stop>
     ensures { Says result (λ given. gives (plain_typed given) found.new) refused (Typing env.now (plain_expr e.now) found.old) }
 {
     let place = e.place;
@@ -41,31 +40,31 @@ pub fn expr(alloc: Global, env: &Env, found: &mut Found, e: &Tree) -> Result<Typ
         ExprKind::Int(k) => int(place, *k),
         ExprKind::Bool(b) => boolean(place, *b),
         ExprKind::Null => null(place),
-        ExprKind::This => this(alloc, env, place),
-        ExprKind::Local(name) => local(alloc, env, *name, place),
-        ExprKind::Field { of, name } => field(alloc, env, found, of, *name, place),
-        ExprKind::Element { array, index } => element(alloc, env, found, array, index, place),
+        ExprKind::This => this(env, place),
+        ExprKind::Local(name) => local(env, *name, place),
+        ExprKind::Field { of, name } => field(env, found, of, *name, place),
+        ExprKind::Element { array, index } => element(env, found, array, index, place),
         ExprKind::Call {
             of,
             regions,
             name,
             actuals,
-        } => method_call(alloc, env, found, of, regions, *name, actuals, place),
+        } => method_call(env, found, of, regions, *name, actuals, place),
         ExprKind::New {
             class,
             regions,
             actuals,
-        } => new_object(alloc, env, found, *class, regions, actuals, place),
+        } => new_object(env, found, *class, regions, actuals, place),
         ExprKind::NewArray {
             base,
             suffixes,
             length,
             rpl,
             index,
-        } => new_array(alloc, env, found, base, suffixes, length, rpl, index, place),
-        ExprKind::Unary { op, arg } => one_operand(alloc, env, found, *op, arg, place),
+        } => new_array(env, found, base, suffixes, length, rpl, index, place),
+        ExprKind::Unary { op, arg } => one_operand(env, found, *op, arg, place),
         ExprKind::Binary { op, left, right } => {
-            two_operands(alloc, env, found, *op, left, right, place)
+            two_operands(env, found, *op, left, right, place)
         }
     }
 }
@@ -73,7 +72,6 @@ pub fn expr(alloc: Global, env: &Env, found: &mut Found, e: &Tree) -> Result<Typ
 /// A read of a field, or the length of an array.
 #[cycle(exprs)]
 fn field(
-    alloc: Global,
     env: &Env,
     found: &mut Found,
     of: &Boxed<Tree>,
@@ -86,8 +84,8 @@ fn field(
     match measured(env, of, name) {
         Some(row) => Ok(Typed::Known(nodes::part_length(place, row.slot))),
         None => {
-            let of = expr(alloc, env, found, of)?;
-            read_field(alloc, env, found, of, name, place)
+            let of = expr(env, found, of)?;
+            read_field(env, found, of, name, place)
         }
     }
 }
@@ -95,7 +93,6 @@ fn field(
 /// A read of an element.
 #[cycle(exprs)]
 fn element(
-    alloc: Global,
     env: &Env,
     found: &mut Found,
     array: &Boxed<Tree>,
@@ -108,13 +105,13 @@ fn element(
     let index = index.get();
     match env.part(array) {
         Some(row) => {
-            let at = expr(alloc, env, found, index)?;
-            read_part(alloc, found, row, at, place)
+            let at = expr(env, found, index)?;
+            read_part(env.alloc, found, row, at, place)
         }
         None => {
-            let array = expr(alloc, env, found, array)?;
-            let at = expr(alloc, env, found, index)?;
-            read_element(alloc, env, found, array, index, at, place)
+            let array = expr(env, found, array)?;
+            let at = expr(env, found, index)?;
+            read_element(env, found, array, index, at, place)
         }
     }
 }
@@ -122,7 +119,6 @@ fn element(
 /// A call of a method.
 #[cycle(exprs)]
 fn method_call(
-    alloc: Global,
     env: &Env,
     found: &mut Found,
     of: &Boxed<Tree>,
@@ -133,16 +129,15 @@ fn method_call(
 ) -> Result<Typed, Stop>
     ensures { Says result (λ given. gives (plain_typed given) found.new) refused (Typing env.now (expression place (form.call (plain_expr of.now) regions.now name (plain_exprs (map plain_expr actuals.now)))) found.old) }
 {
-    let of = expr(alloc, env, found, of.get())?;
-    let regions = read_call_args(alloc, env, &of, name, regions.as_slice())?;
-    let actuals = exprs(alloc, env, found, actuals.as_slice())?;
-    call(alloc, env, found, of, name, regions, actuals, place)
+    let of = expr(env, found, of.get())?;
+    let regions = read_call_args(env, &of, name, regions.as_slice())?;
+    let actuals = exprs(env, found, actuals.as_slice())?;
+    call(env, found, of, name, regions, actuals, place)
 }
 
 /// The creation of an object.
 #[cycle(exprs)]
 fn new_object(
-    alloc: Global,
     env: &Env,
     found: &mut Found,
     class: Named,
@@ -152,16 +147,15 @@ fn new_object(
 ) -> Result<Typed, Stop>
     ensures { Says result (λ given. gives (plain_typed given) found.new) refused (Typing env.now (expression place (form.create class regions.now (plain_exprs (map plain_expr actuals.now)))) found.old) }
 {
-    let regions = read_new_args(alloc, env, class, regions.as_slice())?;
-    let actuals = exprs(alloc, env, found, actuals.as_slice())?;
-    let made = creation(alloc, env, found, class, regions, actuals, place)?;
+    let regions = read_new_args(env, class, regions.as_slice())?;
+    let actuals = exprs(env, found, actuals.as_slice())?;
+    let made = creation(env, found, class, regions, actuals, place)?;
     Ok(Typed::Known(made))
 }
 
 /// The creation of an array.
 #[cycle(exprs)]
 fn new_array(
-    alloc: Global,
     env: &Env,
     found: &mut Found,
     base: &BaseTree,
@@ -178,17 +172,16 @@ fn new_array(
         inside: 0,
         made: *index,
     };
-    let read = read_array(alloc, env, base, around)?;
-    let length = expr(alloc, env, found, length.get())?;
-    let ty = array_creation(alloc, env, read, &length, rpl.as_ref(), around, place)?;
+    let read = read_array(env, base, around)?;
+    let length = expr(env, found, length.get())?;
+    let ty = array_creation(env, read, &length, rpl.as_ref(), around, place)?;
     let length = length.into_node(place);
-    Ok(Typed::Known(nodes::create_array(alloc, place, ty, length)?))
+    Ok(Typed::Known(nodes::create_array(env.alloc, place, ty, length)?))
 }
 
 /// An operation of one operand.
 #[cycle(exprs)]
 fn one_operand(
-    alloc: Global,
     env: &Env,
     found: &mut Found,
     op: UnaryOp,
@@ -197,14 +190,13 @@ fn one_operand(
 ) -> Result<Typed, Stop>
     ensures { Says result (λ given. gives (plain_typed given) found.new) refused (Typing env.now (expression place (form.unary op (plain_expr arg.now))) found.old) }
 {
-    let arg = expr(alloc, env, found, arg.get())?;
-    Ok(Typed::Known(unary(alloc, op, arg, place)?))
+    let arg = expr(env, found, arg.get())?;
+    Ok(Typed::Known(unary(env.alloc, op, arg, place)?))
 }
 
 /// An operation of two operands.
 #[cycle(exprs)]
 fn two_operands(
-    alloc: Global,
     env: &Env,
     found: &mut Found,
     op: InfixOp,
@@ -214,19 +206,19 @@ fn two_operands(
 ) -> Result<Typed, Stop>
     ensures { Says result (λ given. gives (plain_typed given) found.new) refused (Typing env.now (expression place (form.binary op (plain_expr left.now) (plain_expr right.now))) found.old) }
 {
-    let left = expr(alloc, env, found, left.get())?;
-    let right = expr(alloc, env, found, right.get())?;
-    Ok(Typed::Known(binary(alloc, op, left, right, place)?))
+    let left = expr(env, found, left.get())?;
+    let right = expr(env, found, right.get())?;
+    Ok(Typed::Known(binary(env.alloc, op, left, right, place)?))
 }
 
 /// Several expressions.
 #[cycle(exprs)]
-fn exprs(alloc: Global, env: &Env, found: &mut Found, all: &[Tree]) -> Result<Items<Typed>, Stop>
+fn exprs(env: &Env, found: &mut Found, all: &[Tree]) -> Result<Items<Typed>, Stop>
     ensures { Says result (λ made. all_give (map plain_typed made) found.new) one_refused (TypingAll env.now (plain_exprs (map plain_expr all.now)) found.old) }
 {
-    let mut made = Items::new(alloc);
+    let mut made = Items::new(env.alloc);
     for e in all {
-        made.push(expr(alloc, env, found, e)?)?;
+        made.push(expr(env, found, e)?)?;
     }
     Ok(made)
 }
@@ -272,22 +264,22 @@ fn null(place: Place) -> Result<Typed, Stop>
     }))
 }
 
-fn this(alloc: Global, env: &Env, place: Place) -> Result<Typed, Stop>
+fn this(env: &Env, place: Place) -> Result<Typed, Stop>
     ensures { (found : Found) → Says result (λ given. gives (plain_typed given) found) refused (λ a. gives (Some (typed place (this_type_of env.now) (node.local 0))) found ≡ a) }
 {
-    let ty = env.this_type(alloc)?;
+    let ty = env.this_type()?;
     Ok(Typed::Known(nodes::local(place, ty, 0)))
 }
 
 /// A local. A part of an array isn't used by its name alone.
-fn local(alloc: Global, env: &Env, name: u32, place: Place) -> Result<Typed, Stop>
+fn local(env: &Env, name: u32, place: Place) -> Result<Typed, Stop>
     ensures { (found : Found) → Says result (λ given. gives (plain_typed given) found) refused (λ a. answer (local_typed (local_of env.now name) place) found ≡ a) }
 {
     match env.local(name) {
         None => Err(refused(Kind::Unknown, place)),
         Some(row) if row.is_part => Err(refused(Kind::Type, place)),
         Some(row) => {
-            let ty = row.ty.copy(alloc)?;
+            let ty = row.ty.copy(env.alloc)?;
             Ok(Typed::Known(nodes::local(place, ty, row.slot)))
         }
     }
