@@ -3,28 +3,27 @@ use Rattle.std.proofs.Common.{◌≡◌, ℕ, zero, suc, ◌+◌, ◌-◌, ℤ, 
 use Rattle.std.proofs.Common.{refl, sym, ap, ap₂, ◌∙◌, subst, Option, Some, None, slice_get, eq-eqb, eqb-true, length-append}
 use Rattle.std.proofs.lemmas.List.{length-map, reverse-append}
 use Rattle.std.specs.Prelude.{int_lt, slice_set, slice_index_or}
-use Rattle.std.specs.Int.{w32, int_wrapping_add, int_wrapping_sub, int_wrapping_mul, int_wrapping_neg, int_wrapping_div}
-use Rattle.std.specs.Prelude.{int_rem, nat_lt, ◌+ℤ◌, if◌then◌else◌}
+use Rattle.std.specs.Int.{w32, int_wrapping_add, int_wrapping_neg}
+use Rattle.std.specs.Prelude.{nat_lt, ◌+ℤ◌, if◌then◌else◌}
 use Rattle.lang_base.specs.declared.place.Place.{Place}
 use Rattle.lang_base.specs.declared.value.Trap.{Trap}
-use Rattle.std.specs.Ordering.{int_eq}
 use Rattle.std.specs.List.{list_any}
 use Rattle.std.proofs.lemmas.Bool.{and_from, false_from_ne_true}
 use Rattle.lang_base.specs.declared.region.Head.TheVariants as head
 use Rattle.lang_base.specs.declared.region.Head.{Head}
 use Rattle.lang_base.specs.declared.region.Rpl.{Rpl}
 use Rattle.lang_base.specs.declared.op.BinaryOp.{BinaryOp}
-use Rattle.lang_base.specs.declared.op.BinaryOp.TheVariants as op
 use Rattle.lang_base.specs.declared.op.UnaryOp.{UnaryOp}
 use Rattle.lang_base.specs.declared.op.UnaryOp.TheVariants.{Negate, Not}
 use Rattle.lang_typed.specs.Plain.{PlainParent}
+use Rattle.lang_meaning.proofs.Operated.{Alike, neither, ints, booleans, operated_alike}
 use Rattle.lang_meaning.specs.Values.{Value, Int, Boolean, Region, Naming}
 use Rattle.lang_meaning.specs.Actions.{Answer, Ending, Returned, Assigned, Work}
 use Rattle.lang_meaning.specs.Asking.{ended}
 use Rattle.lang_meaning.specs.Core.{Result}
 use Rattle.lang_meaning.specs.Expressions.{none}
 use Rattle.lang_meaning.specs.Outcomes.{trap_of, first_trap, locals_of, all_locals, joined, joined_or}
-use Rattle.lang_meaning.specs.Counts.{number, truth, value_read, is_out, length_seen, name_made, class_seen, class_entered, is_below, operated, divided}
+use Rattle.lang_meaning.specs.Counts.{number, truth, value_read, is_out, length_seen, name_made, class_seen, class_entered, is_below, operated}
 use Rattle.lang_meaning.specs.Counts.{unary, same_value, slot_value, padded, part_place, part_first, part_length, part_taken, part_begin, is_part, numbered}
 use Rattle.lang_meaning.specs.Counts.{assigned, copied, text_of, brought}
 use Rattle.lang_meaning.specs.Elision.{LocalRegion as Counted}
@@ -181,27 +180,14 @@ pub data MaybeLike (ns : Names) : Option (Value ℕ) → Option (Value Name) →
   none_like : MaybeLike ns None None
   some_like : {v : Value ℕ} {u : Value Name} → ValueLike ns v u → MaybeLike ns (Some v) (Some u)
 
-divided_like : {ns : Names} (f : ℤ → ℤ → ℤ) {j k l m : ℤ} → j ≡ l → k ≡ m → MaybeLike ns (divided f j k) (divided f l m)
-divided_like {ns} f {j} {k} {l} {m} a b = subst (λ (z : ℤ). MaybeLike ns (divided f j k) (divided f z m)) a
-    (subst (λ (z : ℤ). MaybeLike ns (divided f j k) (divided f j z)) b (go (int_eq k (pos 0))))
-  where
-    go : (t : Bool) → MaybeLike ns (cond t None (Some (Int (f j k)))) (cond t None (Some (Int (f j k))))
-    go true = none_like
-    go false = some_like (int_like (f j k))
-
 pub operated_like : {ns : Names} → Distinct ns → (o : BinaryOp) {v w : Value ℕ} {u z : Value Name} → ValueLike ns v u → ValueLike ns w z
     → MaybeLike ns (operated (λ n m. n == m) o v w) (operated same_name o u z)
-operated_like d op.Add h k = some_like (int_of (ap₂ (int_wrapping_add w32) (number_like h) (number_like k)))
-operated_like d op.Subtract h k = some_like (int_of (ap₂ (int_wrapping_sub w32) (number_like h) (number_like k)))
-operated_like d op.Multiply h k = some_like (int_of (ap₂ (int_wrapping_mul w32) (number_like h) (number_like k)))
-operated_like d op.Divide h k = divided_like (int_wrapping_div w32) (number_like h) (number_like k)
-operated_like d op.Remainder h k = divided_like int_rem (number_like h) (number_like k)
-operated_like d op.Equal h k = some_like (boolean_of (same_value_like d h k))
-operated_like d op.NotEqual h k = some_like (boolean_of (ap not (same_value_like d h k)))
-operated_like d op.Less h k = some_like (boolean_of (ap₂ int_lt (number_like h) (number_like k)))
-operated_like d op.AtMost h k = some_like (boolean_of (ap not (ap₂ int_lt (number_like k) (number_like h))))
-operated_like d op.Greater h k = some_like (boolean_of (ap₂ int_lt (number_like k) (number_like h)))
-operated_like d op.AtLeast h k = some_like (boolean_of (ap not (ap₂ int_lt (number_like h) (number_like k))))
+operated_like {ns} d o {v} {w} {u} {z} h k = like (operated_alike _ _ o v w u z (number_like h) (number_like k) (same_value_like d h k))
+  where
+    like : {v : Option (Value ℕ)} {u : Option (Value Name)} → Alike v u → MaybeLike ns v u
+    like neither = none_like
+    like (ints e) = some_like (int_of e)
+    like (booleans e) = some_like (boolean_of e)
 
 pub unary_like : {ns : Names} (o : UnaryOp) {v : Value ℕ} {u : Value Name} → ValueLike ns v u → ValueLike ns (unary o v) (unary o u)
 unary_like Negate h = int_of (ap (int_wrapping_neg w32) (number_like h))
