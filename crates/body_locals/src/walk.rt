@@ -44,7 +44,7 @@ pub fn statement(
             statement(alloc, inside, reads, writes, body.get())
         }
         StmtKind::Foreach { .. } | StmtKind::ForeachParts { .. } => {
-            turns(alloc, inside, reads, writes, stmt)
+            parallel_loop(alloc, inside, reads, writes, stmt)
         }
         _ => single(inside, reads, writes, stmt),
     }
@@ -82,7 +82,7 @@ fn single(
 
 /// A `foreach` or a `foreach_parts`: what it goes over, then its body, in which its own names are declared.
 #[cycle(walk)]
-fn turns(
+fn parallel_loop(
     alloc: Global,
     inside: &mut BTreeSet<u32>,
     reads: &mut BTreeSet<u32>,

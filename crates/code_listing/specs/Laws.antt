@@ -1,4 +1,4 @@
--- What a listing tells of code.
+-- What a listing says of code.
 use Rattle.std.specs.Prelude.{◌≡◌, map, length}
 use Rattle.std.specs.List.{All}
 use Rattle.code_instrs.specs.declared.code.Code.{Code}
@@ -6,6 +6,6 @@ use Rattle.code_instrs.specs.Plain.{plain_code}
 use Rattle.code_listing.specs.Listing.{listing_of, plain_listing}
 
 -- no more than its plain form and the titles of its bodies, where each instruction has a place
-abbrev pub TellsPlainCode : Type 0
-TellsPlainCode =
+abbrev pub ListsPlainCode : Type 0
+ListsPlainCode =
     (code : Code) → All (λ body. length body.instrs ≡ length body.places) code.bodies → listing_of code ≡ plain_listing (map (λ body. body.title) code.bodies) (plain_code code)

@@ -1,4 +1,4 @@
-//! The listing of compiled code: the text that the command `list` tells.
+//! The listing of compiled code: the text that the command `list` writes.
 //!
 //! Each body of the code has a line with its title, and after it a line for each of its instructions: the position, right in
 //! four places, the name, and the operand where there is one. A label is the position that it names; sites and texts are given

@@ -14,7 +14,7 @@ use Rattle.lang_meaning.specs.Elision.{LocalRegion, Store, after, at_start, elid
 use Rattle.lang_meaning.specs.Expressions.{entered}
 use Rattle.lang_meaning.specs.Outcomes.{Came, Limited}
 use Rattle.lang_meaning.specs.Values.{Int, Object, Thing}
-use Rattle.exec_walker.specs.Laws.{TellsElision, StaysOver}
+use Rattle.exec_walker.specs.Laws.{EndsAsElision, StaysOver}
 use Rattle.exec_walker.specs.Walk.{State, At, Off, beginning, root_level, start, step, walk}
 use Rattle.exec_walker.specs.declared.halt.Halt.{Halt}
 use Rattle.exec_walker.specs.declared.halt.Halt.TheVariants as halt
@@ -96,33 +96,33 @@ module _ (P : PlainProgram) where
     reached_next k j x c = let there = c L x.1 x.3 in reached j (x.0 + there.0) _ (next_is k x there.0) there.1
 
     -- a walk that is over a limit, and one that is over
-    limited_at : TellsElision → StaysOver → (n : ℕ) (s : State) → walk P n (start P arg (suc L.steps)) ≡ s → IsOverAt L s
+    limited_at : EndsAsElision → StaysOver → (n : ℕ) (s : State) → walk P n (start P arg (suc L.steps)) ≡ s → IsOverAt L s
         → elided P arg L ≡ Limited L.steps L.cells
-    limited_at tells stays n (At g ws w) e h = stays P arg L n g ws w e h
-    limited_at tells stays n (Off (Done x w)) e (inl h) =
-        tells P arg L n (Done x w) e
+    limited_at ends stays n (At g ws w) e h = stays P arg L n g ws w e h
+    limited_at ends stays n (Off (Done x w)) e (inl h) =
+        ends P arg L n (Done x w) e
         ∙ ap (λ b. cond (b || nat_lt L.cells w.cells) (Limited L.steps L.cells) (Came x w.output w.steps w.cells)) (lt-ltb L.steps w.steps h)
-    limited_at tells stays n (Off (Done x w)) e (inr h) =
-        tells P arg L n (Done x w) e
+    limited_at ends stays n (Off (Done x w)) e (inr h) =
+        ends P arg L n (Done x w) e
         ∙ ap (λ b. cond b (Limited L.steps L.cells) (Came x w.output w.steps w.cells))
         (ap (λ b. nat_lt L.steps w.steps || b) (lt-ltb L.cells w.cells h) ∙ or_true (nat_lt L.steps w.steps))
-    limited_at tells stays n (Off (out.Trapped t p w)) e h = tells P arg L n (out.Trapped t p w) e
-    limited_at tells stays n (Off (Stopped m a)) e h = tells P arg L n (Stopped m a) e
-    limited_at tells stays n (Off (Lost w)) e h = tells P arg L n (Lost w) e
+    limited_at ends stays n (Off (out.Trapped t p w)) e h = ends P arg L n (out.Trapped t p w) e
+    limited_at ends stays n (Off (Stopped m a)) e h = ends P arg L n (Stopped m a) e
+    limited_at ends stays n (Off (Lost w)) e h = ends P arg L n (Lost w) e
 
-    pub limited_first : TellsElision → StaysOver → (x : Halt) → Begun P arg L (Err x) → Walked P arg L (Err x)
-    limited_first tells stays halt.Limited h = limited_at tells stays 0 (start P arg (suc L.steps)) refl h
-    limited_first tells stays halt.NoMemory h = tt
+    pub limited_first : EndsAsElision → StaysOver → (x : Halt) → Begun P arg L (Err x) → Walked P arg L (Err x)
+    limited_first ends stays halt.Limited h = limited_at ends stays 0 (start P arg (suc L.steps)) refl h
+    limited_first ends stays halt.NoMemory h = tt
 
-    pub limited_next : TellsElision → StaysOver → (x : Halt) (k j : Walker) (r : Reached k) → Walks P k (Err x) j → Walked P arg L (Err x)
-    limited_next tells stays halt.Limited k j r c =
-        let there = c L r.1 r.3 in limited_at tells stays (r.0 + there.0) _ (next_is k r there.0) there.1
-    limited_next tells stays halt.NoMemory k j r c = tt
+    pub limited_next : EndsAsElision → StaysOver → (x : Halt) (k j : Walker) (r : Reached k) → Walks P k (Err x) j → Walked P arg L (Err x)
+    limited_next ends stays halt.Limited k j r c =
+        let there = c L r.1 r.3 in limited_at ends stays (r.0 + there.0) _ (next_is k r there.0) there.1
+    limited_next ends stays halt.NoMemory k j r c = tt
 
-    over_at : TellsElision → (x : Over) (k : Walker) (n : ℕ) (s : State) → walk P n (start P arg (suc L.steps)) ≡ s → EndsAt L x k s → k.store.steps ≤ k.store.limit
+    over_at : EndsAsElision → (x : Over) (k : Walker) (n : ℕ) (s : State) → walk P n (start P arg (suc L.steps)) ≡ s → EndsAt L x k s → k.store.steps ≤ k.store.limit
         → reported (Came (plain_over x) k.store.output k.store.steps k.store.heap.used) ≡ reported (elided P arg L)
-    over_at tells x k n (At g ws w) e h few = absurd h
-    over_at tells x k n (Off (Done y w)) e h few =
+    over_at ends x k n (At g ws w) e h few = absurd h
+    over_at ends x k n (Off (Done y w)) e h few =
         let holds = h.1 in
         let within : w.steps ≤ L.steps = omega (arith, few, holds.steps, holds.steps_limit) in
         let room : w.cells ≤ L.cells = omega (arith, holds.cells, holds.cells_within) in
@@ -131,11 +131,11 @@ module _ (P : PlainProgram) where
         ∙ ap (λ m. Came y w.output m k.store.heap.used) holds.steps ∙ ap (λ m. Came y w.output w.steps m) holds.cells
         ∙ sym (ap (λ b. cond (b || nat_lt L.cells w.cells) (Limited L.steps L.cells) (Came y w.output w.steps w.cells)) (le-ltb L.steps w.steps within)
         ∙ ap (λ b. cond b (Limited L.steps L.cells) (Came y w.output w.steps w.cells)) (le-ltb L.cells w.cells room))
-        ∙ sym (tells P arg L n (Done y w) e))
-    over_at tells x k n (Off (out.Trapped t p w)) e h few = absurd h
-    over_at tells x k n (Off (Stopped m a)) e h few = absurd h
-    over_at tells x k n (Off (Lost w)) e h few = absurd h
+        ∙ sym (ends P arg L n (Done y w) e))
+    over_at ends x k n (Off (out.Trapped t p w)) e h few = absurd h
+    over_at ends x k n (Off (Stopped m a)) e h few = absurd h
+    over_at ends x k n (Off (Lost w)) e h few = absurd h
 
-    pub over_next : TellsElision → (x : Over) (k j : Walker) (r : Reached k) → Walks P k (Ok (Some x)) j → j.store.steps ≤ j.store.limit
+    pub over_next : EndsAsElision → (x : Over) (k j : Walker) (r : Reached k) → Walks P k (Ok (Some x)) j → j.store.steps ≤ j.store.limit
         → reported (Came (plain_over x) j.store.output j.store.steps j.store.heap.used) ≡ reported (elided P arg L)
-    over_next tells x k j r c few = let there = c L r.1 r.3 in over_at tells x j (r.0 + there.0) _ (next_is k r there.0) there.1 few
+    over_next ends x k j r c few = let there = c L r.1 r.3 in over_at ends x j (r.0 + there.0) _ (next_is k r there.0) there.1 few

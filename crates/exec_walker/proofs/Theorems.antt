@@ -9,7 +9,7 @@ use Rattle.lang_meaning.specs.Core.{Out as out}
 use Rattle.lang_meaning.specs.Elision.{LocalRegion, in_order, Store, at_end, at_start, sequential, enters_main, ran_through, elided, judged}
 use Rattle.lang_meaning.specs.Statements.{of_stmts}
 use Rattle.exec_walker.specs.Agenda.{deeper_at}
-use Rattle.exec_walker.specs.Laws.{TellsElision, StaysOver}
+use Rattle.exec_walker.specs.Laws.{EndsAsElision, StaysOver}
 use Rattle.exec_walker.specs.Walk.{At, root_work, root_level, start}
 use Rattle.exec_walker.proofs.Residual.{Ran, state_run}
 use Rattle.exec_walker.proofs.WalkEnds.{meaning_is, end_same}
@@ -45,9 +45,9 @@ module _ (P : PlainProgram) (arg : ℤ) where
   unfolding ran_through
   runs_to n = root_begins (member_at P P.main_member) (at_start P n)
 
-pub tells : TellsElision
+pub ends : EndsAsElision
 unfolding elided
-tells P arg L n o e = ap (judged L) (runs_to P arg (suc L.steps) ∙ walk_kept P n (start P arg (suc L.steps)) ∙ ap (state_run P) e)
+ends P arg L n o e = ap (judged L) (runs_to P arg (suc L.steps) ∙ walk_kept P n (start P arg (suc L.steps)) ∙ ap (state_run P) e)
 
 pub stays_over : StaysOver
 unfolding elided

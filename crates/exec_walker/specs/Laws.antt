@@ -1,4 +1,4 @@
--- What the walk promises.
+-- What the end of a walk says of the elision.
 use Rattle.std.specs.Prelude.{◌≡◌, ◌<◌, ◌⊎◌, ℕ, suc, ℤ, List}
 use Rattle.lang_typed.specs.Plain.{PlainProgram}
 use Rattle.lang_meaning.specs.Actions.{Ending}
@@ -8,9 +8,9 @@ use Rattle.lang_meaning.specs.Outcomes.{Limited}
 use Rattle.exec_walker.specs.Walk.{Level, Waiting, At, Off, walk, start}
 use Rattle.lang_base.specs.declared.outcome.Limits.{Limits}
 
--- a walk that is over tells the elision
-abbrev pub TellsElision : Type 0
-TellsElision = (P : PlainProgram) (arg : ℤ) (L : Limits) (n : ℕ) (o : out ℕ LocalRegion (Ending ℕ) Store)
+-- a walk ends as the elision does
+abbrev pub EndsAsElision : Type 0
+EndsAsElision = (P : PlainProgram) (arg : ℤ) (L : Limits) (n : ℕ) (o : out ℕ LocalRegion (Ending ℕ) Store)
     → walk P n (start P arg (suc L.steps)) ≡ Off o → elided P arg L ≡ judged L o
 
 -- costs never fall: where a walk is over a limit, the elision is

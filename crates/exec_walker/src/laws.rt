@@ -1,9 +1,9 @@
 //! Laws of the walk, each the clause of a function that does nothing.
 
-ghost use Rattle.exec_walker.specs.Laws.{TellsElision, StaysOver};
+ghost use Rattle.exec_walker.specs.Laws.{EndsAsElision, StaysOver};
 
-/// A walk that is over tells the elision's outcome, and one that is over a limit tells that the elision is.
+/// A walk ends as the elision does, and where one is over a limit the elision is.
 pub fn law_walk()
-    ensures tells { TellsElision }
+    ensures ends { EndsAsElision }
     ensures limited { StaysOver }
 {}

@@ -25,7 +25,7 @@ use Rattle.code_scheme.specs.Whole.{compiled}
 use Rattle.body_infer.specs.PostFixpoint.{IsInferred}
 use Rattle.body_infer.specs.Kept.{Keeping, program_kept}
 use Rattle.body_infer.specs.Lines.{lines_of}
-use Rattle.code_listing.specs.Laws.{TellsPlainCode}
+use Rattle.code_listing.specs.Laws.{ListsPlainCode}
 use Rattle.code_listing.specs.Listing.{listing_of, plain_listing}
 use Rattle.lang_typed.specs.Names.{ProgramNames}
 use Rattle.lang_typed.specs.Plain.{PlainProgram}
@@ -198,7 +198,7 @@ ran-so asked text typed r schedule verdict runs same is =
     record { made = r; run = runs; is = ap (λ v. record { verdict = v; recorded = Some r.record }) (is ∙ ap (λ ks. verdict_of asked text ks r.record.rounds r.outcome) same) }
 
 -- the listing of a code that is the compiled program's, with the titles that its names give
-pub listing-so : (text : List ℕ) (made typed : PlainProgram) (own names : ProgramNames) (code : Code) (listed : List ℕ) (answered : Answered) → TellsPlainCode
+pub listing-so : (text : List ℕ) (made typed : PlainProgram) (own names : ProgramNames) (code : Code) (listed : List ℕ) (answered : Answered) → ListsPlainCode
     → made ≡ typed → own ≡ names → AreNames text names → plain_code code ≡ compiled made → map (λ body. body.title) code.bodies ≡ titles_of made own
     → All (λ body. length body.instrs ≡ length body.places) code.bodies → listed ≡ listing_of code → answered ≡ only (Listed listed) → IsListing text typed answered
 listing-so text made typed own names code listed answered plain same named are_names is titles placed lists reported = record {

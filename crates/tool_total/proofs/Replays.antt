@@ -32,7 +32,7 @@ use Rattle.tool_top.specs.Replaying.{IsAnswerOnTrace, IsReplayOf, IsReplayed, pr
 use Rattle.tool_top.proofs.Following.{ran_once, right_not_wrong}
 use Rattle.tool_top.proofs.Promised.{made_run}
 use Rattle.tool_total.proofs.Numbers.{schedule_small}
-use Rattle.tool_total.specs.Replaying.{IsTraceOf, RepeatsRun, TellsTrace, TracesReplay}
+use Rattle.tool_total.specs.Replaying.{IsTraceOf, RepeatsRun, WritesTrace, TracesReplay}
 
 some_same : {A : Type 0} {x y : A} → Some x ≡ Some y → x ≡ y
 some_same e = cc
@@ -153,7 +153,7 @@ module _ (short : SchedulesAreShort) (keeps : EachKeeps) (going : CodeMakesProgr
     traced = record { trace = trace; is_trace = is_trace; argument = refl; limits = refl; schedule = refl; program = source }
 
   told : (job : Job) (text : List ℕ) (place : Place) (typed : PlainProgram) (answered : Answered) (outcome : Outcome) (bytes : List ℕ) → IsWithin job → IsAcceptedAs text place typed
-      → asks_run job.command ≡ true → IsRan job text typed answered → answered.verdict ≡ Traced outcome bytes → TellsTrace job text answered outcome bytes
+      → asks_run job.command ≡ true → IsRan job text typed answered → answered.verdict ≡ Traced outcome bytes → WritesTrace job text answered outcome bytes
   told job text place typed answered outcome bytes within accepted asks ran is =
       let r = ran.made in
       let m = made_run job.mode typed (limits_of job) job.arg job.workers r ran.run in
@@ -171,7 +171,7 @@ module _ (short : SchedulesAreShort) (keeps : EachKeeps) (going : CodeMakesProgr
       no_other : (v : Verdict) (a : Answered) → a ≡ only v → a.verdict ≡ Traced outcome bytes → v ≡ Traced outcome bytes
       no_other v a same e = sym (ap (λ (b : Answered). b.verdict) same) ∙ e
 
-      on : (place : Place) (typed : PlainProgram) (a : Answered) → IsAcceptedAs text place typed → IsAnswerOn job text typed a → a.verdict ≡ Traced outcome bytes → TellsTrace job text a outcome bytes
+      on : (place : Place) (typed : PlainProgram) (a : Answered) → IsAcceptedAs text place typed → IsAnswerOn job text typed a → a.verdict ≡ Traced outcome bytes → WritesTrace job text a outcome bytes
       on place typed a accepted (to_check c same) e = absurd (let never = no_other _ a same e in cc)
       on place typed a accepted (to_run c ran) e = told job text place typed a outcome bytes within accepted c ran e
       on place typed a accepted (to_events c h) e = absurd (let never : shown_verdict job (record { program = typed; names = h.names; fields = h.fields }) h.events h.made.outcome ≡ Traced outcome bytes = sym (ap (λ (b : Answered). b.verdict) h.is) ∙ e in cc)
@@ -179,7 +179,7 @@ module _ (short : SchedulesAreShort) (keeps : EachKeeps) (going : CodeMakesProgr
       on place typed a accepted (to_list c h) e = absurd (let never = no_other _ a h.lists e in cc)
       on place typed a accepted (to_effects c h) e = absurd (let never = no_other _ a h.is e in cc)
 
-      by : {a : Answered} → IsAnswer job text a → a.verdict ≡ Traced outcome bytes → TellsTrace job text a outcome bytes
+      by : {a : Answered} → IsAnswer job text a → a.verdict ≡ Traced outcome bytes → WritesTrace job text a outcome bytes
       by (too_long h) e = absurd (cc e)
       by (faulty refusal few fault) e = absurd (cc e)
       by (of_program place typed a accepted h) e = on place typed a accepted h e

@@ -31,7 +31,7 @@ pub record RepeatsRun (made : Record) (outcome : Outcome) (again : Answered) : T
   pub came : repeated.machine.outcome ≡ made.machine.outcome
 
 -- what is written is a trace of the run that is recorded, and each answer to its replay repeats that run
-pub record TellsTrace (job : Job) (text : List ℕ) (answered : Answered) (outcome : Outcome) (bytes : List ℕ) : Type 0 where
+pub record WritesTrace (job : Job) (text : List ℕ) (answered : Answered) (outcome : Outcome) (bytes : List ℕ) : Type 0 where
   pub made : Record
   pub recorded : answered.recorded ≡ Some made
   pub came : made.machine.outcome ≡ Some outcome
@@ -42,4 +42,4 @@ pub record TellsTrace (job : Job) (text : List ℕ) (answered : Answered) (outco
 abbrev pub TracesReplay : Type 0
 TracesReplay =
     (job : Job) (text : List ℕ) (answered : Answered) (outcome : Outcome) (bytes : List ℕ) → IsWithin job → IsAnswer job text answered
-    → answered.verdict ≡ Traced outcome bytes → TellsTrace job text answered outcome bytes
+    → answered.verdict ≡ Traced outcome bytes → WritesTrace job text answered outcome bytes

@@ -13,7 +13,7 @@ returns-in_err-walker c =
     let P = plain_program c.args.program.now in
     let L = c.args.limits in
     let out = err_from_is_err_and c.from_residual.result c.from_residual.ensures.1 in
-    rw (out.1, out.2) (limited_first P c.args.argument L c.law_walk.ensures.tells c.law_walk.ensures.limited c.in_err-walker.field-0.0 c.in_err-walker.ensures)
+    rw (out.1, out.2) (limited_first P c.args.argument L c.law_walk.ensures.ends c.law_walk.ensures.limited c.in_err-walker.field-0.0 c.in_err-walker.ensures)
 
 pub loop-walker-init : goal.loop-walker-init
 loop-walker-init c = reached_first (plain_program c.args.program.now) _ c.args.limits c.in_ok-walker.walker c.in_ok-walker.ensures
@@ -29,7 +29,7 @@ returns-in_err-over c =
     let same = to_z-of_z w32 c.args.argument c.ranges.argument in
     let out = err_from_is_err_and c.from_residual-in_err-over.result c.from_residual-in_err-over.ensures.1 in
     rw (out.1, out.2) (subst (λ a. Walked P a L (Err x)) same
-    (limited_next P _ L c.law_walk.ensures.tells c.law_walk.ensures.limited x c.loop-walker.walker c.to_next_cost.new.self c.loop-walker.invariant c.in_err-over.ensures.walks))
+    (limited_next P _ L c.law_walk.ensures.ends c.law_walk.ensures.limited x c.loop-walker.walker c.to_next_cost.new.self c.loop-walker.invariant c.in_err-over.ensures.walks))
 
 pub returns-in-Some : goal.returns-in-Some
 returns-in-Some c =
@@ -37,7 +37,7 @@ returns-in-Some c =
     let L = c.args.limits in
     let same = to_z-of_z w32 c.args.argument c.ranges.argument in
     c.outcome.ensures
-    ∙ over_next P _ L c.law_walk.ensures.tells c.in-Some.over c.loop-walker.walker c.to_next_cost.new.self c.loop-walker.invariant
+    ∙ over_next P _ L c.law_walk.ensures.ends c.in-Some.over c.loop-walker.walker c.to_next_cost.new.self c.loop-walker.invariant
     (rw c.in-Some.is at c.in_ok-over.ensures.walks) c.to_next_cost.new.self.store.within
     ∙ ap (λ a. reported (elided P a L)) same
 
