@@ -11,14 +11,14 @@ ghost use Rattle.body_exprs.specs.Typed.{plain_typed, value_type};
 use crate::env::{Env, LocalRow};
 use crate::fitting::{mentions_partial, refused, rigid_in_partial};
 use crate::found::Found;
-use crate::nodes;
 use crate::typed::Typed;
 use decl_table::FieldRow;
-use lang_base::{Access, Index, Kind, NoMemory, Place, Plain, Rpl, Stop, Ty};
+use lang_base::{Access, Boxed, Index, Kind, NoMemory, Place, Plain, Rpl, Stop, Ty};
+use lang_typed::{ClassId, Expr, ExprForm, FieldSlot, Slot};
 use region_paths::subst;
 use region_types::{Element, element, subst_type};
 use std::alloc::Global;
-use syntax_tree::{Expr, ExprKind};
+use syntax_tree::{Expr as Tree, ExprKind};
 
 /// A field as it is through a receiver.
 #[derive(Drop)]
@@ -80,7 +80,9 @@ pub fn read_field(
         return Ok(Typed::Any);
     };
     if matches!(of.ty, Ty::Array { .. }) && env.is_length(name) {
-        return Ok(Typed::Known(nodes::length(env.alloc, place, of)?));
+        let form = ExprForm::Length(Boxed::new(env.alloc, of)?);
+        let ty = Ty::Int;
+        return Ok(Typed::Known(Expr { place, ty, form }));
     }
     let FieldAt {
         class,
@@ -94,11 +96,15 @@ pub fn read_field(
         return Err(refused(Kind::PartialWrite, place));
     }
     found.access(rpl, Access::Read)?;
-    Ok(Typed::Known(nodes::field(env.alloc, place, ty, of, class, slot)?))
+    let of = Boxed::new(env.alloc, of)?;
+    let class = ClassId { number: class };
+    let field = FieldSlot { number: slot };
+    let form = ExprForm::Field { of, class, field };
+    Ok(Typed::Known(Expr { place, ty, form }))
 }
 
 /// What an index expression is in the region of an element. None for one that doesn't keep its value.
-fn index_of(env: &Env, index: &Expr) -> Option<Index>
+fn index_of(env: &Env, index: &Tree) -> Option<Index>
     ensures { result ≡ index_of env.now (plain_expr index.now) }
 {
     match &index.kind {
@@ -113,7 +119,7 @@ fn index_of(env: &Env, index: &Expr) -> Option<Index>
 pub fn element_at(
     env: &Env,
     array: &Typed,
-    index: &Expr,
+    index: &Tree,
     at: &Typed,
     place: Place,
 ) -> Result<Option<Element>, Stop>
@@ -136,7 +142,7 @@ pub fn read_element(
     env: &Env,
     found: &mut Found,
     array: Typed,
-    index: &Expr,
+    index: &Tree,
     at: Typed,
     place: Place,
 ) -> Result<Typed, Stop>
@@ -155,9 +161,10 @@ pub fn read_element(
         return Err(refused(Kind::PartialWrite, place));
     }
     found.access(rpl, Access::Read)?;
-    let array = array.into_node(place);
-    let at = at.into_node(place);
-    Ok(Typed::Known(nodes::element(env.alloc, place, ty, array, at)?))
+    let array = Boxed::new(env.alloc, array.into_node(place))?;
+    let index = Boxed::new(env.alloc, at.into_node(place))?;
+    let form = ExprForm::Element { array, index };
+    Ok(Typed::Known(Expr { place, ty, form }))
 }
 
 /// An element of an array part, as it is used through the part.
@@ -207,6 +214,8 @@ pub fn read_part(
     };
     let PartElement { view, ty, rpl } = element;
     found.part_use(view, rpl, Access::Read)?;
-    let at = at.into_node(place);
-    Ok(Typed::Known(nodes::part_element(alloc, place, ty, view, at)?))
+    let part = Slot { number: view };
+    let index = Boxed::new(alloc, at.into_node(place))?;
+    let form = ExprForm::PartElement { part, index };
+    Ok(Typed::Known(Expr { place, ty, form }))
 }

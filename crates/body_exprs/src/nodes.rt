@@ -7,53 +7,10 @@ ghost use Rattle.body_exprs.specs.Operations.{binary_form};
 ghost use Rattle.body_exprs.specs.Typed.{plain_form, plain_node, plain_typed, nodes_at};
 
 use crate::typed::Typed;
-use lang_base::{Boxed, Items, LogicOp, NoMemory, Place, Rpl, Ty, UnaryOp};
-use lang_typed::{ClassId, Expr, ExprForm, FieldSlot, Row, Slot};
+use lang_base::{Boxed, Items, LogicOp, NoMemory, Place, Rpl, Ty};
+use lang_typed::{ClassId, Expr, ExprForm, Row, Slot};
 use std::alloc::Global;
 use syntax_tree::InfixOp;
-
-/// A read of a field of an object of the class or one below it.
-pub fn field(
-    alloc: Global,
-    place: Place,
-    ty: Ty,
-    of: Expr,
-    class: u32,
-    slot: u32,
-) -> Result<Expr, NoMemory>
-    ensures { IfOk result (λ e. plain_node e ≡ typed place (plain_type ty) (form.field (plain_node of) class slot)) }
-{
-    let of = Boxed::new(alloc, of)?;
-    let class = ClassId { number: class };
-    let field = FieldSlot { number: slot };
-    let form = ExprForm::Field { of, class, field };
-    Ok(Expr { place, ty, form })
-}
-
-/// A read of an element.
-pub fn element(
-    alloc: Global,
-    place: Place,
-    ty: Ty,
-    array: Expr,
-    index: Expr,
-) -> Result<Expr, NoMemory>
-    ensures { IfOk result (λ e. plain_node e ≡ typed place (plain_type ty) (form.element (plain_node array) (plain_node index))) }
-{
-    let array = Boxed::new(alloc, array)?;
-    let index = Boxed::new(alloc, index)?;
-    let form = ExprForm::Element { array, index };
-    Ok(Expr { place, ty, form })
-}
-
-/// The length of an array.
-pub fn length(alloc: Global, place: Place, array: Expr) -> Result<Expr, NoMemory>
-    ensures { IfOk result (λ e. plain_node e ≡ typed place ty.int (form.array_length (plain_node array))) }
-{
-    let form = ExprForm::Length(Boxed::new(alloc, array)?);
-    let ty = Ty::Int;
-    Ok(Expr { place, ty, form })
-}
 
 /// The length of a part of an array.
 pub fn part_length(place: Place, part: u32) -> Expr
@@ -62,22 +19,6 @@ pub fn part_length(place: Place, part: u32) -> Expr
     let form = ExprForm::PartLength(Slot { number: part });
     let ty = Ty::Int;
     Expr { place, ty, form }
-}
-
-/// A read of an element of a part.
-pub fn part_element(
-    alloc: Global,
-    place: Place,
-    ty: Ty,
-    part: u32,
-    index: Expr,
-) -> Result<Expr, NoMemory>
-    ensures { IfOk result (λ e. plain_node e ≡ typed place (plain_type ty) (form.part_element part (plain_node index))) }
-{
-    let part = Slot { number: part };
-    let index = Boxed::new(alloc, index)?;
-    let form = ExprForm::PartElement { part, index };
-    Ok(Expr { place, ty, form })
 }
 
 /// A read of a local.
@@ -124,15 +65,6 @@ pub fn create_array(alloc: Global, place: Place, ty: Ty, length: Expr) -> Result
     ensures { IfOk result (λ e. plain_node e ≡ typed place (plain_type ty) (form.create_array (plain_node length))) }
 {
     let form = ExprForm::NewArray(Boxed::new(alloc, length)?);
-    Ok(Expr { place, ty, form })
-}
-
-/// An operation of one operand.
-pub fn unary(alloc: Global, place: Place, ty: Ty, op: UnaryOp, arg: Expr) -> Result<Expr, NoMemory>
-    ensures { IfOk result (λ e. plain_node e ≡ typed place (plain_type ty) (form.unary op (plain_node arg))) }
-{
-    let arg = Boxed::new(alloc, arg)?;
-    let form = ExprForm::Unary { op, arg };
     Ok(Expr { place, ty, form })
 }
 

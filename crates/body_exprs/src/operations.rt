@@ -8,7 +8,7 @@ use crate::fitting::refused;
 use crate::nodes;
 use crate::typed::Typed;
 use lang_base::{Boxed, Kind, Operands, Place, Stop, Ty, UnaryOp};
-use lang_typed::Expr;
+use lang_typed::{Expr, ExprForm};
 use std::alloc::Global;
 use syntax_tree::InfixOp;
 
@@ -28,8 +28,10 @@ pub fn unary(alloc: Global, op: UnaryOp, arg: Typed, place: Place) -> Result<Exp
     if !unary_takes(op, &arg) {
         return Err(refused(Kind::Type, place));
     }
-    let arg = arg.into_node(place);
-    Ok(nodes::unary(alloc, place, op.ty(), op, arg)?)
+    let ty = op.ty();
+    let arg = Boxed::new(alloc, arg.into_node(place))?;
+    let form = ExprForm::Unary { op, arg };
+    Ok(Expr { place, ty, form })
 }
 
 /// Two ints, two booleans, or two values that may be null.
