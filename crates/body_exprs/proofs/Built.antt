@@ -2,7 +2,8 @@
 use Rattle.std.proofs.Common.{◌≡◌, ◌∙◌, ℤ, Bool, List, [], ◌∷◌, ◌++◌, map, ap, refl, sym, rules, Result, Ok}
 use Rattle.lang_base.specs.declared.place.Place.{Place}
 use Rattle.lang_base.specs.declared.region.Rpl.{Rpl}
-use Rattle.lang_base.specs.Types.{PlainType}
+use Rattle.lang_base.specs.declared.ty.Ty.{Ty}
+use Rattle.lang_base.specs.Types.{PlainType, plain_type}
 use Rattle.lang_base.specs.declared.op.BinaryOp.{BinaryOp}
 use Rattle.lang_typed.specs.declared.expr.Expr.{Expr}
 use Rattle.lang_typed.specs.declared.expr.ExprForm.{the_lemmas}
@@ -135,8 +136,21 @@ pub nodes_step : (made others : List Expr) (x : Expr) (n : TypedExpr) (rest : Li
 nodes_step made others x n rest is same =
     ap (λ (z : List Expr). map plain_node z ++ rest) same ∙ nodes_more made x rest ∙ ap (λ (z : TypedExpr). map plain_node made ++ z ∷ rest) is
 
+-- a call, and the creation of an object, of these parts
+pub call_built : (place : Place) (t : Ty) (boxed of : Expr) (class : ClassId) (row : Row) (regions : List Rpl) (actuals : List Expr) → boxed ≡ of →
+    plain_node (record { place = place; ty = t; form = kind.Call boxed class row regions actuals })
+    ≡ typed place (plain_type t) (form.call (plain_node of) class.number row.number regions (exprs_of (map plain_node actuals)))
+call_built place t boxed of class row regions actuals is =
+    ap (typed place (plain_type t)) (plain_form-Call boxed class row regions actuals
+    ∙ ap (λ (z : Expr). form.call (plain_node z) class.number row.number regions (exprs_of (map plain_node actuals))) is)
+
+pub create_built : (place : Place) (t : Ty) (actuals : List Expr) →
+    plain_node (record { place = place; ty = t; form = kind.New actuals }) ≡ typed place (plain_type t) (form.create (exprs_of (map plain_node actuals)))
+create_built place t actuals = ap (typed place (plain_type t)) (plain_form-New actuals)
+
 -- a created array
-pub array_built : (place : Place) (t : PlainType) (x n made : TypedExpr) (r : Result PlainType Refusal) → r ≡ Ok t → made ≡ typed place t (form.create_array n) → n ≡ x →
-    created place x r ≡ Ok made
-array_built place t x n made r is makes same =
-    ap (created place x) is ∙ ap (λ (z : TypedExpr). Ok (typed place t (form.create_array z))) (sym same) ∙ ap Ok (sym makes)
+pub array_built : (place : Place) (t : Ty) (boxed of : Expr) (n : TypedExpr) (r : Result PlainType Refusal) → r ≡ Ok (plain_type t) → boxed ≡ of → plain_node of ≡ n →
+    created place n r ≡ Ok (plain_node (record { place = place; ty = t; form = kind.NewArray boxed }))
+array_built place t boxed of n r is same node =
+    ap (created place n) is ∙ ap (λ (z : TypedExpr). Ok (typed place (plain_type t) (form.create_array z))) (sym node ∙ ap plain_node (sym same))
+    ∙ ap (λ (z : form). Ok (typed place (plain_type t) z)) (sym (plain_form-NewArray boxed))

@@ -113,20 +113,20 @@ pub of_unknown : (env : Env) (e : TypedExpr) (class : ℕ) (row : MethodRow) (ow
 of_unknown env e class row owned args actuals shown place f before fit s given b shows fits is =
     rw is (rw (given, b, fits ∙ ap (λ (z : List (Option PlainType)). shapes_fit (headers_of (table_of env)) z row.params) (types_for actuals shown shows)))
 
--- a call of the method that is found
-pub of_found : (env : Env) (e : Expr) (name : ℕ) (args : ReadArgs) (actuals : List (Option TypedExpr)) (place : Place) (f g : Found)
-    (class : ℕ) (row : MethodRow) (owned shown : List Rpl) (r : Result Expr Stop) →
-    method_through (table_of env) (plain_type e.ty) name place ≡ Ok (class, row, owned) → shown ≡ owned →
-    Says r (λ u. gives (Some (plain_node u)) g) refused (λ a. type_call_of env (plain_node e) class row shown args actuals place f ≡ a) →
-    Says r (λ u. gives (Some (plain_node u)) g) refused (λ a. type_call_on env (plain_node e) name args actuals place f ≡ a)
-of_found env e name args actuals place f g class row owned shown r through is h =
-    says_all (λ a. type_call_of env (plain_node e) class row shown args actuals place f ≡ a) (λ a. type_call_on env (plain_node e) name args actuals place f ≡ a)
-    (λ u. gives (Some (plain_node u)) g) refused r (λ a d. rw (through, ← is) d) h
-
 -- a call on what has a type, and on what fits everywhere
 pub on_known : (env : Env) (of : Typed) (e : Expr) (name : ℕ) (args : ReadArgs) (actuals : List (Option TypedExpr)) (place : Place) (f : Found) (a : Answer) →
     of ≡ Known e → type_call_on env (plain_node e) name args actuals place f ≡ a → type_call env (plain_typed of) name args actuals place f ≡ a
 on_known env of e name args actuals place f a is d = rw is d
+
+-- a call of the method that is found, on what has a type
+pub of_found : (env : Env) (of : Typed) (e : Expr) (name : ℕ) (args : ReadArgs) (actuals : List (Option TypedExpr)) (place : Place) (f g : Found)
+    (class : ℕ) (row : MethodRow) (owned shown : List Rpl) (r : Result Typed Stop) → of ≡ Known e →
+    method_through (table_of env) (plain_type e.ty) name place ≡ Ok (class, row, owned) → shown ≡ owned →
+    Says r (λ u. gives (plain_typed u) g) refused (λ a. type_call_of env (plain_node e) class row shown args actuals place f ≡ a) →
+    Says r (λ u. gives (plain_typed u) g) refused (λ a. type_call env (plain_typed of) name args actuals place f ≡ a)
+of_found env of e name args actuals place f g class row owned shown r known through is h =
+    says_all (λ a. type_call_of env (plain_node e) class row shown args actuals place f ≡ a) (λ a. type_call env (plain_typed of) name args actuals place f ≡ a)
+    (λ u. gives (plain_typed u) g) refused r (λ a d. on_known env of e name args actuals place f a known (rw (through, ← is) d)) h
 
 pub on_any : (env : Env) (of : Typed) (name : ℕ) (args : ReadArgs) (actuals shown : List Typed) (place : Place) (f : Found) (values : Bool) →
     of ≡ Any → shown ≡ actuals → values ≡ list_all (may_be is_value) (map value_type shown) →

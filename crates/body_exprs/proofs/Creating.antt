@@ -84,12 +84,12 @@ of_unknown env at args actuals shown place f before fit s given b shows fits is 
 pub class_for : (headers others : Headers) (name : ℕ) (seen reported : Option ℕ) → seen ≡ class_of headers name → headers ≡ others → seen ≡ reported → class_of others name ≡ reported
 class_for headers others name seen reported s h t = subst (λ (z : Headers). class_of z name ≡ reported) h (sym s ∙ t)
 
-pub of_class : (env : Env) (class : Named) (at : ℕ) (args : ReadArgs) (actuals : List (Option TypedExpr)) (place : Place) (f g : Found) (r : Result Expr Stop) →
+pub of_class : (env : Env) (class : Named) (at : ℕ) (args : ReadArgs) (actuals : List (Option TypedExpr)) (place : Place) (f g : Found) (r : Result Typed Stop) →
     class_of (headers_of (table_of env)) class.name ≡ Some at →
-    Says r (λ e. gives (Some (plain_node e)) g) refused (λ a. type_creation_of env at args actuals place f ≡ a) →
-    Says r (λ e. gives (Some (plain_node e)) g) refused (λ a. type_creation env class args actuals place f ≡ a)
+    Says r (λ t. gives (plain_typed t) g) refused (λ a. type_creation_of env at args actuals place f ≡ a) →
+    Says r (λ t. gives (plain_typed t) g) refused (λ a. type_creation env class args actuals place f ≡ a)
 of_class env class at args actuals place f g r is h =
-    says_all (λ a. type_creation_of env at args actuals place f ≡ a) (λ a. type_creation env class args actuals place f ≡ a) (λ e. gives (Some (plain_node e)) g) refused r
+    says_all (λ a. type_creation_of env at args actuals place f ≡ a) (λ a. type_creation env class args actuals place f ≡ a) (λ t. gives (plain_typed t) g) refused r
     (λ a d. rw is d) h
 
 pub of_no_class : (env : Env) (class : Named) (args : ReadArgs) (actuals : List (Option TypedExpr)) (place : Place) (f : Found) (s : Stop) →

@@ -1,9 +1,7 @@
 -- What is known of the types of expressions, and where they fit.
 use Rattle.std.specs.Prelude.{◌≡◌, ◌⊎◌, Bool, true, false, List, [], ◌∷◌, Option, Some, None, option_map}
 use Rattle.lang_base.specs.declared.place.Place.{Place}
-use Rattle.lang_base.specs.declared.ty.Ty.{Ty}
 use Rattle.lang_base.specs.declared.ty.Super.{Super}
-use Rattle.lang_base.specs.declared.region.Rpl.{Rpl}
 use Rattle.lang_base.specs.Types.{PlainType, plain_type, Ordered, Subtype}
 use Rattle.lang_base.specs.Types.PlainType.{int, boolean, void, null, class, array}
 use Rattle.lang_typed.specs.declared.expr.Expr.{Expr}

@@ -3,11 +3,13 @@ ghost use Rattle.std.specs.Option.{option_copied};
 ghost use Rattle.lang_base.specs.Types.{plain_type};
 ghost use Rattle.decl_resolve.specs.Reading.{path_meant, path_faults};
 ghost use Rattle.decl_resolve.specs.Index.{plain_index};
-ghost use Rattle.body_exprs.specs.Answer.{Says};
+ghost use Rattle.body_exprs.specs.declared.found.Found.{Found};
+ghost use Rattle.body_exprs.specs.Answer.{gives, refused, Says};
 ghost use Rattle.body_exprs.specs.Arrays.{front_of, front_reported, full_path, around_own, own_path, own_place, array_with, created_array};
 ghost use Rattle.body_exprs.specs.Env.{scope_of};
 ghost use Rattle.body_exprs.specs.Refusing.{reported_first};
-ghost use Rattle.body_exprs.specs.Typed.{value_type};
+ghost use Rattle.body_exprs.specs.Typed.{node_at, plain_typed, value_type};
+ghost use Rattle.body_exprs.specs.Typing.{answer, created};
 
 use crate::actuals::note_if;
 use crate::env::Env;
@@ -15,7 +17,8 @@ use crate::fitting::refused;
 use crate::typed::Typed;
 use decl_headers::Faults;
 use decl_resolve::{IndexNames, Need, ReadType, array_made, path, read_type, root};
-use lang_base::{Kind, Place, Rpl, Stop, Ty};
+use lang_base::{Boxed, Kind, Place, Rpl, Stop, Ty};
+use lang_typed::{Expr, ExprForm};
 use syntax_tree::{BaseTree, RplTree};
 
 /// Reads what stands in front of the length of an array creation.
@@ -64,24 +67,27 @@ fn own_place(rpl: Option<&RplTree>, place: Place) -> Place
     }
 }
 
-/// The type of an array creation whose parts are read up to its length.
+/// An array creation whose parts are read up to its length.
 pub fn array_creation(
     env: &Env,
     read: ReadType,
-    length: &Typed,
+    length: Typed,
     rpl: Option<&RplTree>,
     around: IndexNames,
     place: Place,
-) -> Result<Ty, Stop>
-    ensures { Says result (λ ty. Ok (plain_type ty)) Err (λ a. created_array env.now (plain_index around.entry) read (value_type length.now) (option_copied rpl.entry) place ≡ a) }
+) -> Result<Typed, Stop>
+    ensures { (found : Found) → Says result (λ given. gives (plain_typed given) found) refused (λ a. answer (created place (node_at place (plain_typed length)) (created_array env.now (plain_index around.entry) read (value_type length) (option_copied rpl.entry) place)) found ≡ a) }
 {
     let own = own_path(env, rpl, around)?;
     let own_place = own_place(rpl, place);
     let is_length = length.is_int();
-    array_with(env, read, is_length, own, around, own_place, place)
+    let ty = array_with(env, read, is_length, own, around, own_place, place)?;
+    let length = Boxed::new(env.alloc, length.into_node(place))?;
+    let form = ExprForm::NewArray(length);
+    Ok(Typed::Known(Expr { place, ty, form }))
 }
 
-/// The same with the region of the elements, where the length is an int or not.
+/// The type of an array creation with the region of its elements, where the length is an int or not.
 fn array_with(
     env: &Env,
     read: ReadType,

@@ -6,7 +6,7 @@ ghost use Rattle.body_exprs.specs.Answer.{gives, refused, with_call, Says};
 ghost use Rattle.body_exprs.specs.Env.{table_of, given_in};
 ghost use Rattle.body_exprs.specs.Partial.{some_mention_partial, is_partial_call};
 ghost use Rattle.body_exprs.specs.Typed.{plain_node, plain_typed, value_type, may_be, is_value};
-ghost use Rattle.body_exprs.specs.Uses.{args_of, args_reported, callee_params, use_reported, method_through, type_call_of, type_call_on, type_call};
+ghost use Rattle.body_exprs.specs.Uses.{args_of, args_reported, callee_params, use_reported, method_through, type_call_of, type_call};
 
 use crate::actuals::{check_use, unknown_args};
 use crate::env::Env;
@@ -18,8 +18,8 @@ use crate::typed::Typed;
 use decl_headers::{Faults, ParamRow};
 use decl_resolve::{IndexNames, ReadArgs, fit_args, read_args};
 use decl_table::MethodRow;
-use lang_base::{Items, Kind, NoMemory, Place, Plain, Rpl, Stop, Ty};
-use lang_typed::Expr;
+use lang_base::{Boxed, Items, Kind, NoMemory, Place, Plain, Rpl, Stop, Ty};
+use lang_typed::{ClassId, Expr, ExprForm, Row};
 use region_types::subst_type;
 use std::alloc::Global;
 use syntax_tree::RplTree;
@@ -121,8 +121,9 @@ pub fn call(
 {
     match of {
         Typed::Known(of) => {
-            let called = call_on(env, found, of, name, regions, actuals, place)?;
-            Ok(Typed::Known(called))
+            let (class, row, owned) = called_method(env, &of.ty, name, place)?;
+            let owned = owned.as_slice();
+            call_of(env, found, of, class, row, owned, regions, actuals, place)
         }
         Typed::Any => {
             if all_values(actuals.as_slice()) {
@@ -143,23 +144,6 @@ fn all_values(actuals: &[Typed]) -> bool
         }
     }
     true
-}
-
-/// A call on a receiver that is known.
-fn call_on(
-    env: &Env,
-    found: &mut Found,
-    of: Expr,
-    name: u32,
-    regions: ReadArgs,
-    actuals: Items<Typed>,
-    place: Place,
-) -> Result<Expr, Stop>
-    ensures { Says result (λ e. gives (Some (plain_node e)) found.new) refused (λ a. type_call_on env.now (plain_node of) name regions (map plain_typed actuals) place found.old ≡ a) }
-{
-    let (class, row, owned) = called_method(env, &of.ty, name, place)?;
-    let owned = owned.as_slice();
-    call_of(env, found, of, class, row, owned, regions, actuals, place)
 }
 
 /// The class of a receiver of a class type, the method of that name there, and the region arguments of the class that
@@ -198,8 +182,8 @@ fn call_of(
     regions: ReadArgs,
     actuals: Items<Typed>,
     place: Place,
-) -> Result<Expr, Stop>
-    ensures { Says result (λ e. gives (Some (plain_node e)) found.new) refused (λ a. type_call_of env.now (plain_node of) class row.now owned.now regions (map plain_typed actuals) place found.old ≡ a) }
+) -> Result<Typed, Stop>
+    ensures { Says result (λ given. gives (plain_typed given) found.new) refused (λ a. type_call_of env.now (plain_node of) class row.now owned.now regions (map plain_typed actuals) place found.old ≡ a) }
 {
     let mut faults = Faults::by_kind();
     match fit_args(
@@ -225,7 +209,15 @@ fn call_of(
             )?;
             let number = env.table().row(row.id);
             let actuals = nodes::nodes(env.alloc, actuals, place)?;
-            Ok(nodes::call(env.alloc, place, ty, of, class, number, regions, actuals)?)
+            let of = Boxed::new(env.alloc, of)?;
+            let form = ExprForm::Call {
+                of,
+                class: ClassId { number: class },
+                row: Row { number },
+                regions,
+                actuals,
+            };
+            Ok(Typed::Known(Expr { place, ty, form }))
         }
         None => {
             let fit = shapes_fit(

@@ -6,7 +6,7 @@ ghost use Rattle.decl_resolve.specs.Constraints.{all_hold};
 ghost use Rattle.decl_table.specs.Table.{headers_of, constructor_of, given_of};
 ghost use Rattle.body_exprs.specs.Answer.{gives, refused, Says};
 ghost use Rattle.body_exprs.specs.Env.{table_of, given_in};
-ghost use Rattle.body_exprs.specs.Typed.{plain_node, plain_typed, value_type};
+ghost use Rattle.body_exprs.specs.Typed.{plain_typed, value_type};
 ghost use Rattle.body_exprs.specs.Uses.{args_of, args_reported, created_params, formals_of, use_reported, with_constructor, type_creation_of, type_creation};
 
 use crate::actuals::{check_use, unknown_args};
@@ -20,7 +20,7 @@ use crate::typed::Typed;
 use decl_headers::{Faults, ParamRow};
 use decl_resolve::{ReadArgs, fit_args};
 use lang_base::{Items, Kind, NoMemory, Place, Rpl, Stop, Ty};
-use lang_typed::Expr;
+use lang_typed::{Expr, ExprForm};
 use syntax_tree::{Named, RplTree};
 
 /// Reads the region arguments of the creation of an object.
@@ -58,8 +58,8 @@ pub fn creation(
     regions: ReadArgs,
     actuals: Items<Typed>,
     place: Place,
-) -> Result<Expr, Stop>
-    ensures { Says result (λ e. gives (Some (plain_node e)) found.new) refused (λ a. type_creation env.now class regions (map plain_typed actuals) place found.old ≡ a) }
+) -> Result<Typed, Stop>
+    ensures { Says result (λ given. gives (plain_typed given) found.new) refused (λ a. type_creation env.now class regions (map plain_typed actuals) place found.old ≡ a) }
 {
     match env.table().headers().class(class.name) {
         Some(number) => creation_of(env, found, number, regions, actuals, place),
@@ -75,8 +75,8 @@ fn creation_of(
     regions: ReadArgs,
     actuals: Items<Typed>,
     place: Place,
-) -> Result<Expr, Stop>
-    ensures { Says result (λ e. gives (Some (plain_node e)) found.new) refused (λ a. type_creation_of env.now class regions (map plain_typed actuals) place found.old ≡ a) }
+) -> Result<Typed, Stop>
+    ensures { Says result (λ given. gives (plain_typed given) found.new) refused (λ a. type_creation_of env.now class regions (map plain_typed actuals) place found.old ≡ a) }
 {
     let mut faults = Faults::by_kind();
     match fit_args(
@@ -90,7 +90,8 @@ fn creation_of(
             let shown = actuals.as_slice();
             let ty = creation_with(env, found, faults, class, args, shown, place)?;
             let actuals = nodes::nodes(env.alloc, actuals, place)?;
-            Ok(nodes::create(place, ty, actuals))
+            let form = ExprForm::New(actuals);
+            Ok(Typed::Known(Expr { place, ty, form }))
         }
         None => {
             let fit = shapes_fit(

@@ -29,45 +29,6 @@ pub fn local(place: Place, ty: Ty, slot: u32) -> Expr
     Expr { place, ty, form }
 }
 
-/// A call of the method in a row of the class, with region arguments of its own.
-pub fn call(
-    alloc: Global,
-    place: Place,
-    ty: Ty,
-    of: Expr,
-    class: u32,
-    row: u32,
-    regions: Items<Rpl>,
-    actuals: Items<Expr>,
-) -> Result<Expr, NoMemory>
-    ensures { IfOk result (λ e. plain_node e ≡ typed place (plain_type ty) (form.call (plain_node of) class row regions (exprs_of (map plain_node actuals)))) }
-{
-    let form = ExprForm::Call {
-        of: Boxed::new(alloc, of)?,
-        class: ClassId { number: class },
-        row: Row { number: row },
-        regions,
-        actuals,
-    };
-    Ok(Expr { place, ty, form })
-}
-
-/// A new object.
-pub fn create(place: Place, ty: Ty, actuals: Items<Expr>) -> Expr
-    ensures { plain_node result ≡ typed place (plain_type ty) (form.create (exprs_of (map plain_node actuals))) }
-{
-    let form = ExprForm::New(actuals);
-    Expr { place, ty, form }
-}
-
-/// A new array.
-pub fn create_array(alloc: Global, place: Place, ty: Ty, length: Expr) -> Result<Expr, NoMemory>
-    ensures { IfOk result (λ e. plain_node e ≡ typed place (plain_type ty) (form.create_array (plain_node length))) }
-{
-    let form = ExprForm::NewArray(Boxed::new(alloc, length)?);
-    Ok(Expr { place, ty, form })
-}
-
 /// An operation of two operands.
 pub fn binary(place: Place, ty: Ty, op: InfixOp, left: Boxed<Expr>, right: Boxed<Expr>) -> Expr
     ensures { plain_node result ≡ typed place (plain_type ty) (binary_form op (plain_node left) (plain_node right)) }

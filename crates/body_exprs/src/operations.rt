@@ -1,8 +1,10 @@
-ghost use Rattle.std.specs.Prelude.{◌≡◌, Ok, Err};
+ghost use Rattle.std.specs.Prelude.{◌≡◌};
 ghost use Rattle.lang_base.specs.Types.{plain_type};
-ghost use Rattle.body_exprs.specs.Answer.{Says};
+ghost use Rattle.body_exprs.specs.declared.found.Found.{Found};
+ghost use Rattle.body_exprs.specs.Answer.{gives, refused, Says};
 ghost use Rattle.body_exprs.specs.Operations.{comparable, operands_fit, unary_takes, unary_typed, binary_takes, binary_gives, binary_typed};
-ghost use Rattle.body_exprs.specs.Typed.{plain_node, plain_typed, value_type};
+ghost use Rattle.body_exprs.specs.Typed.{plain_typed, value_type};
+ghost use Rattle.body_exprs.specs.Typing.{answer};
 
 use crate::fitting::refused;
 use crate::nodes;
@@ -22,8 +24,8 @@ fn unary_takes(op: UnaryOp, arg: &Typed) -> bool
 }
 
 /// An operation of one operand.
-pub fn unary(alloc: Global, op: UnaryOp, arg: Typed, place: Place) -> Result<Expr, Stop>
-    ensures { Says result (λ e. Ok (plain_node e)) Err (λ r. unary_typed op (plain_typed arg) place ≡ r) }
+pub fn unary(alloc: Global, op: UnaryOp, arg: Typed, place: Place) -> Result<Typed, Stop>
+    ensures { (found : Found) → Says result (λ given. gives (plain_typed given) found) refused (λ a. answer (unary_typed op (plain_typed arg) place) found ≡ a) }
 {
     if !unary_takes(op, &arg) {
         return Err(refused(Kind::Type, place));
@@ -31,7 +33,7 @@ pub fn unary(alloc: Global, op: UnaryOp, arg: Typed, place: Place) -> Result<Exp
     let ty = op.ty();
     let arg = Boxed::new(alloc, arg.into_node(place))?;
     let form = ExprForm::Unary { op, arg };
-    Ok(Expr { place, ty, form })
+    Ok(Typed::Known(Expr { place, ty, form }))
 }
 
 /// Two ints, two booleans, or two values that may be null.
@@ -77,13 +79,13 @@ pub fn binary(
     left: Typed,
     right: Typed,
     place: Place,
-) -> Result<Expr, Stop>
-    ensures { Says result (λ e. Ok (plain_node e)) Err (λ r. binary_typed op (plain_typed left) (plain_typed right) place ≡ r) }
+) -> Result<Typed, Stop>
+    ensures { (found : Found) → Says result (λ given. gives (plain_typed given) found) refused (λ a. answer (binary_typed op (plain_typed left) (plain_typed right) place) found ≡ a) }
 {
     if !binary_takes(op, &left, &right) {
         return Err(refused(Kind::Type, place));
     }
     let left = Boxed::new(alloc, left.into_node(place))?;
     let right = Boxed::new(alloc, right.into_node(place))?;
-    Ok(nodes::binary(place, binary_gives(op), op, left, right))
+    Ok(Typed::Known(nodes::binary(place, binary_gives(op), op, left, right)))
 }

@@ -149,8 +149,7 @@ fn new_object(
 {
     let regions = read_new_args(env, class, regions.as_slice())?;
     let actuals = exprs(env, found, actuals.as_slice())?;
-    let made = creation(env, found, class, regions, actuals, place)?;
-    Ok(Typed::Known(made))
+    creation(env, found, class, regions, actuals, place)
 }
 
 /// The creation of an array.
@@ -174,9 +173,7 @@ fn new_array(
     };
     let read = read_array(env, base, around)?;
     let length = expr(env, found, length.get())?;
-    let ty = array_creation(env, read, &length, rpl.as_ref(), around, place)?;
-    let length = length.into_node(place);
-    Ok(Typed::Known(nodes::create_array(env.alloc, place, ty, length)?))
+    array_creation(env, read, length, rpl.as_ref(), around, place)
 }
 
 /// An operation of one operand.
@@ -191,7 +188,7 @@ fn one_operand(
     ensures { Says result (λ given. gives (plain_typed given) found.new) refused (Typing env.now (expression place (form.unary op (plain_expr arg.now))) found.old) }
 {
     let arg = expr(env, found, arg.get())?;
-    Ok(Typed::Known(unary(env.alloc, op, arg, place)?))
+    unary(env.alloc, op, arg, place)
 }
 
 /// An operation of two operands.
@@ -208,7 +205,7 @@ fn two_operands(
 {
     let left = expr(env, found, left.get())?;
     let right = expr(env, found, right.get())?;
-    Ok(Typed::Known(binary(env.alloc, op, left, right, place)?))
+    binary(env.alloc, op, left, right, place)
 }
 
 /// Several expressions.

@@ -1,11 +1,9 @@
 use mir.Val.{SFits}
 use Rattle.std.specs.Int.{w32}
-use Rattle.std.proofs.Common.{◌≡◌, ℤ, Some, Ok, Err, Result, map, refl, sym, ap, subst, rules}
+use Rattle.std.proofs.Common.{◌≡◌, ℤ, Some, Ok, map, refl, sym, subst, rules}
 use Rattle.std.specs.Option.{option_copied}
 use Rattle.std.proofs.lemmas.List.{drop_all}
 use Rattle.std.proofs.Math.Facts.{to_z-of_z}
-use Rattle.lang_base.specs.declared.refusal.Refusal.{Refusal}
-use Rattle.lang_base.specs.Types.{plain_type}
 use Rattle.lang_base.specs.Types.{PlainType as ty}
 use Rattle.decl_resolve.specs.declared.args.ReadArgs.{ReadArgs}
 use Rattle.syntax_tree.specs.Plain.{PlainExpr, expression, int, boolean, null, this, local, field, element, call, create, create_array, unary, binary, plain_expr, plain_exprs}
@@ -18,10 +16,9 @@ use Rattle.body_exprs.specs.Env.{table_of, local_of, this_type_of}
 use Rattle.body_exprs.specs.Fields.{read_field}
 use Rattle.body_exprs.specs.Locals.{local_typed}
 use Rattle.body_exprs.specs.Operations.{unary_typed, binary_typed}
-use Rattle.body_exprs.specs.Typed.{plain_node, plain_typed, type_in, node_at}
-use Rattle.body_exprs.specs.Typing.{answer, all_give, one_refused, Typing, TypingAll}
+use Rattle.body_exprs.specs.Typed.{plain_typed, type_in, node_at}
+use Rattle.body_exprs.specs.Typing.{answer, created, all_give, one_refused, Typing, TypingAll}
 use Rattle.body_exprs.specs.Uses.{args_reported, callee_params, created_params, type_call, type_creation}
-use Rattle.body_exprs.proofs.Built.{array_built}
 use Rattle.body_exprs.proofs.Constructs.{Refuses, Reported, exits, ends, of_leaf, array_parts}
 use Rattle.body_exprs.proofs.Forms.{at_Int, at_Bool, at_Null, at_This, at_Local, at_Call}
 use Rattle.body_exprs.proofs.Passing.{passed_on}
@@ -164,19 +161,14 @@ new_array-returns-in_err-length t c =
     (λ q d. array_parts {rpl = c.args.rpl.now} c.args.env.now c.args.place c.args.base.now c.args.index.now c.args.found.now (refused q) c.as_slice.ensures c.get.ensures refl (rw (c.in_ok-read.ensures.reported, d)))
     c.in_err-length.ensures
 
-pub new_array-returns-in_err-ty : goal.new_array-returns-in_err-ty
-new_array-returns-in_err-ty t c =
-    exits (Typing c.args.env.now (expression c.args.place (create_array c.args.base.now c.args.suffixes.now (plain_expr c.args.length.now) c.args.rpl.now c.args.index.now)) c.args.found.now) _ (λ q. created_array c.args.env.now (made_names c.as_slice.result.now c.args.index.now) c.in_ok-read.read (type_in (plain_typed c.in_ok-length.length)) (option_copied c.as_ref.result) c.args.place ≡ Err q)
-    c.from_residual-in_err-ty.result c.in_err-ty.field-0.0 c.from_residual-in_err-ty.ensures.1
-    (λ q d. array_parts c.args.env.now c.args.place c.args.base.now c.args.index.now c.args.found.now (refused q) c.as_slice.ensures c.get.ensures c.as_ref.ensures.value
-    (rw (c.in_ok-read.ensures.reported, c.in_ok-length.ensures, ← c.in_ok-read.ensures.read, d)))
-    c.in_err-ty.ensures
-
 pub new_array-returns : goal.new_array-returns
 new_array-returns t c =
-    array_parts c.args.env.now c.args.place c.args.base.now c.args.index.now c.args.found.now (gives (Some (plain_node c.in_ok-create_array.field-0)) c.expr.new.found) c.as_slice.ensures c.get.ensures c.as_ref.ensures.value
-    (rw (c.in_ok-read.ensures.reported, c.in_ok-length.ensures, ← c.in_ok-read.ensures.read, c.in_ok-ty.ensures)
-    (ap (λ (z : Result TypedExpr Refusal). answer z c.expr.new.found) (array_built c.args.place (plain_type c.in_ok-ty.ty) (node_at c.args.place (plain_typed c.in_ok-length.length)) (plain_node c.into_node-length.result) (plain_node c.in_ok-create_array.field-0) (Ok (plain_type c.in_ok-ty.ty)) refl c.in_ok-create_array.ensures c.into_node-length.ensures)))
+    ends (Typing c.args.env.now (expression c.args.place (create_array c.args.base.now c.args.suffixes.now (plain_expr c.args.length.now) c.args.rpl.now c.args.index.now)) c.args.found.now) _
+    (λ a. answer (created c.args.place (node_at c.args.place (plain_typed c.in_ok-length.length)) (created_array c.args.env.now (made_names c.as_slice.result.now c.args.index.now) c.in_ok-read.read (type_in (plain_typed c.in_ok-length.length)) (option_copied c.as_ref.result) c.args.place)) c.expr.new.found ≡ a)
+    c.array_creation.result
+    (λ a d. array_parts c.args.env.now c.args.place c.args.base.now c.args.index.now c.args.found.now a c.as_slice.ensures c.get.ensures c.as_ref.ensures.value
+    (rw (c.in_ok-read.ensures.reported, c.in_ok-length.ensures, ← c.in_ok-read.ensures.read) d))
+    (c.array_creation.ensures c.expr.new.found)
 
 pub new_object-returns-in_err-regions : goal.new_object-returns-in_err-regions
 new_object-returns-in_err-regions t c =
@@ -192,19 +184,12 @@ new_object-returns-in_err-actuals t c =
     (λ q d. rw (← c.as_slice.ensures, ← c.as_slice-2.ensures, c.in_ok-regions.ensures.reported, d))
     c.in_err-actuals.ensures
 
-pub new_object-returns-in_err-made : goal.new_object-returns-in_err-made
-new_object-returns-in_err-made t c =
-    exits (Typing c.args.env.now (expression c.args.place (create c.args.class c.args.regions.now (plain_exprs (map plain_expr c.args.actuals.now)))) c.args.found.now) _ (λ q. type_creation c.args.env.now c.args.class c.in_ok-regions.regions (map plain_typed c.in_ok-actuals.actuals) c.args.place c.exprs.new.found ≡ refused q)
-    c.from_residual-in_err-made.result c.in_err-made.field-0.0 c.from_residual-in_err-made.ensures.1
-    (λ q d. rw (← c.as_slice.ensures, ← c.as_slice-2.ensures, c.in_ok-regions.ensures.reported, c.in_ok-actuals.ensures)
-    (subst (λ (z : ReadArgs). type_creation c.args.env.now c.args.class z (map plain_typed c.in_ok-actuals.actuals) c.args.place c.exprs.new.found ≡ refused q) c.in_ok-regions.ensures.read d))
-    c.in_err-made.ensures
-
 pub new_object-returns : goal.new_object-returns
 new_object-returns t c =
-    rw (← c.as_slice.ensures, ← c.as_slice-2.ensures, c.in_ok-regions.ensures.reported, c.in_ok-actuals.ensures)
-    (subst (λ (z : ReadArgs). type_creation c.args.env.now c.args.class z (map plain_typed c.in_ok-actuals.actuals) c.args.place c.exprs.new.found ≡ gives (Some (plain_node c.in_ok-made.made)) c.creation.new.found)
-    c.in_ok-regions.ensures.read c.in_ok-made.ensures)
+    ends (Typing c.args.env.now (expression c.args.place (create c.args.class c.args.regions.now (plain_exprs (map plain_expr c.args.actuals.now)))) c.args.found.now) _ (λ a. type_creation c.args.env.now c.args.class c.in_ok-regions.regions (map plain_typed c.in_ok-actuals.actuals) c.args.place c.exprs.new.found ≡ a) c.creation.result
+    (λ a d. rw (← c.as_slice.ensures, ← c.as_slice-2.ensures, c.in_ok-regions.ensures.reported, c.in_ok-actuals.ensures)
+    (subst (λ (z : ReadArgs). type_creation c.args.env.now c.args.class z (map plain_typed c.in_ok-actuals.actuals) c.args.place c.exprs.new.found ≡ a) c.in_ok-regions.ensures.read d))
+    c.creation.ensures
 
 pub one_operand-returns-in_err-arg : goal.one_operand-returns-in_err-arg
 one_operand-returns-in_err-arg t c =
@@ -213,16 +198,11 @@ one_operand-returns-in_err-arg t c =
     (λ q d. rw (← c.get.ensures, d))
     c.in_err-arg.ensures
 
-pub one_operand-returns-in_err-unary : goal.one_operand-returns-in_err-unary
-one_operand-returns-in_err-unary t c =
-    exits (Typing c.args.env.now (expression c.args.place (unary c.args.op (plain_expr c.args.arg.now))) c.args.found.now) _ (λ q. unary_typed c.args.op (plain_typed c.in_ok-arg.arg) c.args.place ≡ Err q)
-    c.from_residual-in_err-unary.result c.in_err-unary.field-0.0 c.from_residual-in_err-unary.ensures.1
-    (λ q d. rw (← c.get.ensures, c.in_ok-arg.ensures, d))
-    c.in_err-unary.ensures
-
 pub one_operand-returns : goal.one_operand-returns
 one_operand-returns t c =
-    rw (← c.get.ensures, c.in_ok-arg.ensures, c.in_ok-unary.ensures)
+    ends (Typing c.args.env.now (expression c.args.place (unary c.args.op (plain_expr c.args.arg.now))) c.args.found.now) _ (λ a. answer (unary_typed c.args.op (plain_typed c.in_ok-arg.arg) c.args.place) c.expr.new.found ≡ a) c.unary.result
+    (λ a d. rw (← c.get.ensures, c.in_ok-arg.ensures) d)
+    (c.unary.ensures c.expr.new.found)
 
 pub two_operands-returns-in_err-left : goal.two_operands-returns-in_err-left
 two_operands-returns-in_err-left t c =
@@ -238,13 +218,8 @@ two_operands-returns-in_err-right t c =
     (λ q d. rw (← c.get.ensures, ← c.get-2.ensures, c.in_ok-left.ensures, d))
     c.in_err-right.ensures
 
-pub two_operands-returns-in_err-binary : goal.two_operands-returns-in_err-binary
-two_operands-returns-in_err-binary t c =
-    exits (Typing c.args.env.now (expression c.args.place (binary c.args.op (plain_expr c.args.left.now) (plain_expr c.args.right.now))) c.args.found.now) _ (λ q. binary_typed c.args.op (plain_typed c.in_ok-left.left) (plain_typed c.in_ok-right.right) c.args.place ≡ Err q)
-    c.from_residual-in_err-binary.result c.in_err-binary.field-0.0 c.from_residual-in_err-binary.ensures.1
-    (λ q d. rw (← c.get.ensures, ← c.get-2.ensures, c.in_ok-left.ensures, c.in_ok-right.ensures, d))
-    c.in_err-binary.ensures
-
 pub two_operands-returns : goal.two_operands-returns
 two_operands-returns t c =
-    rw (← c.get.ensures, ← c.get-2.ensures, c.in_ok-left.ensures, c.in_ok-right.ensures, c.in_ok-binary.ensures)
+    ends (Typing c.args.env.now (expression c.args.place (binary c.args.op (plain_expr c.args.left.now) (plain_expr c.args.right.now))) c.args.found.now) _ (λ a. answer (binary_typed c.args.op (plain_typed c.in_ok-left.left) (plain_typed c.in_ok-right.right) c.args.place) c.expr-2.new.found ≡ a) c.binary.result
+    (λ a d. rw (← c.get.ensures, ← c.get-2.ensures, c.in_ok-left.ensures, c.in_ok-right.ensures) d)
+    (c.binary.ensures c.expr-2.new.found)
