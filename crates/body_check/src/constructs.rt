@@ -16,9 +16,11 @@ use crate::meet::{settle_branches, settle_iterations};
 use crate::node::{Around, Node};
 use crate::statements::{Checked, block, scoped};
 use body_exprs::Found;
-use body_locals::{has_clash, touched};
-use lang_base::{Items, Kind, NoMemory, Stop};
+use body_locals::{Touched, has_clash, touched};
+use lang_base::{Boxed, Items, Kind, NoMemory, Stop};
 use lang_typed::{Branch, Slot, Stmt, StmtForm};
+use region_effects::EffectSet;
+use std::alloc::Global;
 use syntax_tree::{Expr, Named, Stmt as Tree};
 
 /// After an nd construct marks are kept, and after any other they are dropped.
@@ -43,31 +45,66 @@ pub fn cobegin(
     ensures checks { Says result (λ made. passes (typed_stmt made.stmt) (walk_of body.new out.new)) refused (λ v. check_form body.old.atomic_params around node (form.cobegin nd (plain_stmts (map plain_stmt branches.now))) (walk_of body.old out.old) ≡ v) }
 {
     let place = node.place;
-    let mut effects = Items::new(body.env.alloc);
-    let mut locals = Items::new(body.env.alloc);
-    let mut made = Items::new(body.env.alloc);
+    let mut passed = Branches::new(body.env.alloc);
     for branch in branches {
         let leaving = Leaving::from_here(&body.env, marks_after(nd));
         let mut inner = Found::new(body.env.alloc);
         let names = touched(body.env.alloc, branch)?;
         let copies = slots_of(body, names.writes.as_slice())?;
         let done = scoped(body, around.inside(), branch, &mut inner)?;
-        let checked = done.stmt.into_inner();
-        made.push(Branch {
-            copies,
-            body: checked,
-        })?;
-        locals.push(names)?;
-        effects.push(all_effects(body.env.alloc, &inner)?)?;
+        passed.add(body.env.alloc, names, copies, done.stmt, &inner)?;
         take_in(out, inner, leaving)?;
     }
     reach_nd(out, nd);
-    let clash = has_clash(body.env.alloc, locals.as_slice())?;
-    settle_branches(body, node, nd, clash, effects.as_slice())?;
+    let clash = has_clash(body.env.alloc, passed.locals.as_slice())?;
+    settle_branches(body, node, nd, clash, passed.effects.as_slice())?;
     Ok(Checked {
         completes: true,
-        stmt: made::forked(place, nd, made),
+        stmt: made::forked(place, nd, passed.made),
     })
+}
+
+/// The branches of a `cobegin` that passed: the effects of each, the locals that it touches, and the typed ones.
+#[derive(Drop)]
+struct Branches {
+    effects: Items<EffectSet>,
+    locals: Items<Touched>,
+    made: Items<Branch>,
+}
+
+impl Branches {
+    ghost use Rattle.std.specs.Prelude.{◌≡◌, ◌++◌, ◌∷◌, [], OnOk};
+    ghost use Rattle.body_check.specs.Gathering.{with_uses};
+
+    fn new(alloc: Global) -> Branches
+        ensures { result ≡ record { effects = []; locals = []; made = [] } }
+    {
+        Branches {
+            effects: Items::new(alloc),
+            locals: Items::new(alloc),
+            made: Items::new(alloc),
+        }
+    }
+
+    /// Adds a branch that touches these locals, of which this was found.
+    fn add(
+        &mut self,
+        alloc: Global,
+        names: Touched,
+        copies: Items<Slot>,
+        stmt: Boxed<Stmt>,
+        found: &Found,
+    ) -> Result<(), NoMemory>
+        ensures effects { OnOk result (self.new.effects ≡ self.old.effects ++ with_uses found.now.effects found.now.uses ∷ []) }
+        ensures locals { OnOk result (self.new.locals ≡ self.old.locals ++ names ∷ []) }
+        ensures made { OnOk result (self.new.made ≡ self.old.made ++ (record { copies = copies; body = stmt }) ∷ []) }
+    {
+        let body = stmt.into_inner();
+        self.made.push(Branch { copies, body })?;
+        self.locals.push(names)?;
+        self.effects.push(all_effects(alloc, found)?)?;
+        Ok(())
+    }
 }
 
 /// The slots of the locals in scope with these names.

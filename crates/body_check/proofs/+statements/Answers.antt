@@ -1,11 +1,13 @@
-use Rattle.std.proofs.Common.{◌≡◌, ◌∙◌, ◌&&◌, true, false, not, map, option_map, Some, None, IfOk, refl, sym, ap, subst}
+use Rattle.std.proofs.Common.{◌≡◌, ◌∙◌, ◌&&◌, List, true, false, not, map, option_map, Some, None, IfOk, refl, sym, ap, subst}
 use Rattle.std.proofs.lemmas.List.{drop_all}
 use Rattle.std.specs.Option.{option_copied}
+use Rattle.lang_base.specs.declared.effect.Effect.{Effect}
 use Rattle.syntax_tree.specs.Plain.{PlainStmt, choice_form, plain_expr, plain_stmt, plain_stmts, return_form}
 use Rattle.syntax_tree.specs.Plain.{StmtForm as form}
 use Rattle.syntax_tree.specs.declared.stmt.Stmt.{Stmt}
 use Rattle.syntax_tree.specs.declared.stmt.StmtKind.TheVariants as tree
 use Rattle.lang_typed.specs.Plain.{TypedBranch, statement, plain_source}
+use Rattle.lang_typed.specs.declared.stmt.Stmt.{Stmt as Made}
 use Rattle.lang_typed.specs.Plain.{StmtForm as made}
 use Rattle.lang_typed.specs.Plain.{plain_stmt as typed_stmt}
 use Rattle.body_exprs.specs.declared.found.Found.{Found}
@@ -18,7 +20,7 @@ use Rattle.body_check.specs.declared.leaving.Marks.TheVariants as marks
 use Rattle.body_check.specs.Checking.{check_stmt, check_form, check_scope, check_block, check_all, check_branches, cut, outer_part, part_slot, parts_declared, plain_branch, variable_declared, with_nd}
 use Rattle.body_check.specs.Completes.{completes}
 use Rattle.body_check.specs.Deciding.{marks_after}
-use Rattle.body_check.specs.Gathering.{handed_on}
+use Rattle.body_check.specs.Gathering.{handed_on, with_uses}
 use Rattle.body_check.specs.Around.{inside}
 use Rattle.body_check.specs.Noting.{fault_of}
 use Rattle.body_check.specs.Touching.{some_disturb}
@@ -600,8 +602,8 @@ constructs::cobegin-returns-in_err-done-clause-checks t c =
     (walk_of c.loop-branch.body c.new-inner.result) ≡ verdict.refused q)
     (λ v. check_form c.args.body.now.atomic_params c.args.around c.args.node (form.cobegin c.args.nd (plain_stmts (map plain_stmt c.args.branches.now))) (walk_of c.args.body.now c.args.out.now) ≡ v) c.from_residual-in_err-done.result _ c.in_err-done.field-0.0 c.from_residual-in_err-done.ensures.1
     (λ q d.
-    fork_refused c.args.body.now.atomic_params c.args.around c.args.node c.args.nd c.args.branches.now (walk_of c.args.body.now c.args.out.now) c.loop-branch.branch-index c.loop-branch.effects
-    (map plain_branch c.loop-branch.made) (walk_of c.loop-branch.body c.loop-branch.out) c.branch-item.result q c.loop-branch.invariant.forks
+    fork_refused c.args.body.now.atomic_params c.args.around c.args.node c.args.nd c.args.branches.now (walk_of c.args.body.now c.args.out.now) c.loop-branch.branch-index c.loop-branch.passed.effects
+    (map plain_branch c.loop-branch.passed.made) (walk_of c.loop-branch.body c.loop-branch.out) c.branch-item.result q c.loop-branch.invariant.forks
     c.loop-branch-test.true c.branch-item.is
     (piece_in c.args.body.now.atomic_params c.loop-branch.body c.loop-branch.body.env c.args.around c.inside.result (plain_stmt c.branch-item.result) c.new-inner.result
     (verdict.refused q) (home_params c.args.body.now c.loop-branch.body c.loop-branch.invariant.home) refl c.inside.ensures c.new-inner.ensures
@@ -610,64 +612,61 @@ constructs::cobegin-returns-in_err-done-clause-checks t c =
 
 pub constructs::cobegin-loop-branch-preserved : goal.constructs::cobegin-loop-branch-preserved
 constructs::cobegin-loop-branch-preserved t c =
-    let one : TypedBranch = plain_branch (record { copies = c.in_ok-copies.copies; body = c.into_inner-checked.result }) in
-    let found : Branch c.args.body.now.atomic_params (inside c.args.around) c.args.nd c.loop-branch.body c.scoped.new.body c.loop-branch.out c.scoped.new.out c.take_in.new.out
-    c.branch-item.result c.in_ok-all_effects.field-0 one (typed_stmt c.into_inner-checked.result) = record {
+    let at = c.loop-branch in
+    let made : Made = c.in_ok-done.done.stmt in
+    let one : TypedBranch = plain_branch (record { copies = c.in_ok-copies.copies; body = made }) in
+    let set : List Effect = with_uses c.scoped.new.out.effects c.scoped.new.out.uses in
+    let found : Branch c.args.body.now.atomic_params (inside c.args.around) c.args.nd at.body c.scoped.new.body at.out c.scoped.new.out c.take_in.new.out
+    c.branch-item.result set one (typed_stmt made) = record {
       in_scope =
-          piece_in c.args.body.now.atomic_params c.loop-branch.body c.loop-branch.body.env c.args.around c.inside.result (plain_stmt c.branch-item.result) c.new-inner.result
-          (passes (typed_stmt c.into_inner-checked.result) (walk_of c.scoped.new.body c.scoped.new.out)) (home_params c.args.body.now c.loop-branch.body c.loop-branch.invariant.home) refl c.inside.ensures c.new-inner.ensures
-          (subst
-          (λ z. check_scope c.loop-branch.body.atomic_params c.inside.result (plain_stmt c.branch-item.result)
-          (walk_of c.loop-branch.body c.new-inner.result) ≡ passes (typed_stmt z) (walk_of c.scoped.new.body c.scoped.new.out))
-          (sym c.into_inner-checked.ensures) c.in_ok-done.ensures.checks);
-      set_is = c.in_ok-all_effects.ensures;
+          piece_in c.args.body.now.atomic_params at.body at.body.env c.args.around c.inside.result (plain_stmt c.branch-item.result) c.new-inner.result
+          (passes (typed_stmt made) (walk_of c.scoped.new.body c.scoped.new.out)) (home_params c.args.body.now at.body at.invariant.home) refl c.inside.ensures c.new-inner.ensures
+          c.in_ok-done.ensures.checks;
+      set_is = refl;
       one_is =
-          branch_made c.loop-branch.body.env c.branch-item.result c.as_slice.result.now c.in_ok-copies.copies c.into_inner-checked.result
+          branch_made at.body.env c.branch-item.result c.as_slice.result.now c.in_ok-copies.copies made
           (c.as_slice.ensures ∙ assigned_is (plain_stmt c.branch-item.result) c.in_ok-names.names.writes c.in_ok-names.ensures.writes c.in_ok-names.ensures.once.1)
           c.in_ok-copies.ensures;
       out_is =
-          taken_so c.loop-branch.body.env c.args.nd c.marks_after.result c.from_here-leaving.result c.loop-branch.out c.scoped.new.out c.take_in.new.out
+          taken_so at.body.env c.args.nd c.marks_after.result c.from_here-leaving.result at.out c.scoped.new.out c.take_in.new.out
           c.marks_after.ensures c.from_here-leaving.ensures c.in_ok-take_in.ensures;
     } in
     record {
       forks =
-          fork_more c.args.body.now.atomic_params (inside c.args.around) c.args.nd c.args.branches.now (walk_of c.args.body.now c.args.out.now) c.loop-branch.branch-index
-          c.loop-branch.effects c.push-in-loop-branch-2.new.self (map plain_branch c.loop-branch.made)
-          (map plain_branch c.push.new.self) c.loop-branch.body c.scoped.new.body c.loop-branch.out
-          c.scoped.new.out c.take_in.new.out c.branch-item.result c.in_ok-all_effects.field-0 one (typed_stmt c.into_inner-checked.result)
-          c.loop-branch.invariant.forks c.loop-branch-test.true c.branch-item.is found c.in_ok-push-3.ensures.ok
-          (map_pushed plain_branch c.loop-branch.made c.push.new.self (record { copies = c.in_ok-copies.copies; body = c.into_inner-checked.result })
-          c.in_ok-push.ensures.ok);
+          fork_more c.args.body.now.atomic_params (inside c.args.around) c.args.nd c.args.branches.now (walk_of c.args.body.now c.args.out.now) at.branch-index
+          at.passed.effects c.add.new.self.effects (map plain_branch at.passed.made) (map plain_branch c.add.new.self.made) at.body c.scoped.new.body at.out
+          c.scoped.new.out c.take_in.new.out c.branch-item.result set one (typed_stmt made) at.invariant.forks c.loop-branch-test.true c.branch-item.is found c.in_ok-add.ensures.effects
+          (map_pushed plain_branch at.passed.made c.add.new.self.made (record { copies = c.in_ok-copies.copies; body = made }) c.in_ok-add.ensures.made);
       touched =
-          touched_more c.args.branches.now c.loop-branch.branch-index c.branch-item.result c.loop-branch.locals c.push-in-loop-branch.new.self
+          touched_more c.args.branches.now at.branch-index c.branch-item.result at.passed.locals c.add.new.self.locals
           c.in_ok-names.names c.loop-branch-test.true c.branch-item.is
           (record { reads = c.in_ok-names.ensures.reads; assigns = c.in_ok-names.ensures.writes; once = c.in_ok-names.ensures.once })
-          c.in_ok-push-2.ensures.ok c.loop-branch.invariant.touched;
-      home = c.in_ok-done.ensures.home ∙ c.loop-branch.invariant.home;
+          c.in_ok-add.ensures.locals at.invariant.touched;
+      home = c.in_ok-done.ensures.home ∙ at.invariant.home;
     }
 
 pub constructs::cobegin-returns-in_err-settle_branches-clause-checks : goal.constructs::cobegin-returns-in_err-settle_branches-clause-checks
 constructs::cobegin-returns-in_err-settle_branches-clause-checks t c =
     let all : check_branches c.args.body.now.atomic_params (inside c.args.around) c.args.nd (plain_stmts (map plain_stmt c.args.branches.now))
     (walk_of c.args.body.now c.args.out.now)
-    ≡ passes (branches_with c.loop-branch.effects (map plain_branch c.loop-branch.made)) (walk_of c.loop-branch.body c.loop-branch.out) =
-    fork_all c.args.body.now.atomic_params (inside c.args.around) c.args.nd c.args.branches.now (walk_of c.args.body.now c.args.out.now) c.loop-branch.branch-index c.loop-branch.effects
-    (map plain_branch c.loop-branch.made) (walk_of c.loop-branch.body c.loop-branch.out) c.loop-branch.invariant.forks
+    ≡ passes (branches_with c.loop-branch.passed.effects (map plain_branch c.loop-branch.passed.made)) (walk_of c.loop-branch.body c.loop-branch.out) =
+    fork_all c.args.body.now.atomic_params (inside c.args.around) c.args.nd c.args.branches.now (walk_of c.args.body.now c.args.out.now) c.loop-branch.branch-index c.loop-branch.passed.effects
+    (map plain_branch c.loop-branch.passed.made) (walk_of c.loop-branch.body c.loop-branch.out) c.loop-branch.invariant.forks
     (drop_all c.loop-branch.branch-index c.args.branches.now c.loop-branch-test.false) in
     let clash_is : c.in_ok-clash.clash ≡ some_disturb (plain_stmts (map plain_stmt c.args.branches.now)) =
     clashing_is (plain_stmts (map plain_stmt c.args.branches.now)) c.as_slice-2.result.now c.in_ok-clash.clash
     (subst (AllTouched (plain_stmts (map plain_stmt c.args.branches.now))) (sym c.as_slice-2.ensures)
-    (touched_all c.args.branches.now c.loop-branch.branch-index c.loop-branch.locals
+    (touched_all c.args.branches.now c.loop-branch.branch-index c.loop-branch.passed.locals
     (drop_all c.loop-branch.branch-index c.args.branches.now c.loop-branch-test.false) c.loop-branch.invariant.touched))
     c.in_ok-clash.ensures.none c.in_ok-clash.ensures.some in
-    let made = branches_made c.args.node c.args.nd (map plain_branch c.loop-branch.made) in
+    let made = branches_made c.args.node c.args.nd (map plain_branch c.loop-branch.passed.made) in
     let after = walk_of c.loop-branch.body (with_nd c.args.nd c.loop-branch.out) in
     stopped
     (λ q. branches_met c.loop-branch.body.atomic_params c.loop-branch.body.env c.args.node c.args.nd c.in_ok-clash.clash c.as_slice-3.result.now made after ≡ verdict.refused q)
     (λ v. check_form c.args.body.now.atomic_params c.args.around c.args.node (form.cobegin c.args.nd (plain_stmts (map plain_stmt c.args.branches.now))) (walk_of c.args.body.now c.args.out.now) ≡ v)
     c.from_residual-in_err-settle_branches.result _ c.in_err-settle_branches.field-0.0 c.from_residual-in_err-settle_branches.ensures.1
     (λ q d. forks_are c.args.body.now c.loop-branch.body c.args.around c.args.node c.args.nd c.in_ok-clash.clash
-    (plain_stmts (map plain_stmt c.args.branches.now)) c.loop-branch.effects c.as_slice-3.result.now (map plain_branch c.loop-branch.made) c.args.out.now
+    (plain_stmts (map plain_stmt c.args.branches.now)) c.loop-branch.passed.effects c.as_slice-3.result.now (map plain_branch c.loop-branch.passed.made) c.args.out.now
     c.loop-branch.out (verdict.refused q) all clash_is c.loop-branch.invariant.home c.as_slice-3.ensures d)
     (c.in_err-settle_branches.ensures made after)
 
@@ -675,20 +674,20 @@ pub constructs::cobegin-returns-clause-checks : goal.constructs::cobegin-returns
 constructs::cobegin-returns-clause-checks t c =
     let all : check_branches c.args.body.now.atomic_params (inside c.args.around) c.args.nd (plain_stmts (map plain_stmt c.args.branches.now))
     (walk_of c.args.body.now c.args.out.now)
-    ≡ passes (branches_with c.loop-branch.effects (map plain_branch c.loop-branch.made)) (walk_of c.loop-branch.body c.loop-branch.out) =
-    fork_all c.args.body.now.atomic_params (inside c.args.around) c.args.nd c.args.branches.now (walk_of c.args.body.now c.args.out.now) c.loop-branch.branch-index c.loop-branch.effects
-    (map plain_branch c.loop-branch.made) (walk_of c.loop-branch.body c.loop-branch.out) c.loop-branch.invariant.forks
+    ≡ passes (branches_with c.loop-branch.passed.effects (map plain_branch c.loop-branch.passed.made)) (walk_of c.loop-branch.body c.loop-branch.out) =
+    fork_all c.args.body.now.atomic_params (inside c.args.around) c.args.nd c.args.branches.now (walk_of c.args.body.now c.args.out.now) c.loop-branch.branch-index c.loop-branch.passed.effects
+    (map plain_branch c.loop-branch.passed.made) (walk_of c.loop-branch.body c.loop-branch.out) c.loop-branch.invariant.forks
     (drop_all c.loop-branch.branch-index c.args.branches.now c.loop-branch-test.false) in
     let clash_is : c.in_ok-clash.clash ≡ some_disturb (plain_stmts (map plain_stmt c.args.branches.now)) =
     clashing_is (plain_stmts (map plain_stmt c.args.branches.now)) c.as_slice-2.result.now c.in_ok-clash.clash
     (subst (AllTouched (plain_stmts (map plain_stmt c.args.branches.now))) (sym c.as_slice-2.ensures)
-    (touched_all c.args.branches.now c.loop-branch.branch-index c.loop-branch.locals
+    (touched_all c.args.branches.now c.loop-branch.branch-index c.loop-branch.passed.locals
     (drop_all c.loop-branch.branch-index c.args.branches.now c.loop-branch-test.false) c.loop-branch.invariant.touched))
     c.in_ok-clash.ensures.none c.in_ok-clash.ensures.some in
-    let made = branches_made c.args.node c.args.nd (map plain_branch c.loop-branch.made) in
+    let made = branches_made c.args.node c.args.nd (map plain_branch c.loop-branch.passed.made) in
     let after = walk_of c.loop-branch.body (with_nd c.args.nd c.loop-branch.out) in
     forks_are c.args.body.now c.loop-branch.body c.args.around c.args.node c.args.nd c.in_ok-clash.clash
-    (plain_stmts (map plain_stmt c.args.branches.now)) c.loop-branch.effects c.as_slice-3.result.now (map plain_branch c.loop-branch.made) c.args.out.now
+    (plain_stmts (map plain_stmt c.args.branches.now)) c.loop-branch.passed.effects c.as_slice-3.result.now (map plain_branch c.loop-branch.passed.made) c.args.out.now
     c.loop-branch.out (passes made after) all clash_is c.loop-branch.invariant.home c.as_slice-3.ensures (c.in_ok-settle_branches.ensures made after)
     ∙ passes_so (typed_stmt c.forked.result) made (walk_of c.loop-branch.body c.reach_nd.new.found) after c.forked.ensures
     (ap (λ (z : Found). walk_of c.loop-branch.body z) c.reach_nd.ensures)

@@ -55,8 +55,8 @@ invariant-statements::statements-loop-stmt l = record {
 
 abbrev pub invariant-constructs::cobegin-loop-branch : goal.invariant-constructs::cobegin-loop-branch
 invariant-constructs::cobegin-loop-branch l = record {
-  forks : ForkSoFar l.fn.body.atomic_params (inside l.around) l.nd l.branches (walk_of l.fn.body l.fn.out) l.branch-index l.effects
-      (map plain_branch l.made) (walk_of l.body l.out);
-  touched : TouchedSoFar l.branches l.branch-index l.locals;
+  forks : ForkSoFar l.fn.body.atomic_params (inside l.around) l.nd l.branches (walk_of l.fn.body l.fn.out) l.branch-index l.passed.effects
+      (map plain_branch l.passed.made) (walk_of l.body l.out);
+  touched : TouchedSoFar l.branches l.branch-index l.passed.locals;
   home : home_of l.body ≡ home_of l.fn.body;
 }
