@@ -1,12 +1,12 @@
 -- Typed expressions of the code, one level of each.
-use Rattle.std.proofs.Common.{◌≡◌, ◌∙◌, ℤ, Bool, List, [], ◌∷◌, ◌++◌, map, ap, refl, sym, rules, Result, Ok}
+use Rattle.std.proofs.Common.{◌≡◌, ◌∙◌, ℕ, ℤ, Bool, List, [], ◌∷◌, ◌++◌, map, ap, refl, sym, rules, Result, Ok}
 use Rattle.lang_base.specs.declared.place.Place.{Place}
 use Rattle.lang_base.specs.declared.region.Rpl.{Rpl}
 use Rattle.lang_base.specs.declared.ty.Ty.{Ty}
 use Rattle.lang_base.specs.Types.{PlainType, plain_type}
 use Rattle.lang_base.specs.declared.op.BinaryOp.{BinaryOp}
 use Rattle.lang_typed.specs.declared.expr.Expr.{Expr}
-use Rattle.lang_typed.specs.declared.expr.ExprForm.{the_lemmas}
+use Rattle.lang_typed.specs.declared.expr.ExprForm.{ExprForm, the_lemmas}
 use Rattle.lang_typed.specs.declared.expr.ExprForm.TheVariants as kind
 use Rattle.lang_base.specs.declared.op.UnaryOp.{UnaryOp}
 use Rattle.lang_typed.specs.declared.ids.ClassId.{ClassId}
@@ -137,12 +137,11 @@ nodes_step made others x n rest is same =
     ap (λ (z : List Expr). map plain_node z ++ rest) same ∙ nodes_more made x rest ∙ ap (λ (z : TypedExpr). map plain_node made ++ z ∷ rest) is
 
 -- a call, and the creation of an object, of these parts
-pub call_built : (place : Place) (t : Ty) (boxed of : Expr) (class : ClassId) (row : Row) (regions : List Rpl) (actuals : List Expr) → boxed ≡ of →
-    plain_node (record { place = place; ty = t; form = kind.Call boxed class row regions actuals })
-    ≡ typed place (plain_type t) (form.call (plain_node of) class.number row.number regions (exprs_of (map plain_node actuals)))
-call_built place t boxed of class row regions actuals is =
-    ap (typed place (plain_type t)) (plain_form-Call boxed class row regions actuals
-    ∙ ap (λ (z : Expr). form.call (plain_node z) class.number row.number regions (exprs_of (map plain_node actuals))) is)
+pub call_built : (place : Place) (t : Ty) (made : ExprForm) (boxed of : Expr) (class row : ℕ) (regions : List Rpl) (actuals : List Expr) →
+    plain_form made ≡ form.call (plain_node boxed) class row regions (exprs_of (map plain_node actuals)) → boxed ≡ of →
+    plain_node (record { place = place; ty = t; form = made }) ≡ typed place (plain_type t) (form.call (plain_node of) class row regions (exprs_of (map plain_node actuals)))
+call_built place t made boxed of class row regions actuals is same =
+    ap (typed place (plain_type t)) (is ∙ ap (λ (z : Expr). form.call (plain_node z) class row regions (exprs_of (map plain_node actuals))) same)
 
 pub create_built : (place : Place) (t : Ty) (actuals : List Expr) →
     plain_node (record { place = place; ty = t; form = kind.New actuals }) ≡ typed place (plain_type t) (form.create (exprs_of (map plain_node actuals)))

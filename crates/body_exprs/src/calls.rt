@@ -19,7 +19,7 @@ use decl_headers::{Faults, ParamRow};
 use decl_resolve::{IndexNames, ReadArgs, fit_args, read_args};
 use decl_table::MethodRow;
 use lang_base::{Boxed, Items, Kind, NoMemory, Place, Plain, Rpl, Stop, Ty};
-use lang_typed::{ClassId, Expr, ExprForm, Row};
+use lang_typed::Expr;
 use region_types::subst_type;
 use std::alloc::Global;
 use syntax_tree::RplTree;
@@ -210,13 +210,7 @@ fn call_of(
             let number = env.table().row(row.id);
             let actuals = nodes::nodes(env.alloc, actuals, place)?;
             let of = Boxed::new(env.alloc, of)?;
-            let form = ExprForm::Call {
-                of,
-                class: ClassId { number: class },
-                row: Row { number },
-                regions,
-                actuals,
-            };
+            let form = nodes::call(of, class, number, regions, actuals);
             Ok(Typed::Known(Expr { place, ty, form }))
         }
         None => {

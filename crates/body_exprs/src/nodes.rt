@@ -29,6 +29,25 @@ pub fn local(place: Place, ty: Ty, slot: u32) -> Expr
     Expr { place, ty, form }
 }
 
+/// The form of a call of the method in a row of the class, with region arguments of its own.
+pub fn call(
+    of: Boxed<Expr>,
+    class: u32,
+    row: u32,
+    regions: Items<Rpl>,
+    actuals: Items<Expr>,
+) -> ExprForm
+    ensures { plain_form result ≡ form.call (plain_node of) class row regions (exprs_of (map plain_node actuals)) }
+{
+    ExprForm::Call {
+        of,
+        class: ClassId { number: class },
+        row: Row { number: row },
+        regions,
+        actuals,
+    }
+}
+
 /// An operation of two operands.
 pub fn binary(place: Place, ty: Ty, op: InfixOp, left: Boxed<Expr>, right: Boxed<Expr>) -> Expr
     ensures { plain_node result ≡ typed place (plain_type ty) (binary_form op (plain_node left) (plain_node right)) }

@@ -42,7 +42,8 @@ returns-in_ok-of-in-Some c =
     c.fit_args.ensures.faults c.by_kind-faults.ensures c.as_slice.ensures)
     c.is_partial-partial.ensures c.as_slice-in-Some-2.ensures c.in_ok-ty-in-Some.ensures.reported c.in_ok-ty-in-Some.ensures.ty c.in_ok-ty-in-Some.ensures.found
     (c.row-number.ensures ∙ ap (λ (z : Table). row_of z row.id) c.table.ensures) c.in_ok-actuals-in-Some.ensures
-    (call_built c.args.place c.in_ok-ty-in-Some.ty c.in_ok-of-in-Some.of c.args.of _ _ c.in-Some.regions c.in_ok-actuals-in-Some.actuals c.in_ok-of-in-Some.ensures)
+    (call_built c.args.place c.in_ok-ty-in-Some.ty c.call-form.result c.in_ok-of-in-Some.of c.args.of c.args.class c.row-number.result c.in-Some.regions
+    c.in_ok-actuals-in-Some.actuals c.call-form.ensures c.in_ok-of-in-Some.ensures)
 
 pub returns-in-None : goal.returns-in-None
 returns-in-None c =
