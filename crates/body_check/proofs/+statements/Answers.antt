@@ -6,9 +6,8 @@ use Rattle.syntax_tree.specs.Plain.{PlainStmt, choice_form, plain_expr, plain_st
 use Rattle.syntax_tree.specs.Plain.{StmtForm as form}
 use Rattle.syntax_tree.specs.declared.stmt.Stmt.{Stmt}
 use Rattle.syntax_tree.specs.declared.stmt.StmtKind.TheVariants as tree
-use Rattle.lang_typed.specs.Plain.{TypedBranch, statement, plain_source}
+use Rattle.lang_typed.specs.Plain.{TypedBranch, plain_source}
 use Rattle.lang_typed.specs.declared.stmt.Stmt.{Stmt as Made}
-use Rattle.lang_typed.specs.Plain.{StmtForm as made}
 use Rattle.lang_typed.specs.Plain.{plain_stmt as typed_stmt}
 use Rattle.body_exprs.specs.declared.found.Found.{Found}
 use Rattle.body_exprs.specs.Answer.{refused}

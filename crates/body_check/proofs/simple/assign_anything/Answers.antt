@@ -1,4 +1,4 @@
-use Rattle.std.proofs.Common.{◌≡◌, None}
+use Rattle.std.proofs.Common.{None}
 use Rattle.body_exprs.specs.Typed.{node_at, plain_typed, value_type}
 use Rattle.body_check.specs.Simple.{put_in_place}
 use Rattle.body_check.proofs.Making.{made_Perform}

@@ -1,4 +1,4 @@
-use Rattle.std.proofs.Common.{◌≡◌, Some}
+use Rattle.std.proofs.Common.{Some}
 use Rattle.body_exprs.specs.Targeting.{plain_target}
 use Rattle.body_exprs.specs.Typed.{node_at, plain_typed, value_type}
 use Rattle.body_check.specs.Simple.{put_in_place}

@@ -1,4 +1,3 @@
-use Rattle.std.proofs.Common.{◌≡◌}
 use Rattle.body_check.specs.Simple.{leave}
 use Rattle.body_check.specs.Walks.{walk_of}
 use Rattle.body_check.proofs.Making.{made_Return_nothing}

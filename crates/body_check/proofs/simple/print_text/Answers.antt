@@ -1,4 +1,3 @@
-use Rattle.std.proofs.Common.{◌≡◌}
 use Rattle.lang_typed.specs.Plain as typed
 use Rattle.body_check.specs.Noting.{fault_of}
 use Rattle.body_check.specs.Walks.{walk_of, judged}
