@@ -11,9 +11,10 @@ use Rattle.lang_typed.specs.declared.stmt.Stmt.{Stmt as Made}
 use Rattle.lang_typed.specs.Plain.{TypedStmt, TypedBranch, branches_of}
 use Rattle.lang_typed.specs.Plain.{plain_stmt as typed_stmt}
 use Rattle.lang_typed.specs.Plain as typed
+use Rattle.body_exprs.specs.Env.{bare}
 use Rattle.body_exprs.specs.declared.env.Env.{Env}
 use Rattle.body_exprs.specs.declared.found.Found.{Found}
-use Rattle.body_check.specs.declared.body.Body.{Body}
+use Rattle.body_check.specs.Methods.{atomic_params}
 use Rattle.body_check.specs.declared.leaving.Leaving.{Leaving}
 use Rattle.body_check.specs.declared.leaving.Marks.{Marks}
 use Rattle.body_check.specs.declared.node.Around.{Around}
@@ -25,7 +26,7 @@ use Rattle.body_check.specs.Around.{inside}
 use Rattle.body_check.specs.Leaving.{from_here}
 use Rattle.body_check.specs.Meeting.{branches_interfere}
 use Rattle.body_check.specs.Touching.{assigned, some_disturb}
-use Rattle.body_check.specs.Walks.{Walk, Verdict, passes, refused, apart_from, walk_of, home_of, ◌>>=◌}
+use Rattle.body_check.specs.Walks.{Walk, Verdict, passes, refused, apart_from, walk_of, ◌>>=◌}
 use Rattle.body_check.proofs.Homes.{branches_at_home}
 use Rattle.body_check.proofs.Orders.{next_is, several}
 use Rattle.body_check.proofs.Touched.{AllTouched, TouchedBy}
@@ -88,12 +89,12 @@ fork_refused params around node nd all w i effects made u branch q before below 
     rw whole
 
 -- a branch that passed, as it was found
-pub record Branch (params : List Bool) (around : Around) (nd : Bool) (b s : Body) (out inner out3 : Found) (branch : Stmt) (set : List Effect)
+pub record Branch (params : List Bool) (around : Around) (nd : Bool) (b s : Env) (out inner out3 : Found) (branch : Stmt) (set : List Effect)
     (one : TypedBranch) (part : TypedStmt) : Type 0 where
   pub in_scope : check_scope params around (plain_stmt branch) (apart_from (walk_of b out)) ≡ passes part (walk_of s inner)
   pub set_is : set ≡ with_uses inner.effects inner.uses
-  pub one_is : one ≡ branch_of b.env (plain_stmt branch) part
-  pub out_is : out3 ≡ taken_in (from_here b.env (marks_after nd)) out inner
+  pub one_is : one ≡ branch_of b (plain_stmt branch) part
+  pub out_is : out3 ≡ taken_in (from_here b (marks_after nd)) out inner
 
 pub taken_so : (env : Env) (nd : Bool) (marking : Marks) (leaving : Leaving) (out inner out3 : Found) → marking ≡ marks_after nd →
     leaving ≡ from_here env marking → out3 ≡ taken_in leaving out inner → out3 ≡ taken_in (from_here env (marks_after nd)) out inner
@@ -109,20 +110,20 @@ pub branch_made : (env : Env) (branch : Stmt) (writes : List ℕ) (copies : List
 branch_made env branch writes copies s same is = ap (λ (z : List ℕ). branch_with z (typed_stmt s)) (is ∙ ap (slots_of env) same)
 
 pub fork_more : (params : List Bool) (around : Around) (nd : Bool) (all : List Stmt) (w : Walk) (i : ℕ) (effects effects2 : List (List Effect))
-    (made made2 : List TypedBranch) (b s : Body) (out inner out3 : Found) (branch : Stmt) (set : List Effect) (one : TypedBranch) (part : TypedStmt) →
+    (made made2 : List TypedBranch) (b s : Env) (out inner out3 : Found) (branch : Stmt) (set : List Effect) (one : TypedBranch) (part : TypedStmt) →
     ForkSoFar params around nd all w i effects made (walk_of b out) → i < length all → branch ≡ get_or all i branch →
     Branch params around nd b s out inner out3 branch set one part → effects2 ≡ effects ++ set ∷ [] → made2 ≡ made ++ one ∷ [] →
     ForkSoFar params around nd all w (i + 1) effects2 made2 (walk_of s out3)
 fork_more params around nd all w i effects effects2 made made2 b s out inner out3 branch set one part before below is k effects_are made_are =
     let rest : Found → Verdict Branches = λ found. check_branches params around nd (several (drop (i + 1) all)) (walk_of s found) in
-    let after : Found = taken_in (from_here b.env (marks_after nd)) out inner in
+    let after : Found = taken_in (from_here b (marks_after nd)) out inner in
     let step : check_branches params around nd (several (branch ∷ drop (i + 1) all)) (walk_of b out)
-    ≡ after_branches (with_uses inner.effects inner.uses ∷ []) (branch_of b.env (plain_stmt branch) part ∷ []) (rest after) =
-    rw k.in_scope (after_first (with_uses inner.effects inner.uses) (branch_of b.env (plain_stmt branch) part) (rest after)) in
+    ≡ after_branches (with_uses inner.effects inner.uses ∷ []) (branch_of b (plain_stmt branch) part ∷ []) (rest after) =
+    rw k.in_scope (after_first (with_uses inner.effects inner.uses) (branch_of b (plain_stmt branch) part) (rest after)) in
     before
     ∙ ap (after_branches effects made)
     (from_next params around nd all i branch (walk_of b out) below is ∙ step
-    ∙ ap (λ (z : List Effect). after_branches (z ∷ []) (branch_of b.env (plain_stmt branch) part ∷ []) (rest after)) (sym k.set_is)
+    ∙ ap (λ (z : List Effect). after_branches (z ∷ []) (branch_of b (plain_stmt branch) part ∷ []) (rest after)) (sym k.set_is)
     ∙ ap (λ (z : TypedBranch). after_branches (set ∷ []) (z ∷ []) (rest after)) (sym k.one_is)
     ∙ ap (λ (z : Found). after_branches (set ∷ []) (one ∷ []) (rest z)) (sym k.out_is))
     ∙ after_more effects made set one (rest out3)
@@ -144,16 +145,16 @@ branches_met params env node nd clash effects made w = meeting node clash (inter
 abbrev pub branches_made : Node → Bool → List TypedBranch → TypedStmt
 branches_made node nd made = typed.statement node.place (typed.cobegin (forking_of nd) (branches_of made))
 
-pub forks_are : (b o : Body) (around : Around) (node : Node) (nd clash : Bool) (branches : PlainStmts) (effects read : List (List Effect))
+pub forks_are : (b o : Env) (around : Around) (node : Node) (nd clash : Bool) (branches : PlainStmts) (effects read : List (List Effect))
     (made : List TypedBranch) (f out : Found) (v : Verdict TypedStmt) →
-    check_branches b.atomic_params (inside around) nd branches (walk_of b f) ≡ passes (branches_with effects made) (walk_of o out) →
-    clash ≡ some_disturb branches → home_of o ≡ home_of b → read ≡ effects →
-    branches_met o.atomic_params o.env node nd clash read (branches_made node nd made) (walk_of o (with_nd nd out)) ≡ v →
-    check_form b.atomic_params around node (form.cobegin nd branches) (walk_of b f) ≡ v
+    check_branches (atomic_params b) (inside around) nd branches (walk_of b f) ≡ passes (branches_with effects made) (walk_of o out) →
+    clash ≡ some_disturb branches → bare o ≡ bare b → read ≡ effects →
+    branches_met (atomic_params o) o node nd clash read (branches_made node nd made) (walk_of o (with_nd nd out)) ≡ v →
+    check_form (atomic_params b) around node (form.cobegin nd branches) (walk_of b f) ≡ v
 forks_are b o around node nd clash branches effects read made f out v all clash_is home read_is d =
-    let forked : check_form b.atomic_params around node (form.cobegin nd branches) (walk_of b f)
-    ≡ branches_met b.atomic_params b.env node nd clash effects (branches_made node nd made) (walk_of o (with_nd nd out)) = rw (all, ← clash_is) in
+    let forked : check_form (atomic_params b) around node (form.cobegin nd branches) (walk_of b f)
+    ≡ branches_met (atomic_params b) b node nd clash effects (branches_made node nd made) (walk_of o (with_nd nd out)) = rw (all, ← clash_is) in
     forked
     ∙ ap (λ (z : Bool). meeting node clash (interference nd) z (branches_made node nd made) (walk_of o (with_nd nd out)))
-    (sym (ap (λ (z : List (List Effect)). branches_interfere o.atomic_params nd o.env z) read_is ∙ branches_at_home b o nd effects home))
+    (sym (ap (λ (z : List (List Effect)). branches_interfere (atomic_params o) nd o z) read_is ∙ branches_at_home b o nd effects home))
     ∙ d

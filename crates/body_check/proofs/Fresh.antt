@@ -17,10 +17,9 @@ use Rattle.syntax_tree.specs.declared.class.Class.{Class}
 use Rattle.syntax_tree.specs.declared.class.Program.{Program}
 use Rattle.body_assembly.specs.Assembled.{PlainBody}
 use Rattle.body_exprs.specs.declared.env.Env.{Env}
-use Rattle.body_exprs.specs.Env.{table_of, supers_of, at_class, IsFresh}
+use Rattle.body_exprs.specs.Env.{table_of, supers_of, at_class, IsFresh, class_params}
 use Rattle.body_exprs.specs.Typed.{AreTaken}
-use Rattle.body_check.specs.declared.body.Body.{Body}
-use Rattle.body_check.specs.Methods.{class_params, check_members, check_classes, after_ok, then_ok, around_classes, in_order, BodiesChecking}
+use Rattle.body_check.specs.Methods.{check_members, check_classes, after_ok, then_ok, around_classes, in_order, BodiesChecking}
 use Rattle.body_check.proofs.Pairs.{first_pairs, later_pairs, no_pairs}
 
 -- the test of the order
@@ -73,10 +72,10 @@ classes_alike start other at (class ∷ classes) number same =
     then_same (Ok x) f g h = h x
     then_same (Err q) f g h = refl
 
-pub whole_from : (program : Program) (table : Table) (length_name : Option ℕ) (start : Env) (body : Body) (classes : List Class)
-    (v : Result (List PlainBody) Refusal) → length_name ≡ name_number program.names (codes "length") → IsFresh table length_name start → body.env ≡ start →
-    classes ≡ program.classes → check_classes body.env 0 classes 0 ≡ v → BodiesChecking program table v
-whole_from program table length_name start body classes v length_is fresh env_is same d =
+pub whole_from : (program : Program) (table : Table) (length_name : Option ℕ) (start : Env) (classes : List Class)
+    (v : Result (List PlainBody) Refusal) → length_name ≡ name_number program.names (codes "length") → IsFresh table length_name start →
+    classes ≡ program.classes → check_classes start 0 classes 0 ≡ v → BodiesChecking program table v
+whole_from program table length_name start classes v length_is fresh same d =
     ap (λ (z : Option ℕ). check_classes (around_classes table z) 0 program.classes 0) (sym length_is)
     ∙ sym (classes_alike (around_classes table length_name) start 0 program.classes 0 (alike table length_name start fresh))
-    ∙ ap (λ (z : Env). check_classes z 0 program.classes 0) (sym env_is) ∙ ap (λ (z : List Class). check_classes body.env 0 z 0) (sym same) ∙ d
+    ∙ ap (λ (z : List Class). check_classes start 0 z 0) (sym same) ∙ d

@@ -1,5 +1,6 @@
 -- The bodies of methods, member by member and class by class: what is said of each way through the code.
 use Rattle.std.proofs.Common.{◌≡◌, ◌∙◌, ℕ, List, [], ◌∷◌, ◌++◌, ◌+◌, ◌⊎◌, inl, inr, ◌<◌, get_or, drop, append_assoc, append-nil, Bool, Option, Some, None, option_map, Result, Ok, Err, map, take, length, refl, sym, ap, subst}
+use Rattle.std.specs.Option.{option_map_or}
 use Rattle.std.specs.Result.{IsErrAnd}
 use Rattle.std.proofs.lemmas.List.{drop_more}
 use Rattle.std.proofs.Common.{add-one}
@@ -32,16 +33,14 @@ use Rattle.body_assembly.specs.Assembled.{PlainBody, plain_body}
 use Rattle.body_exprs.specs.declared.env.Env.{Env}
 use Rattle.body_exprs.specs.Answer.{Says}
 use Rattle.body_exprs.specs.declared.found.Found.{Found}
-use Rattle.body_exprs.specs.Env.{table_of, at_class, at_members, at_method, declared_in, slots_in, with_row}
-use Rattle.body_check.specs.declared.body.Body.{Body}
+use Rattle.body_exprs.specs.Env.{bare, table_of, atomic_of, at_class, at_members, at_method, declared_in, slots_in, with_row, has_room, class_params}
 use Rattle.body_check.specs.declared.node.Around.{Around}
 use Rattle.body_check.specs.Checking.{check_block}
 use Rattle.body_check.specs.Completes.{all_complete}
 use Rattle.body_check.specs.Deciding.{has_value, method_fault, reported_at}
 use Rattle.body_check.specs.Around.{method_around}
-use Rattle.body_check.specs.Methods.{class_params, own_params, formals_declared, formal_types, summary_of, body_begun, method_reported, method_judged, after_ok, reported, number_after, bodies_of, PlainBodies, after_bodies, IsIn, check_method, check_member, check_members, check_classes}
-use Rattle.body_check.specs.Simple.{has_room}
-use Rattle.body_check.specs.Walks.{Walk, Verdict, nothing_found, with_env, passes, walk_of}
+use Rattle.body_check.specs.Methods.{own_params, formals_declared, formal_types, summary_of, body_begun, method_reported, method_judged, after_ok, reported, number_after, bodies_of, PlainBodies, after_bodies, check_method, check_member, check_members, check_classes, atomic_params}
+use Rattle.body_check.specs.Walks.{Walk, Verdict, nothing_found, passes, walk_of}
 use Rattle.body_check.proofs.Passing.{said_of, settled_stop, walk_from}
 
 -- at the exit of a `?`, for what is made of a body, of several or of a program
@@ -67,35 +66,39 @@ abbrev methods_at : Env → ℕ → Env
 methods_at around method = with_row (record around { method = method }) (numbered (table_of around) method)
 
 members_begun : (start : Env) (class : ℕ) → at_members (at_class start class) ≡ at_class start class
-members_begun start class = ap (λ (z : _). record (at_class start class) { given = z }) (take-length (given_of (table_of start) class))
+members_begun start class =
+    ap (λ (z : _). record (at_members (at_class start class)) { given = z }) (take-length (given_of (table_of start) class))
+    ∙ ap (λ (z : List Bool). record (at_class start class) { atomic_params = z }) (take-length (class_params (table_of start) class))
 
-pub class_entered : (start : Env) (class count : ℕ) (b : Body) → b.env ≡ at_class start class → b.atomic_params ≡ class_params (table_of start) class →
-    count ≡ length b.atomic_params → IsIn start class count b
-class_entered start class count b env_is params_are count_is = record {
-  members = ap at_members env_is ∙ members_begun start class;
-  params = ap (λ (n : ℕ). take n b.atomic_params) count_is ∙ take-length b.atomic_params ∙ params_are;
-  all_params = count_is ∙ ap length params_are;
-}
+pub class_entered : (start : Env) (class : ℕ) (b : Env) → b ≡ at_class start class → at_members b ≡ at_class start class
+class_entered start class b is = ap at_members is ∙ members_begun start class
 
 method_begun : (start env : Env) (class number : ℕ) → at_members env ≡ at_class start class → at_method env number ≡ at_method (at_class start class) number
 method_begun start env class number is = ap (λ (z : Env). methods_at z number) (is ∙ sym (members_begun start class))
 
-pub begun_in : (start : Env) (class count number : ℕ) (b e : Body) → IsIn start class count b → e.env ≡ at_method b.env number →
-    e.env ≡ at_method (at_class start class) number
-begun_in start class count number b e within is = is ∙ method_begun start b.env class number within.members
+pub begun_in : (start : Env) (class number : ℕ) (b e : Env) → at_members b ≡ at_class start class → e ≡ at_method b number →
+    e ≡ at_method (at_class start class) number
+begun_in start class number b e within is = is ∙ method_begun start b class number within
+
+row_params : (env : Env) (row : Option MethodRow) → atomic_params (with_row env row) ≡ atomic_params env ++ option_map_or (λ r. atomic_of r.regions) row []
+row_params env None = sym (append-nil (atomic_params env))
+row_params env (Some row) = refl
+
+-- which region parameters are declared atomic in a method
+params_at : (start : Env) (class number : ℕ) →
+    atomic_params (at_method (at_class start class) number) ≡ class_params (table_of start) class ++ own_params (table_of start) number
+params_at start class number =
+    ap (λ (z : Env). atomic_params (methods_at z number)) (members_begun start class)
+    ∙ row_params (record (at_class start class) { method = number }) (numbered (table_of start) number)
 
 -- a member of the code that is a method
-pub member_so : (start : Env) (class count number : ℕ) (b e : Body) (m : Member) (method : Method) (r : Result PlainBody Refusal) →
-    m ≡ member.Method method → IsIn start class count b →
-    e.atomic_params ≡ take count b.atomic_params ++ own_params (table_of b.env) number →
-    check_method (at_class start class) e.atomic_params number method ≡ r →
+pub member_so : (start : Env) (class number : ℕ) (e : Env) (m : Member) (method : Method) (r : Result PlainBody Refusal) →
+    m ≡ member.Method method → e ≡ at_method (at_class start class) number → check_method (at_class start class) (atomic_params e) number method ≡ r →
     check_member (at_class start class) (class_params (table_of start) class) m number ≡ after_ok Some r
-member_so start class count number b e m method r is within params d =
+member_so start class number e m method r is e_is d =
     let here : check_method (at_class start class) (class_params (table_of start) class ++ own_params (table_of start) number) number method ≡ r =
     subst (λ (ps : List Bool). check_method (at_class start class) ps number method ≡ r)
-    (params ∙ ap (λ (z : List Bool). z ++ own_params (table_of b.env) number) within.params
-    ∙ ap (λ (z : Env). class_params (table_of start) class ++ own_params (table_of z) number) within.members)
-    d in
+    (ap atomic_params e_is ∙ params_at start class number) d in
     subst (λ (z : Member). check_member (at_class start class) (class_params (table_of start) class) z number ≡ after_ok Some r) (sym is)
     (ap (after_ok Some) here)
 
@@ -121,29 +124,30 @@ abbrev env_begun : Env → ℕ → Method → Env
 env_begun around number method = formals_declared (at_method around number) method.formals (formal_types (numbered (table_of around) number))
 
 -- the formals of a method that was entered are in scope
-pub record Begun (around : Env) (number : ℕ) (method : Method) (row : Option MethodRow) (types : List Ty) (b d : Body) : Type 0 where
-  pub env_is : b.env ≡ at_method around number
-  pub row_is : row ≡ numbered (table_of b.env) number
+pub record Begun (around : Env) (number : ℕ) (method : Method) (row : Option MethodRow) (types : List Ty) (b d : Env) : Type 0 where
+  pub env_is : b ≡ at_method around number
+  pub row_is : row ≡ numbered (table_of b) number
   pub types_are : types ≡ formal_types row
-  pub body_is : d ≡ with_env b (formals_declared b.env method.formals types)
+  pub body_is : d ≡ formals_declared b method.formals types
+  pub home : bare d ≡ bare b
 
-begun_so : (around : Env) (number : ℕ) (method : Method) (row : Option MethodRow) (types : List Ty) (b d : Body) →
-    Begun around number method row types b d → d.env ≡ env_begun around number method
+begun_so : (around : Env) (number : ℕ) (method : Method) (row : Option MethodRow) (types : List Ty) (b d : Env) →
+    Begun around number method row types b d → d ≡ env_begun around number method
 begun_so around number method row types b d begun =
-    let all_types = begun.types_are ∙ ap formal_types (row_at around b.env number row begun.env_is begun.row_is) in
-    ap (λ (z : Body). z.env) begun.body_is ∙ ap (λ (z : List Ty). formals_declared b.env method.formals z) all_types
+    let all_types = begun.types_are ∙ ap formal_types (row_at around b number row begun.env_is begun.row_is) in
+    begun.body_is ∙ ap (λ (z : List Ty). formals_declared b method.formals z) all_types
     ∙ ap (λ (z : Env). formals_declared z method.formals (formal_types (numbered (table_of around) number))) begun.env_is
 
-pub body_from : (around : Env) (number : ℕ) (method : Method) (row : Option MethodRow) (types : List Ty) (b d : Body) (done : Found)
+pub body_from : (around : Env) (number : ℕ) (method : Method) (row : Option MethodRow) (types : List Ty) (b d : Env) (done : Found)
     (v : Verdict (List TypedStmt)) → Begun around number method row types b d → done ≡ nothing_found →
-    check_block d.atomic_params (around_of method) (method_stmts method) (walk_of d done) ≡ v →
-    check_block b.atomic_params (around_of method) (method_stmts method) (body_begun around number method) ≡ v
+    check_block (atomic_params d) (around_of method) (method_stmts method) (walk_of d done) ≡ v →
+    check_block (atomic_params b) (around_of method) (method_stmts method) (body_begun around number method) ≡ v
 body_from around number method row types b d done v begun none h =
-    let params : d.atomic_params ≡ b.atomic_params = ap (λ (z : Body). z.atomic_params) begun.body_is in
+    let params : atomic_params d ≡ atomic_params b = ap atomic_params begun.home in
     let walk : walk_of d done ≡ body_begun around number method =
     ap (λ (z : Env). walk_from z done) (begun_so around number method row types b d begun)
     ∙ ap (λ (z : Found). walk_from (env_begun around number method) z) none in
-    subst (λ (w : Walk). check_block b.atomic_params (around_of method) (method_stmts method) w ≡ v) walk
+    subst (λ (w : Walk). check_block (atomic_params b) (around_of method) (method_stmts method) w ≡ v) walk
     (subst (λ (z : List Bool). check_block z (around_of method) (method_stmts method) (walk_of d done) ≡ v) params h)
 
 reported_settled : (place : Place) (reason : Option Kind) → reported_at place reason ≡ settled (option_map (λ k. fault k place) reason)
@@ -151,21 +155,21 @@ reported_settled place None = refl
 reported_settled place (Some k) = refl
 
 -- what is found of the body of a method
-pub record BodyMet (around : Env) (number : ℕ) (method : Method) (row : Option MethodRow) (types : List Ty) (summary : List Effect) (b d s : Body)
+pub record BodyMet (around : Env) (number : ℕ) (method : Method) (row : Option MethodRow) (types : List Ty) (summary : List Effect) (b d s : Env)
     (done : Found) (completes covered room : Bool) (ss : List TypedStmt) : Type 0 where
   pub begun : Begun around number method row types b d
   pub summary_is : summary ≡ summary_of row
   pub completes_is : completes ≡ all_complete (method_stmts method)
   pub covered_is : covered ≡ set_covers summary done.effects
-  pub room_is : room ≡ has_room d.env
-  pub in_block : check_block b.atomic_params (around_of method) (method_stmts method) (body_begun around number method) ≡ passes ss (walk_of s done)
+  pub room_is : room ≡ has_room d
+  pub in_block : check_block (atomic_params b) (around_of method) (method_stmts method) (body_begun around number method) ≡ passes ss (walk_of s done)
 
-reported_so : (around : Env) (number : ℕ) (method : Method) (row : Option MethodRow) (types : List Ty) (summary : List Effect) (b d s : Body)
+reported_so : (around : Env) (number : ℕ) (method : Method) (row : Option MethodRow) (types : List Ty) (summary : List Effect) (b d s : Env)
     (done : Found) (completes covered room : Bool) (ss : List TypedStmt) →
     BodyMet around number method row types summary b d s done completes covered room ss →
     reported_at method.place (method_fault (has_value method.result) completes covered room) ≡ settled (method_reported around number method done.effects)
 reported_so around number method row types summary b d s done completes covered room ss m =
-    let summary_at = m.summary_is ∙ ap summary_of (row_at around b.env number row m.begun.env_is m.begun.row_is) in
+    let summary_at = m.summary_is ∙ ap summary_of (row_at around b number row m.begun.env_is m.begun.row_is) in
     let covered_at : covered ≡ set_covers (summary_of (numbered (table_of around) number)) done.effects =
     m.covered_is ∙ ap (λ (z : List Effect). set_covers z done.effects) summary_at in
     let room_at : room ≡ has_room (env_begun around number method) = m.room_is ∙ ap has_room (begun_so around number method row types b d m.begun) in
@@ -192,28 +196,28 @@ nothing_reported None is = refl
 nothing_reported (Some q) is = absurd (cc)
 
 pub method_stops : {T : Type 0} (around : Env) (number : ℕ) (method : Method) (row : Option MethodRow) (types : List Ty) (summary : List Effect)
-    (b d s : Body) (done : Found) (completes covered room : Bool) (ss : List TypedStmt) (r : Result T Stop) (made : T → Result PlainBody Refusal) (p : Stop) →
+    (b d s : Env) (done : Found) (completes covered room : Bool) (ss : List TypedStmt) (r : Result T Stop) (made : T → Result PlainBody Refusal) (p : Stop) →
     IsErrAnd r (λ z. z ≡ p) → BodyMet around number method row types summary b d s done completes covered room ss →
     Err p ≡ reported_at method.place (method_fault (has_value method.result) completes covered room) →
-    Says r made Err (λ v. check_method around b.atomic_params number method ≡ v)
+    Says r made Err (λ v. check_method around (atomic_params b) number method ≡ v)
 method_stops around number method row types summary b d s done completes covered room ss r made p is m stated =
-    stopped_at (λ q. method_reported around number method done.effects ≡ Some q) (λ v. check_method around b.atomic_params number method ≡ v) r made p is
+    stopped_at (λ q. method_reported around number method done.effects ≡ Some q) (λ v. check_method around (atomic_params b) number method ≡ v) r made p is
     (λ q t. ap (method_judged around number method) m.in_block ∙ reported_some _ _ q t)
     (settled_stop (method_reported around number method done.effects) p
     (sym (stated ∙ reported_so around number method row types summary b d s done completes covered room ss m)))
 
 pub method_passes : (around : Env) (number : ℕ) (method : Method) (row : Option MethodRow) (types : List Ty) (summary : List Effect)
-    (b d s : Body) (done : Found) (completes covered room : Bool) (ss : List TypedStmt) (slots regions : ℕ) →
+    (b d s : Env) (done : Found) (completes covered room : Bool) (ss : List TypedStmt) (slots regions : ℕ) →
     BodyMet around number method row types summary b d s done completes covered room ss →
     reported_at method.place (method_fault (has_value method.result) completes covered room) ≡ Ok tt →
-    slots ≡ slots_in s.env → regions ≡ declared_in s.env →
-    check_method around b.atomic_params number method ≡ Ok (record { slots = slots; local_regions = regions; stmts = stmts_of ss })
+    slots ≡ slots_in s → regions ≡ declared_in s →
+    check_method around (atomic_params b) number method ≡ Ok (record { slots = slots; local_regions = regions; stmts = stmts_of ss })
 method_passes around number method row types summary b d s done completes covered room ss slots regions m stated slots_are regions_are =
     ap (method_judged around number method) m.in_block
     ∙ reported_none _ _
     (nothing_reported (method_reported around number method done.effects)
     (sym (reported_so around number method row types summary b d s done completes covered room ss m) ∙ stated))
-    ∙ ap (λ (z : ℕ). Ok (body_with z (declared_in s.env) ss)) (sym slots_are) ∙ ap (λ (z : ℕ). Ok (body_with slots z ss)) (sym regions_are)
+    ∙ ap (λ (z : ℕ). Ok (body_with z (declared_in s) ss)) (sym slots_are) ∙ ap (λ (z : ℕ). Ok (body_with slots z ss)) (sym regions_are)
 
 -- the members that are left
 pub left_is : {X : Type 0} (xs all : List X) (i : ℕ) (x : X) → xs ≡ all → i < length xs → x ≡ get_or xs i x → x ∷ drop (i + 1) all ≡ drop i all
@@ -358,9 +362,9 @@ no_more : (env : Env) (formals : List Formal) (types : List Ty) → (length form
 no_more env formals types (inl none) = ap (λ (z : List Formal). formals_declared env z types) (empty formals none)
 no_more env formals types (inr none) = ap (λ (z : List Ty). formals_declared env formals z) (empty types none) ∙ no_types env formals
 
-pub formals_end : (b c : Body) (formals : List Formal) (types : List Ty) (all : Env) → c ≡ with_env b c.env → formals_declared c.env formals types ≡ all →
-    (length formals ≡ 0) ⊎ (length types ≡ 0) → c ≡ with_env b all
-formals_end b c formals types all others rest none = others ∙ ap (λ (z : Env). with_env b z) (sym (no_more c.env formals types none) ∙ rest)
+pub formals_end : (c : Env) (formals : List Formal) (types : List Ty) (all : Env) → formals_declared c formals types ≡ all →
+    (length formals ≡ 0) ⊎ (length types ≡ 0) → c ≡ all
+formals_end c formals types all rest none = sym (no_more c formals types none) ∙ rest
 
 -- the body that a member has or hasn't
 pub body_next : (made : Option MemberBody) (body : MemberBody) (number next : ℕ) → made ≡ Some body → next ≡ as_number (number + 1) →

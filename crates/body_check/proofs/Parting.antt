@@ -1,5 +1,5 @@
 -- The parts of a `foreach_parts`: what is said of each way through the code that checks one.
-use Rattle.std.proofs.Common.{◌≡◌, ◌∙◌, ◌+◌, ℕ, Bool, not, Option, None, Some, option_map, refl, sym, ap}
+use Rattle.std.proofs.Common.{◌≡◌, ◌∙◌, ◌+◌, ℕ, Bool, false, not, Option, None, Some, option_map, refl, sym, ap}
 use Rattle.lang_base.specs.declared.refusal.Kind.{Kind}
 use Rattle.lang_base.specs.declared.refusal.Kind.TheVariants as kind
 use Rattle.lang_base.specs.declared.refusal.Refusal.{Refusal}
@@ -23,46 +23,46 @@ use Rattle.body_exprs.specs.declared.typed.Typed.{Typed}
 use Rattle.body_exprs.specs.declared.typed.Typed.TheVariants as given
 use Rattle.body_exprs.specs.declared.found.Found.{Found}
 use Rattle.body_exprs.specs.Answer.{gives}
-use Rattle.body_exprs.specs.Env.{bare, given_in, part_of, slots_in}
+use Rattle.body_exprs.specs.Env.{bare, given_in, part_of, slots_in, part_declared}
 use Rattle.body_exprs.specs.Typed.{may_be, is_int, node_at, plain_node, plain_typed, type_in}
 use Rattle.body_exprs.specs.Typing.{Typing}
-use Rattle.body_check.specs.declared.body.Body.{Body}
+use Rattle.body_check.specs.Methods.{atomic_params}
 use Rattle.body_check.specs.declared.node.Around.{Around}
 use Rattle.body_check.specs.declared.node.Node.{Node}
 use Rattle.body_check.specs.declared.parts.Whole.{Whole as Cut}
 use Rattle.body_check.specs.Checking.{check_form, check_scope, cut, cut_array, meeting, part_slot, parts_declared, parts_left, parts_noted, plain_whole, variable_declared, Whole}
-use Rattle.body_check.specs.Deciding.{whole_fault}
+use Rattle.body_check.specs.Deciding.{whole_fault, interference}
 use Rattle.body_check.specs.Around.{inside}
 use Rattle.body_check.specs.Noting.{with_fault_if, with_found}
-use Rattle.body_check.specs.Simple.{declaration_noted, node_of, part_declared}
+use Rattle.body_check.specs.Simple.{declaration_noted, node_of}
 use Rattle.body_check.specs.Touching.{assigns_outer}
-use Rattle.body_check.specs.Walks.{Verdict, Walk, passes, refused, apart_from, scope_so, walk_of, with_env, home_of}
+use Rattle.body_check.specs.Walks.{Verdict, Walk, passes, refused, apart_from, scope_so, walk_of}
 use Rattle.body_check.proofs.Homes.{parts_at_home}
 use Rattle.body_check.proofs.Nodes.{node_is, node_made}
 use Rattle.body_check.proofs.Types.{came_back}
 
 -- the array and the count, and the faults that are noted up to the body
-pub record Opened (b : Body) (node seen number first : Node) (view var : Named) (array count : PlainExpr) (f g h : Found) (whole : Cut)
+pub record Opened (b : Env) (node seen number first : Node) (view var : Named) (array count : PlainExpr) (f g h : Found) (whole : Cut)
     (t : Option TypedExpr) : Type 0 where
   pub cuts : cut array (walk_of b f) ≡ passes (plain_whole whole) (walk_of b g)
   pub seen_is : seen ≡ with_found node whole.fault
-  pub counts : Typing b.env count g (gives t h)
+  pub counts : Typing b count g (gives t h)
   pub number_is : number ≡ with_fault_if seen kind.Type (not (may_be is_int (type_in t)))
-  pub first_is : first ≡ parts_noted b.env view var whole.ty number
+  pub first_is : first ≡ parts_noted b view var whole.ty number
 
 -- the body of a part
-abbrev body_in : Body → Around → Named → Named → PlainStmt → Found → Cut → Body → Found → TypedStmt → Type 0
+abbrev body_in : Env → Around → Named → Named → PlainStmt → Found → Cut → Env → Found → TypedStmt → Type 0
 body_in b around view var body h whole s inner piece =
-    check_scope b.atomic_params (inside around) body (apart_from (scope_so (walk_of b h) (parts_declared b.env view var whole.ty))) ≡ passes piece (walk_of s inner)
+    check_scope (atomic_params b) (inside around) body (apart_from (scope_so (walk_of b h) (parts_declared b view var whole.ty))) ≡ passes piece (walk_of s inner)
 
-pub body_refused : {b : Body} (around : Around) {node seen number first : Node} {view var : Named} {array count : PlainExpr} (body : PlainStmt)
+pub body_refused : {b : Env} (around : Around) {node seen number first : Node} {view var : Named} {array count : PlainExpr} (body : PlainStmt)
     {f g h : Found} {whole : Cut} {t : Option TypedExpr} (q : Refusal) → Opened b node seen number first view var array count f g h whole t →
-    check_scope b.atomic_params (inside around) body (apart_from (scope_so (walk_of b h) (parts_declared b.env view var whole.ty))) ≡ refused q →
-    check_form b.atomic_params around node (form.foreach_parts view var array count body) (walk_of b f) ≡ refused q
+    check_scope (atomic_params b) (inside around) body (apart_from (scope_so (walk_of b h) (parts_declared b view var whole.ty))) ≡ refused q →
+    check_form (atomic_params b) around node (form.foreach_parts view var array count body) (walk_of b f) ≡ refused q
 body_refused around body {whole = whole} q k d = rw (k.cuts, k.counts, came_back whole.ty, d)
 
 -- the body of a part that passed, as it was found
-pub record Part (b s : Body) (around : Around) (node seen number first : Node) (view var : Named) (array count : PlainExpr) (body : PlainStmt)
+pub record Part (b s : Env) (around : Around) (node seen number first : Node) (view var : Named) (array count : PlainExpr) (body : PlainStmt)
     (f g h inner : Found) (whole : Cut) (t : Option TypedExpr) (piece : TypedStmt) : Type 0 where
   pub opened : Opened b node seen number first view var array count f g h whole t
   pub in_scope : body_in b around view var body h whole s inner piece
@@ -70,47 +70,47 @@ pub record Part (b s : Body) (around : Around) (node seen number first : Node) (
 -- what becomes of the construct, by whether its branches interfere
 abbrev pub parts_met : Env → Node → ℕ → PlainStmt → Found → TypedStmt → Walk → Verdict TypedStmt
 parts_met env first part body found made w =
-    meeting first (assigns_outer body) kind.Interferes (parts_interfere (given_in env) part (part + 4) found.effects found.uses) made w
+    meeting first (assigns_outer body) (interference false) (parts_interfere (given_in env) part (part + 4) found.effects found.uses) made w
 
-abbrev pub parts_made : Body → Node → PlainExpr → Cut → Option TypedExpr → TypedStmt → TypedStmt
+abbrev pub parts_made : Env → Node → PlainExpr → Cut → Option TypedExpr → TypedStmt → TypedStmt
 parts_made b node count whole t piece =
-    typed.statement node.place (typed.foreach_parts (part_slot b.env) (plain_source whole.source) (node_of count t) piece)
+    typed.statement node.place (typed.foreach_parts (part_slot b) (plain_source whole.source) (node_of count t) piece)
 
-abbrev pub parts_closed : Body → Body → Found → Cut → Found → Found → Walk
-parts_closed b s f whole h inner = parts_left (part_slot b.env) (walk_of b f) (plain_source whole.source) h (walk_of s inner)
+abbrev pub parts_closed : Env → Env → Found → Cut → Found → Found → Walk
+parts_closed b s f whole h inner = parts_left (part_slot b) (walk_of b f) (plain_source whole.source) h (walk_of s inner)
 
-parted : {b s : Body} {around : Around} {node seen number first : Node} {view var : Named} {array count : PlainExpr} {body : PlainStmt}
+parted : {b s : Env} {around : Around} {node seen number first : Node} {view var : Named} {array count : PlainExpr} {body : PlainStmt}
     {f g h inner : Found} {whole : Cut} {t : Option TypedExpr} {piece : TypedStmt} →
     Part b s around node seen number first view var array count body f g h inner whole t piece →
-    check_form b.atomic_params around node (form.foreach_parts view var array count body) (walk_of b f)
-    ≡ parts_met b.env first (part_slot b.env) body inner (parts_made b node count whole t piece) (parts_closed b s f whole h inner)
+    check_form (atomic_params b) around node (form.foreach_parts view var array count body) (walk_of b f)
+    ≡ parts_met b first (part_slot b) body inner (parts_made b node count whole t piece) (parts_closed b s f whole h inner)
 parted {whole = whole} k =
     rw (k.opened.cuts, k.opened.counts, came_back whole.ty, k.in_scope, ← k.opened.seen_is, ← k.opened.number_is, ← k.opened.first_is)
 
-pub parts_are : {b s : Body} {around : Around} {node seen number first : Node} {view var : Named} {array count : PlainExpr} {body : PlainStmt}
+pub parts_are : {b s : Env} {around : Around} {node seen number first : Node} {view var : Named} {array count : PlainExpr} {body : PlainStmt}
     {f g h inner : Found} {whole : Cut} {t : Option TypedExpr} {piece : TypedStmt} (part : ℕ) (env : Env) (v : Verdict TypedStmt) →
-    Part b s around node seen number first view var array count body f g h inner whole t piece → home_of s ≡ home_of b → bare env ≡ bare s.env →
-    part ≡ slots_in b.env →
+    Part b s around node seen number first view var array count body f g h inner whole t piece → bare s ≡ bare b → bare env ≡ bare s →
+    part ≡ slots_in b →
     parts_met env first part body inner (parts_made b node count whole t piece) (parts_closed b s f whole h inner) ≡ v →
-    check_form b.atomic_params around node (form.foreach_parts view var array count body) (walk_of b f) ≡ v
+    check_form (atomic_params b) around node (form.foreach_parts view var array count body) (walk_of b f) ≡ v
 parts_are {b} {s} {node = node} {first = first} {count = count} {body} {f} {h = h} {inner} {whole} {t} {piece} part env v k home env_is part_is d =
     parted k
-    ∙ ap (λ (z : Bool). meeting first (assigns_outer body) kind.Interferes z (parts_made b node count whole t piece) (parts_closed b s f whole h inner))
-    (sym (parts_at_home b s env part (part + 4) inner.effects inner.uses home env_is
-    ∙ ap (λ (z : ℕ). parts_interfere (given_in b.env) z (z + 4) inner.effects inner.uses) part_is))
+    ∙ ap (λ (z : Bool). meeting first (assigns_outer body) (interference false) z (parts_made b node count whole t piece) (parts_closed b s f whole h inner))
+    (sym (parts_at_home b env part (part + 4) inner.effects inner.uses (env_is ∙ home)
+    ∙ ap (λ (z : ℕ). parts_interfere (given_in b) z (z + 4) inner.effects inner.uses) part_is))
     ∙ d
 
 -- the part and the variable, one after the other
-pub opens_noted : (view var : Named) (t : Ty) (b p : Body) (node first second : Node) → p ≡ with_env b (part_declared b.env view.name t) →
-    first ≡ declaration_noted b.env view.name view.place node → second ≡ declaration_noted p.env var.name var.place first →
-    second ≡ parts_noted b.env view var t node
+pub opens_noted : (view var : Named) (t : Ty) (b p : Env) (node first second : Node) → p ≡ part_declared b view.name t →
+    first ≡ declaration_noted b view.name view.place node → second ≡ declaration_noted p var.name var.place first →
+    second ≡ parts_noted b view var t node
 opens_noted view var t b p node first second part_is first_is second_is =
-    second_is ∙ ap (λ (z : Body). declaration_noted z.env var.name var.place first) part_is
-    ∙ ap (declaration_noted (part_declared b.env view.name t) var.name var.place) first_is
+    second_is ∙ ap (λ (z : Env). declaration_noted z var.name var.place first) part_is
+    ∙ ap (declaration_noted (part_declared b view.name t) var.name var.place) first_is
 
-pub opens_declared : (view var : Named) (t : Ty) (b p v : Body) → p ≡ with_env b (part_declared b.env view.name t) →
-    v ≡ with_env p (variable_declared p.env var) → v ≡ with_env b (parts_declared b.env view var t)
-opens_declared view var t b p v part_is is = is ∙ ap (λ (z : Body). with_env z (variable_declared z.env var)) part_is
+pub opens_declared : (view var : Named) (t : Ty) (b p v : Env) → p ≡ part_declared b view.name t →
+    v ≡ variable_declared p var → v ≡ parts_declared b view var t
+opens_declared view var t b p v part_is is = is ∙ ap (λ (z : Env). variable_declared z var) part_is
 
 -- what is cut: the part of a row, or what an array expression gives
 abbrev pub row_whole : LocalRow → Cut

@@ -14,7 +14,6 @@ use Rattle.body_exprs.specs.declared.env.Mark.{Mark}
 use Rattle.body_exprs.specs.declared.found.Found.{Found}
 use Rattle.body_exprs.specs.Answer.{Says}
 use Rattle.body_exprs.specs.Env.{left_to, mark_of}
-use Rattle.body_check.specs.declared.body.Body.{Body}
 use Rattle.body_check.specs.declared.leaving.Leaving.{Leaving}
 use Rattle.body_check.specs.declared.leaving.Marks.{Marks}
 use Rattle.body_check.specs.declared.node.Node.{Node}
@@ -116,13 +115,13 @@ abbrev pub walk_from : Env → Found → Walk
 walk_from env found = record { env = env; found = found }
 
 -- a scope that was left
-pub closed_is : (b s : Body) (env : Env) (scope : Mark) (leaving : Leaving) (marking marking' : Marks) (f g inner inner' rest out : Found) →
-    scope ≡ mark_of b.env → env ≡ left_to s.env scope → leaving ≡ from_here b.env marking → marking ≡ marking' → inner ≡ inner' → out ≡ taken_in leaving g inner →
+pub closed_is : (b s : Env) (env : Env) (scope : Mark) (leaving : Leaving) (marking marking' : Marks) (f g inner inner' rest out : Found) →
+    scope ≡ mark_of b → env ≡ left_to s scope → leaving ≡ from_here b marking → marking ≡ marking' → inner ≡ inner' → out ≡ taken_in leaving g inner →
     closed (found_so (walk_of b f) g) marking' inner' (walk_of s rest) ≡ walk_from env out
 closed_is b s env scope leaving marking marking' f g inner inner' rest out scope_is env_is leaving_is kept_is inner_is out_is =
-    let env_so : env ≡ left_to s.env (mark_of b.env) = env_is ∙ ap (λ (z : Mark). left_to s.env z) scope_is in
-    let out_so : out ≡ taken_in (from_here b.env marking') g inner' =
-    out_is ∙ ap (λ (z : Leaving). taken_in z g inner) (leaving_is ∙ ap (from_here b.env) kept_is)
-    ∙ ap (λ (z : Found). taken_in (from_here b.env marking') g z) inner_is in
-    ap (λ (z : Env). walk_from z (taken_in (from_here b.env marking') g inner')) (sym env_so)
+    let env_so : env ≡ left_to s (mark_of b) = env_is ∙ ap (λ (z : Mark). left_to s z) scope_is in
+    let out_so : out ≡ taken_in (from_here b marking') g inner' =
+    out_is ∙ ap (λ (z : Leaving). taken_in z g inner) (leaving_is ∙ ap (from_here b) kept_is)
+    ∙ ap (λ (z : Found). taken_in (from_here b marking') g z) inner_is in
+    ap (λ (z : Env). walk_from z (taken_in (from_here b marking') g inner')) (sym env_so)
     ∙ ap (λ (z : Found). walk_from env z) (sym out_so)

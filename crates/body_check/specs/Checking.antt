@@ -23,7 +23,7 @@ use Rattle.region_interfere.specs.Uses.{parts_interfere}
 use Rattle.body_exprs.specs.declared.env.Env.{Env}
 use Rattle.body_exprs.specs.declared.env.LocalRow.{LocalRow}
 use Rattle.body_exprs.specs.declared.found.Found.{Found}
-use Rattle.body_exprs.specs.Env.{given_in, local_of, slots_in, left_to, mark_of, part_of}
+use Rattle.body_exprs.specs.Env.{given_in, local_of, slots_in, left_to, mark_of, part_of, local_declared, part_declared}
 use Rattle.body_exprs.specs.Steps.{given}
 use Rattle.body_exprs.specs.Typed.{may_be, is_int, is_boolean, type_in}
 use Rattle.body_check.specs.declared.leaving.Marks.{Marks}
@@ -38,7 +38,7 @@ use Rattle.body_check.specs.Around.{inside}
 use Rattle.body_check.specs.Leaving.{from_here}
 use Rattle.body_check.specs.Meeting.{declared_atomic, branches_interfere}
 use Rattle.body_check.specs.Noting.{node_at, with_found, with_fault_if, fault_of, settled_node}
-use Rattle.body_check.specs.Simple.{code_type, node_of, declaration_noted, local_declared, part_declared, declare, assign_local, assign_place, perform, leave, leave_with, print, declare_regions}
+use Rattle.body_check.specs.Simple.{code_type, node_of, declaration_noted, declare, assign_local, assign_place, perform, leave, leave_with, print, declare_regions}
 use Rattle.body_check.specs.Touching.{assigned, assigns_outer, some_disturb}
 use Rattle.body_check.specs.Walks.{Walk, Verdict, passes, refused, judged, expr_at, found_so, scope_so, nothing_found, apart_from, scope_left, ◌>>=◌, ◌>>◌}
 
@@ -223,7 +223,7 @@ abbrev mutual
     (whole, x) ← cut array w
     (u, y) ← expr_at count x
     (s, z) ← own_scope (parts_begun view var whole y) (check_stmt params (inside around) false body (parts_begun view var whole y))
-    meeting (opened_node w.env view var whole u node) (assigns_outer body) kind.Interferes
+    meeting (opened_node w.env view var whole u node) (assigns_outer body) (interference false)
         (parts_interfere (given_in w.env) (part_slot w.env) (part_variable w.env) z.found.effects z.found.uses)
         (typed.statement node.place (typed.foreach_parts (part_slot w.env) whole.source (node_of count u) s))
         (parts_left (part_slot w.env) w whole.source y.found z)

@@ -6,11 +6,9 @@ use Rattle.lang_base.specs.declared.effect.Effect.{Effect}
 use Rattle.lang_base.specs.declared.refusal.Refusal.{Refusal}
 use Rattle.lang_base.specs.declared.ty.Ty.{Ty}
 use Rattle.lang_base.specs.Effects.{set_covers}
-use Rattle.decl_headers.specs.declared.header.ParamRow.{ParamRow}
 use Rattle.decl_headers.specs.Gathered.{name_number}
 use Rattle.decl_headers.specs.Numbers.{as_number}
 use Rattle.decl_headers.specs.Passes.{fault}
-use Rattle.decl_resolve.specs.Classes.{params_in}
 use Rattle.syntax_tree.specs.declared.class.Class.{Class}
 use Rattle.syntax_tree.specs.declared.class.Formal.{Formal}
 use Rattle.syntax_tree.specs.declared.class.Member.{Member}
@@ -22,32 +20,26 @@ use Rattle.lang_typed.specs.Plain.{TypedStmt, stmts_of}
 use Rattle.body_assembly.specs.Assembled.{PlainBody, plain_body}
 use Rattle.decl_table.specs.declared.rows.MethodRow.{MethodRow}
 use Rattle.decl_table.specs.declared.table.Table.{Table}
-use Rattle.decl_table.specs.Table.{headers_of, numbered}
+use Rattle.decl_table.specs.Table.{numbered}
 use Rattle.decl_table.specs.Table.{supers_of as superclasses}
 use Rattle.decl_resolve.specs.Scoped.{no_names}
 use Rattle.lang_base.specs.declared.ty.Super.{Super}
 use Rattle.body_exprs.specs.declared.env.Env.{Env}
 use Rattle.body_check.specs.declared.bodies.ClassBodies.{ClassBodies}
-use Rattle.body_check.specs.declared.body.Body.{Body}
-use Rattle.body_exprs.specs.Env.{table_of, at_class, at_members, at_method, declared_in, slots_in}
+use Rattle.body_exprs.specs.Env.{table_of, atomic_of, class_params, at_class, at_method, declared_in, slots_in, has_room, local_declared}
 use Rattle.body_check.specs.Checking.{check_block}
 use Rattle.body_check.specs.Completes.{all_complete}
 use Rattle.body_check.specs.Deciding.{has_value, method_fault}
 use Rattle.body_check.specs.Around.{method_around}
-use Rattle.body_check.specs.Simple.{has_room, local_declared}
 use Rattle.body_check.specs.Walks.{Walk, Verdict, passes, refused, nothing_found}
 
--- of each region parameter, whether it is declared atomic
-abbrev pub atomic_of : List ParamRow → List Bool
-atomic_of params = map (λ param. param.atomic) params
-
--- the same of those of a class
-abbrev pub class_params : Table → ℕ → List Bool
-class_params table class = atomic_of (params_in (headers_of table) class)
-
--- and of those of a method
+-- of each region parameter of a method, whether it is declared atomic
 abbrev pub own_params : Table → ℕ → List Bool
 own_params table method = option_map_or (λ row. atomic_of row.regions) (numbered table method) []
+
+-- of those in scope, those of the class first
+abbrev pub atomic_params : Env → List Bool
+atomic_params env = env.atomic_params
 
 -- the formals of a method are in scope, where their types are known
 abbrev pub formals_declared : Env → List Formal → List Ty → Env
@@ -103,12 +95,6 @@ abbrev pub check_method : Env → List Bool → ℕ → Method → Result PlainB
 check_method class_env params number method =
     method_judged class_env number method
     (check_block params (method_around (has_value method.result)) (plain_stmts (map plain_stmt method.body)) (body_begun class_env number method))
-
--- the class is entered, which has so many region parameters, or a method of it
-pub record IsIn (start : Env) (class count : ℕ) (body : Body) : Type 0 where
-  pub members : at_members body.env ≡ at_class start class
-  pub params : take count body.atomic_params ≡ class_params (table_of start) class
-  pub all_params : count ≡ length (class_params (table_of start) class)
 
 -- a member of a class, which has a body or none
 abbrev pub check_member : Env → List Bool → Member → ℕ → Result (Option PlainBody) Refusal
@@ -173,6 +159,8 @@ around_classes table length_name = record {
   declared = 0;
   given = [];
   class_given = 0;
+  atomic_params = [];
+  class_params = 0;
 }
 
 -- all bodies of a program with this table, from the first class on: what is made of them, or the first refusal

@@ -23,7 +23,7 @@ use Rattle.lang_typed.specs.Plain as typed
 use Rattle.decl_table.specs.Table.{headers_of, numbered}
 use Rattle.body_exprs.specs.declared.env.Env.{Env}
 use Rattle.body_exprs.specs.declared.env.LocalRow.{LocalRow}
-use Rattle.body_exprs.specs.Env.{table_of, supers_of, scope_of, local_of, slots_in, declared_in, with_local, with_part, with_region, is_param_name, has_region}
+use Rattle.body_exprs.specs.Env.{table_of, supers_of, scope_of, local_of, slots_in, is_param_name, has_region, has_room, local_declared, region_declared, declared_in}
 use Rattle.body_exprs.specs.Targeting.{PlainSpot, to_field, to_element, to_part, PlainTarget, TargetAnswer, aims, misses, type_target, with_write}
 use Rattle.body_exprs.specs.Typed.{may_be, is_int, is_boolean, is_value, node_at, type_in}
 use Rattle.body_exprs.specs.Fits.{fits_as}
@@ -39,20 +39,6 @@ declared_type env tree = option_map_or (λ t. t) (type_meant (scope_of env) tree
 
 abbrev pub declared_reported : Env → TypeTree → Option Refusal
 declared_reported env tree = parts_reported site.Body (none_by order.Kind) (type_faults (scope_of env) tree)
-
--- there is a slot of 32 bits for a further local or part, and a number for a further local region
-abbrev pub has_room : Env → Bool
-has_room env = nat_lt (slots_in env + 4) 4294967295 && nat_lt (declared_in env) 4294967295
-
--- a further local, part of an array or local region is in scope, where there is room for it
-abbrev pub local_declared : Env → ℕ → Ty → Bool → Env
-local_declared env name t is_final = cond (has_room env) (with_local env name t is_final) env
-
-abbrev pub part_declared : Env → ℕ → Ty → Env
-part_declared env name t = cond (has_room env) (with_part env name t) env
-
-abbrev pub region_declared : Env → ℕ → Env
-region_declared env name = cond (has_room env) (with_region env name) env
 
 -- a text that declares more than there is room for is too long
 abbrev pub with_room : Env → Place → Node → Node

@@ -8,17 +8,16 @@ use Rattle.body_exprs.specs.declared.env.Env.{Env}
 use Rattle.body_exprs.specs.declared.found.Found.{Found}
 use Rattle.body_exprs.specs.Answer.{Answer}
 use Rattle.body_exprs.specs.Answer.{Answer as answer}
-use Rattle.body_exprs.specs.Env.{bare, left_to, mark_of}
+use Rattle.body_exprs.specs.Env.{left_to, mark_of}
 use Rattle.body_exprs.specs.Typing.{type_expr}
-use Rattle.body_check.specs.declared.body.Body.{Body}
 
 -- what is in scope, and what was found of the block or the branch at hand
 pub record Walk : Type 0 where
   pub env : Env
   pub found : Found
 
-abbrev pub walk_of : Body → Found → Walk
-walk_of body found = record { env = body.env; found = found }
+abbrev pub walk_of : Env → Found → Walk
+walk_of env found = record { env = env; found = found }
 
 -- a piece of a body passes, of which this was made, and the walk has come so far after it; or it is refused
 pub data Verdict (T : Type 0) : Type 0 where
@@ -68,15 +67,3 @@ given_at w (answer.refused refusal) = refused refusal
 
 abbrev pub expr_at : PlainExpr → Walk → Verdict (Option TypedExpr)
 expr_at e w = given_at w (type_expr w.env e w.found)
-
--- with another scope
-abbrev pub with_env : Body → Env → Body
-with_env body env = record body { env = env }
-
--- what a walk leaves as it was: what is around the statements, but for what they declare
-pub record Home : Type 0 where
-  pub env : Env
-  pub params : List Bool
-
-abbrev pub home_of : Body → Home
-home_of body = record { env = bare body.env; params = body.atomic_params }

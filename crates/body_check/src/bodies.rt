@@ -6,17 +6,16 @@ ghost use Rattle.syntax_tree.specs.Nd.{program_uses_nd};
 ghost use Rattle.syntax_tree.specs.Plain.{plain_stmt, plain_stmts};
 ghost use Rattle.lang_typed.specs.Plain.{plain_stmt as typed_stmt};
 ghost use Rattle.body_exprs.specs.declared.env.Env.{Env};
-ghost use Rattle.body_exprs.specs.Env.{table_of, at_class, at_method};
+ghost use Rattle.body_exprs.specs.Env.{bare, table_of, at_class, at_members, at_method, class_params};
 ghost use Rattle.body_check.specs.Checking.{check_block};
 ghost use Rattle.body_check.specs.Completes.{all_complete};
 ghost use Rattle.body_check.specs.Deciding.{has_value, method_fault, reported_at};
 ghost use Rattle.body_check.specs.Around.{method_around};
-ghost use Rattle.body_check.specs.Methods.{formals_declared, formal_types, summary_of, bodies_of, class_params, number_after, plain_bodies, check_classes, check_members, check_member, check_method, BodiesChecking, IsIn};
-ghost use Rattle.body_check.specs.Walks.{home_of, passes, refused, walk_of, with_env};
+ghost use Rattle.body_check.specs.Methods.{formals_declared, formal_types, summary_of, bodies_of, atomic_params, number_after, plain_bodies, check_classes, check_members, check_member, check_method, BodiesChecking};
+ghost use Rattle.body_check.specs.Walks.{passes, refused, walk_of};
 ghost use Rattle.body_exprs.specs.Answer.{Says};
 
 use crate::accepted::Accepted;
-use crate::body::Body;
 use crate::node::Around;
 use crate::statements::{CheckedBlock, block};
 use body_assembly::MemberBody;
@@ -34,21 +33,21 @@ pub fn check(alloc: Global, program: &Program, table: &Table) -> Result<Accepted
     ensures nd { IfOk result (λ found. found.uses_nd ≡ program_uses_nd program.now) }
     ensures checks { Says result (λ found. Ok (map plain_body found.bodies)) Err (BodiesChecking program.now table.now) }
 {
-    let mut body = Body::new(Env::new(alloc, table, length_name(program)));
-    let bodies = check_classes(&mut body, program.classes.as_slice())?;
+    let mut env = Env::new(alloc, table, length_name(program));
+    let bodies = check_classes(&mut env, program.classes.as_slice())?;
     Ok(Accepted {
         uses_nd: uses_nd(program),
         bodies,
     })
 }
 
-fn check_classes(body: &mut Body, classes: &[Class]) -> Result<Items<MemberBody>, Stop>
-    ensures checks { Says result (λ bodies. Ok (map plain_body bodies)) Err (λ v. check_classes body.old.env 0 classes.now 0 ≡ v) }
+fn check_classes(env: &mut Env, classes: &[Class]) -> Result<Items<MemberBody>, Stop>
+    ensures checks { Says result (λ bodies. Ok (map plain_body bodies)) Err (λ v. check_classes env.old 0 classes.now 0 ≡ v) }
 {
-    let mut bodies = Items::new(body.env.alloc);
+    let mut bodies = Items::new(env.alloc);
     let mut methods = 0;
     for (number, class) in classes.iter().enumerate() {
-        let done = check_class(body, class, number_at(number), methods)?;
+        let done = check_class(env, class, number_at(number), methods)?;
         methods = done.next;
         append(&mut bodies, done.bodies)?;
     }
@@ -72,18 +71,17 @@ struct ClassBodies {
 }
 
 /// Checks the bodies of the class of a number, of which the first has the other number.
-fn check_class(body: &mut Body, class: &Class, number: u32, first: u32) -> Result<ClassBodies, Stop>
-    ensures around { (other : ℕ) → OnOk result (at_class body.new.env other ≡ at_class body.old.env other) }
-    ensures checks { Says result (λ done. Ok (plain_bodies done)) Err (λ v. check_members (at_class body.old.env number) (class_params (table_of body.old.env) number) class.now.members first ≡ v) }
+fn check_class(env: &mut Env, class: &Class, number: u32, first: u32) -> Result<ClassBodies, Stop>
+    ensures around { (other : ℕ) → OnOk result (at_class env.new other ≡ at_class env.old other) }
+    ensures checks { Says result (λ done. Ok (plain_bodies done)) Err (λ v. check_members (at_class env.old number) (class_params (table_of env.old) number) class.now.members first ≡ v) }
 {
-    body.enter_class(number)?;
-    let params = body.atomic_params.len();
+    env.enter_class(number)?;
     let mut done = ClassBodies {
         next: first,
-        bodies: Items::new(body.env.alloc),
+        bodies: Items::new(env.alloc),
     };
     for member in class.members.as_slice() {
-        let made = check_member(body, member, params, done.next)?;
+        let made = check_member(env, member, done.next)?;
         add_body(&mut done, made)?;
     }
     Ok(done)
@@ -101,41 +99,36 @@ fn add_body(done: &mut ClassBodies, made: Option<MemberBody>) -> Result<(), NoMe
     Ok(())
 }
 
-/// Checks the body of a member that has one, in a class with so many region parameters.
-fn check_member(
-    body: &mut Body,
-    member: &Member,
-    count: usize,
-    number: u32,
-) -> Result<Option<MemberBody>, Stop>
-    ensures stays { (start : Env) (class : ℕ) → IsIn start class count body.old → OnOk result (IsIn start class count body.new) }
-    ensures checks { (start : Env) (class : ℕ) → IsIn start class count body.old → Says result (λ made. Ok (option_map plain_body made)) Err (λ v. check_member (at_class start class) (class_params (table_of start) class) member.now number ≡ v) }
+/// Checks the body of a member that has one.
+fn check_member(env: &mut Env, member: &Member, number: u32) -> Result<Option<MemberBody>, Stop>
+    ensures stays { (start : Env) (class : ℕ) → at_members env.old ≡ at_class start class → OnOk result (at_members env.new ≡ at_class start class) }
+    ensures checks { (start : Env) (class : ℕ) → at_members env.old ≡ at_class start class → Says result (λ made. Ok (option_map plain_body made)) Err (λ v. check_member (at_class start class) (class_params (table_of start) class) member.now number ≡ v) }
 {
     match member {
         Member::Regions { .. } | Member::Field(_) => Ok(None),
         Member::Method(method) => {
-            body.enter_method(number, count)?;
-            Ok(Some(check_method(body, method, number)?))
+            env.enter_method(number)?;
+            Ok(Some(check_method(env, method, number)?))
         }
     }
 }
 
 /// Checks the body of a method or a constructor. One without a row has no formals in scope, and may have no effect.
-fn check_method(body: &mut Body, method: &Method, number: u32) -> Result<MemberBody, Stop>
-    ensures home { OnOk result (home_of body.new ≡ home_of body.old) }
-    ensures checks { (around : Env) → body.old.env ≡ at_method around number → Says result (λ made. Ok (plain_body made)) Err (λ v. check_method around body.old.atomic_params number method.now ≡ v) }
+fn check_method(env: &mut Env, method: &Method, number: u32) -> Result<MemberBody, Stop>
+    ensures home { OnOk result (bare env.new ≡ bare env.old) }
+    ensures checks { (around : Env) → env.old ≡ at_method around number → Says result (λ made. Ok (plain_body made)) Err (λ v. check_method around (atomic_params env.old) number method.now ≡ v) }
 {
-    let row = body.env.table().numbered(number);
-    let nothing = EffectSet::new(body.env.alloc);
-    declare_formals(body, method.formals.as_slice(), types_of(row))?;
-    let has_slots = body.has_room();
-    let mut done = Found::new(body.env.alloc);
-    let checked = check_body(body, method, &mut done)?;
+    let row = env.table().numbered(number);
+    let nothing = EffectSet::new(env.alloc);
+    declare_formals(env, method.formals.as_slice(), types_of(row))?;
+    let has_slots = env.has_room();
+    let mut done = Found::new(env.alloc);
+    let checked = check_body(env, method, &mut done)?;
     let covered = summary_of(row, &nothing).set_covers(&done.effects);
     settle_method(method, checked.completes, covered, has_slots)?;
     Ok(MemberBody {
-        slots: body.env.slots(),
-        local_regions: body.env.regions_declared(),
+        slots: env.slots(),
+        local_regions: env.regions_declared(),
         stmts: checked.stmts,
     })
 }
@@ -161,13 +154,13 @@ fn summary_of<'a>(row: Option<&'a MethodRow>, nothing: &'a EffectSet) -> &'a Eff
 }
 
 /// Checks the statements of a method, whose formals are in scope.
-fn check_body(body: &mut Body, method: &Method, done: &mut Found) -> Result<CheckedBlock, Stop>
+fn check_body(env: &mut Env, method: &Method, done: &mut Found) -> Result<CheckedBlock, Stop>
     ensures completes { IfOk result (λ checked. checked.completes ≡ all_complete (plain_stmts (map plain_stmt method.now.body))) }
-    ensures home { OnOk result (home_of body.new ≡ home_of body.old) }
-    ensures checks { Says result (λ checked. passes (map typed_stmt checked.stmts) (walk_of body.new done.new)) refused (λ v. check_block body.old.atomic_params (method_around (has_value method.now.result)) (plain_stmts (map plain_stmt method.now.body)) (walk_of body.old done.old) ≡ v) }
+    ensures home { OnOk result (bare env.new ≡ bare env.old) }
+    ensures checks { Says result (λ checked. passes (map typed_stmt checked.stmts) (walk_of env.new done.new)) refused (λ v. check_block (atomic_params env.old) (method_around (has_value method.now.result)) (plain_stmts (map plain_stmt method.now.body)) (walk_of env.old done.old) ≡ v) }
 {
     let around = Around::method(has_value(&method.result));
-    block(body, around, method.body.as_slice(), done)
+    block(env, around, method.body.as_slice(), done)
 }
 
 fn has_value(reported: &MethodResult) -> bool
@@ -205,13 +198,13 @@ fn method_fault(has_result: bool, completes: bool, covered: bool, has_slots: boo
 }
 
 /// Puts the formals in scope.
-fn declare_formals(body: &mut Body, formals: &[Formal], types: &[Ty]) -> Result<(), NoMemory>
-    ensures whole { OnOk result (body.new ≡ with_env body.old (formals_declared body.old.env formals.now types.now)) }
-    ensures home { OnOk result (home_of body.new ≡ home_of body.old) }
+fn declare_formals(env: &mut Env, formals: &[Formal], types: &[Ty]) -> Result<(), NoMemory>
+    ensures whole { OnOk result (env.new ≡ formals_declared env.old formals.now types.now) }
+    ensures home { OnOk result (bare env.new ≡ bare env.old) }
 {
     for (formal, ty) in formals.iter().zip(types) {
-        let ty = ty.copy(body.env.alloc)?;
-        body.declare(formal.name, ty, false)?;
+        let ty = ty.copy(env.alloc)?;
+        env.declare(formal.name, ty, false)?;
     }
     Ok(())
 }

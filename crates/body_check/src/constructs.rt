@@ -4,20 +4,22 @@ ghost use Rattle.syntax_tree.specs.Plain.{StmtForm as form};
 ghost use Rattle.body_check.specs.Checking.{slots_of, check_form};
 ghost use Rattle.body_check.specs.Deciding.{marks_after};
 ghost use Rattle.body_check.specs.Around.{inside};
-ghost use Rattle.body_check.specs.Walks.{home_of, passes, refused, walk_of};
+ghost use Rattle.body_check.specs.Methods.{atomic_params};
+ghost use Rattle.body_check.specs.Walks.{passes, refused, walk_of};
+ghost use Rattle.body_exprs.specs.Env.{bare};
 ghost use Rattle.body_exprs.specs.Answer.{Says};
 ghost use Rattle.lang_typed.specs.Plain.{plain_stmt as typed_stmt};
 
-use crate::body::Body;
 use crate::gathered::{all_effects, entered, reach_nd, take_in};
 use crate::leaving::{Leaving, Marks};
 use crate::made;
 use crate::meet::{settle_branches, settle_iterations};
 use crate::node::{Around, Node};
 use crate::statements::{Checked, block, scoped};
-use body_exprs::Found;
+use crate::values::{int, note_declaration};
+use body_exprs::{Env, Found};
 use body_locals::{Touched, has_clash, touched};
-use lang_base::{Boxed, Items, Kind, NoMemory, Stop};
+use lang_base::{Boxed, Items, Kind, NoMemory, Stop, Ty};
 use lang_typed::{Branch, Slot, Stmt, StmtForm};
 use region_effects::EffectSet;
 use std::alloc::Global;
@@ -33,7 +35,7 @@ fn marks_after(nd: bool) -> Marks
 /// `cobegin { .. }`
 #[cycle(statements)]
 pub fn cobegin(
-    body: &mut Body,
+    env: &mut Env,
     around: Around,
     node: Node,
     nd: bool,
@@ -41,23 +43,23 @@ pub fn cobegin(
     out: &mut Found,
 ) -> Result<Checked, Stop>
     ensures completes { IfOk result (λ done. done.completes ≡ true) }
-    ensures home { OnOk result (home_of body.new ≡ home_of body.old) }
-    ensures checks { Says result (λ made. passes (typed_stmt made.stmt) (walk_of body.new out.new)) refused (λ v. check_form body.old.atomic_params around node (form.cobegin nd (plain_stmts (map plain_stmt branches.now))) (walk_of body.old out.old) ≡ v) }
+    ensures home { OnOk result (bare env.new ≡ bare env.old) }
+    ensures checks { Says result (λ made. passes (typed_stmt made.stmt) (walk_of env.new out.new)) refused (λ v. check_form (atomic_params env.old) around node (form.cobegin nd (plain_stmts (map plain_stmt branches.now))) (walk_of env.old out.old) ≡ v) }
 {
     let place = node.place;
-    let mut passed = Branches::new(body.env.alloc);
+    let mut passed = Branches::new(env.alloc);
     for branch in branches {
-        let leaving = Leaving::from_here(&body.env, marks_after(nd));
-        let mut inner = Found::new(body.env.alloc);
-        let names = touched(body.env.alloc, branch)?;
-        let copies = slots_of(body, names.writes.as_slice())?;
-        let done = scoped(body, around.inside(), branch, &mut inner)?;
-        passed.add(body.env.alloc, names, copies, done.stmt, &inner)?;
+        let leaving = Leaving::from_here(env, marks_after(nd));
+        let mut inner = Found::new(env.alloc);
+        let names = touched(env.alloc, branch)?;
+        let copies = slots_of(env, names.writes.as_slice())?;
+        let done = scoped(env, around.inside(), branch, &mut inner)?;
+        passed.add(env.alloc, names, copies, done.stmt, &inner)?;
         take_in(out, inner, leaving)?;
     }
     reach_nd(out, nd);
-    let clash = has_clash(body.env.alloc, passed.locals.as_slice())?;
-    settle_branches(body, node, nd, clash, passed.effects.as_slice())?;
+    let clash = has_clash(env.alloc, passed.locals.as_slice())?;
+    settle_branches(env, node, nd, clash, passed.effects.as_slice())?;
     Ok(Checked {
         completes: true,
         stmt: made::forked(place, nd, passed.made),
@@ -108,21 +110,21 @@ impl Branches {
 }
 
 /// The slots of the locals in scope with these names.
-fn slots_of(body: &Body, names: &[u32]) -> Result<Items<Slot>, NoMemory>
-    ensures { IfOk result (λ slots. map (λ slot. slot.number) slots ≡ slots_of body.now.env names.now) }
+fn slots_of(env: &Env, names: &[u32]) -> Result<Items<Slot>, NoMemory>
+    ensures { IfOk result (λ slots. map (λ slot. slot.number) slots ≡ slots_of env.now names.now) }
 {
-    let mut slots = Items::new(body.env.alloc);
+    let mut slots = Items::new(env.alloc);
     for name in names {
-        add_slot(body, *name, &mut slots)?;
+        add_slot(env, *name, &mut slots)?;
     }
     Ok(slots)
 }
 
 /// Adds the slot of the local of that name, where one is in scope.
-fn add_slot(body: &Body, name: u32, slots: &mut Items<Slot>) -> Result<(), NoMemory>
-    ensures { OnOk result (map (λ slot. slot.number) slots.new ≡ map (λ slot. slot.number) slots.old ++ slots_of body.now.env (name ∷ [])) }
+fn add_slot(env: &Env, name: u32, slots: &mut Items<Slot>) -> Result<(), NoMemory>
+    ensures { OnOk result (map (λ slot. slot.number) slots.new ≡ map (λ slot. slot.number) slots.old ++ slots_of env.now (name ∷ [])) }
 {
-    match body.env.local(name) {
+    match env.local(name) {
         Some(row) => slots.push(Slot { number: row.slot }),
         None => Ok(()),
     }
@@ -131,7 +133,7 @@ fn add_slot(body: &Body, name: u32, slots: &mut Items<Slot>) -> Result<(), NoMem
 /// `foreach (int var in start, count) iteration`
 #[cycle(statements)]
 pub fn foreach(
-    body: &mut Body,
+    env: &mut Env,
     around: Around,
     node: Node,
     nd: bool,
@@ -142,23 +144,23 @@ pub fn foreach(
     out: &mut Found,
 ) -> Result<Checked, Stop>
     ensures completes { IfOk result (λ done. done.completes ≡ true) }
-    ensures home { OnOk result (home_of body.new ≡ home_of body.old) }
-    ensures checks { Says result (λ made. passes (typed_stmt made.stmt) (walk_of body.new out.new)) refused (λ v. check_form body.old.atomic_params around node (form.foreach nd var (plain_expr start.now) (plain_expr count.now) (plain_stmt iteration.now)) (walk_of body.old out.old) ≡ v) }
+    ensures home { OnOk result (bare env.new ≡ bare env.old) }
+    ensures checks { Says result (λ made. passes (typed_stmt made.stmt) (walk_of env.new out.new)) refused (λ v. check_form (atomic_params env.old) around node (form.foreach nd var (plain_expr start.now) (plain_expr count.now) (plain_stmt iteration.now)) (walk_of env.old out.old) ≡ v) }
 {
     let place = node.place;
     let mut node = node;
-    let first = body.int(start, out, &mut node)?;
-    let number = body.int(count, out, &mut node)?;
-    body.note_declaration(var.name, var.place, &mut node);
-    let slot = body.env.slots();
-    let leaving = Leaving::from_here(&body.env, marks_after(nd));
-    let mut inner = Found::new(body.env.alloc);
-    let scope = body.env.mark();
-    body.declare_variable(var)?;
-    let done = scoped(body, around.inside(), iteration, &mut inner)?;
-    body.env.leave(scope);
+    let first = int(env, start, out, &mut node)?;
+    let number = int(env, count, out, &mut node)?;
+    note_declaration(env, var.name, var.place, &mut node);
+    let slot = env.slots();
+    let leaving = Leaving::from_here(env, marks_after(nd));
+    let mut inner = Found::new(env.alloc);
+    let scope = env.mark();
+    env.declare(var.name, Ty::Int, true)?;
+    let done = scoped(env, around.inside(), iteration, &mut inner)?;
+    env.leave(scope);
     reach_nd(&mut inner, nd);
-    settle_iterations(body, node, nd, iteration, &inner, slot)?;
+    settle_iterations(env, node, nd, iteration, &inner, slot)?;
     take_in(out, inner, leaving)?;
     let range = (first.into_node(start.place), number.into_node(count.place));
     Ok(Checked {
@@ -170,24 +172,24 @@ pub fn foreach(
 /// `atomic { .. }`
 #[cycle(statements)]
 pub fn atomic(
-    body: &mut Body,
+    env: &mut Env,
     around: Around,
     node: Node,
     stmts: &[Tree],
     out: &mut Found,
 ) -> Result<Checked, Stop>
     ensures completes { IfOk result (λ done. done.completes ≡ true) }
-    ensures home { OnOk result (home_of body.new ≡ home_of body.old) }
-    ensures checks { Says result (λ made. passes (typed_stmt made.stmt) (walk_of body.new out.new)) refused (λ v. check_form body.old.atomic_params around node (form.atomic (plain_stmts (map plain_stmt stmts.now))) (walk_of body.old out.old) ≡ v) }
+    ensures home { OnOk result (bare env.new ≡ bare env.old) }
+    ensures checks { Says result (λ made. passes (typed_stmt made.stmt) (walk_of env.new out.new)) refused (λ v. check_form (atomic_params env.old) around node (form.atomic (plain_stmts (map plain_stmt stmts.now))) (walk_of env.old out.old) ≡ v) }
 {
     let place = node.place;
     let mut node = node;
-    let leaving = Leaving::from_here(&body.env, Marks::Set);
-    let mut inner = Found::new(body.env.alloc);
-    let done = block(body, around.inside(), stmts, &mut inner)?;
+    let leaving = Leaving::from_here(env, Marks::Set);
+    let mut inner = Found::new(env.alloc);
+    let done = block(env, around.inside(), stmts, &mut inner)?;
     node.note_if(Kind::AtomicBody, inner.reaches_nd);
     let form = StmtForm::Atomic {
-        effects: entered(body.env.alloc, &inner)?,
+        effects: entered(env.alloc, &inner)?,
         body: done.stmts,
     };
     take_in(out, inner, leaving)?;

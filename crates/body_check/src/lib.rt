@@ -16,7 +16,6 @@
 
 mod accepted;
 mod bodies;
-mod body;
 mod constructs;
 mod gathered;
 mod leaving;
@@ -26,6 +25,7 @@ mod node;
 mod parts;
 mod simple;
 mod statements;
+mod values;
 
 pub use accepted::Accepted;
 pub use bodies::check;

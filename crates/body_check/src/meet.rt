@@ -1,4 +1,4 @@
-ghost use Rattle.std.specs.Prelude.{◌≡◌, ◌+◌, ◌<◌, None, not, length, IfOk};
+ghost use Rattle.std.specs.Prelude.{◌≡◌, ◌+◌, ◌++◌, ◌<◌, None, false, not, length, IfOk, OnOk};
 ghost use Rattle.lang_base.specs.Branches.{iterations_clash};
 ghost use Rattle.region_interfere.specs.Nd.{plain_nd};
 ghost use Rattle.region_interfere.specs.Uses.{parts_interfere};
@@ -10,16 +10,16 @@ ghost use Rattle.body_check.specs.Checking.{meeting};
 ghost use Rattle.body_check.specs.Deciding.{interference};
 ghost use Rattle.body_check.specs.Gathering.{with_uses};
 ghost use Rattle.body_check.specs.Meeting.{declared_atomic, branches_interfere, some_interfere};
+ghost use Rattle.body_check.specs.Methods.{atomic_params};
 ghost use Rattle.body_check.specs.Noting.{fault_of};
 ghost use Rattle.body_check.specs.Touching.{assigns_outer};
 ghost use Rattle.body_check.specs.Walks.{passes, refused, Walk};
 
-use crate::body::Body;
 use crate::gathered::all_effects;
 use crate::node::Node;
-use body_exprs::Found;
+use body_exprs::{Env, Found};
 use body_locals::touched;
-use lang_base::{Constraint, Kind, NoMemory, Stop};
+use lang_base::{Constraint, Items, Kind, NoMemory, Stop};
 use region_effects::EffectSet;
 use region_interfere::{Atomic, check_parts, first_meeting, iterations_clash};
 use std::alloc::Global;
@@ -27,18 +27,18 @@ use syntax_tree::Stmt;
 
 /// Reports the faults of a `cobegin` after its branches: two of them clash over a local, or else two interfere.
 pub fn settle_branches(
-    body: &Body,
+    env: &Env,
     node: Node,
     nd: bool,
     clash: bool,
     branches: &[EffectSet],
 ) -> Result<(), Stop>
-    ensures { (made : TypedStmt) (w : Walk) → Says result (λ _. passes made w) refused (λ v. meeting node clash (interference nd) (branches_interfere body.now.atomic_params nd body.now.env branches.now) made w ≡ v) }
+    ensures { (made : TypedStmt) (w : Walk) → Says result (λ _. passes made w) refused (λ v. meeting node clash (interference nd) (branches_interfere (atomic_params env.now) nd env.now branches.now) made w ≡ v) }
 {
     let mut node = node;
     node.note_if(Kind::Assign, clash);
     node.settle()?;
-    let pass = branches_pass(body, nd, branches)?;
+    let pass = branches_pass(env, nd, branches)?;
     node.note_if(interference(nd), !pass);
     node.settle()
 }
@@ -46,19 +46,19 @@ pub fn settle_branches(
 /// Reports the faults of a `foreach` after its body: it assigns outer locals, or else iterations interfere. The loop
 /// variable has the slot.
 pub fn settle_iterations(
-    body: &Body,
+    env: &Env,
     node: Node,
     nd: bool,
     iteration: &Stmt,
     found: &Found,
     slot: u32,
 ) -> Result<(), Stop>
-    ensures { (made : TypedStmt) (w : Walk) → Says result (λ _. passes made w) refused (λ v. meeting node (assigns_outer (plain_stmt iteration.now)) (interference nd) (iterations_clash (given_in body.now.env) (declared_atomic body.now.atomic_params nd body.now.env) slot (with_uses found.now.effects found.now.uses)) made w ≡ v) }
+    ensures { (made : TypedStmt) (w : Walk) → Says result (λ _. passes made w) refused (λ v. meeting node (assigns_outer (plain_stmt iteration.now)) (interference nd) (iterations_clash (given_in env.now) (declared_atomic (atomic_params env.now) nd env.now) slot (with_uses found.now.effects found.now.uses)) made w ≡ v) }
 {
     let mut node = node;
-    node.note_if(Kind::Assign, assigns_outer(body.env.alloc, iteration)?);
+    node.note_if(Kind::Assign, assigns_outer(env.alloc, iteration)?);
     node.settle()?;
-    let clash = iterations_interfere(body, nd, found, slot)?;
+    let clash = iterations_interfere(env, nd, found, slot)?;
     node.note_if(interference(nd), clash);
     node.settle()
 }
@@ -66,20 +66,20 @@ pub fn settle_iterations(
 /// Reports the faults of a `foreach_parts` after its body: it assigns outer locals, or else branches interfere. The
 /// part has four slots from this one on, and the loop variable the one after them.
 pub fn settle_parts(
-    body: &Body,
+    env: &Env,
     node: Node,
     iteration: &Stmt,
     found: &Found,
     part: u32,
 ) -> Result<(), Stop>
     requires { fault_of node ≡ None → part + 4 < 4294967296 }
-    ensures { (made : TypedStmt) (w : Walk) → Says result (λ _. passes made w) refused (λ v. meeting node (assigns_outer (plain_stmt iteration.now)) Kind.Interferes (parts_interfere (given_in body.now.env) part (part + 4) found.now.effects found.now.uses) made w ≡ v) }
+    ensures { (made : TypedStmt) (w : Walk) → Says result (λ _. passes made w) refused (λ v. meeting node (assigns_outer (plain_stmt iteration.now)) (interference false) (parts_interfere (given_in env.now) part (part + 4) found.now.effects found.now.uses) made w ≡ v) }
 {
     let mut node = node;
-    node.note_if(Kind::Assign, assigns_outer(body.env.alloc, iteration)?);
+    node.note_if(Kind::Assign, assigns_outer(env.alloc, iteration)?);
     node.settle()?;
-    let pass = parts_pass(body, found, part, part + 4)?;
-    node.note_if(Kind::Interferes, !pass);
+    let pass = parts_pass(env, found, part, part + 4)?;
+    node.note_if(interference(false), !pass);
     node.settle()
 }
 
@@ -102,13 +102,13 @@ fn assigns_outer(alloc: Global, stmt: &Stmt) -> Result<bool, NoMemory>
 }
 
 /// Of an nd construct, what is declared atomic.
-fn declared_atomic<'a>(body: &'a Body, nd: bool) -> Option<Atomic<'a>>
-    ensures { plain_nd result ≡ declared_atomic body.now.atomic_params nd body.now.env }
+fn declared_atomic<'a>(env: &'a Env, nd: bool) -> Option<Atomic<'a>>
+    ensures { plain_nd result ≡ declared_atomic (atomic_params env.now) nd env.now }
 {
     if nd {
         Some(Atomic {
-            names: body.env.table().headers().atomic_names(),
-            params: body.atomic_params.as_slice(),
+            names: env.table().headers().atomic_names(),
+            params: env.atomic_params.as_slice(),
         })
     } else {
         None
@@ -116,14 +116,14 @@ fn declared_atomic<'a>(body: &'a Body, nd: bool) -> Option<Atomic<'a>>
 }
 
 /// Whether no two branches interfere, for nd where the construct is one of nd.
-fn branches_pass(body: &Body, nd: bool, branches: &[EffectSet]) -> Result<bool, NoMemory>
-    ensures { IfOk result (λ passed. passed ≡ not (branches_interfere body.now.atomic_params nd body.now.env branches.now)) }
+fn branches_pass(env: &Env, nd: bool, branches: &[EffectSet]) -> Result<bool, NoMemory>
+    ensures { IfOk result (λ passed. passed ≡ not (branches_interfere (atomic_params env.now) nd env.now branches.now)) }
 {
     if branches.len() >= 4294967296 {
         return Ok(false);
     }
-    let atomic = declared_atomic(body, nd);
-    branches_apart(body.env.alloc, branches, body.env.given(), atomic)
+    let atomic = declared_atomic(env, nd);
+    branches_apart(env.alloc, branches, env.given(), atomic)
 }
 
 fn branches_apart(
@@ -140,44 +140,32 @@ fn branches_apart(
 
 /// Whether an iteration of a body interferes with another, for nd where the construct is one of nd. The loop
 /// variable has the slot.
-fn iterations_interfere(
-    body: &Body,
-    nd: bool,
-    iteration: &Found,
-    slot: u32,
-) -> Result<bool, NoMemory>
-    ensures { IfOk result (λ clash. clash ≡ iterations_clash (given_in body.now.env) (declared_atomic body.now.atomic_params nd body.now.env) slot (with_uses iteration.now.effects iteration.now.uses)) }
+fn iterations_interfere(env: &Env, nd: bool, iteration: &Found, slot: u32) -> Result<bool, NoMemory>
+    ensures { IfOk result (λ clash. clash ≡ iterations_clash (given_in env.now) (declared_atomic (atomic_params env.now) nd env.now) slot (with_uses iteration.now.effects iteration.now.uses)) }
 {
     if iteration.uses.is_empty() {
-        return effects_interfere(body, nd, &iteration.effects, slot);
+        return effects_interfere(env, nd, &iteration.effects, slot);
     }
-    effects_interfere(body, nd, &all_effects(body.env.alloc, iteration)?, slot)
+    effects_interfere(env, nd, &all_effects(env.alloc, iteration)?, slot)
 }
 
 fn effects_interfere(
-    body: &Body,
+    env: &Env,
     nd: bool,
     iteration: &EffectSet,
     slot: u32,
 ) -> Result<bool, NoMemory>
-    ensures { IfOk result (λ clash. clash ≡ iterations_clash (given_in body.now.env) (declared_atomic body.now.atomic_params nd body.now.env) slot iteration.now) }
+    ensures { IfOk result (λ clash. clash ≡ iterations_clash (given_in env.now) (declared_atomic (atomic_params env.now) nd env.now) slot iteration.now) }
 {
-    let atomic = declared_atomic(body, nd);
-    iterations_clash(body.env.alloc, iteration, slot, body.env.given(), atomic)
+    let atomic = declared_atomic(env, nd);
+    iterations_clash(env.alloc, iteration, slot, env.given(), atomic)
 }
 
 /// Whether no branch of a `foreach_parts` interferes with another. The part and the loop variable have these slots.
-fn parts_pass(body: &Body, iteration: &Found, part: u32, variable: u32) -> Result<bool, NoMemory>
-    ensures { IfOk result (λ passed. passed ≡ not (parts_interfere (given_in body.now.env) part variable iteration.now.effects iteration.now.uses)) }
+fn parts_pass(env: &Env, iteration: &Found, part: u32, variable: u32) -> Result<bool, NoMemory>
+    ensures { IfOk result (λ passed. passed ≡ not (parts_interfere (given_in env.now) part variable iteration.now.effects iteration.now.uses)) }
 {
-    let given = body.env.given();
+    let given = env.given();
     let uses = iteration.uses.as_slice();
-    check_parts(
-        body.env.alloc,
-        &iteration.effects,
-        uses,
-        part,
-        variable,
-        given,
-    )
+    check_parts(env.alloc, &iteration.effects, uses, part, variable, given)
 }

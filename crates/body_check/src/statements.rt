@@ -5,13 +5,14 @@ ghost use Rattle.syntax_tree.specs.Plain.{choice_form as if_form};
 ghost use Rattle.syntax_tree.specs.Plain.{StmtForm as form};
 ghost use Rattle.body_check.specs.Checking.{check_stmt, check_form, check_scope, check_block, check_all};
 ghost use Rattle.body_check.specs.Completes.{completes, form_completes, all_complete};
-ghost use Rattle.body_check.specs.Walks.{home_of, passes, refused, walk_of};
+ghost use Rattle.body_check.specs.Methods.{atomic_params};
+ghost use Rattle.body_check.specs.Walks.{passes, refused, walk_of};
+ghost use Rattle.body_exprs.specs.Env.{bare};
 ghost use Rattle.body_exprs.specs.Answer.{Says};
 ghost use Rattle.lang_typed.specs.Plain.{statement, choice_form};
 ghost use Rattle.body_exprs.specs.Typed.{plain_node as typed_expr};
 ghost use Rattle.lang_typed.specs.Plain.{plain_stmt as typed_stmt};
 
-use crate::body::Body;
 use crate::constructs::{atomic, cobegin, foreach};
 use crate::gathered::take_in;
 use crate::leaving::{Leaving, Marks};
@@ -21,7 +22,8 @@ use crate::simple::{
     assign_local, assign_place, declare, declare_regions, leave, leave_with, perform, print,
     print_text,
 };
-use body_exprs::Found;
+use crate::values::boolean;
+use body_exprs::{Env, Found};
 use lang_base::{Boxed, Items, Place, Stop};
 use lang_typed::{Expr as TypedExpr, Stmt as TypedStmt, StmtForm};
 use syntax_tree::{Expr, Stmt, StmtKind};
@@ -67,38 +69,38 @@ pub struct CheckedBlock {
 /// A function fills the room of all its arms at each call, so each form has a function of its own.
 #[cycle(statements)]
 pub fn statement(
-    body: &mut Body,
+    env: &mut Env,
     around: Around,
     stmt: &Stmt,
     follows: bool,
     out: &mut Found,
 ) -> Result<Checked, Stop>
     ensures completes { IfOk result (λ done. done.completes ≡ completes (plain_stmt stmt.now)) }
-    ensures home { OnOk result (home_of body.new ≡ home_of body.old) }
-    ensures checks { Says result (λ made. passes (typed_stmt made.stmt) (walk_of body.new out.new)) refused (λ v. check_stmt body.old.atomic_params around follows (plain_stmt stmt.now) (walk_of body.old out.old) ≡ v) }
+    ensures home { OnOk result (bare env.new ≡ bare env.old) }
+    ensures checks { Says result (λ made. passes (typed_stmt made.stmt) (walk_of env.new out.new)) refused (λ v. check_stmt (atomic_params env.old) around follows (plain_stmt stmt.now) (walk_of env.old out.old) ≡ v) }
 {
     let node = Node::of(stmt, follows);
     match &stmt.kind {
-        StmtKind::Block(all) => nested(body, around, node, all.as_slice(), out),
+        StmtKind::Block(all) => nested(env, around, node, all.as_slice(), out),
         StmtKind::Declare {
             is_final,
             ty,
             name,
             value,
-        } => declare(body, node, *is_final, ty, *name, value, out),
-        StmtKind::AssignLocal { target, value } => assign_local(body, node, *target, value, out),
-        StmtKind::AssignField { target, value } => assign_place(body, node, target, value, out),
-        StmtKind::AssignElement { target, value } => assign_place(body, node, target, value, out),
-        StmtKind::Do(value) => perform(body, node, value, out),
+        } => declare(env, node, *is_final, ty, *name, value, out),
+        StmtKind::AssignLocal { target, value } => assign_local(env, node, *target, value, out),
+        StmtKind::AssignField { target, value } => assign_place(env, node, target, value, out),
+        StmtKind::AssignElement { target, value } => assign_place(env, node, target, value, out),
+        StmtKind::Do(value) => perform(env, node, value, out),
         StmtKind::If { test, then, other } => {
-            branching(body, around, node, test, then.get(), other.as_ref(), out)
+            branching(env, around, node, test, then.get(), other.as_ref(), out)
         }
-        StmtKind::While { test, body: each } => repeat(body, around, node, test, each.get(), out),
-        StmtKind::Return(value) => returning(body, around, node, value.as_ref(), out),
-        StmtKind::Print(value) => print(body, node, value, out),
-        StmtKind::PrintText(text) => print_text(body, node, text),
+        StmtKind::While { test, body: each } => repeat(env, around, node, test, each.get(), out),
+        StmtKind::Return(value) => returning(env, around, node, value.as_ref(), out),
+        StmtKind::Print(value) => print(env, node, value, out),
+        StmtKind::PrintText(text) => print_text(env, node, text),
         StmtKind::Cobegin { nd, branches } => {
-            cobegin(body, around, node, *nd, branches.as_slice(), out)
+            cobegin(env, around, node, *nd, branches.as_slice(), out)
         }
         StmtKind::Foreach {
             nd,
@@ -106,34 +108,34 @@ pub fn statement(
             start,
             count,
             body: each,
-        } => foreach(body, around, node, *nd, *var, start, count, each.get(), out),
+        } => foreach(env, around, node, *nd, *var, start, count, each.get(), out),
         StmtKind::ForeachParts {
             view,
             var,
             array,
             count,
             body: each,
-        } => foreach_parts(body, around, node, view, var, array, count, each.get(), out),
-        StmtKind::Atomic(all) => atomic(body, around, node, all.as_slice(), out),
-        StmtKind::Region { names } => declare_regions(body, node, names.as_slice()),
+        } => foreach_parts(env, around, node, view, var, array, count, each.get(), out),
+        StmtKind::Atomic(all) => atomic(env, around, node, all.as_slice(), out),
+        StmtKind::Region { names } => declare_regions(env, node, names.as_slice()),
     }
 }
 
 /// A block.
 #[cycle(statements)]
 fn nested(
-    body: &mut Body,
+    env: &mut Env,
     around: Around,
     node: Node,
     all: &[Stmt],
     out: &mut Found,
 ) -> Result<Checked, Stop>
     ensures completes { IfOk result (λ done. done.completes ≡ all_complete (plain_stmts (map plain_stmt all.now))) }
-    ensures home { OnOk result (home_of body.new ≡ home_of body.old) }
-    ensures checks { Says result (λ made. passes (typed_stmt made.stmt) (walk_of body.new out.new)) refused (λ v. check_form body.old.atomic_params around node (form.block (plain_stmts (map plain_stmt all.now))) (walk_of body.old out.old) ≡ v) }
+    ensures home { OnOk result (bare env.new ≡ bare env.old) }
+    ensures checks { Says result (λ made. passes (typed_stmt made.stmt) (walk_of env.new out.new)) refused (λ v. check_form (atomic_params env.old) around node (form.block (plain_stmts (map plain_stmt all.now))) (walk_of env.old out.old) ≡ v) }
 {
     let place = node.place;
-    let done = block(body, around, all, out)?;
+    let done = block(env, around, all, out)?;
     let form = StmtForm::Block(done.stmts);
     Checked::judge(node, done.completes, TypedStmt { place, form })
 }
@@ -141,7 +143,7 @@ fn nested(
 /// `if (test) then`, with or without an `else`.
 #[cycle(statements)]
 fn branching(
-    body: &mut Body,
+    env: &mut Env,
     around: Around,
     node: Node,
     test: &Expr,
@@ -150,17 +152,17 @@ fn branching(
     out: &mut Found,
 ) -> Result<Checked, Stop>
     ensures completes { IfOk result (λ done. done.completes ≡ form_completes (if_form (plain_expr test.now) (plain_stmt then.now) (option_map plain_stmt (option_copied other.entry)))) }
-    ensures home { OnOk result (home_of body.new ≡ home_of body.old) }
-    ensures checks { Says result (λ made. passes (typed_stmt made.stmt) (walk_of body.new out.new)) refused (λ v. check_form body.old.atomic_params around node (if_form (plain_expr test.now) (plain_stmt then.now) (option_map plain_stmt (option_copied other.entry))) (walk_of body.old out.old) ≡ v) }
+    ensures home { OnOk result (bare env.new ≡ bare env.old) }
+    ensures checks { Says result (λ made. passes (typed_stmt made.stmt) (walk_of env.new out.new)) refused (λ v. check_form (atomic_params env.old) around node (if_form (plain_expr test.now) (plain_stmt then.now) (option_map plain_stmt (option_copied other.entry))) (walk_of env.old out.old) ≡ v) }
 {
     let place = node.place;
     let mut node = node;
-    let given = body.boolean(test, out, &mut node)?;
-    let first = scoped(body, around, then, out)?;
+    let given = boolean(env, test, out, &mut node)?;
+    let first = scoped(env, around, then, out)?;
     let test = given.into_node(test.place);
     match other {
         Some(other) => {
-            let second = scoped(body, around, other.get(), out)?;
+            let second = scoped(env, around, other.get(), out)?;
             let made = choose(place, test, first, Some(second));
             Checked::judge(node, made.completes, made.stmt)
         }
@@ -195,7 +197,7 @@ fn choose(place: Place, test: TypedExpr, first: Part, second: Option<Part>) -> C
 /// `while (test) iteration`
 #[cycle(statements)]
 fn repeat(
-    body: &mut Body,
+    env: &mut Env,
     around: Around,
     node: Node,
     test: &Expr,
@@ -203,13 +205,13 @@ fn repeat(
     out: &mut Found,
 ) -> Result<Checked, Stop>
     ensures completes { IfOk result (λ done. done.completes ≡ true) }
-    ensures home { OnOk result (home_of body.new ≡ home_of body.old) }
-    ensures checks { Says result (λ made. passes (typed_stmt made.stmt) (walk_of body.new out.new)) refused (λ v. check_form body.old.atomic_params around node (form.while_loop (plain_expr test.now) (plain_stmt iteration.now)) (walk_of body.old out.old) ≡ v) }
+    ensures home { OnOk result (bare env.new ≡ bare env.old) }
+    ensures checks { Says result (λ made. passes (typed_stmt made.stmt) (walk_of env.new out.new)) refused (λ v. check_form (atomic_params env.old) around node (form.while_loop (plain_expr test.now) (plain_stmt iteration.now)) (walk_of env.old out.old) ≡ v) }
 {
     let place = node.place;
     let mut node = node;
-    let given = body.boolean(test, out, &mut node)?;
-    let done = scoped(body, around, iteration, out)?;
+    let given = boolean(env, test, out, &mut node)?;
+    let done = scoped(env, around, iteration, out)?;
     let form = StmtForm::While {
         test: given.into_node(test.place),
         body: done.stmt,
@@ -219,18 +221,18 @@ fn repeat(
 
 /// `return;` or `return value;`
 fn returning(
-    body: &Body,
+    env: &Env,
     around: Around,
     node: Node,
     value: Option<&Expr>,
     out: &mut Found,
 ) -> Result<Checked, Stop>
     ensures completes { IfOk result (λ done. done.completes ≡ false) }
-    ensures checks { (params : List Bool) → Says result (λ made. passes (typed_stmt made.stmt) (walk_of body.now out.new)) refused (λ v. check_form params around node (return_form (option_copied value.entry)) (walk_of body.now out.old) ≡ v) }
+    ensures checks { (params : List Bool) → Says result (λ made. passes (typed_stmt made.stmt) (walk_of env.now out.new)) refused (λ v. check_form params around node (return_form (option_copied value.entry)) (walk_of env.now out.old) ≡ v) }
 {
     match value {
-        None => leave(body, around, node),
-        Some(value) => leave_with(body, around, node, value, out),
+        None => leave(env, around, node),
+        Some(value) => leave_with(env, around, node, value, out),
     }
 }
 
@@ -238,39 +240,39 @@ fn returning(
 /// gathered by itself, and goes to what is gathered around the block without what the block declares.
 #[cycle(statements)]
 pub fn block(
-    body: &mut Body,
+    env: &mut Env,
     around: Around,
     stmts: &[Stmt],
     out: &mut Found,
 ) -> Result<CheckedBlock, Stop>
     ensures completes { IfOk result (λ done. done.completes ≡ all_complete (plain_stmts (map plain_stmt stmts.now))) }
-    ensures home { OnOk result (home_of body.new ≡ home_of body.old) }
-    ensures checks { Says result (λ made. passes (map typed_stmt made.stmts) (walk_of body.new out.new)) refused (λ v. check_block body.old.atomic_params around (plain_stmts (map plain_stmt stmts.now)) (walk_of body.old out.old) ≡ v) }
+    ensures home { OnOk result (bare env.new ≡ bare env.old) }
+    ensures checks { Says result (λ made. passes (map typed_stmt made.stmts) (walk_of env.new out.new)) refused (λ v. check_block (atomic_params env.old) around (plain_stmts (map plain_stmt stmts.now)) (walk_of env.old out.old) ≡ v) }
 {
-    let scope = body.env.mark();
-    let leaving = Leaving::from_here(&body.env, Marks::Kept);
-    let mut inner = Found::new(body.env.alloc);
-    let done = statements(body, around, stmts, &mut inner)?;
-    body.env.leave(scope);
+    let scope = env.mark();
+    let leaving = Leaving::from_here(env, Marks::Kept);
+    let mut inner = Found::new(env.alloc);
+    let done = statements(env, around, stmts, &mut inner)?;
+    env.leave(scope);
     take_in(out, inner, leaving)?;
     Ok(done)
 }
 
 #[cycle(statements)]
 fn statements(
-    body: &mut Body,
+    env: &mut Env,
     around: Around,
     stmts: &[Stmt],
     out: &mut Found,
 ) -> Result<CheckedBlock, Stop>
     ensures completes { IfOk result (λ done. done.completes ≡ all_complete (plain_stmts (map plain_stmt stmts.now))) }
-    ensures home { OnOk result (home_of body.new ≡ home_of body.old) }
-    ensures checks { Says result (λ made. passes (map typed_stmt made.stmts) (walk_of body.new out.new)) refused (λ v. check_all body.old.atomic_params around true (plain_stmts (map plain_stmt stmts.now)) (walk_of body.old out.old) ≡ v) }
+    ensures home { OnOk result (bare env.new ≡ bare env.old) }
+    ensures checks { Says result (λ made. passes (map typed_stmt made.stmts) (walk_of env.new out.new)) refused (λ v. check_all (atomic_params env.old) around true (plain_stmts (map plain_stmt stmts.now)) (walk_of env.old out.old) ≡ v) }
 {
     let mut completes = true;
-    let mut made = Items::new(body.env.alloc);
+    let mut made = Items::new(env.alloc);
     for stmt in stmts {
-        let done = statement(body, around, stmt, !completes, out)?;
+        let done = statement(env, around, stmt, !completes, out)?;
         completes = completes && done.completes;
         made.push(done.stmt)?;
     }
@@ -282,15 +284,15 @@ fn statements(
 
 /// Checks a branch or a body, which is a scope of its own even without braces.
 #[cycle(statements)]
-pub fn scoped(body: &mut Body, around: Around, stmt: &Stmt, out: &mut Found) -> Result<Part, Stop>
+pub fn scoped(env: &mut Env, around: Around, stmt: &Stmt, out: &mut Found) -> Result<Part, Stop>
     ensures completes { IfOk result (λ done. done.completes ≡ completes (plain_stmt stmt.now)) }
-    ensures home { OnOk result (home_of body.new ≡ home_of body.old) }
-    ensures checks { Says result (λ made. passes (typed_stmt made.stmt) (walk_of body.new out.new)) refused (λ v. check_scope body.old.atomic_params around (plain_stmt stmt.now) (walk_of body.old out.old) ≡ v) }
+    ensures home { OnOk result (bare env.new ≡ bare env.old) }
+    ensures checks { Says result (λ made. passes (typed_stmt made.stmt) (walk_of env.new out.new)) refused (λ v. check_scope (atomic_params env.old) around (plain_stmt stmt.now) (walk_of env.old out.old) ≡ v) }
 {
-    let scope = body.env.mark();
-    let done = statement(body, around, stmt, false, out)?;
-    body.env.leave(scope);
-    let stmt = Boxed::new(body.env.alloc, done.stmt)?;
+    let scope = env.mark();
+    let done = statement(env, around, stmt, false, out)?;
+    env.leave(scope);
+    let stmt = Boxed::new(env.alloc, done.stmt)?;
     Ok(Part {
         completes: done.completes,
         stmt,

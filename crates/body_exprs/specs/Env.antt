@@ -1,5 +1,5 @@
 -- What is in scope around an expression.
-use Rattle.std.specs.Prelude.{◌≡◌, ℕ, zero, suc, ◌+◌, ◌<◌, ◌==◌, Bool, true, false, ◌&&◌, cond, List, [], ◌∷◌, ◌++◌, length, take, fold, slice_get, is_some, Option, Some, None, option_and_then}
+use Rattle.std.specs.Prelude.{◌≡◌, ℕ, zero, suc, ◌+◌, ◌<◌, ◌==◌, Bool, true, false, ◌&&◌, cond, nat_lt, List, [], ◌∷◌, ◌++◌, map, length, take, fold, slice_get, is_some, Option, Some, None, option_and_then}
 use Rattle.std.specs.Option.{option_map_or}
 use Rattle.lang_base.specs.declared.effect.Constraint.{Constraint}
 use Rattle.lang_base.specs.declared.region.Head.TheVariants.{Param}
@@ -144,6 +144,20 @@ with_part env name t = record (with_row_in env (part_row env name t)) { slots = 
 abbrev pub with_region : Env → ℕ → Env
 with_region env name = record env { regions = with_name env.regions name env.declared; declared = env.declared + 1 }
 
+-- there is a slot of 32 bits for a further local or part, and a number for a further local region
+abbrev pub has_room : Env → Bool
+has_room env = nat_lt (slots_in env + 4) 4294967295 && nat_lt (declared_in env) 4294967295
+
+-- a further local, part of an array or local region is in scope, where there is room for it
+abbrev pub local_declared : Env → ℕ → Ty → Bool → Env
+local_declared env name t is_final = cond (has_room env) (with_local env name t is_final) env
+
+abbrev pub part_declared : Env → ℕ → Ty → Env
+part_declared env name t = cond (has_room env) (with_part env name t) env
+
+abbrev pub region_declared : Env → ℕ → Env
+region_declared env name = cond (has_room env) (with_region env name) env
+
 -- only what was in scope at the mark still is
 abbrev pub left_to : Env → Mark → Env
 left_to env mark = record env {
@@ -162,9 +176,24 @@ pub record IsFresh (table : Table) (length_name : Option ℕ) (env : Env) : Type
 abbrev pub bare : Env → Env
 bare env = record env { params = no_names; rows = []; variables = no_names; slots = 1; regions = no_names; declared = 0 }
 
+-- of each region parameter, whether it is declared atomic
+abbrev pub atomic_of : List ParamRow → List Bool
+atomic_of params = map (λ param. param.atomic) params
+
+-- the same of those of a class
+abbrev pub class_params : Table → ℕ → List Bool
+class_params table class = atomic_of (params_in (headers_of table) class)
+
 -- around the members of a class: its constraints are in force
 abbrev pub at_class : Env → ℕ → Env
-at_class env class = record (bare env) { class = class; method = 0; given = given_of (table_of env) class; class_given = length (given_of (table_of env) class) }
+at_class env class = record (bare env) {
+  class = class;
+  method = 0;
+  given = given_of (table_of env) class;
+  class_given = length (given_of (table_of env) class);
+  atomic_params = class_params (table_of env) class;
+  class_params = length (class_params (table_of env) class);
+}
 
 -- region parameters by their names, with whether each is atomic
 abbrev pub params_named : List ParamRow → Names Bool
@@ -173,11 +202,15 @@ params_named rows = fold (λ names row. with_name names row.name row.atomic) no_
 -- with the region parameters and the constraints of a method
 abbrev pub with_row : Env → Option MethodRow → Env
 with_row env None = env
-with_row env (Some row) = record env { params = params_named row.regions; given = env.given ++ row.given }
+with_row env (Some row) = record env {
+  params = params_named row.regions;
+  given = env.given ++ row.given;
+  atomic_params = env.atomic_params ++ atomic_of row.regions;
+}
 
 -- around the members of the class that was entered, after a method of it too
 abbrev pub at_members : Env → Env
-at_members env = record (bare env) { method = 0; given = take env.class_given env.given }
+at_members env = record (bare env) { method = 0; given = take env.class_given env.given; atomic_params = take env.class_params env.atomic_params }
 
 -- around the body of a method or a constructor of the class
 abbrev pub at_method : Env → ℕ → Env

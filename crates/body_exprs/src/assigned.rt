@@ -50,7 +50,7 @@ pub struct Target {
 }
 
 /// Reads the target of an assignment, a field or an element. It isn't read itself, and the write comes with
-/// `Target::write`. None where the target comes from a part of what is no array: every value fits there.
+/// `Spot::write`. None where the target comes from a part of what is no array: every value fits there.
 pub fn read_target(env: &Env, found: &mut Found, e: &Tree) -> Result<Option<Target>, Stop>
     ensures { Says result (λ target. aims (option_map plain_target target) found.new) misses (Targeting env.now (plain_expr e.now) found.old) }
 {
@@ -183,20 +183,17 @@ fn in_array(
     }))
 }
 
-impl Target {
-    ghost use Rattle.std.specs.Prelude.{◌≡◌, IfOk, OnOk};
-    ghost use Rattle.body_exprs.specs.Targeting.{plain_spot, plain_target, with_write};
+impl Spot {
+    ghost use Rattle.std.specs.Prelude.{◌≡◌, OnOk};
+    ghost use Rattle.body_exprs.specs.Targeting.{plain_spot, written};
 
-    /// Adds the write of a value to the target, by itself or through the part that it lies in, and gives where it goes.
-    pub fn write(self, found: &mut Found) -> Result<Spot, NoMemory>
-        ensures spot { IfOk result (λ spot. plain_spot spot ≡ plain_spot self.spot) }
-        ensures found { OnOk result (found.new ≡ with_write found.old (plain_target self)) }
+    /// Adds the write of a value that goes there, by itself or through the part that it lies in.
+    pub fn write(&self, found: &mut Found, rpl: Rpl) -> Result<(), NoMemory>
+        ensures { OnOk result (found.new ≡ written found.old (plain_spot self.now) rpl) }
     {
-        let Target { spot, rpl, .. } = self;
-        match &spot {
-            Spot::Part { part, .. } => found.part_use(part.number, rpl, Access::Write)?,
-            _ => found.access(rpl, Access::Write)?,
+        match self {
+            Spot::Part { part, .. } => found.part_use(part.number, rpl, Access::Write),
+            _ => found.access(rpl, Access::Write),
         }
-        Ok(spot)
     }
 }

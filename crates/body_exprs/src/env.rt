@@ -2,7 +2,7 @@ ghost use Rattle.std.specs.Prelude.{◌≡◌, ◌++◌, codes, IfOk, OnOk};
 ghost use Rattle.std.specs.Prelude.{fold};
 ghost use Rattle.decl_resolve.specs.Scoped.{with_name};
 ghost use Rattle.decl_headers.specs.Gathered.{name_number};
-ghost use Rattle.body_exprs.specs.Env.{index_slot, param_paths};
+ghost use Rattle.body_exprs.specs.Env.{atomic_of, index_slot, param_paths};
 
 use crate::supers::Supers;
 use crate::table_ref::TableRef;
@@ -61,6 +61,10 @@ pub struct Env<'a> {
     given: Items<Constraint>,
     /// How many of the constraints in force are those of the class.
     class_given: usize,
+    /// Of each region parameter in scope, those of the class first, whether it is atomic.
+    pub atomic_params: Items<bool>,
+    /// How many of them are those of the class.
+    class_params: usize,
 }
 
 /// The number of the name `length`, where the text has it.
@@ -82,7 +86,7 @@ impl<'a> Env<'a> {
     ghost use Rattle.lang_base.specs.Types.{plain_type};
     ghost use Rattle.decl_resolve.specs.Scopes.{plain_scope};
     ghost use Rattle.syntax_tree.specs.Plain.{plain_expr};
-    ghost use Rattle.body_exprs.specs.Env.{table_of, declared_in, slots_in, HasRoom, mark_of, with_row_in, with_local, with_part, with_region, left_to, bare, at_class, at_method, is_param_name, local_of, index_variable_of, part_of, is_length_name, given_in, has_region, scope_of, this_type_of, IsFresh};
+    ghost use Rattle.body_exprs.specs.Env.{table_of, declared_in, slots_in, HasRoom, has_room, local_declared, part_declared, region_declared, mark_of, with_row_in, left_to, bare, at_class, at_method, is_param_name, local_of, index_variable_of, part_of, is_length_name, given_in, has_region, scope_of, this_type_of, IsFresh};
 
     /// What is around the members of class 0, before one is entered.
     pub fn new(alloc: Global, table: &'a Table, length: Option<u32>) -> Env<'a>
@@ -103,6 +107,8 @@ impl<'a> Env<'a> {
             declared: 0,
             given: Items::new(alloc),
             class_given: 0,
+            atomic_params: Items::new(alloc),
+            class_params: 0,
         }
     }
 
@@ -121,10 +127,14 @@ impl<'a> Env<'a> {
         self.class = class;
         self.method = 0;
         self.given.truncate(0);
-        self.class_given = 0;
+        self.atomic_params.truncate(0);
         let table = self.table.get();
         put_constraints(self.alloc, &mut self.given, table.given(class))?;
         self.class_given = self.given.len();
+        if let Some(header) = table.headers().header(class) {
+            put_atomic(&mut self.atomic_params, header.params.as_slice())?;
+        }
+        self.class_params = self.atomic_params.len();
         Ok(())
     }
 
@@ -136,11 +146,13 @@ impl<'a> Env<'a> {
         self.clear();
         self.method = method;
         self.given.truncate(self.class_given);
+        self.atomic_params.truncate(self.class_params);
         let table = self.table.get();
         let Some(row) = table.numbered(method) else {
             return Ok(());
         };
         put_constraints(self.alloc, &mut self.given, row.given.as_slice())?;
+        put_atomic(&mut self.atomic_params, row.regions.as_slice())?;
         put_params(&mut self.params, row.regions.as_slice())
     }
 
@@ -172,16 +184,20 @@ impl<'a> Env<'a> {
     /// Whether one thing more can be declared, of any kind: slots and local regions have numbers of 32 bits. A text of
     /// a megabyte doesn't declare so many.
     pub fn has_room(&self) -> bool
-        ensures { IsTrue result ↔ HasRoom self.now }
+        ensures result { result ≡ has_room self.now }
+        ensures room { IsTrue result → HasRoom self.now }
     {
         self.slots < u32::MAX - PART_SLOTS && self.declared < u32::MAX
     }
 
-    /// Puts a local in scope, in the next slot. A final int may stand in an index.
+    /// Puts a local in scope, in the next slot, where there is room for it. A final int may stand in an index.
     pub fn declare(&mut self, name: u32, ty: Ty, is_final: bool) -> Result<(), NoMemory>
-        requires { HasRoom self.old }
-        ensures { OnOk result (self.new ≡ with_local self.old name ty is_final) }
+        ensures whole { OnOk result (self.new ≡ local_declared self.old name ty is_final) }
+        ensures home { OnOk result (bare self.new ≡ bare self.old) }
     {
+        if !self.has_room() {
+            return Ok(());
+        }
         let slot = self.slots;
         self.put(LocalRow {
             name,
@@ -194,11 +210,14 @@ impl<'a> Env<'a> {
         Ok(())
     }
 
-    /// Puts a part of an array of that type in scope, in the next four slots.
+    /// Puts a part of an array of that type in scope, in the next four slots, where there is room for it.
     pub fn declare_part(&mut self, name: u32, ty: Ty) -> Result<(), NoMemory>
-        requires { HasRoom self.old }
-        ensures { OnOk result (self.new ≡ with_part self.old name ty) }
+        ensures whole { OnOk result (self.new ≡ part_declared self.old name ty) }
+        ensures home { OnOk result (bare self.new ≡ bare self.old) }
     {
+        if !self.has_room() {
+            return Ok(());
+        }
         let slot = self.slots;
         self.put(LocalRow {
             name,
@@ -226,11 +245,14 @@ impl<'a> Env<'a> {
         entered
     }
 
-    /// Puts a local region in scope, with the next number of a declaration.
+    /// Puts a local region in scope, with the next number of a declaration, where there is room for it.
     pub fn declare_region(&mut self, name: u32) -> Result<(), NoMemory>
-        requires { HasRoom self.old }
-        ensures { OnOk result (self.new ≡ with_region self.old name) }
+        ensures whole { OnOk result (self.new ≡ region_declared self.old name) }
+        ensures home { OnOk result (bare self.new ≡ bare self.old) }
     {
+        if !self.has_room() {
+            return Ok(());
+        }
         let decl = self.declared;
         self.regions.enter(name, decl)?;
         self.declared = decl + 1;
@@ -367,6 +389,15 @@ fn put_constraints(
 {
     for constraint in more {
         given.push(constraint.copy(alloc)?)?;
+    }
+    Ok(())
+}
+
+fn put_atomic(atomic: &mut Items<bool>, params: &[ParamRow]) -> Result<(), NoMemory>
+    ensures { OnOk result (atomic.new ≡ atomic.old ++ atomic_of params.now) }
+{
+    for param in params {
+        atomic.push(param.atomic)?;
     }
     Ok(())
 }

@@ -7,11 +7,11 @@ use Rattle.lang_base.specs.declared.refusal.Kind.TheVariants as kind
 use Rattle.lang_base.specs.declared.ty.Ty.{Ty}
 use Rattle.syntax_tree.specs.declared.region.Named.{Named}
 use Rattle.body_exprs.specs.declared.env.Env.{Env}
-use Rattle.body_exprs.specs.Env.{local_of}
+use Rattle.body_exprs.specs.Env.{local_of, has_room, part_declared, region_declared}
 use Rattle.body_check.specs.declared.node.Node.{Node}
 use Rattle.body_check.specs.Checking.{parts_noted}
 use Rattle.body_check.specs.Noting.{with_fault, with_found, with_fault_if, node_at, without_faults, fault_of}
-use Rattle.body_check.specs.Simple.{has_room, part_declared, region_declared, with_room, declaration_noted, is_region_name, region_noted, regions_noted}
+use Rattle.body_check.specs.Simple.{with_room, declaration_noted, is_region_name, region_noted, regions_noted}
 use Rattle.sound_lemmas.proofs.Free.{noted_reported}
 
 -- a node of which no fault is reported had none before, and none was found later

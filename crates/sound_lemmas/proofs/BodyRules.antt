@@ -13,7 +13,7 @@ use Rattle.decl_headers.specs.Gathered.{name_number}
 use Rattle.decl_table.specs.declared.table.Table.{Table}
 use Rattle.decl_table.specs.Table.{supers_of as superclasses}
 use Rattle.syntax_tree.specs.declared.class.Program.{Program}
-use Rattle.body_exprs.specs.Env.{IsFresh}
+use Rattle.body_exprs.specs.Env.{IsFresh, class_params}
 use Rattle.body_exprs.specs.Typed.{AreTaken}
 use Rattle.lang_base.specs.declared.refusal.Refusal.{Refusal}
 use Rattle.decl_headers.specs.Numbers.{as_number}
@@ -29,7 +29,7 @@ use Rattle.body_exprs.specs.Env.{table_of, at_class}
 use Rattle.body_check.specs.Checking.{check_block}
 use Rattle.body_check.specs.Deciding.{has_value}
 use Rattle.body_check.specs.Around.{method_around}
-use Rattle.body_check.specs.Methods.{class_params, own_params, body_begun, after_ok, then_ok, method_judged, check_method, check_member, number_after, bodies_of, PlainBodies, after_bodies, check_members, check_classes, in_order, around_classes, BodiesChecking}
+use Rattle.body_check.specs.Methods.{own_params, body_begun, after_ok, then_ok, method_judged, check_method, check_member, number_after, bodies_of, PlainBodies, after_bodies, check_members, check_classes, in_order, around_classes, BodiesChecking}
 use Rattle.body_check.specs.Walks.{Verdict}
 
 pub data MethodChecking (class_env : Env) (params : List Bool) (number : ℕ) (method : Method) : Result PlainBody Refusal → Type 0 where

@@ -22,7 +22,7 @@ use Rattle.body_exprs.specs.declared.env.Env.{Env}
 use Rattle.body_exprs.specs.declared.env.LocalRow.{LocalRow}
 use Rattle.body_exprs.specs.declared.found.Found.{Found}
 use Rattle.body_exprs.specs.Answer.{gives}
-use Rattle.body_exprs.specs.Env.{table_of, supers_of, given_in, local_of, slots_in, part_of}
+use Rattle.body_exprs.specs.Env.{table_of, supers_of, given_in, local_of, slots_in, part_of, local_declared}
 use Rattle.body_exprs.specs.Fits.{fits_as}
 use Rattle.body_exprs.specs.Targeting.{PlainTarget, aims, Targeting, with_write}
 use Rattle.body_exprs.specs.Typed.{may_be, is_int, is_boolean, is_value, type_in}
@@ -38,7 +38,7 @@ use Rattle.body_check.specs.Around.{inside}
 use Rattle.body_check.specs.Leaving.{from_here}
 use Rattle.body_check.specs.Meeting.{declared_atomic, branches_interfere}
 use Rattle.body_check.specs.Noting.{node_at, with_found, with_fault_if, fault_of, settled_node}
-use Rattle.body_check.specs.Simple.{declared_type, declared_reported, local_declared, declaration_noted, place_of, node_of, stored, target_fault, may_print, printed_form, declare, assign_local, perform, print, declare_regions}
+use Rattle.body_check.specs.Simple.{declared_type, declared_reported, declaration_noted, place_of, node_of, stored, target_fault, may_print, printed_form, declare, assign_local, perform, print, declare_regions}
 use Rattle.body_check.specs.Touching.{assigns_outer, some_disturb}
 use Rattle.body_check.specs.Walks.{Walk, Verdict, passes, refused, judged, found_so, scope_so, apart_from, ◌>>=◌}
 
@@ -279,7 +279,7 @@ mutual
         {v : Verdict TypedStmt} →
         Opening node view var array count w (opened source size noted x) → InScope params (inside around) body (apart_from x) (passes made u) →
         fault_of (with_fault_if noted kind.Assign (assigns_outer body)) ≡ None →
-        judged (fault_of (with_fault_if (settled_node (with_fault_if noted kind.Assign (assigns_outer body))) kind.Interferes
+        judged (fault_of (with_fault_if (settled_node (with_fault_if noted kind.Assign (assigns_outer body))) (interference false)
         (parts_interfere (given_in w.env) (part_slot w.env) (part_variable w.env) u.found.effects u.found.uses)))
         (typed.statement node.place (typed.foreach_parts (part_slot w.env) source size made)) (parts_left (part_slot w.env) w source x.found u) ≡ v →
         Parting params around node view var array count body w v

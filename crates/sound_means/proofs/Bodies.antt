@@ -43,13 +43,12 @@ use Rattle.decl_table.specs.Table.{headers_of, field_of, method_of, numbered}
 use Rattle.decl_laws.proofs.Granted.{granted}
 use Rattle.body_assembly.specs.Assembled.{PlainBody}
 use Rattle.body_exprs.specs.declared.env.Env.{Env}
-use Rattle.body_exprs.specs.Env.{table_of, scope_of, at_class, at_members, with_row, params_named}
+use Rattle.body_exprs.specs.Env.{table_of, scope_of, at_class, at_members, with_row, params_named, has_room, class_params}
 use Rattle.body_check.specs.Checking.{check_block}
 use Rattle.body_check.specs.Completes.{all_complete}
 use Rattle.body_check.specs.Deciding.{has_value}
 use Rattle.body_check.specs.Around.{method_around}
-use Rattle.body_check.specs.Methods.{body_begun, class_params, own_params, formals_declared, formal_types, typed_body, reported, method_reported, method_judged, summary_of}
-use Rattle.body_check.specs.Simple.{has_room}
+use Rattle.body_check.specs.Methods.{body_begun, own_params, formals_declared, formal_types, typed_body, reported, method_reported, method_judged, summary_of}
 use Rattle.body_check.specs.Walks.{Walk, Verdict, passes, refused}
 use Rattle.sound_lemmas.proofs.StatementSteps.{in_block_of}
 use Rattle.sound_lemmas.proofs.BodyRules.{MethodChecking, start_in, fresh_start}

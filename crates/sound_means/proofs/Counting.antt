@@ -14,7 +14,7 @@ use Rattle.lang_typed.specs.Plain.{TypedExpr, type_of, TypedStmt, statement, stm
 use Rattle.lang_typed.specs.Plain as typed
 use Rattle.syntax_means.specs.Numbered.{Counts, given_in, given_in_all, given_in_branches, own_slots, own_regions}
 use Rattle.body_exprs.specs.declared.env.Env.{Env}
-use Rattle.body_exprs.specs.Env.{with_local, with_part, with_region}
+use Rattle.body_exprs.specs.Env.{with_local, with_part, with_region, has_room, local_declared, part_declared, region_declared}
 use Rattle.body_exprs.specs.Targeting.{PlainSpot, to_field, to_element, to_part}
 use Rattle.body_exprs.specs.Typed.{may_be, is_int, is_boolean, type_in}
 use Rattle.body_check.specs.declared.node.Around.{Around}
@@ -22,7 +22,7 @@ use Rattle.body_check.specs.declared.node.Node.{Node}
 use Rattle.body_check.specs.Checking.{own_block, own_scope, branch_of, variable_declared, variable_noted, parts_noted, parts_declared}
 use Rattle.body_check.specs.Methods.{formals_declared}
 use Rattle.body_check.specs.Noting.{with_fault, with_found, with_fault_if, fault_of}
-use Rattle.body_check.specs.Simple.{place_of, node_of, has_room, local_declared, part_declared, declaration_noted, region_declared, is_region_name, region_noted, regions_noted, with_regions, regions_made, stored, printed_form}
+use Rattle.body_check.specs.Simple.{place_of, node_of, declaration_noted, is_region_name, region_noted, regions_noted, with_regions, regions_made, stored, printed_form}
 use Rattle.body_check.specs.Walks.{Walk, Verdict, passes, refused}
 use Rattle.sound_lemmas.proofs.StatementRules.{Opening, BranchesVerdict, all_pass, one_refused, after_branch, Checking, Choosing, InOther, Standing, standing, InScope, in_scope, InBlock, in_block, InOrder, Branching, Forking, Iterating, Parting, Declaring, AssigningLocal, AssigningPlace, Performing, Returning, Printing}
 use Rattle.sound_lemmas.proofs.Bodies.{not_faulty, free_if, declared_free, regions_free}

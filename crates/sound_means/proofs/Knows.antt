@@ -15,11 +15,10 @@ use Rattle.decl_table.specs.declared.rows.MethodRow.{MethodRow}
 use Rattle.decl_table.specs.Table.{field_of, method_of}
 use Rattle.body_exprs.specs.declared.env.Env.{Env}
 use Rattle.body_exprs.specs.declared.env.LocalRow.{LocalRow}
-use Rattle.body_exprs.specs.Env.{table_of, scope_of, local_of, index_slot, is_length_name, local_row, part_row, with_row_in, with_part, with_region}
+use Rattle.body_exprs.specs.Env.{table_of, scope_of, local_of, index_slot, is_length_name, local_row, part_row, with_row_in, with_part, with_region, has_room, local_declared, part_declared, region_declared}
 use Rattle.body_exprs.specs.Env.{with_local as declared_local}
 use Rattle.body_exprs.specs.Typed.{is_array, is_int}
 use Rattle.body_check.specs.Methods.{formals_declared}
-use Rattle.body_check.specs.Simple.{has_room, local_declared, part_declared, region_declared}
 use Rattle.sound_lemmas.proofs.Lists.{some_same, got_first, got_later, and_then_there, there}
 use Rattle.sound_bodies.specs.Seen.{InStep, Tells}
 use Rattle.sound_bodies.proofs.scope.Declaring.{last_push, last_within, local_pushed, indices_reported, step_row}

@@ -30,7 +30,7 @@ use Rattle.body_exprs.specs.declared.env.LocalRow.{LocalRow}
 use Rattle.body_exprs.specs.declared.found.Found.{Found}
 use Rattle.body_exprs.specs.Answer.{gives}
 use Rattle.body_exprs.specs.Elements.{index_of, array_element, element_in_part}
-use Rattle.body_exprs.specs.Env.{table_of, scope_of, part_of, with_part}
+use Rattle.body_exprs.specs.Env.{table_of, scope_of, part_of, with_part, part_declared, region_declared}
 use Rattle.body_exprs.specs.Fields.{PlainField, field_through}
 use Rattle.body_exprs.specs.Targeting.{to_element, TargetAnswer, aims, misses, aimed, in_field, field_target, in_element, element_target, in_part_element, part_target, Targeting}
 use Rattle.body_exprs.specs.Typed.{may_be, is_int, is_boolean, is_array, type_in}
@@ -41,7 +41,7 @@ use Rattle.body_check.specs.Checking.{own_block, own_scope, branch_of, variable_
 use Rattle.body_check.specs.Deciding.{whole_fault}
 use Rattle.body_check.specs.Gathering.{with_uses}
 use Rattle.body_check.specs.Noting.{with_found, with_fault_if, node_at as standing_node, fault_of}
-use Rattle.body_check.specs.Simple.{place_of, node_of, declared_type, declared_reported, declaration_noted, part_declared, region_declared, region_noted, regions_noted, with_regions, regions_made, stored, printed_form}
+use Rattle.body_check.specs.Simple.{place_of, node_of, declared_type, declared_reported, declaration_noted, region_noted, regions_noted, with_regions, regions_made, stored, printed_form}
 use Rattle.body_check.specs.Walks.{Walk, Verdict, passes, refused}
 use Rattle.sound_lemmas.proofs.StatementRules.{cut_fault, cut_type, Cutting, Opening, BranchesVerdict, all_pass, one_refused, after_branch, Checking, Choosing, InOther, Standing, standing, InScope, in_scope, InBlock, in_block, InOrder, Branching, Forking, Iterating, Parting, Declaring, AssigningLocal, AssigningPlace, Performing, Returning, Printing}
 use Rattle.sound_lemmas.proofs.Bodies.{free_if, free_found, declared_free, regions_free}

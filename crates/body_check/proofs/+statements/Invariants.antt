@@ -6,7 +6,9 @@ use Rattle.lang_typed.specs.Plain.{plain_stmt as typed_stmt}
 use Rattle.body_check.specs.Checking.{plain_branch}
 use Rattle.body_check.specs.Completes.{all_complete}
 use Rattle.body_check.specs.Around.{inside}
-use Rattle.body_check.specs.Walks.{home_of, walk_of}
+use Rattle.body_check.specs.Methods.{atomic_params}
+use Rattle.body_check.specs.Walks.{walk_of}
+use Rattle.body_exprs.specs.Env.{bare}
 use Rattle.body_check.proofs.Forks.{ForkSoFar, TouchedSoFar}
 use Rattle.body_check.proofs.Orders.{OrderSoFar}
 use Rattle.body_check.proofs.+statements.Given as goal
@@ -48,15 +50,15 @@ decreases-constructs::atomic l = 4 * goal.size-constructs::atomic l + 3
 abbrev pub invariant-statements::statements-loop-stmt : goal.invariant-statements::statements-loop-stmt
 invariant-statements::statements-loop-stmt l = record {
   completes : (l.completes && all_complete (plain_stmts (map plain_stmt (drop l.stmt-index l.stmts)))) ≡ all_complete (plain_stmts (map plain_stmt l.stmts));
-  home : home_of l.body ≡ home_of l.fn.body;
-  goes_on : OrderSoFar l.fn.body.atomic_params l.around l.stmts (walk_of l.fn.body l.fn.out) l.stmt-index l.completes (map typed_stmt l.made)
-      (walk_of l.body l.out);
+  home : bare l.env ≡ bare l.fn.env;
+  goes_on : OrderSoFar (atomic_params l.fn.env) l.around l.stmts (walk_of l.fn.env l.fn.out) l.stmt-index l.completes (map typed_stmt l.made)
+      (walk_of l.env l.out);
 }
 
 abbrev pub invariant-constructs::cobegin-loop-branch : goal.invariant-constructs::cobegin-loop-branch
 invariant-constructs::cobegin-loop-branch l = record {
-  forks : ForkSoFar l.fn.body.atomic_params (inside l.around) l.nd l.branches (walk_of l.fn.body l.fn.out) l.branch-index l.passed.effects
-      (map plain_branch l.passed.made) (walk_of l.body l.out);
+  forks : ForkSoFar (atomic_params l.fn.env) (inside l.around) l.nd l.branches (walk_of l.fn.env l.fn.out) l.branch-index l.passed.effects
+      (map plain_branch l.passed.made) (walk_of l.env l.out);
   touched : TouchedSoFar l.branches l.branch-index l.passed.locals;
-  home : home_of l.body ≡ home_of l.fn.body;
+  home : bare l.env ≡ bare l.fn.env;
 }

@@ -32,11 +32,10 @@ use Rattle.decl_classes.specs.Signatures.{known_type}
 use Rattle.decl_table.specs.Table.{headers_of, methods_of, numbered}
 use Rattle.decl_laws.proofs.Granted.{granted}
 use Rattle.body_exprs.specs.declared.env.Env.{Env}
-use Rattle.body_exprs.specs.Env.{table_of, at_class, at_members, with_row, with_local}
+use Rattle.body_exprs.specs.Env.{table_of, at_class, at_members, with_row, with_local, has_room}
 use Rattle.body_check.specs.Deciding.{has_value}
 use Rattle.body_check.specs.Around.{method_around}
 use Rattle.body_check.specs.Methods.{formals_declared, formal_types, body_begun}
-use Rattle.body_check.specs.Simple.{has_room}
 use Rattle.sound_lemmas.proofs.StatementSteps.{in_block_of}
 use Rattle.sound_lemmas.proofs.Lists.{some_same}
 use Rattle.sound_bodies.specs.Whole.{StandsIn, StandsAmong, ForksAreReported}

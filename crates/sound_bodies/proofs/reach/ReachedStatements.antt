@@ -27,7 +27,7 @@ use Rattle.decl_table.specs.Table.{headers_of}
 use Rattle.body_exprs.specs.declared.env.Env.{Env}
 use Rattle.body_exprs.specs.declared.found.Found.{Found}
 use Rattle.body_exprs.specs.Answer.{gives}
-use Rattle.body_exprs.specs.Env.{table_of, scope_of}
+use Rattle.body_exprs.specs.Env.{table_of, scope_of, part_declared}
 use Rattle.body_exprs.specs.Targeting.{aims, Targeting}
 use Rattle.body_exprs.specs.Typed.{may_be, is_int, is_boolean, type_in}
 use Rattle.body_exprs.specs.Typing.{Typing}
@@ -38,7 +38,7 @@ use Rattle.body_check.specs.Deciding.{marks_after}
 use Rattle.body_check.specs.Gathering.{with_uses, taken_in}
 use Rattle.body_check.specs.Leaving.{from_here}
 use Rattle.body_check.specs.Noting.{with_fault_if, with_found, fault_of}
-use Rattle.body_check.specs.Simple.{node_of, declaration_noted, part_declared}
+use Rattle.body_check.specs.Simple.{node_of, declaration_noted}
 use Rattle.body_check.specs.Walks.{Walk, Verdict, passes, refused, apart_from}
 use Rattle.sound_lemmas.proofs.StatementRules.{cut_type, Cutting, Opened, opened, not_opened, Opening, BranchesVerdict, all_pass, one_refused, after_branch, Checking, Choosing, InOther, Standing, standing, InScope, in_scope, InBlock, in_block, InOrder, Branching, Forking, Iterating, Parting, Declaring, AssigningLocal, AssigningPlace, Performing, Returning, Printing}
 use Rattle.sound_lemmas.proofs.Bodies.{free_if, declared_free}

@@ -18,8 +18,8 @@ use Rattle.decl_reach.specs.Shapes.{no_class, tree_shape}
 use Rattle.decl_reach.proofs.Locals.{paired_more}
 use Rattle.body_exprs.specs.declared.env.Env.{Env}
 use Rattle.body_exprs.specs.declared.env.LocalRow.{LocalRow}
-use Rattle.body_exprs.specs.Env.{table_of, local_of, local_row, part_row, with_row_in, with_local, with_part, with_region, left_to, mark_of}
-use Rattle.body_check.specs.Simple.{has_room, local_declared, part_declared, region_declared, with_regions}
+use Rattle.body_exprs.specs.Env.{table_of, local_of, local_row, part_row, with_row_in, with_local, with_part, with_region, left_to, mark_of, has_room, local_declared, part_declared, region_declared}
+use Rattle.body_check.specs.Simple.{with_regions}
 use Rattle.sound_lemmas.proofs.Lists.{some_same, and_then_there}
 use Rattle.sound_bodies.proofs.reach.TypeShapes.{IsShape}
 

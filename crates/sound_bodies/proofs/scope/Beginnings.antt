@@ -32,14 +32,13 @@ use Rattle.decl_classes.specs.Signatures.{formal_faults, result_type, result_fau
 use Rattle.decl_table.specs.Table.{headers_of, given_of, numbered}
 use Rattle.decl_table.specs.Table.{supers_of as superclasses}
 use Rattle.body_exprs.specs.declared.env.Env.{Env}
-use Rattle.body_exprs.specs.Env.{table_of, supers_of, scope_of, at_class, at_members, with_row, param_paths, this_type_of}
+use Rattle.body_exprs.specs.Env.{table_of, supers_of, scope_of, at_class, at_members, with_row, param_paths, this_type_of, has_room, atomic_of, class_params}
 use Rattle.body_exprs.specs.Typed.{AreTaken}
 use Rattle.body_check.specs.declared.node.Around.{Around}
 use Rattle.body_check.specs.Deciding.{has_value}
 use Rattle.body_check.specs.Around.{method_around}
-use Rattle.body_check.specs.Methods.{atomic_of, class_params, own_params, formals_declared, body_begun}
+use Rattle.body_check.specs.Methods.{own_params, formals_declared, body_begun}
 use Rattle.body_check.specs.Methods.{formal_types as types_of}
-use Rattle.body_check.specs.Simple.{has_room}
 use Rattle.sound_lemmas.proofs.BodyRules.{start_in, fresh_start}
 use Rattle.sound_lemmas.specs.Accepted.{IsAccepted}
 use Rattle.sound_lemmas.proofs.Free.{append_none}

@@ -7,10 +7,9 @@ use Rattle.lang_typed.specs.Plain.{PlainProgram}
 use Rattle.lang_typed.specs.Scope.{Scope, variable}
 use Rattle.body_exprs.specs.declared.env.Env.{Env}
 use Rattle.body_exprs.specs.declared.env.LocalRow.{LocalRow}
-use Rattle.body_exprs.specs.Env.{table_of, local_of, local_row, with_local}
+use Rattle.body_exprs.specs.Env.{table_of, local_of, local_row, with_local, has_room, local_declared}
 use Rattle.body_check.specs.declared.node.Around.{Around}
 use Rattle.body_check.specs.Methods.{formals_declared}
-use Rattle.body_check.specs.Simple.{has_room, local_declared}
 use Rattle.sound_lemmas.proofs.Lists.{some_same}
 use Rattle.sound_bodies.specs.Seen.{can_stand, AllStand, RowIs, Tells, Sees, InStep, Returns}
 use Rattle.sound_bodies.proofs.scope.Declaring.{local_pushed, indices_reported, step_declared}

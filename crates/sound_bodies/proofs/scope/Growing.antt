@@ -7,11 +7,11 @@ use Rattle.lang_base.specs.declared.ty.Ty.TheVariants as variant
 use Rattle.syntax_tree.specs.declared.region.Named.{Named}
 use Rattle.body_exprs.specs.declared.env.Env.{Env}
 use Rattle.body_exprs.specs.declared.env.LocalRow.{LocalRow}
-use Rattle.body_exprs.specs.Env.{local_of, index_slot, local_row, part_row, with_row_in, with_local, with_part, with_region, left_to, mark_of}
+use Rattle.body_exprs.specs.Env.{local_of, index_slot, local_row, part_row, with_row_in, with_local, with_part, with_region, left_to, mark_of, has_room, local_declared, part_declared, region_declared}
 use Rattle.body_check.specs.declared.node.Node.{Node}
 use Rattle.body_check.specs.Checking.{parts_declared}
 use Rattle.body_check.specs.Noting.{with_fault, fault_of}
-use Rattle.body_check.specs.Simple.{has_room, local_declared, part_declared, region_declared, declaration_noted, with_regions}
+use Rattle.body_check.specs.Simple.{declaration_noted, with_regions}
 use Rattle.sound_lemmas.proofs.Bodies.{not_faulty}
 use Rattle.sound_bodies.specs.Seen.{InStep}
 use Rattle.sound_bodies.proofs.scope.Declaring.{local_pushed, step_declared, step_row}

@@ -20,12 +20,12 @@ use Rattle.lang_typed.specs.Effects.{begins_in, outside_regions}
 use Rattle.lang_typed.specs.Effects.{Own as Done}
 use Rattle.lang_typed.specs.Statements.{AllPass}
 use Rattle.body_exprs.specs.declared.env.Env.{Env}
-use Rattle.body_exprs.specs.Env.{table_of, with_region}
+use Rattle.body_exprs.specs.Env.{table_of, with_region, has_room, region_declared}
 use Rattle.body_check.specs.declared.leaving.Marks.TheVariants as marks
 use Rattle.body_check.specs.declared.node.Around.{Around}
 use Rattle.body_check.specs.declared.node.Node.{Node}
 use Rattle.body_check.specs.Noting.{with_fault, fault_of}
-use Rattle.body_check.specs.Simple.{has_room, region_declared, is_region_name, region_noted, regions_noted, with_regions, regions_made}
+use Rattle.body_check.specs.Simple.{is_region_name, region_noted, regions_noted, with_regions, regions_made}
 use Rattle.body_check.specs.Walks.{Walk}
 use Rattle.sound_lemmas.proofs.Bodies.{regions_free}
 use Rattle.sound_lemmas.proofs.Free.{noted_reported}

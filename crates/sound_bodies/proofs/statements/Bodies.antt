@@ -19,7 +19,7 @@ use Rattle.lang_typed.specs.Statements.{Passes, AllPass}
 use Rattle.body_exprs.specs.declared.env.Env.{Env}
 use Rattle.body_exprs.specs.declared.found.Found.{Found}
 use Rattle.body_exprs.specs.Answer.{gives}
-use Rattle.body_exprs.specs.Env.{given_in, slots_in, with_local, with_part}
+use Rattle.body_exprs.specs.Env.{given_in, slots_in, with_local, with_part, part_declared}
 use Rattle.body_exprs.specs.Typed.{may_be, is_int, is_boolean, type_in}
 use Rattle.body_exprs.specs.Typing.{Typing}
 use Rattle.body_check.specs.declared.node.Around.{Around}
@@ -32,7 +32,7 @@ use Rattle.body_check.specs.Meeting.{declared_atomic, some_interfere, branches_i
 use Rattle.body_check.specs.Touching.{assigns_outer, some_disturb}
 use Rattle.body_check.proofs.Touched.{assigns_some}
 use Rattle.body_check.specs.Noting.{with_found, with_fault_if, settled_node, fault_of}
-use Rattle.body_check.specs.Simple.{part_declared, declaration_noted, node_of}
+use Rattle.body_check.specs.Simple.{declaration_noted, node_of}
 use Rattle.body_check.specs.Walks.{Walk, Verdict, passes, found_so, judged}
 use Rattle.region_interfere.specs.Uses.{parts_interfere}
 use Rattle.sound_lemmas.proofs.Bodies.{free_if, free_found, declared_free}
@@ -405,7 +405,7 @@ module _ (P : PlainProgram) (signed : Signed P)
           subst (λ e. Plainly P signed L w (statement node.place (typed.foreach_parts w.env.slots source e made)) (parts_left w.env.slots w source h z)) (sym (ap (node_of count) y.1))
           (parts_plain P signed L params around reads assigns w ready cut.elem cut.path cut.names node.place source y.0 g h cut.effects made z begun.locals cut.cuts cut.part_is cut.gathers cut.nd_free y.2
           (int_at q y.0 y.1 (not_false (may_be is_int (type_in q)) count_int.1)) (omega (arith, more, slots_are)) (λ room nd_free. s.goes room nd_free)
-          (free_if (settled_node (with_fault_if (parts_noted w.env view var t first) kind.Assign (assigns_outer body))) kind.Interferes
+          (free_if (settled_node (with_fault_if (parts_noted w.env view var t first) kind.Assign (assigns_outer body))) (interference false)
           (parts_interfere (given_in w.env) (part_slot w.env) (part_variable w.env) z.found.effects z.found.uses) later).1)))
 
       branching_goes : {params : List Bool} {around : Around} {nd : Bool} {ss : PlainStmts} {w : Walk} {v : BranchesVerdict} (outer : Around) (L : Scope) (reads assigns : ℕ → Bool) (env : Env) → around ≡ inside outer →

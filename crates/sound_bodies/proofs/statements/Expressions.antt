@@ -524,9 +524,9 @@ module _ (P : PlainProgram) (L : Scope) (env : Env) (may_read may_assign : â„• â
     used_right before args ts declared partial hold place unreported =
         let fit = all_fit (supers_of env) args (map type_in ts) declared in
         let none = none_reported before (use_faults partial fit hold place) unreported in
-        let f = append_none (fault_if partial kind.PartialWrite place ++ fault_if (not fit) kind.Type place) (fault_if (not hold) kind.Constraint place) none in
-        let g = append_none (fault_if partial kind.PartialWrite place) (fault_if (not fit) kind.Type place) f.0 in (
-          fault_none partial kind.PartialWrite place g.0,
+        let f = append_none (fault_if partial _ place ++ fault_if (not fit) kind.Type place) (fault_if (not hold) kind.Constraint place) none in
+        let g = append_none (fault_if partial _ place) (fault_if (not fit) kind.Type place) f.0 in (
+          fault_none partial _ place g.0,
           each_fits (supers_of env) args (map type_in ts) declared (not_false fit (fault_none (not fit) kind.Type place g.1)),
           not_false hold (fault_none (not hold) kind.Constraint place f.1),
           reported_before before (use_faults partial fit hold place) unreported,

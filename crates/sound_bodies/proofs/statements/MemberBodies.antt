@@ -23,14 +23,13 @@ use Rattle.decl_table.specs.declared.table.Table.{Table}
 use Rattle.decl_table.specs.Table.{numbered, is_forking, supers_of}
 use Rattle.body_exprs.specs.declared.env.Env.{Env}
 use Rattle.body_exprs.specs.declared.found.Found.{Found}
-use Rattle.body_exprs.specs.Env.{table_of, at_class}
+use Rattle.body_exprs.specs.Env.{table_of, at_class, has_room, class_params}
 use Rattle.body_check.specs.Checking.{check_block}
 use Rattle.body_check.specs.declared.node.Around.{Around}
 use Rattle.body_check.specs.Completes as tree_completes
 use Rattle.body_check.specs.Deciding.{has_value}
 use Rattle.body_check.specs.Around.{method_around}
-use Rattle.body_check.specs.Methods.{own_params, class_params, summary_of, body_begun, typed_body, method_reported, reported, method_judged}
-use Rattle.body_check.specs.Simple.{has_room}
+use Rattle.body_check.specs.Methods.{own_params, summary_of, body_begun, typed_body, method_reported, reported, method_judged}
 use Rattle.body_check.specs.Walks.{Walk, Verdict, passes, refused}
 use Rattle.sound_lemmas.proofs.StatementSteps.{in_block_of}
 use Rattle.sound_lemmas.proofs.BodyRules.{MethodChecking, start_in, fresh_start}

@@ -28,8 +28,8 @@ use Rattle.decl_classes.specs.Rows.{method_row, method_faults, all_constraint_fa
 use Rattle.decl_table.specs.Table.{headers_of, given_of, methods_of, numbered}
 use Rattle.decl_laws.proofs.Granted.{granted}
 use Rattle.body_exprs.specs.declared.env.Env.{Env}
-use Rattle.body_exprs.specs.Env.{table_of, at_class}
-use Rattle.body_check.specs.Methods.{own_params, class_params}
+use Rattle.body_exprs.specs.Env.{table_of, at_class, class_params}
+use Rattle.body_check.specs.Methods.{own_params}
 use Rattle.sound_lemmas.proofs.BodyRules.{MethodChecking, start_in, checks_in}
 use Rattle.sound_lemmas.specs.Accepted.{IsAccepted}
 use Rattle.sound_lemmas.proofs.Assembled.{is_member}

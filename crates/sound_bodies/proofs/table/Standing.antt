@@ -20,8 +20,8 @@ use Rattle.decl_reach.specs.Bodies.{own_marks, class_marks}
 use Rattle.decl_classes.specs.Rows.{method_row, method_faults, member_faults, own_methods, methods_from, methods_meant, super_faults, class_faults, signature_faults}
 use Rattle.body_assembly.specs.Assembled.{PlainBody}
 use Rattle.body_exprs.specs.declared.env.Env.{Env}
-use Rattle.body_exprs.specs.Env.{table_of, at_class}
-use Rattle.body_check.specs.Methods.{number_after, bodies_of, PlainBodies, after_bodies, after_ok, own_params, class_params}
+use Rattle.body_exprs.specs.Env.{table_of, at_class, class_params}
+use Rattle.body_check.specs.Methods.{number_after, bodies_of, PlainBodies, after_bodies, after_ok, own_params}
 use Rattle.sound_lemmas.proofs.BodyRules.{MethodChecking, is_method, MemberChecking, MembersChecking, ClassesChecking}
 use Rattle.decl_laws.proofs.Facts.{got_either}
 use Rattle.sound_lemmas.proofs.Free.{append_none}

@@ -5,6 +5,6 @@ use Rattle.body_check.proofs.bodies.declare_formals.Goals as goal
 
 pub returns-clause-whole : goal.returns-clause-whole
 returns-clause-whole c =
-    formals_end c.args.body.now c.loop-formal.body c.loop-formal.formal-iterator.a.rest.now c.loop-formal.formal-iterator.b.rest.now
-    (formals_declared c.args.body.now.env c.args.formals.now c.args.types.now) c.loop-formal.invariant.others c.loop-formal.invariant.rest
+    formals_end c.loop-formal.env c.loop-formal.formal-iterator.a.rest.now c.loop-formal.formal-iterator.b.rest.now
+    (formals_declared c.args.env.now c.args.formals.now c.args.types.now) c.loop-formal.invariant.rest
     (⊎_elim (λ h. inl h.1.0) (λ h. inr h.1.0) c.in-None.ensures.steps)

@@ -13,7 +13,7 @@ pub returns-in_err-settle : goal.returns-in_err-settle
 returns-in_err-settle c made w =
     let assigns = assigns_outer (plain_stmt c.args.iteration.now) in
     settle_stopped
-    (λ v. iterations_met c.args.body.now.atomic_params c.args.body.now.env c.args.node c.args.nd c.args.slot (plain_stmt c.args.iteration.now) c.args.found.now
+    (λ v. iterations_met c.args.env.now c.args.node c.args.nd c.args.slot (plain_stmt c.args.iteration.now) c.args.found.now
     made w ≡ v)
     (fault_of c.note_if.new.self) c.from_residual-in_err-settle.result c.in_err-settle.field-0.0 (λ _. passes made w) c.from_residual-in_err-settle.ensures.1
     c.in_err-settle.ensures.result
@@ -23,7 +23,7 @@ returns-in_err-settle c made w =
 pub returns : goal.returns
 returns c made w =
     let assigns = assigns_outer (plain_stmt c.args.iteration.now) in
-    let clash = clash_in c.args.body.now.atomic_params c.args.body.now.env c.args.nd c.args.slot c.args.found.now in
+    let clash = clash_in c.args.env.now c.args.nd c.args.slot c.args.found.now in
     meeting_ends c.args.node c.note_if.new.self c.note_if-2.new.self assigns clash (interference c.args.nd) made w c.settle-2.result
     (c.note_if.ensures.node ∙ ap (with_fault_if c.args.node kind.Assign) c.in_ok-assigns_outer.ensures) c.in_ok-settle.ensures.clean
     (third_is c.note_if.new.self c.settle.new.self c.note_if-2.new.self c.interference.result (interference c.args.nd) c.in_ok-clash.clash clash

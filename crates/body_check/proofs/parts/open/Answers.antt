@@ -4,14 +4,14 @@ use Rattle.body_check.proofs.parts.open.Goals as goal
 
 pub returns-clause-noted : goal.returns-clause-noted
 returns-clause-noted c =
-    on_ok_weaker c.declare_variable.result
+    on_ok_weaker c.declare.result
     (λ _.
-    opens_noted c.args.view c.args.var c.args.ty c.args.body.now c.declare_part.new.self c.args.node.now c.note_declaration.new.node c.note_declaration-2.new.node
+    opens_noted c.args.view c.args.var c.args.ty c.args.env.now c.declare_part.new.self c.args.node.now c.note_declaration.new.node c.note_declaration-2.new.node
     c.in_ok-declare_part.ensures.whole c.note_declaration.ensures.node c.note_declaration-2.ensures.node)
-    c.declare_variable.ensures.home
+    c.declare.ensures.home
 
 pub returns-clause-whole : goal.returns-clause-whole
 returns-clause-whole c =
-    on_ok_weaker c.declare_variable.result
-    (opens_declared c.args.view c.args.var c.args.ty c.args.body.now c.declare_part.new.self c.declare_variable.new.self c.in_ok-declare_part.ensures.whole)
-    c.declare_variable.ensures.whole
+    on_ok_weaker c.declare.result
+    (opens_declared c.args.view c.args.var c.args.ty c.args.env.now c.declare_part.new.self c.declare.new.self c.in_ok-declare_part.ensures.whole)
+    c.declare.ensures.whole

@@ -10,14 +10,13 @@ pub returns-clause-checks : goal.returns-clause-checks
 returns-clause-checks c =
     judged_so
     (put_in_place c.args.node c.args.place (Some (plain_target c.args.target)) (node_at c.args.value (plain_typed c.args.given)) (value_type c.args.given)
-    (walk_of c.args.body.now c.args.out.now)) _ _ _ c.judge.result _
+    (walk_of c.args.env.now c.args.out.now)) _ _ _ c.judge.result _
     (rw (
-      ← c.in_ok-fits.ensures,
+      ← c.in_ok-fit.ensures,
       ← c.target_fault.ensures,
       ← c.note_found.ensures,
       c.stored-stmt.ensures,
       c.into_node.ensures,
-      c.in_ok-spot.ensures.spot,
-      c.in_ok-spot.ensures.found,
+      c.in_ok-write.ensures,
     ))
-    (c.judge.ensures.checks (walk_of c.args.body.now c.write.new.found))
+    (c.judge.ensures.checks (walk_of c.args.env.now c.write.new.found))

@@ -13,25 +13,25 @@ use Rattle.body_check.proofs.simple.declare.Goals as goal
 
 pub returns-in_err-declared-clause-checks : goal.returns-in_err-declared-clause-checks
 returns-in_err-declared-clause-checks c =
-    stopped (λ q. declared_reported c.args.body.now.env c.args.tree.now ≡ Some q)
-    (λ v. declare c.args.node c.args.is_final c.args.tree.now c.args.name (plain_expr c.args.value.now) (walk_of c.args.body.now c.args.out.now) ≡ v)
+    stopped (λ q. declared_reported c.args.env.now c.args.tree.now ≡ Some q)
+    (λ v. declare c.args.node c.args.is_final c.args.tree.now c.args.name (plain_expr c.args.value.now) (walk_of c.args.env.now c.args.out.now) ≡ v)
     c.from_residual.result _ c.in_err-declared.field-0.0 c.from_residual.ensures.1 (λ q d. rw d) c.in_err-declared.ensures.reported
 
 pub returns-in_err-given-clause-checks : goal.returns-in_err-given-clause-checks
 returns-in_err-given-clause-checks c =
-    stopped (λ q. Typing c.args.body.now.env (plain_expr c.args.value.now) c.args.out.now (refused q))
-    (λ v. declare c.args.node c.args.is_final c.args.tree.now c.args.name (plain_expr c.args.value.now) (walk_of c.args.body.now c.args.out.now) ≡ v)
+    stopped (λ q. Typing c.args.env.now (plain_expr c.args.value.now) c.args.out.now (refused q))
+    (λ v. declare c.args.node c.args.is_final c.args.tree.now c.args.name (plain_expr c.args.value.now) (walk_of c.args.env.now c.args.out.now) ≡ v)
     c.from_residual-in_err-given.result _ c.in_err-given.field-0.0 c.from_residual-in_err-given.ensures.1
-    (λ q d. rw (c.in_ok-declared.ensures.unreported, d)) c.in_err-given.ensures.answer
+    (λ q d. rw (c.in_ok-declared.ensures.unreported, d)) c.in_err-given.ensures
 
 pub returns-clause-checks : goal.returns-clause-checks
 returns-clause-checks c =
-    judged_so (declare c.args.node c.args.is_final c.args.tree.now c.args.name (plain_expr c.args.value.now) (walk_of c.args.body.now c.args.out.now)) _ _ _ c.judge.result _
+    judged_so (declare c.args.node c.args.is_final c.args.tree.now c.args.name (plain_expr c.args.value.now) (walk_of c.args.env.now c.args.out.now)) _ _ _ c.judge.result _
     (rw (
       c.in_ok-declared.ensures.unreported,
-      c.in_ok-given.ensures.answer,
+      c.in_ok-given.ensures,
       ← c.in_ok-declared.ensures.ty,
-      ← c.in_ok-fits.ensures,
+      ← c.in_ok-fit.ensures,
       ← c.note_declaration.ensures.node,
       ← c.note_if.ensures.node,
       came_back c.in_ok-declared.declared,
@@ -41,7 +41,7 @@ returns-clause-checks c =
       c.in_ok-declare.ensures.whole,
       c.in_ok-ty.ensures,
     ))
-    (c.judge.ensures.checks (walk_of c.declare.new.self c.typed.new.out))
+    (c.judge.ensures.checks (walk_of c.declare.new.self c.expr.new.found))
 
 pub returns-clause-home : goal.returns-clause-home
 returns-clause-home c = anyhow c.judge.result c.in_ok-declare.ensures.home

@@ -10,8 +10,8 @@ returns-clause-home c = anyhow c.judge.result c.loop-named.invariant.home
 
 pub returns-clause-checks : goal.returns-clause-checks
 returns-clause-checks c found =
-    judged_so (declare_regions c.args.node c.args.names.now (walk_of c.args.body.now found)) _ _ _ c.judge.result _
-    (regions_are c.args.node c.loop-named.node c.args.body.now.env c.loop-named.body.env c.args.names.now _ c.loop-named.regions found
+    judged_so (declare_regions c.args.node c.args.names.now (walk_of c.args.env.now found)) _ _ _ c.judge.result _
+    (regions_are c.args.node c.loop-named.node c.args.env.now c.loop-named.env c.args.names.now _ c.loop-named.regions found
     (drop_all c.loop-named.named-index c.args.names.now c.loop-named-test.false) c.loop-named.invariant.noted c.loop-named.invariant.scope
     c.loop-named.invariant.made)
-    (c.judge.ensures.checks (walk_of c.loop-named.body found))
+    (c.judge.ensures.checks (walk_of c.loop-named.env found))

@@ -12,20 +12,20 @@ use Rattle.body_check.proofs.simple.leave_with.Goals as goal
 
 pub returns-in_err-given-clause-checks : goal.returns-in_err-given-clause-checks
 returns-in_err-given-clause-checks c =
-    stopped (λ q. Typing c.args.body.now.env (plain_expr c.args.value.now) c.args.out.now (refused q))
-    (λ v. leave_with c.args.around c.args.node (plain_expr c.args.value.now) (walk_of c.args.body.now c.args.out.now) ≡ v)
-    c.from_residual.result _ c.in_err-given.field-0.0 c.from_residual.ensures.1 (λ q d. rw d) c.in_err-given.ensures.answer
+    stopped (λ q. Typing c.args.env.now (plain_expr c.args.value.now) c.args.out.now (refused q))
+    (λ v. leave_with c.args.around c.args.node (plain_expr c.args.value.now) (walk_of c.args.env.now c.args.out.now) ≡ v)
+    c.from_residual.result _ c.in_err-given.field-0.0 c.from_residual.ensures.1 (λ q d. rw d) c.in_err-given.ensures
 
 pub returns-clause-checks : goal.returns-clause-checks
 returns-clause-checks c =
-    judged_so (leave_with c.args.around c.args.node (plain_expr c.args.value.now) (walk_of c.args.body.now c.args.out.now)) _ _ _ c.judge.result _
+    judged_so (leave_with c.args.around c.args.node (plain_expr c.args.value.now) (walk_of c.args.env.now c.args.out.now)) _ _ _ c.judge.result _
     (rw (
-      c.in_ok-given.ensures.answer,
-      ← c.in_ok-fits.ensures,
+      c.in_ok-given.ensures,
+      ← c.in_ok-fit.ensures,
       ← c.is_misplaced.ensures,
       ← c.note_if.ensures.node,
       ← c.note_if-2.ensures.node,
       made_Return_value c.args.node.place c.into_node.result,
       node_made c.args.value.now c.into_node.result (plain_typed c.in_ok-given.given) c.into_node.ensures,
     ))
-    (c.judge.ensures.checks (walk_of c.args.body.now c.typed.new.out))
+    (c.judge.ensures.checks (walk_of c.args.env.now c.expr.new.found))

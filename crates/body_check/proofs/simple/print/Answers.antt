@@ -13,16 +13,16 @@ use Rattle.body_check.proofs.simple.print.Goals as goal
 
 pub returns-in_err-given-clause-checks : goal.returns-in_err-given-clause-checks
 returns-in_err-given-clause-checks c =
-    stopped (λ q. Typing c.args.body.now.env (plain_expr c.args.value.now) c.args.out.now (refused q))
-    (λ v. print c.args.node (plain_expr c.args.value.now) (walk_of c.args.body.now c.args.out.now) ≡ v)
-    c.from_residual.result _ c.in_err-given.field-0.0 c.from_residual.ensures.1 (λ q d. rw d) c.in_err-given.ensures.answer
+    stopped (λ q. Typing c.args.env.now (plain_expr c.args.value.now) c.args.out.now (refused q))
+    (λ v. print c.args.node (plain_expr c.args.value.now) (walk_of c.args.env.now c.args.out.now) ≡ v)
+    c.from_residual.result _ c.in_err-given.field-0.0 c.from_residual.ensures.1 (λ q d. rw d) c.in_err-given.ensures
 
 pub returns-clause-checks : goal.returns-clause-checks
 returns-clause-checks c =
-    judged_so (print c.args.node (plain_expr c.args.value.now) (walk_of c.args.body.now c.args.out.now)) _ _ _ c.judge.result _
-    (rw (c.in_ok-given.ensures.answer, ← c.may_print.ensures, ← c.note_if.ensures.node)
+    judged_so (print c.args.node (plain_expr c.args.value.now) (walk_of c.args.env.now c.args.out.now)) _ _ _ c.judge.result _
+    (rw (c.in_ok-given.ensures, ← c.may_print.ensures, ← c.note_if.ensures.node)
     (judged_as (fault_of c.note_if.new.self) _
     (c.printed-stmt.ensures
     ∙ ap (λ (z : TypedExpr). statement c.args.node.place (printed_form z))
     (node_made c.args.value.now c.into_node.result (plain_typed c.in_ok-given.given) c.into_node.ensures))))
-    (c.judge.ensures.checks (walk_of c.args.body.now c.typed.new.out))
+    (c.judge.ensures.checks (walk_of c.args.env.now c.expr.new.found))
